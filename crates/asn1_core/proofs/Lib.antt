@@ -1,0 +1,11 @@
+pub mod Cases
+pub mod Numbers
+pub mod Identities
+pub mod Lengths
+pub mod Headers
+pub mod Short
+pub mod LenientLaws
+pub mod StrictLaws
+pub mod Spellings
+pub mod Gives
+pub mod Refusals

@@ -1,0 +1,50 @@
+-- What conversions between errors give: want of memory stays want of memory, and is a failure of a reader.
+use Rattle.std.specs.Prelude.{◌≡◌}
+use Rattle.asn1_core.specs.declared.error.Error.{Error}
+use Rattle.asn1_core.specs.declared.error.Error.TheVariants as errors
+use Rattle.asn1_core.specs.declared.outcome.Err.{Err as Refusal}
+use Rattle.asn1_core.specs.declared.outcome.Err.TheVariants as refusals
+use Rattle.asn1_core.specs.declared.serialize.SerializeError.{SerializeError}
+use Rattle.asn1_core.specs.declared.serialize.SerializeError.TheVariants as writes
+
+-- a failure that holds what the relation gives for want of memory
+abbrev pub FailsForMemory : {E : Type 0} → (Error → E → Type 0) → Refusal E → Type 0
+FailsForMemory gives (refusals.Incomplete n) = ⊥
+FailsForMemory gives (refusals.Error e) = ⊥
+FailsForMemory gives (refusals.Failure e) = gives errors.OutOfMemory e
+
+-- a refusal that holds what the relation gives for the error
+abbrev pub RefusesWith : {E F : Type 0} → (F → E → Type 0) → F → Refusal E → Type 0
+RefusesWith gives given (refusals.Incomplete n) = ⊥
+RefusesWith gives given (refusals.Error e) = gives given e
+RefusesWith gives given (refusals.Failure e) = ⊥
+
+-- an error as a reader's refusal: want of memory is a failure
+abbrev pub RefusesFor : {E : Type 0} → (Error → E → Type 0) → Error → Refusal E → Type 0
+RefusesFor gives errors.OutOfMemory r = FailsForMemory gives r
+RefusesFor gives e r = RefusesWith gives e r
+
+-- the same refusal, the error converted
+abbrev pub Converts : {E F : Type 0} → (F → E → Type 0) → Refusal F → Refusal E → Type 0
+Converts gives (refusals.Incomplete n) r = r ≡ refusals.Incomplete n
+Converts gives (refusals.Error e) r = RefusesWith gives e r
+Converts gives (refusals.Failure e) (refusals.Incomplete n) = ⊥
+Converts gives (refusals.Failure e) (refusals.Error f) = ⊥
+Converts gives (refusals.Failure e) (refusals.Failure f) = gives e f
+
+-- the error that a refusal holds; missing octets become an error
+abbrev pub error_of : Refusal Error → Error
+error_of (refusals.Incomplete n) = errors.Incomplete n
+error_of (refusals.Error e) = e
+error_of (refusals.Failure e) = e
+
+-- a reader's error as a writer's
+abbrev pub serialize_of : Error → SerializeError
+serialize_of errors.OutOfMemory = writes.OutOfMemory
+serialize_of e = writes.ASN1Error e
+
+-- octets are missing
+abbrev pub IsIncomplete : {E : Type 0} → Refusal E → Type 0
+IsIncomplete (refusals.Incomplete n) = Unit {0}
+IsIncomplete (refusals.Error e) = ⊥
+IsIncomplete (refusals.Failure e) = ⊥

@@ -1,0 +1,11 @@
+pub mod Digits
+pub mod Strict
+pub mod Elements
+pub mod Lenient
+pub mod Answers
+pub mod Reading
+pub mod Views
+pub mod Texts
+pub mod Conversions
+pub mod Missing
+pub mod Counts

@@ -1,0 +1,337 @@
+//! Headers of elements: identifier and length octets.
+
+ghost use Rattle.std.specs.Prelude.{◌≡◌, ◌+◌, ◌^◌, ◌<◌, ◌↔◌, not, ℕ, List, ◌++◌, IsTrue, IsOk, IfOk, IfErr, IsOkAnd, IsSome, IfSome, Some};
+ghost use Rattle.std.proofs.Common.{rules};
+ghost use Rattle.std.specs.Cmp.Rules.{comparing};
+
+use crate::class::Class;
+use crate::count::HeaderCount;
+use crate::error::Error;
+use crate::length::Length;
+use crate::octets::HeaderOctets;
+use crate::outcome::ParseResult;
+use crate::read;
+use crate::tag::Tag;
+
+/// The header of an element: its class, its constructed bit, its tag number and its length (X.690, 8.1.1).
+///
+/// Two headers are equal where class, constructed bit and tag number are; the length plays no part.
+#[derive(Clone, Copy, Debug)]
+pub struct Header {
+    class: Class,
+    constructed: bool,
+    tag: Tag,
+    length: Length,
+}
+
+impl Header {
+    ghost use Rattle.asn1_core.specs.Strict.{Head, IsHead, strict_header};
+    ghost use Rattle.asn1_core.specs.Lenient.{SpellsHeader, BerHead, IsBerHead, SpellsBerHeader};
+    ghost use Rattle.asn1_core.specs.Missing.{HasHeader, HasBerHeader, HasStrictHeader, IsMissing};
+    ghost use Rattle.asn1_core.specs.Answers.{Gives, TakesNoMemory};
+    ghost use Rattle.asn1_core.specs.Counts.{attempts};
+    ghost use Rattle.asn1_core.specs.Reading.{header_at, ber_header_at, strict_at};
+    ghost use Rattle.asn1_core.specs.Views.{IsDefinite, is_constructed_tag, head_of, ber_head_of, class_of, constructed_of, tag_of, length_of, with_class_of, with_constructed_of, with_tag_of, with_length_of};
+
+    /// A header of these parts.
+    pub fn new(class: Class, constructed: bool, tag: Tag, length: Length) -> Header
+        ensures class { class_of result ≡ class }
+        ensures constructed { constructed_of result ≡ constructed }
+        ensures tag { tag_of result ≡ tag }
+        ensures length { length_of result ≡ length }
+    {
+        Header {
+            class,
+            constructed,
+            tag,
+            length,
+        }
+    }
+
+    /// A universal header of length 0, constructed for the tag numbers of sequence and set and else primitive.
+    pub fn new_simple(tag: Tag) -> Header
+        ensures class { class_of result ≡ Class.Universal }
+        ensures constructed { constructed_of result ≡ is_constructed_tag tag.0 }
+        ensures tag { tag_of result ≡ tag }
+        ensures length { length_of result ≡ Length.Definite 0 }
+    {
+        let constructed = tag.0 == 16 || tag.0 == 17;
+        Header::new(Class::Universal, constructed, tag, Length::Definite(0))
+    }
+
+    /// The header with another class.
+    pub fn with_class(self, class: Class) -> Header
+        ensures { result ≡ with_class_of self class }
+    {
+        Header { class, ..self }
+    }
+
+    /// The header with another constructed bit.
+    pub fn with_constructed(self, constructed: bool) -> Header
+        ensures { result ≡ with_constructed_of self constructed }
+    {
+        Header {
+            constructed,
+            ..self
+        }
+    }
+
+    /// The header with another tag number.
+    pub fn with_tag(self, tag: Tag) -> Header
+        ensures { result ≡ with_tag_of self tag }
+    {
+        Header { tag, ..self }
+    }
+
+    /// The header with another length.
+    pub fn with_length(self, length: Length) -> Header
+        ensures { result ≡ with_length_of self length }
+    {
+        Header { length, ..self }
+    }
+
+    /// Reads a header by the rules of BER (X.690, 8.1.2 and 8.1.3) from the front of the octets.
+    ///
+    /// A definite length may have any number of length octets from 1 to 126 and has to fit `usize`; the indefinite form is
+    /// for constructed elements. A tag number is below 2^32, and its high form may be longer than need be.
+    ///
+    /// Refusals, in their order: `Incomplete` where no octet is left; `InvalidTag` where a high tag number is cut or too
+    /// large; `Incomplete` where the length is cut; `InvalidLength` where it begins with ff or is too large;
+    /// `ConstructExpected` for the indefinite form on a primitive element.
+    pub fn from_ber(i: &[u8]) -> ParseResult<'_, Header>
+        ensures found { IfOk result (λ r. IsBerHead (ber_head_of r.1)
+            × ((octets : List ℕ) × SpellsBerHeader octets (ber_head_of r.1) × (i.now ≡ octets ++ r.0.now))) }
+        ensures only { (octets rest : List ℕ) (h : BerHead) → IsBerHead h → SpellsBerHeader octets h
+            → i.now ≡ octets ++ rest → IsOkAnd result (λ r. (ber_head_of r.1 ≡ h) × (r.0.now ≡ rest)) }
+        ensures missing { IfErr result (IsMissing HasBerHeader i.now) }
+        ensures memory { IfErr result TakesNoMemory }
+        ensures exact { Gives (λ r. (ber_head_of r.1, r.0.now)) result (ber_header_at i.now) }
+    {
+        read::ber_header(i)
+    }
+
+    /// Reads a header of definite length from the front of the octets, in any of its forms: the tag number's high form and
+    /// the length may be longer than need be (X.690, 8.1.2 and 8.1.3).
+    ///
+    /// Refusals are those of `from_ber`, but for the indefinite form: it is `DerConstraintFailed(IndefiniteLength)`
+    /// (X.690, 10.1).
+    pub fn from_der(i: &[u8]) -> ParseResult<'_, Header>
+        ensures found { IfOk result (λ r. IsHead (head_of r.1)
+            × ((octets : List ℕ) × SpellsHeader octets (head_of r.1) × (i.now ≡ octets ++ r.0.now))) }
+        ensures definite { IfOk result (λ r. IsDefinite (length_of r.1)) }
+        ensures only { (octets rest : List ℕ) (h : Head) → IsHead h → SpellsHeader octets h
+            → i.now ≡ octets ++ rest → IsOkAnd result (λ r. (head_of r.1 ≡ h) × (r.0.now ≡ rest)) }
+        ensures missing { IfErr result (IsMissing HasHeader i.now) }
+        ensures memory { IfErr result TakesNoMemory }
+        ensures exact { Gives (λ r. (head_of r.1, r.0.now)) result (header_at i.now) }
+    {
+        read::definite_header(i)
+    }
+
+    /// Reads a header of shortest form from the front of the octets (X.690, 8.1.2.2, 8.1.2.4.2 and 10.1).
+    ///
+    /// Refusals, in their order: those of the identifier as in `from_ber`; `InvalidTag` where its high form is longer than
+    /// need be or stands for a number below 31; those of the length as in `from_der`; `InvalidLength` where the length is
+    /// longer than need be.
+    pub fn strict(i: &[u8]) -> ParseResult<'_, Header>
+        ensures found { IfOk result (λ r. IsHead (head_of r.1)
+            × (i.now ≡ strict_header (head_of r.1) ++ r.0.now)) }
+        ensures definite { IfOk result (λ r. IsDefinite (length_of r.1)) }
+        ensures only { (h : Head) (rest : List ℕ) → IsHead h → i.now ≡ strict_header h ++ rest
+            → IsOkAnd result (λ r. (head_of r.1 ≡ h) × (r.0.now ≡ rest)) }
+        ensures missing { IfErr result (IsMissing HasStrictHeader i.now) }
+        ensures memory { IfErr result TakesNoMemory }
+        ensures exact { Gives (λ r. (head_of r.1, r.0.now)) result (strict_at i.now) }
+    {
+        read::strict_header(i)
+    }
+
+    /// The octets of the header in shortest form (X.690, 8.1.2.2, 8.1.2.4.2 and 10.1); none for the indefinite form.
+    pub fn strict_octets(&self) -> Option<HeaderOctets>
+        ensures definite { IsSome result ↔ IsDefinite (length_of self.now) }
+        ensures octets { IfSome result (λ octets. octets ≡ strict_header (head_of self.now)) }
+    {
+        let Length::Definite(size) = self.length else {
+            return None;
+        };
+        let mut octets = HeaderOctets::new();
+        octets.put_length(size);
+        octets.put_identifier(self.class as u8, self.constructed, self.tag.0);
+        Some(octets)
+    }
+
+    /// `from_der`, and one header attempt more in the count.
+    pub fn from_der_counted<'a>(i: &'a [u8], count: &mut HeaderCount) -> ParseResult<'a, Header>
+        requires { attempts count.old + 1 < 2 ^ 64 }
+        ensures count { attempts count.new ≡ attempts count.old + 1 }
+        ensures found { IfOk result (λ r. IsHead (head_of r.1)
+            × ((octets : List ℕ) × SpellsHeader octets (head_of r.1) × (i.now ≡ octets ++ r.0.now))) }
+        ensures definite { IfOk result (λ r. IsDefinite (length_of r.1)) }
+        ensures only { (octets rest : List ℕ) (h : Head) → IsHead h → SpellsHeader octets h
+            → i.now ≡ octets ++ rest → IsOkAnd result (λ r. (head_of r.1 ≡ h) × (r.0.now ≡ rest)) }
+        ensures exact { Gives (λ r. (head_of r.1, r.0.now)) result (header_at i.now) }
+    {
+        count.raise();
+        Header::from_der(i)
+    }
+
+    /// `strict`, and one header attempt more in the count.
+    pub fn strict_counted<'a>(i: &'a [u8], count: &mut HeaderCount) -> ParseResult<'a, Header>
+        requires { attempts count.old + 1 < 2 ^ 64 }
+        ensures count { attempts count.new ≡ attempts count.old + 1 }
+        ensures found { IfOk result (λ r. IsHead (head_of r.1)
+            × (i.now ≡ strict_header (head_of r.1) ++ r.0.now)) }
+        ensures definite { IfOk result (λ r. IsDefinite (length_of r.1)) }
+        ensures only { (h : Head) (rest : List ℕ) → IsHead h → i.now ≡ strict_header h ++ rest
+            → IsOkAnd result (λ r. (head_of r.1 ≡ h) × (r.0.now ≡ rest)) }
+        ensures exact { Gives (λ r. (head_of r.1, r.0.now)) result (strict_at i.now) }
+    {
+        count.raise();
+        Header::strict(i)
+    }
+
+    /// The class.
+    pub fn class(&self) -> Class
+        ensures { result ≡ class_of self.now }
+    {
+        self.class
+    }
+
+    /// The constructed bit.
+    pub fn constructed(&self) -> bool
+        ensures { result ≡ constructed_of self.now }
+    {
+        self.constructed
+    }
+
+    /// The tag number.
+    pub fn tag(&self) -> Tag
+        ensures { result ≡ tag_of self.now }
+    {
+        self.tag
+    }
+
+    /// The length of the content.
+    pub fn length(&self) -> Length
+        ensures { result ≡ length_of self.now }
+    {
+        self.length
+    }
+
+    /// Whether the constructed bit is 0.
+    pub fn is_primitive(&self) -> bool
+        ensures { result ≡ not (constructed_of self.now) }
+    {
+        !self.constructed
+    }
+
+    /// Whether the constructed bit is 1.
+    pub fn is_constructed(&self) -> bool
+        ensures { result ≡ constructed_of self.now }
+    {
+        self.constructed
+    }
+
+    /// That the class is the wanted one; another is `UnexpectedClass`.
+    pub fn assert_class(&self, class: Class) -> Result<(), Error>
+        ensures ok { IsOk result ↔ (class_of self.now ≡ class) }
+        ensures err { IfErr result (λ e. e ≡ Error.UnexpectedClass (Some class) (class_of self.now)) }
+    {
+        self.class.assert_eq(class)
+    }
+
+    /// That the tag number is the wanted one; another is `UnexpectedTag`.
+    pub fn assert_tag(&self, tag: Tag) -> Result<(), Error>
+        ensures ok { IsOk result ↔ (tag_of self.now ≡ tag) }
+        ensures err { IfErr result (λ e. e ≡ Error.UnexpectedTag (Some tag) (tag_of self.now)) }
+    {
+        self.tag.assert_eq(tag)
+    }
+
+    /// That the constructed bit is 0; else `ConstructUnexpected`.
+    pub fn assert_primitive(&self) -> Result<(), Error>
+        ensures ok { IsOk result ↔ IsTrue (not (constructed_of self.now)) }
+        ensures err { IfErr result (λ e. e ≡ Error.ConstructUnexpected) }
+    {
+        if self.constructed {
+            Err(Error::ConstructUnexpected)
+        } else {
+            Ok(())
+        }
+    }
+
+    /// That the constructed bit is 1; else `ConstructExpected`.
+    pub fn assert_constructed(&self) -> Result<(), Error>
+        ensures ok { IsOk result ↔ IsTrue (constructed_of self.now) }
+        ensures err { IfErr result (λ e. e ≡ Error.ConstructExpected) }
+    {
+        if self.constructed {
+            Ok(())
+        } else {
+            Err(Error::ConstructExpected)
+        }
+    }
+
+    /// Whether the class is `Universal`.
+    pub fn is_universal(&self) -> bool
+        ensures { IsTrue result ↔ (class_of self.now ≡ Class.Universal) }
+    {
+        self.class == Class::Universal
+    }
+
+    /// Whether the class is `Application`.
+    pub fn is_application(&self) -> bool
+        ensures { IsTrue result ↔ (class_of self.now ≡ Class.Application) }
+    {
+        self.class == Class::Application
+    }
+
+    /// Whether the class is `ContextSpecific`.
+    pub fn is_contextspecific(&self) -> bool
+        ensures { IsTrue result ↔ (class_of self.now ≡ Class.ContextSpecific) }
+    {
+        self.class == Class::ContextSpecific
+    }
+
+    /// Whether the class is `Private`.
+    pub fn is_private(&self) -> bool
+        ensures { IsTrue result ↔ (class_of self.now ≡ Class.Private) }
+    {
+        self.class == Class::Private
+    }
+
+    /// That the number of content octets is told; the indefinite form is `IndefiniteLengthUnexpected`.
+    pub fn assert_definite(&self) -> Result<(), Error>
+        ensures ok { IsOk result ↔ IsDefinite (length_of self.now) }
+        ensures err { IfErr result (λ e. e ≡ Error.IndefiniteLengthUnexpected) }
+    {
+        self.length.assert_definite()
+    }
+}
+
+/// The header of `new_simple`.
+impl From<Tag> for Header {
+    ghost use Rattle.asn1_core.specs.Views.{IsSimpleHeader};
+
+    ghost from_gives = { IsSimpleHeader };
+
+    fn from(tag: Tag) -> Header {
+        Header::new_simple(tag)
+    }
+}
+
+impl PartialEq for Header {
+    ghost use Rattle.asn1_core.specs.Views.{same_kind};
+
+    ghost eq = { same_kind };
+
+    ghost laws = { Prim.search (comparing, rules) };
+
+    fn eq(&self, other: &Header) -> bool {
+        self.class == other.class && self.constructed == other.constructed && self.tag == other.tag
+    }
+}
+
+impl Eq for Header {
+    ghost laws = { Prim.search (comparing, rules) };
+}

@@ -1,0 +1,19 @@
+//! Devices: what octets are read from, and what they are written to.
+//!
+//! [`Source`] and [`Sink`] are the two traits. Their contracts count what was done in whole numbers
+//! without bound, for proofs alone, and tell the octets where the device does.
+//! [`ReadSource`] and [`WriteSink`] carry std's readers and writers.
+#![tactic(auto)]
+
+mod fault;
+mod sink;
+mod source;
+mod tally;
+
+pub use fault::DeviceFault;
+pub use sink::{Sink, WriteSink, write_octets};
+pub use source::{ReadSource, Source};
+pub use tally::Tally;
+
+#[cfg(test)]
+mod tests;
