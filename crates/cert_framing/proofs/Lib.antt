@@ -1,0 +1,7 @@
+mod Bundles
+mod Fronts
+mod Lists
+mod Numbers
+mod PieceLemmas
+mod Sequences
+mod Streams

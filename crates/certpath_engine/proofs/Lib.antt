@@ -1,0 +1,5 @@
+mod Examples
+mod NumberLemmas
+mod Reading
+mod TextLemmas
+mod WordLemmas

@@ -1,0 +1,56 @@
+-- What the program ends with: its exit status, and what it says on standard error.
+use Rattle.std.specs.Prelude.{ℕ, List, [], ◌∷◌, ◌++◌, Option, None, Some, Result, Ok, Err, codes, string_bytes}
+use Rattle.cert_framing.specs.declared.ending.End.{End}
+use Rattle.cert_framing.specs.declared.ending.End.TheVariants.{Clean, Cut, Fault}
+use Rattle.certpath_engine.specs.declared.exit.FrameOutcome.{FrameOutcome}
+use Rattle.certpath_engine.specs.declared.exit.FrameOutcome.TheVariants.{Words, Unopened, Framed}
+use Rattle.certpath_engine.specs.declared.exit.Message.{Message}
+use Rattle.certpath_engine.specs.declared.exit.Message.TheVariants.{Usage, BadNumber, BadMoment, CannotRead, OutOfMemory as NoMemory, CannotWrite}
+use Rattle.certpath_engine.specs.declared.framing.FrameError.{FrameError}
+use Rattle.certpath_engine.specs.declared.framing.FrameError.TheVariants.{Read, TooLong, OutOfMemory, Write}
+use Rattle.certpath_engine.specs.declared.words.WordFault.{WordFault}
+use Rattle.certpath_engine.specs.declared.words.WordFault.TheVariants.{Refused, Number, Moment, OutOfMemory as NoWordMemory}
+
+-- each of the program's own texts is one line
+abbrev pub line : List ℕ → List ℕ
+line text = text ++ 10 ∷ []
+
+abbrev pub cannot_read : List ℕ → List ℕ
+cannot_read word = line (codes "cannot read " ++ word)
+
+-- status and text where the words are refused or ask for help
+abbrev pub words_exit_of : WordFault → ℕ × List ℕ
+words_exit_of (Refused text) = (2, string_bytes text)
+words_exit_of Number = (2, line (codes "bad number"))
+words_exit_of Moment = (2, line (codes "bad moment"))
+words_exit_of NoWordMemory = (6, line (codes "out of memory"))
+
+-- status and text where the file of this word was opened
+abbrev pub framed_exit_of : List ℕ → Result End FrameError → ℕ × List ℕ
+framed_exit_of word (Ok Clean) = (0, [])
+framed_exit_of word (Ok (Cut at)) = (1, [])
+framed_exit_of word (Ok (Fault at)) = (1, [])
+framed_exit_of word (Err Read) = (4, cannot_read word)
+framed_exit_of word (Err TooLong) = (4, cannot_read word)
+framed_exit_of word (Err OutOfMemory) = (6, line (codes "out of memory"))
+framed_exit_of word (Err Write) = (7, line (codes "cannot write"))
+
+-- status and text of the command `frame`
+abbrev pub frame_exit : FrameOutcome → ℕ × List ℕ
+frame_exit (Words fault) = words_exit_of fault
+frame_exit (Unopened word) = (4, cannot_read word.now)
+frame_exit (Framed word answer) = framed_exit_of word.now answer
+
+-- a message's text
+abbrev pub message_text : Message → List ℕ
+message_text (Usage text) = string_bytes text
+message_text BadNumber = line (codes "bad number")
+message_text BadMoment = line (codes "bad moment")
+message_text (CannotRead word) = cannot_read word.now
+message_text NoMemory = line (codes "out of memory")
+message_text CannotWrite = line (codes "cannot write")
+
+-- what is said, if anything is
+abbrev pub words_of : Option Message → List ℕ
+words_of None = []
+words_of (Some message) = message_text message

@@ -1,0 +1,5 @@
+pub mod Exits
+pub mod Numbers
+pub mod Runs
+pub mod Text
+pub mod Words

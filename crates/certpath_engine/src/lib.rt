@@ -1,0 +1,19 @@
+//! The engine of the program `certpath`: its words, what its commands do, and the statuses that they end with.
+//!
+//! It runs over any reader and writer; the program itself only opens files and prints.
+#![tactic(auto)]
+
+mod exit;
+mod framing;
+mod number;
+mod text;
+mod words;
+
+pub use cert_framing::End;
+pub use exit::{Exit, FrameOutcome, Message, frame_status};
+pub use framing::{FrameError, MAX_READS, READ_SIZE, frame};
+pub use number::read_number;
+pub use words::{Command, WordFault, read_words};
+
+#[cfg(test)]
+mod tests;
