@@ -1,0 +1,60 @@
+#!/usr/bin/env python3
+"""Times the search for a path and the check of its answer on three kinds of graphs, each at n, 2n and 4n.
+
+`layered`: certificates in groups of a hundred, each linked to three groups, with a path of ten; n is 100,000.
+`equal`: a target and equal self-issued certificates, each linked to all of them; n is 20,000.
+`chain`: a chain whose path and table name every certificate; n is 5,000. Its table alone grows with the square of n.
+
+Prints medians of five: milliseconds of each call, and peak resident memory of the whole run with the making of the
+graph, at least that of this script (some 15 MB).
+To reach: from n to 4n at most 8 times the time and the memory in `layered` and `equal`, where less than a millisecond
+counts as one. Exit status 1 where that is missed.
+"""
+import os
+import re
+import statistics
+import subprocess
+import sys
+
+KINDS = [("layered", 100_000), ("equal", 20_000), ("chain", 5_000)]
+LINEAR = ("layered", "equal")
+RUNS = 5
+TOP = os.path.dirname(os.path.dirname(os.path.dirname(os.path.abspath(__file__))))
+CRATE = os.path.join(TOP, "crates", "judge_bench")
+PROGRAM = os.path.join(CRATE, "out", "judge_bench")
+
+
+def measured(kind, count):
+    """Runs one graph; gives what was found, milliseconds of the search and of the check, and peak resident octets."""
+    child = subprocess.Popen([PROGRAM, "timed", kind, str(count)], stdout=subprocess.PIPE, text=True)
+    text = child.stdout.read()
+    _, status, usage = os.wait4(child.pid, 0)
+    if status != 0:
+        sys.exit(f"{kind} {count} ended with status {status}")
+    said, times = text.splitlines()
+    if not said.endswith("check true"):
+        sys.exit(f"the check says no: {said}")
+    found, check = (int(it) / 1000 for it in re.findall(r"(\d+) us", times))
+    return said, found, check, usage.ru_maxrss * 1024
+
+
+def main():
+    if not os.path.exists(PROGRAM):
+        subprocess.run(["rt", "run"], cwd=CRATE, check=True, stdin=subprocess.DEVNULL)
+    missed = False
+    for kind, start in KINDS:
+        first = None
+        for count in (start, 2 * start, 4 * start):
+            runs = [measured(kind, count) for _ in range(RUNS)]
+            found, check, memory = (statistics.median(it[i] for it in runs) for i in (1, 2, 3))
+            print(f"{runs[0][0]}; find {found:.1f} ms, check {check:.1f} ms, peak {memory / 1e6:.0f} MB", flush=True)
+            now = (max(found, 1), max(check, 1), memory)
+            first = first or now
+        growth = [b / a for a, b in zip(first, now)]
+        print(f"{kind}, 4n to n: find {growth[0]:.1f}, check {growth[1]:.1f}, memory {growth[2]:.1f}", flush=True)
+        missed = missed or (kind in LINEAR and max(growth) > 8)
+    sys.exit(1 if missed else 0)
+
+
+if __name__ == "__main__":
+    main()

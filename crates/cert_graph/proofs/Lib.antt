@@ -1,0 +1,15 @@
+pub mod ReachFacts
+pub mod Tails
+pub mod True
+pub mod PathLaws
+pub mod Agreeing
+pub mod NodeLaws
+pub mod Checks
+pub mod NodeFacts
+pub mod Places
+pub mod GroupFacts
+pub mod TableFacts
+pub mod Filled
+pub mod EntryFacts
+pub mod Joined
+pub mod BuiltFacts

@@ -1,0 +1,7 @@
+use Rattle.std.proofs.Common.{map}
+use Rattle.cert_graph.specs.Lists.{AreFilled}
+use Rattle.cert_graph.specs.Entries.{BelongsTo}
+use Rattle.cert_graph.proofs.filling.members_of.Given as goal
+
+abbrev pub invariant-loop-position : goal.invariant-loop-position
+invariant-loop-position l = AreFilled (BelongsTo l.entries) l.groups l.position (map (λ x. x.items) l.lists.items)

@@ -1,0 +1,11 @@
+pub mod Reach
+pub mod Graph
+pub mod Adequate
+pub mod Laws
+pub mod Nodes
+pub mod LawsOfNodes
+pub mod Steps
+pub mod Groups
+pub mod Tables
+pub mod Lists
+pub mod Entries

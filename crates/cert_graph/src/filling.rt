@@ -1,0 +1,58 @@
+ghost use Rattle.std.specs.Prelude.{length, map, IfOk};
+ghost use Rattle.cert_graph.specs.Lists.{AreFilled};
+ghost use Rattle.cert_graph.specs.Entries.{BelongsTo, LinkedTo, AnchorIn};
+
+use crate::Entry;
+use crate::lists::{empty_lists, put};
+use std::alloc::{AllocError, Global};
+
+/// The entries of each group, by position.
+pub fn members_of(
+    alloc: Global,
+    entries: &[Entry],
+    groups: usize,
+) -> Result<Vec<Vec<usize>>, AllocError>
+    ensures { IfOk result (λ lists. AreFilled (BelongsTo entries.now) groups (length entries.now) (map (λ l. l.items) lists.items)) }
+{
+    let mut lists = empty_lists(alloc, groups)?;
+    for (position, entry) in entries.iter().enumerate() {
+        if let Some(group) = entry.group {
+            put(&mut lists, group, position)?;
+        }
+    }
+    Ok(lists)
+}
+
+/// The anchors of each group, by position.
+pub fn anchors_of(
+    alloc: Global,
+    anchors: &[Option<usize>],
+    groups: usize,
+) -> Result<Vec<Vec<usize>>, AllocError>
+    ensures { IfOk result (λ lists. AreFilled (AnchorIn anchors.now) groups (length anchors.now) (map (λ l. l.items) lists.items)) }
+{
+    let mut lists = empty_lists(alloc, groups)?;
+    for (position, anchor) in anchors.iter().enumerate() {
+        if let Some(group) = *anchor {
+            put(&mut lists, group, position)?;
+        }
+    }
+    Ok(lists)
+}
+
+/// The entries that are linked to each group, by position.
+pub fn issued_of(
+    alloc: Global,
+    entries: &[Entry],
+    groups: usize,
+) -> Result<Vec<Vec<usize>>, AllocError>
+    ensures { IfOk result (λ lists. AreFilled (LinkedTo entries.now) groups (length entries.now) (map (λ l. l.items) lists.items)) }
+{
+    let mut lists = empty_lists(alloc, groups)?;
+    for (position, entry) in entries.iter().enumerate() {
+        for group in &entry.links {
+            put(&mut lists, *group, position)?;
+        }
+    }
+    Ok(lists)
+}

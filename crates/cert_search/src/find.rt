@@ -1,0 +1,60 @@
+ghost use Rattle.std.specs.Prelude.{IfOk};
+ghost use Rattle.cert_graph.specs.Adequate.{IsAdequate, IsTrueAnswer};
+ghost use Rattle.cert_graph.specs.Nodes.{graph_of};
+ghost use Rattle.cert_search.specs.Exact.{HasExactRows, IsShort};
+ghost use Rattle.cert_search.specs.Found.{IsAlone, IsOneRow};
+
+use crate::least::least_anchor;
+use crate::rounds::{Found, rows_to};
+use crate::walk::first_path;
+use cert_graph::{Answer, Nodes, Reach, Table};
+use std::alloc::{AllocError, Global};
+
+/// The first valid path from a target, told by its position from 0, or that there is none, with the table that shows it.
+///
+/// The only refusal is want of memory.
+pub fn find_nodes(alloc: Global, nodes: &Nodes, target: usize) -> Result<Answer, AllocError>
+    ensures adequate { IfOk result (IsAdequate (graph_of nodes.now) target) }
+    ensures holds { IfOk result (IsTrueAnswer (graph_of nodes.now) target) }
+    ensures exact { IfOk result (HasExactRows (graph_of nodes.now)) }
+    ensures short { IfOk result (IsShort (graph_of nodes.now)) }
+{
+    if !nodes.is_certificate(target) {
+        return Ok(Answer::NoTarget);
+    }
+    if nodes.is_usable(target) {
+        if let Some(anchor) = least_anchor(nodes, target) {
+            return alone(alloc, target, anchor);
+        }
+    }
+    match rows_to(alloc, nodes, target)? {
+        Found::Opening(rows) => first_path(alloc, nodes, target, rows),
+        Found::Standing(row) => none(alloc, row),
+    }
+}
+
+/// The path of the target alone.
+fn alone(alloc: Global, target: usize, anchor: usize) -> Result<Answer, AllocError>
+    ensures { IfOk result (IsAlone target anchor) }
+{
+    let mut positions = Vec::with_capacity(alloc, 1)?;
+    positions.push(target)?;
+    Ok(Answer::Path {
+        positions,
+        anchor,
+        table: Table {
+            rows: Vec::new(alloc),
+        },
+    })
+}
+
+/// The answer that there is no path, with the one row that shows it.
+fn none(alloc: Global, row: Vec<Reach>) -> Result<Answer, AllocError>
+    ensures { IfOk result (IsOneRow row.items) }
+{
+    let mut rows = Vec::with_capacity(alloc, 1)?;
+    rows.push(row)?;
+    Ok(Answer::NoPath {
+        table: Table { rows },
+    })
+}

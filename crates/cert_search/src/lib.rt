@@ -1,0 +1,16 @@
+//! The search for the first valid certification path over a graph of certificates.
+//!
+//! `find_nodes` raises rows of reaches, each from the one before it, until a row gives the target a path or stands
+//! still. Where it gives one, a walk down the rows takes the least position at each step. The rows are the answer's
+//! table, by which `cert_graph::check_nodes` sees that the answer is true.
+#![tactic(auto)]
+
+mod find;
+mod least;
+mod offers;
+mod rounds;
+#[cfg(test)]
+mod tests;
+mod walk;
+
+pub use find::find_nodes;
