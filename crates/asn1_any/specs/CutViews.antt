@@ -1,0 +1,17 @@
+-- What the elements of a cut content say, for clauses of this crate and of those above it.
+use Rattle.std.specs.Prelude.{◌≡◌, List, map, length}
+use Rattle.asn1_core.specs.declared.length.Length.TheVariants.{Definite}
+use Rattle.asn1_core.specs.Views.{length_of}
+use Rattle.asn1_any.specs.declared.cut.Element.{Element}
+use Rattle.asn1_any.specs.Cutting.{Piece}
+use Rattle.asn1_any.specs.Views.{any_of}
+
+abbrev pub piece_of : Element → Piece
+piece_of element = record { octets = element.octets.now; element = any_of element.any }
+
+abbrev pub pieces_of : List Element → List Piece
+pieces_of elements = map piece_of elements
+
+-- the header tells the number of the content octets
+abbrev pub HasCountedContent : Element → Type 0
+HasCountedContent element = length_of element.any.header ≡ Definite (length element.any.content.now)

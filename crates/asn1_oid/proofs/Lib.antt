@@ -1,0 +1,9 @@
+pub mod Subidentifiers
+pub mod WrittenRead
+pub mod ReadWritten
+pub mod Steps
+pub mod SpelledComponents
+pub mod Joined
+pub mod TextOf
+pub mod Fronts
+pub mod ByOctets
