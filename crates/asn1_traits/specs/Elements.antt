@@ -1,0 +1,28 @@
+-- A value read from the element that begins the octets.
+use Rattle.std.specs.Prelude.{◌≡◌, ◌-◌, ℕ, List}
+use Rattle.asn1_core.specs.Elements.{Element}
+use Rattle.asn1_any.specs.DerElements.{BeginsWithElement}
+use Rattle.asn1_any.specs.BerElements.{BerElement, BeginsWithBerElement}
+use Rattle.asn1_any.specs.Reading.{element_of_ber}
+use Rattle.asn1_any.specs.declared.read.TheConstants.{MAX_RECURSION}
+use Rattle.asn1_any.proofs.DerLaws.{der_once}
+use Rattle.asn1_any.proofs.BerReading.{ber_once}
+
+-- an element of definite length begins the octets, and means the value
+pub record ReadsElement {V : Type 0} (means : Element → V → Type 0) (octets : List ℕ) (v : V) (rest : List ℕ) : Type 0 where
+  pub element : Element
+  pub begins : BeginsWithElement octets element rest
+  pub meant : means element v
+
+-- an element begins the octets by BER's rules, and means the value
+pub record ReadsBerElement {V : Type 0} (means : Element → V → Type 0) (octets : List ℕ) (v : V) (rest : List ℕ) : Type 0 where
+  pub element : BerElement
+  pub begins : BeginsWithBerElement (MAX_RECURSION - 1) octets element rest
+  pub meant : means (element_of_ber element) v
+
+-- the octets after a value are those after its element
+pub one_element_rest : {V : Type 0} (means : Element → V → Type 0) (octets : List ℕ) (v w : V) (r s : List ℕ) → ReadsElement means octets v r → ReadsElement means octets w s → r ≡ s
+one_element_rest means octets v w r s left right = (der_once octets r s left.element right.element left.begins right.begins).1
+
+pub one_ber_element_rest : {V : Type 0} (means : Element → V → Type 0) (octets : List ℕ) (v w : V) (r s : List ℕ) → ReadsBerElement means octets v r → ReadsBerElement means octets w s → r ≡ s
+one_ber_element_rest means octets v w r s left right = (ber_once (MAX_RECURSION - 1) octets r s left.element right.element left.begins right.begins).1

@@ -1,0 +1,16 @@
+pub mod Reads
+pub mod Elements
+pub mod Leaves
+pub mod Writes
+pub mod LeafLaws
+pub mod Booleans
+pub mod BooleanLaws
+pub mod Integers
+pub mod IntegerLaws
+pub mod Wholes
+pub mod Options
+pub mod OptionLaws
+pub mod Lists
+pub mod ListLaws
+pub mod Rounds
+pub mod AnyLaws

@@ -1,0 +1,33 @@
+//! Values one after the other, read by BER's rules.
+
+ghost use Rattle.asn1_traits.specs.Lists.{ReadsAll};
+
+use crate::read::{BerMeaning, FromBer};
+use asn1_core::{Err, Error, ErrorKind};
+use std::alloc::Global;
+
+/// The values of the octets, read by BER's rules to their end; refusals as of `read_items`.
+pub fn read_ber_items<'a, E: From<Error>, T: FromBer<'a, E> + BerMeaning + Drop>(
+    alloc: Global,
+    octets: &'a [u8],
+) -> Result<Vec<T>, Err<E>>
+    ensures { ReadsAll E.from_gives (λ v. v.items) T.ber_reads octets.now result }
+{
+    let mut items = Vec::new(alloc);
+    let mut rest = octets;
+    while !rest.is_empty() {
+        match T::from_ber(alloc, rest) {
+            Ok((after, item)) => {
+                if after.len() >= rest.len() {
+                    return Err(Err::from(Error::NomError(ErrorKind::Many0)));
+                }
+                match items.push(item) {
+                    Ok(()) => rest = after,
+                    Err(_) => return Err(Err::from(Error::OutOfMemory)),
+                }
+            }
+            Err(e) => return Err(e),
+        }
+    }
+    Ok(items)
+}

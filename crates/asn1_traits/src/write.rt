@@ -1,0 +1,185 @@
+//! Writing: the trait, and what every writer stands on.
+
+ghost use Rattle.std.specs.Prelude.{◌≡◌, ◌↔◌, ℕ, false, true, List, Option, Some, IsTrue, IfOk, IfErr, option_map, length};
+ghost use Rattle.asn1_core.specs.Elements.{Element};
+ghost use Rattle.asn1_core.specs.Strict.{strict_header};
+ghost use Rattle.asn1_core.specs.Views.{class_number};
+ghost use Rattle.asn1_traits.specs.Writes.{written, header_of, content_of, constructed_of, kind_of, kind_of_element, IsLong, Measures, Writes, NotEncoded};
+
+use asn1_core::{Class, Header, HeaderOctets, Length, SerializeError, SerializeResult, Tag};
+use asn1_device::{Sink, WriteSink, write_octets};
+use std::alloc::Global;
+
+/// What identifier octets say: class, constructed bit and tag number (X.690, 8.1.2).
+#[derive(Clone, Copy, Debug, PartialEq, Eq)]
+pub struct DerKind {
+    pub class: Class,
+    pub constructed: bool,
+    pub tag: Tag,
+}
+
+impl DerKind {
+    /// The primitive kind of a universal tag number.
+    pub fn primitive(tag: Tag) -> DerKind
+        ensures { result ≡ record { class = Class.Universal; constructed = false; tag = tag } }
+    {
+        DerKind {
+            class: Class::Universal,
+            constructed: false,
+            tag,
+        }
+    }
+
+    /// The constructed kind of a universal tag number.
+    pub fn constructed(tag: Tag) -> DerKind
+        ensures { result ≡ record { class = Class.Universal; constructed = true; tag = tag } }
+    {
+        DerKind {
+            class: Class::Universal,
+            constructed: true,
+            tag,
+        }
+    }
+
+    // The strict header before so many content octets.
+    fn header(&self, size: usize) -> HeaderOctets
+        ensures { result ≡ strict_header (record { class = class_number self.now.class; constructed = self.now.constructed; tag = self.now.tag.0; size = size }) }
+    {
+        let header = Header::new(
+            self.class,
+            self.constructed,
+            self.tag,
+            Length::Definite(size),
+        );
+        match header.strict_octets() {
+            Some(octets) => octets,
+            None => unreachable!(),
+        }
+    }
+}
+
+/// A type whose values are written by the rules of DER: as one element, or as nothing where a value is absent.
+///
+/// A type gives `in_der_form`, `der_kind`, `der_content_len` and `write_der_content`; the other calls follow.
+pub trait ToDer {
+    /// The value is in DER form: `from_der` reads what is written of it back.
+    ghost is_der: { Self → Type 0 };
+
+    /// The element that is written, or nothing of an absent value.
+    ghost element: { Self → Option Element };
+
+    /// Writing it may want memory.
+    ghost grows: { Self → Type 0 } = { λ _. ⊥ };
+
+    /// Whether the value is in DER form.
+    fn in_der_form(&self) -> bool
+        ensures { IsTrue result ↔ is_der self.now };
+
+    /// What the element's identifier octets say; none of an absent value.
+    fn der_kind(&self) -> Option<DerKind>
+        ensures { option_map kind_of result ≡ option_map kind_of_element (element self.now) };
+
+    /// How many content octets the element has, 0 of an absent value. `InvalidLength` where `usize` can't count them.
+    fn der_content_len(&self) -> SerializeResult<usize>
+        ensures { Measures (content_of (element self.now)) result };
+
+    /// Appends the content octets, and answers their number.
+    fn write_der_content<S: Sink>(&self, writer: &mut S) -> SerializeResult<usize>
+        ensures { Writes (S.contents writer.old) (S.contents writer.new) (S.failures writer.old) (S.failures writer.new)
+            (IsLong (content_of (element self.now))) (grows self.now) (is_der self.now → ⊥) (content_of (element self.now)) result };
+
+    /// Whether the element is constructed.
+    fn der_constructed(&self) -> bool
+        ensures { result ≡ constructed_of (element self.now) }
+    {
+        match self.der_kind() {
+            Some(kind) => kind.constructed,
+            None => false,
+        }
+    }
+
+    /// How many octets are written. `InvalidLength` where `usize` can't count them.
+    fn to_der_len(&self) -> SerializeResult<usize>
+        ensures { Measures (written (element self.now)) result }
+    {
+        match self.der_kind() {
+            Some(kind) => match self.der_content_len() {
+                Ok(content) => match kind.header(content).as_slice().len().checked_add(content) {
+                    Some(n) => Ok(n),
+                    None => Err(SerializeError::InvalidLength),
+                },
+                Err(e) => Err(e),
+            },
+            None => Ok(0),
+        }
+    }
+
+    /// Appends the strict header, and answers its number of octets.
+    fn write_der_header<S: Sink>(&self, writer: &mut S) -> SerializeResult<usize>
+        ensures { Writes (S.contents writer.old) (S.contents writer.new) (S.failures writer.old) (S.failures writer.new)
+            (IsLong (written (element self.now))) (grows self.now) (is_der self.now → ⊥) (header_of (element self.now)) result }
+    {
+        match self.der_kind() {
+            Some(kind) => match self.der_content_len() {
+                Ok(content) => write_all(writer, kind.header(content).as_slice()),
+                Err(e) => Err(e),
+            },
+            None => Ok(0),
+        }
+    }
+
+    /// Appends the element, and answers its number of octets.
+    ///
+    /// Refusals, each behind a front of the octets: `IOError` where the writer failed; `InvalidLength` where `usize` can't
+    /// count the octets; `OutOfMemory` only from values that hold a set; others only of values that aren't in DER form.
+    fn write_der<S: Sink>(&self, writer: &mut S) -> SerializeResult<usize>
+        ensures { Writes (S.contents writer.old) (S.contents writer.new) (S.failures writer.old) (S.failures writer.new)
+            (IsLong (written (element self.now))) (grows self.now) (is_der self.now → ⊥) (written (element self.now)) result }
+    {
+        let header = match self.write_der_header(writer) {
+            Ok(n) => n,
+            Err(e) => return Err(e),
+        };
+        let content = match self.write_der_content(writer) {
+            Ok(n) => n,
+            Err(e) => return Err(e),
+        };
+        match header.checked_add(content) {
+            Some(n) => Ok(n),
+            None => Err(SerializeError::InvalidLength),
+        }
+    }
+
+    /// The octets that are written. Refusals as of `write_der`, but a writer's failure: `OutOfMemory` where memory ran out.
+    final fn to_der_vec(&self, alloc: Global) -> SerializeResult<Vec<u8>>
+    where
+        Self: Sized,
+        ensures ok { IfOk result (λ v. v.items ≡ written (element self.now)) }
+        ensures err { IfErr result (NotEncoded (is_der self.now → ⊥) (written (element self.now))) }
+    {
+        encode(self, alloc)
+    }
+}
+
+// The octets that are written of the value.
+fn encode<T: ToDer>(value: &T, alloc: Global) -> SerializeResult<Vec<u8>>
+    ensures ok { IfOk result (λ v. v.items ≡ written (T.element value.now)) }
+    ensures err { IfErr result (NotEncoded (T.is_der value.now → ⊥) (written (T.element value.now))) }
+{
+    let mut sink = WriteSink::new(Vec::new(alloc));
+    match value.write_der(&mut sink) {
+        Ok(_) => Ok(sink.into_inner()),
+        Err(SerializeError::IOError) => Err(SerializeError::OutOfMemory),
+        Err(e) => Err(e),
+    }
+}
+
+/// Appends all of the octets, and answers their number. `IOError` where the writer failed, behind a front of them.
+pub fn write_all<S: Sink>(writer: &mut S, octets: &[u8]) -> SerializeResult<usize>
+    ensures { Writes (S.contents writer.old) (S.contents writer.new) (S.failures writer.old) (S.failures writer.new) ⊥ ⊥ ⊥ octets.now result }
+{
+    match write_octets(writer, octets) {
+        Ok(()) => Ok(octets.len()),
+        Err(_) => Err(SerializeError::IOError),
+    }
+}
