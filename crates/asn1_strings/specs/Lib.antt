@@ -1,0 +1,5 @@
+pub mod Charsets
+pub mod Texts
+pub mod CharsetLaws
+pub mod Wide
+pub mod WideLaws

@@ -1,0 +1,309 @@
+//! The character sets, and the string types of them (X.680, 41 and table 8).
+
+ghost use Rattle.std.specs.Prelude.{◌≡◌, IsUtf8};
+ghost use Rattle.std.proofs.Common.{lit<};
+ghost use Rattle.asn1_strings.specs.Charsets.{is_numeric, is_printable, is_below_80, is_visible};
+ghost use Rattle.asn1_strings.specs.CharsetLaws.{numeric_below_80, printable_below_80, below_80, visible_below_80};
+
+use crate::character_string::{CharacterString, OctetCharset, TestValidCharset};
+use asn1_core::{Error, Tag};
+use asn1_traits::Tagged;
+
+/// Tag 12, any characters.
+pub type Utf8String<'a> = CharacterString<'a, Utf8>;
+
+/// Tag 18, digits and space.
+pub type NumericString<'a> = CharacterString<'a, Numeric>;
+
+/// Tag 19, letters, digits, space ' ( ) + , - . / : = ?.
+pub type PrintableString<'a> = CharacterString<'a, Printable>;
+
+/// Tag 22, octets below 80 hex.
+pub type Ia5String<'a> = CharacterString<'a, Ia5>;
+
+/// Tag 26, octets 20 to 7e hex.
+pub type VisibleString<'a> = CharacterString<'a, Visible>;
+
+/// Tag 20, octets below 80 hex.
+pub type TeletexString<'a> = CharacterString<'a, Teletex>;
+
+/// Tag 21, octets below 80 hex.
+pub type VideotexString<'a> = CharacterString<'a, Videotex>;
+
+/// Tag 25, octets below 80 hex.
+pub type GraphicString<'a> = CharacterString<'a, Graphic>;
+
+/// Tag 27, octets below 80 hex.
+pub type GeneralString<'a> = CharacterString<'a, General>;
+
+/// Tag 7, octets below 80 hex.
+pub type ObjectDescriptor<'a> = CharacterString<'a, Descriptor>;
+
+/// The characters of a UTF8String: any.
+#[derive(Clone, Copy, Debug, PartialEq, Eq, Drop)]
+pub struct Utf8;
+
+impl Tagged for Utf8 {
+    const TAG: Tag = Tag(12);
+
+    ghost tag_number = { 12 };
+
+    fn own_tag() -> Tag {
+        Self::TAG
+    }
+}
+
+impl TestValidCharset for Utf8 {
+    ghost is_text = { IsUtf8 };
+
+    ghost low = { lit< tt };
+
+    ghost utf8 = { λ _ text. text };
+
+    fn test_valid_charset(octets: &[u8]) -> Result<(), Error> {
+        match str::from_utf8(octets) {
+            Ok(_) => Ok(()),
+            Err(_) => Err(Error::StringInvalidCharset),
+        }
+    }
+}
+
+/// The characters of a NumericString: digits and space.
+#[derive(Clone, Copy, Debug, PartialEq, Eq, Drop)]
+pub struct Numeric;
+
+impl Tagged for Numeric {
+    const TAG: Tag = Tag(18);
+
+    ghost tag_number = { 18 };
+
+    fn own_tag() -> Tag {
+        Self::TAG
+    }
+}
+
+impl OctetCharset for Numeric {
+    ghost has_octet = { is_numeric };
+
+    ghost low_tag = { lit< tt };
+
+    ghost ascii = { numeric_below_80 };
+
+    fn has(octet: u8) -> bool {
+        octet.is_ascii_digit() || octet == b' '
+    }
+}
+
+/// The characters of a PrintableString: letters, digits, space ' ( ) + , - . / : = ?.
+#[derive(Clone, Copy, Debug, PartialEq, Eq, Drop)]
+pub struct Printable;
+
+impl Tagged for Printable {
+    const TAG: Tag = Tag(19);
+
+    ghost tag_number = { 19 };
+
+    fn own_tag() -> Tag {
+        Self::TAG
+    }
+}
+
+impl OctetCharset for Printable {
+    ghost has_octet = { is_printable };
+
+    ghost low_tag = { lit< tt };
+
+    ghost ascii = { printable_below_80 };
+
+    fn has(octet: u8) -> bool {
+        octet.is_ascii_alphanumeric()
+            || octet == b' '
+            || (octet >= b'\'' && octet <= b')')
+            || (octet >= b'+' && octet <= b'/')
+            || octet == b':'
+            || octet == b'='
+            || octet == b'?'
+    }
+}
+
+/// The characters of an IA5String: octets below 80 hex.
+#[derive(Clone, Copy, Debug, PartialEq, Eq, Drop)]
+pub struct Ia5;
+
+impl Tagged for Ia5 {
+    const TAG: Tag = Tag(22);
+
+    ghost tag_number = { 22 };
+
+    fn own_tag() -> Tag {
+        Self::TAG
+    }
+}
+
+impl OctetCharset for Ia5 {
+    ghost has_octet = { is_below_80 };
+
+    ghost low_tag = { lit< tt };
+
+    ghost ascii = { below_80 };
+
+    fn has(octet: u8) -> bool {
+        octet < 0x80
+    }
+}
+
+/// The characters of a VisibleString: 20 to 7e hex.
+#[derive(Clone, Copy, Debug, PartialEq, Eq, Drop)]
+pub struct Visible;
+
+impl Tagged for Visible {
+    const TAG: Tag = Tag(26);
+
+    ghost tag_number = { 26 };
+
+    fn own_tag() -> Tag {
+        Self::TAG
+    }
+}
+
+impl OctetCharset for Visible {
+    ghost has_octet = { is_visible };
+
+    ghost low_tag = { lit< tt };
+
+    ghost ascii = { visible_below_80 };
+
+    fn has(octet: u8) -> bool {
+        octet >= 0x20 && octet <= 0x7e
+    }
+}
+
+/// The characters of a TeletexString that are taken: octets below 80 hex.
+#[derive(Clone, Copy, Debug, PartialEq, Eq, Drop)]
+pub struct Teletex;
+
+impl Tagged for Teletex {
+    const TAG: Tag = Tag(20);
+
+    ghost tag_number = { 20 };
+
+    fn own_tag() -> Tag {
+        Self::TAG
+    }
+}
+
+impl OctetCharset for Teletex {
+    ghost has_octet = { is_below_80 };
+
+    ghost low_tag = { lit< tt };
+
+    ghost ascii = { below_80 };
+
+    fn has(octet: u8) -> bool {
+        octet < 0x80
+    }
+}
+
+/// The characters of a VideotexString that are taken: octets below 80 hex.
+#[derive(Clone, Copy, Debug, PartialEq, Eq, Drop)]
+pub struct Videotex;
+
+impl Tagged for Videotex {
+    const TAG: Tag = Tag(21);
+
+    ghost tag_number = { 21 };
+
+    fn own_tag() -> Tag {
+        Self::TAG
+    }
+}
+
+impl OctetCharset for Videotex {
+    ghost has_octet = { is_below_80 };
+
+    ghost low_tag = { lit< tt };
+
+    ghost ascii = { below_80 };
+
+    fn has(octet: u8) -> bool {
+        octet < 0x80
+    }
+}
+
+/// The characters of a GraphicString that are taken: octets below 80 hex.
+#[derive(Clone, Copy, Debug, PartialEq, Eq, Drop)]
+pub struct Graphic;
+
+impl Tagged for Graphic {
+    const TAG: Tag = Tag(25);
+
+    ghost tag_number = { 25 };
+
+    fn own_tag() -> Tag {
+        Self::TAG
+    }
+}
+
+impl OctetCharset for Graphic {
+    ghost has_octet = { is_below_80 };
+
+    ghost low_tag = { lit< tt };
+
+    ghost ascii = { below_80 };
+
+    fn has(octet: u8) -> bool {
+        octet < 0x80
+    }
+}
+
+/// The characters of a GeneralString that are taken: octets below 80 hex.
+#[derive(Clone, Copy, Debug, PartialEq, Eq, Drop)]
+pub struct General;
+
+impl Tagged for General {
+    const TAG: Tag = Tag(27);
+
+    ghost tag_number = { 27 };
+
+    fn own_tag() -> Tag {
+        Self::TAG
+    }
+}
+
+impl OctetCharset for General {
+    ghost has_octet = { is_below_80 };
+
+    ghost low_tag = { lit< tt };
+
+    ghost ascii = { below_80 };
+
+    fn has(octet: u8) -> bool {
+        octet < 0x80
+    }
+}
+
+/// The characters of an ObjectDescriptor that are taken: octets below 80 hex.
+#[derive(Clone, Copy, Debug, PartialEq, Eq, Drop)]
+pub struct Descriptor;
+
+impl Tagged for Descriptor {
+    const TAG: Tag = Tag(7);
+
+    ghost tag_number = { 7 };
+
+    fn own_tag() -> Tag {
+        Self::TAG
+    }
+}
+
+impl OctetCharset for Descriptor {
+    ghost has_octet = { is_below_80 };
+
+    ghost low_tag = { lit< tt };
+
+    ghost ascii = { below_80 };
+
+    fn has(octet: u8) -> bool {
+        octet < 0x80
+    }
+}

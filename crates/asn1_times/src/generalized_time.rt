@@ -1,0 +1,145 @@
+//! GeneralizedTime (X.680, 46; X.690, 11.7).
+
+ghost use Rattle.std.specs.Prelude.{◌≡◌, ◌↔◌, ◌≤◌, IsTrue, length};
+ghost use Rattle.std.proofs.Common.{lit<};
+ghost use Rattle.asn1_traits.specs.Leaves.{ReadsContent};
+ghost use Rattle.asn1_times.specs.Fields.{IsFraction};
+ghost use Rattle.asn1_times.specs.GeneralizedTimes.{HasFields, IsGeneralizedTime, HasSecondsAndZ, GeneralizedMeans, generalized_octets};
+ghost use Rattle.asn1_times.specs.GeneralizedLaws.{generalized_fits, generalized_same};
+
+use crate::datetime::{ASN1DateTime, ASN1TimeZone};
+use crate::reading::generalized_of;
+use crate::writing::{Octets, push_pair, push_time};
+use arrayvec::ArrayVec;
+use asn1_core::{DerConstraint, Error, SerializeResult, Tag};
+use asn1_device::Sink;
+use asn1_traits::{DerLeaf, FromLeaf, Tagged, write_all};
+use std::alloc::Global;
+
+/// A GeneralizedTime: a date and time with its whole year, to the minute, the second or the thousandth of one.
+#[derive(Clone, Copy, Debug, PartialEq, Eq, PartialOrd, Ord)]
+pub struct GeneralizedTime(pub ASN1DateTime);
+
+impl GeneralizedTime {
+    /// The GeneralizedTime of these fields. They are in DER form where the year is below 10000, the month from 1 to 12, the
+    /// day from 1 to 31, the time of day from 00:00:00 to 23:59:59, the fraction none or from 1 to 999 thousandths, and the
+    /// zone is Z.
+    pub fn new(datetime: ASN1DateTime) -> GeneralizedTime
+        ensures { result.0 ≡ datetime }
+    {
+        GeneralizedTime(datetime)
+    }
+
+    /// The GeneralizedTime of content octets, by the rules of BER: YYYYMMDDHHMM, then SS and behind it none or a point and one
+    /// to three digits, the last not 0, or nothing; then Z, an offset +hhmm or -hhmm, or no zone. Each field is in range
+    /// (X.680, 46.3). Seconds that aren't told are 0. Whether the month has the day isn't asked. `InvalidValue` of other octets.
+    pub fn from_bytes(octets: &[u8]) -> Result<GeneralizedTime, Error>
+        ensures { ReadsContent (λ content v. GeneralizedMeans content v.0) octets.now result }
+    {
+        let Some(time) = generalized_of(octets) else {
+            return Err(Error::InvalidValue {
+                tag: Self::TAG,
+                msg: "malformed time string",
+            });
+        };
+        if !has_fields(&time) {
+            return Err(Error::InvalidValue {
+                tag: Self::TAG,
+                msg: "time components with invalid values",
+            });
+        }
+        Ok(GeneralizedTime(time))
+    }
+}
+
+impl Tagged for GeneralizedTime {
+    const TAG: Tag = Tag(24);
+
+    ghost tag_number = { 24 };
+
+    fn own_tag() -> Tag {
+        Self::TAG
+    }
+}
+
+impl DerLeaf for GeneralizedTime {
+    ghost content_means = { λ content v. GeneralizedMeans content v.0 };
+
+    ghost content_allowed = { HasSecondsAndZ };
+
+    ghost leaf_form = { λ v. IsGeneralizedTime v.0 };
+
+    ghost content = { λ v. generalized_octets v.0 };
+
+    ghost low = { lit< tt };
+
+    ghost fits = { λ v form. generalized_fits v.0 form };
+
+    ghost same = { λ v w form read. generalized_same v.0 w.0 form read };
+
+    fn check_content(octets: &[u8]) -> Result<(), Error> {
+        match octets.split_last() {
+            Some((end, front)) if *end == b'Z' => {
+                if front.len() >= 14 {
+                    Ok(())
+                } else {
+                    Err(Error::DerConstraintFailed(DerConstraint::MissingSeconds))
+                }
+            }
+            _ => Err(Error::DerConstraintFailed(DerConstraint::MissingTimeZone)),
+        }
+    }
+
+    fn leaf_in_form(&self) -> bool {
+        is_generalized_time(&self.0)
+    }
+
+    fn leaf_len(&self) -> SerializeResult<usize> {
+        Ok(octets_of(&self.0).len())
+    }
+
+    fn write_leaf<S: Sink>(&self, writer: &mut S) -> SerializeResult<usize> {
+        write_all(writer, octets_of(&self.0).as_slice())
+    }
+}
+
+impl<'a> FromLeaf<'a> for GeneralizedTime {
+    fn from_content(_alloc: Global, octets: &'a [u8]) -> Result<GeneralizedTime, Error> {
+        GeneralizedTime::from_bytes(octets)
+    }
+}
+
+// Whether a GeneralizedTime can have the fields.
+fn has_fields(time: &ASN1DateTime) -> bool
+    ensures { IsTrue result ↔ HasFields time.now }
+{
+    time.year < 10000 && time.is_clock() && is_fraction(time.millisecond) && time.tz.is_in_range()
+}
+
+// Whether a GeneralizedTime of DER can have the fields.
+fn is_generalized_time(time: &ASN1DateTime) -> bool
+    ensures { IsTrue result ↔ IsGeneralizedTime time.now }
+{
+    has_fields(time) && matches!(time.tz, ASN1TimeZone::Z)
+}
+
+// Whether a fraction is none, or more than 0 and less than a second.
+fn is_fraction(millisecond: Option<u16>) -> bool
+    ensures { IsTrue result ↔ IsFraction millisecond }
+{
+    match millisecond {
+        None => true,
+        Some(number) => 1 <= number && number <= 999,
+    }
+}
+
+// The content octets that are written.
+fn octets_of(time: &ASN1DateTime) -> Octets
+    ensures { result.items ≡ generalized_octets time.now }
+{
+    let mut out = ArrayVec::new();
+    push_pair(&mut out, time.year / 100);
+    push_pair(&mut out, time.year);
+    push_time(&mut out, time);
+    out
+}

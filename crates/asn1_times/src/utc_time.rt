@@ -1,0 +1,115 @@
+//! UTCTime (X.680, 47; X.690, 11.8).
+
+ghost use Rattle.std.specs.Prelude.{◌≡◌, ◌↔◌, ◌≤◌, IsTrue, length};
+ghost use Rattle.std.proofs.Common.{lit<};
+ghost use Rattle.asn1_traits.specs.Leaves.{ReadsContent};
+ghost use Rattle.asn1_times.specs.UtcTimes.{IsUtcTime, UtcMeans, utc_octets};
+ghost use Rattle.asn1_times.specs.UtcLaws.{utc_means, utc_same};
+
+use crate::datetime::ASN1DateTime;
+use crate::reading::utc_of;
+use crate::writing::{Octets, push_pair, push_time};
+use arrayvec::ArrayVec;
+use asn1_core::{Error, SerializeResult, Tag};
+use asn1_device::Sink;
+use asn1_traits::{DerLeaf, FromLeaf, Tagged, write_all};
+use std::alloc::Global;
+
+/// A UTCTime: a date and time with the last two digits of its year, to the second or to the minute.
+#[derive(Clone, Copy, Debug, PartialEq, Eq, PartialOrd, Ord)]
+pub struct UtcTime(pub ASN1DateTime);
+
+impl UtcTime {
+    /// The UTCTime of these fields. They are in DER form where the year is below 100, the month from 1 to 12, the day from 1
+    /// to 31, the time of day from 00:00:00 to 23:59:59, no fraction is told, and the zone is Z or an offset in range.
+    pub fn new(datetime: ASN1DateTime) -> UtcTime
+        ensures { result.0 ≡ datetime }
+    {
+        UtcTime(datetime)
+    }
+
+    /// The UTCTime of content octets: YYMMDDHHMM, SS or none, and Z or an offset +hhmm or -hhmm, each field in range
+    /// (X.680, 47.3). Seconds that aren't told are 0. Whether the month has the day isn't asked. `InvalidValue` of other octets.
+    pub fn from_bytes(octets: &[u8]) -> Result<UtcTime, Error>
+        ensures { ReadsContent (λ content v. UtcMeans content v.0) octets.now result }
+    {
+        let Some(time) = utc_of(octets) else {
+            return Err(Error::InvalidValue {
+                tag: Self::TAG,
+                msg: "malformed time string",
+            });
+        };
+        if !is_utc_time(&time) {
+            return Err(Error::InvalidValue {
+                tag: Self::TAG,
+                msg: "time components with invalid values",
+            });
+        }
+        Ok(UtcTime(time))
+    }
+}
+
+impl Tagged for UtcTime {
+    const TAG: Tag = Tag(23);
+
+    ghost tag_number = { 23 };
+
+    fn own_tag() -> Tag {
+        Self::TAG
+    }
+}
+
+impl DerLeaf for UtcTime {
+    ghost content_means = { λ content v. UtcMeans content v.0 };
+
+    ghost content_allowed = { λ _. Unit {0} };
+
+    ghost leaf_form = { λ v. IsUtcTime v.0 };
+
+    ghost content = { λ v. utc_octets v.0 };
+
+    ghost low = { lit< tt };
+
+    ghost fits = { λ v form. (tt, utc_means v.0 form) };
+
+    ghost same = { λ v w form read. utc_same v.0 w.0 form read };
+
+    fn check_content(_octets: &[u8]) -> Result<(), Error> {
+        Ok(())
+    }
+
+    fn leaf_in_form(&self) -> bool {
+        is_utc_time(&self.0)
+    }
+
+    fn leaf_len(&self) -> SerializeResult<usize> {
+        Ok(octets_of(&self.0).len())
+    }
+
+    fn write_leaf<S: Sink>(&self, writer: &mut S) -> SerializeResult<usize> {
+        write_all(writer, octets_of(&self.0).as_slice())
+    }
+}
+
+impl<'a> FromLeaf<'a> for UtcTime {
+    fn from_content(_alloc: Global, octets: &'a [u8]) -> Result<UtcTime, Error> {
+        UtcTime::from_bytes(octets)
+    }
+}
+
+// Whether a UTCTime can have the fields.
+fn is_utc_time(time: &ASN1DateTime) -> bool
+    ensures { IsTrue result ↔ IsUtcTime time.now }
+{
+    time.year < 100 && time.is_clock() && time.millisecond.is_none() && time.tz.is_told()
+}
+
+// The content octets that are written.
+fn octets_of(time: &ASN1DateTime) -> Octets
+    ensures { result.items ≡ utc_octets time.now }
+{
+    let mut out = ArrayVec::new();
+    push_pair(&mut out, time.year);
+    push_time(&mut out, time);
+    out
+}

@@ -1,0 +1,5 @@
+pub mod Bits
+pub mod BitLaws
+pub mod BooleanLaws
+pub mod Numbers
+pub mod Contents

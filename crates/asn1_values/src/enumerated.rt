@@ -1,0 +1,59 @@
+//! `Enumerated` (X.690, 8.4).
+
+ghost use Rattle.std.specs.Prelude.{◌≡◌, pos};
+ghost use Rattle.std.proofs.Common.{lit<, lit≤};
+ghost use Rattle.asn1_traits.specs.Integers.{IsUnsigned};
+ghost use Rattle.asn1_traits.specs.IntegerLaws.{unsigned_small};
+
+use asn1_core::{Error, Tag};
+use asn1_traits::{DerInteger, Tagged, Whole};
+
+/// An enumerated value: its number, which is read and written as that of an INTEGER.
+#[derive(Clone, Copy, Debug, PartialEq, Eq)]
+pub struct Enumerated(pub u32);
+
+impl Enumerated {
+    /// The value of this number.
+    pub fn new(value: u32) -> Enumerated
+        ensures { result.0 ≡ value }
+    {
+        Enumerated(value)
+    }
+}
+
+impl Tagged for Enumerated {
+    const TAG: Tag = Tag(10);
+
+    ghost tag_number = { 10 };
+
+    fn own_tag() -> Tag {
+        Self::TAG
+    }
+}
+
+impl DerInteger for Enumerated {
+    ghost number = { λ v. pos v.0 };
+
+    ghost in_range = { IsUnsigned 32 };
+
+    ghost low = { lit< tt };
+
+    ghost small = { unsigned_small 32 (lit≤ tt) };
+
+    fn to_whole(&self) -> Whole {
+        Whole {
+            negative: false,
+            size: u128::from(self.0),
+        }
+    }
+
+    fn from_whole(whole: Whole) -> Result<Enumerated, Error> {
+        if whole.negative {
+            return Err(Error::IntegerNegative);
+        }
+        match u32::try_from(whole.size) {
+            Ok(number) => Ok(Enumerated(number)),
+            Err(_) => Err(Error::IntegerTooLarge),
+        }
+    }
+}
