@@ -1,0 +1,180 @@
+//! `Sequence`, a sequence that keeps its content (X.690, 8.9).
+
+ghost use Rattle.std.specs.Prelude.{◌≡◌, ◌↔◌, Some, IsTrue};
+ghost use Rattle.std.proofs.Common.{lit<, refl};
+ghost use Rattle.asn1_any.specs.Views.{any_of};
+ghost use Rattle.asn1_traits.specs.Reads.{Checks};
+ghost use Rattle.asn1_traits.specs.Lists.{ReadsAll};
+ghost use Rattle.asn1_lists.specs.Containers.{container, HoldsContent};
+ghost use Rattle.asn1_lists.specs.ContainerLaws.{container_one, container_back, container_same};
+
+use crate::iterator::SequenceIterator;
+use crate::parser::{BerParser, DerParser};
+use asn1_any::Any;
+use asn1_core::{Err, Error, IResult, SerializeResult, Tag};
+use asn1_device::Sink;
+use asn1_traits::{
+    AnyMeaning, BerMeaning, CheckDerConstraints, DerAutoDerive, DerElement, DerKind, DerMeaning,
+    FromAny, FromBer, FromDer, Tagged, TaggedElement, ToDer, check_container, read_ber_items,
+    read_items, write_all,
+};
+use std::alloc::Global;
+
+/// A sequence and its content octets, a window of the octets that were read. Nothing is asked of the content.
+#[derive(Clone, Copy, Debug, PartialEq, Eq)]
+pub struct Sequence<'a> {
+    /// The content octets.
+    pub content: &'a [u8],
+}
+
+impl<'a> Sequence<'a> {
+    /// A sequence of this content.
+    pub fn new(content: &'a [u8]) -> Sequence<'a>
+        ensures { result.content ≡ content.entry }
+    {
+        Sequence { content }
+    }
+
+    /// The content octets.
+    pub fn as_ref(&self) -> &'a [u8]
+        ensures { result ≡ self.now.content }
+    {
+        self.content
+    }
+
+    /// The content octets.
+    pub fn into_content(self) -> &'a [u8]
+        ensures { result ≡ self.entry.content }
+    {
+        self.content
+    }
+
+    /// What the reader answers of the content; the octets that it leaves are the rest of the answer.
+    pub fn and_then<T, E, F: FnOnce(&'a [u8]) -> IResult<&'a [u8], T, E>>(
+        self,
+        op: F,
+    ) -> IResult<&'a [u8], T, E>
+        requires { F.IsAlwaysCallable op }
+        ensures { F.post op self.entry.content result }
+    {
+        op(self.content)
+    }
+
+    /// The same, of a sequence that is kept.
+    pub fn parse<T, E, F: FnOnce(&'a [u8]) -> IResult<&'a [u8], T, E>>(
+        &self,
+        f: F,
+    ) -> IResult<&'a [u8], T, E>
+        requires { F.IsAlwaysCallable f }
+        ensures { F.post f self.now.content result }
+    {
+        f(self.content)
+    }
+
+    /// The values of the content one after the other, by BER's rules.
+    pub fn ber_iter<T, E>(&self, alloc: Global) -> SequenceIterator<'a, T, BerParser, E>
+        ensures { result ≡ self.now.content.now }
+    {
+        SequenceIterator::new(alloc, self.content)
+    }
+
+    /// The values of the content one after the other, by DER's rules.
+    pub fn der_iter<T, E>(&self, alloc: Global) -> SequenceIterator<'a, T, DerParser, E>
+        ensures { result ≡ self.now.content.now }
+    {
+        SequenceIterator::new(alloc, self.content)
+    }
+
+    /// All values of the content, by BER's rules; refusals as of `read_items`.
+    pub fn ber_sequence_of<E: From<Error>, T: FromBer<'a, E> + BerMeaning + Drop>(
+        &self,
+        alloc: Global,
+    ) -> Result<Vec<T>, Err<E>>
+        ensures { ReadsAll E.from_gives (λ v. v.items) T.ber_reads self.now.content.now result }
+    {
+        read_ber_items(alloc, self.content)
+    }
+
+    /// All values of the content, by DER's rules; refusals as of `read_items`.
+    pub fn der_sequence_of<E: From<Error>, T: FromDer<'a, E> + DerMeaning + Drop>(
+        &self,
+        alloc: Global,
+    ) -> Result<Vec<T>, Err<E>>
+        ensures { ReadsAll E.from_gives (λ v. v.items) T.der_reads self.now.content.now result }
+    {
+        read_items(alloc, self.content)
+    }
+}
+
+impl<'b> Tagged for Sequence<'b> {
+    const TAG: Tag = Tag(16);
+
+    ghost tag_number = { 16 };
+
+    fn own_tag() -> Tag
+        ensures { result.0 ≡ 16 }
+    {
+        Self::TAG
+    }
+}
+
+impl<'b> AnyMeaning for Sequence<'b> {
+    ghost means = { HoldsContent 16 (λ v. v.content.now) };
+}
+
+impl<'b, E: From<Error>> FromAny<'b, E> for Sequence<'b> {
+    fn try_from_any(_alloc: Global, any: Any<'b>) -> Result<Sequence<'b>, Err<E>> {
+        match check_container(&any, Tag(16)) {
+            Ok(()) => Ok(Sequence {
+                content: any.content,
+            }),
+            Err(e) => Err(Err::from(e)),
+        }
+    }
+}
+
+impl<'b> CheckDerConstraints for Sequence<'b> {
+    ghost der_allows = { λ _. Unit {0} };
+
+    fn check_constraints(_any: &Any<'_>) -> Result<(), Error>
+        ensures { Checks (λ _. Unit {0}) (any_of _any.now) result }
+    {
+        Ok(())
+    }
+}
+
+impl<'b> DerAutoDerive for Sequence<'b> {}
+
+impl<'b> ToDer for Sequence<'b> {
+    ghost is_der = { λ _. Unit {0} };
+
+    ghost element = { λ v. Some (container 16 v.content.now) };
+
+    fn in_der_form(&self) -> bool {
+        true
+    }
+
+    fn der_kind(&self) -> Option<DerKind> {
+        Some(DerKind::constructed(Tag(16)))
+    }
+
+    fn der_content_len(&self) -> SerializeResult<usize> {
+        Ok(self.content.len())
+    }
+
+    fn write_der_content<S: Sink>(&self, writer: &mut S) -> SerializeResult<usize> {
+        write_all(writer, self.content)
+    }
+}
+
+impl<'b> DerElement for Sequence<'b> {
+    ghost one_element = { λ v _. container_one 16 v.content.now (lit< tt) };
+
+    ghost reads_back = { λ v rest _ short. container_back 16 (lit< tt) (λ x. x.content.now) v rest short };
+
+    ghost same_back = { λ v w rest r _ short read. container_same 16 (lit< tt) (λ x. x.content.now) v w rest r short read };
+}
+
+impl<'b> TaggedElement for Sequence<'b> {
+    ghost has_tag = { λ _ _. refl };
+}

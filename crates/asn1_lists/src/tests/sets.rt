@@ -1,0 +1,132 @@
+//! The order in which a `SetOf` is written.
+
+use super::{back_again, ber_written_again, is_optional, written_again};
+use crate::SetOf;
+use asn1_core::{Error, SerializeError};
+use asn1_device::WriteSink;
+use asn1_traits::ToDer;
+use std::io::{self, Write};
+use std::test::Fail;
+
+#[test]
+fn octet_strings_in_ascending_order(rt: HostRuntime) -> Result<(), Fail> {
+    let (one, two) = ([1u8], [2u8]);
+    let mut values = SetOf::new(rt.alloc());
+    assert_eq!(rt; values.is_empty(), true);
+    values.push(two.as_slice())?;
+    values.push(one.as_slice())?;
+    assert_eq!(rt; values.is_empty(), false);
+    assert_eq!(rt; values.len(), 2);
+    let want = [0x31, 6, 4, 1, 1, 4, 1, 2];
+    assert_eq!(rt; values.in_der_form(), true);
+    assert_eq!(rt; values.to_der_len(), Ok(8));
+    let written = values.to_der_vec(rt.alloc())?;
+    assert_eq!(rt; written.as_slice(), want.as_slice());
+    assert_eq!(rt; values.as_slice()[0], two.as_slice());
+    let mut others = SetOf::new(rt.alloc());
+    others.push(one.as_slice())?;
+    others.push(two.as_slice())?;
+    let written = others.to_der_vec(rt.alloc())?;
+    assert_eq!(rt; written.as_slice(), want.as_slice());
+    Ok(())
+}
+
+#[test]
+fn values_are_kept_as_pushed(rt: HostRuntime) -> Result<(), Fail> {
+    let mut values = SetOf::new(rt.alloc());
+    values.push(9u32)?;
+    values.push(7)?;
+    assert_eq!(rt; values.as_ref(), [9, 7].as_slice());
+    assert_eq!(rt; values.iter().next(), Some(&9));
+    let held = values.into_vec();
+    assert_eq!(rt; held.as_slice(), [9, 7].as_slice());
+    let values = SetOf::from_vec(held);
+    assert_eq!(rt; values.as_slice(), [9, 7].as_slice());
+    Ok(())
+}
+
+#[test]
+fn sets_of_values(rt: HostRuntime) -> Result<(), Fail> {
+    let alloc = rt.alloc();
+    written_again::<_, SetOf<u32>>(&rt, alloc, &[0x31, 0], 0, &[0x31, 0])?;
+    written_again::<_, SetOf<u32>>(&rt, alloc, &[0x31, 3, 2, 1, 7], 0, &[0x31, 3, 2, 1, 7])?;
+    let octets = [0x31, 13, 2, 1, 9, 2, 2, 1, 0, 2, 1, 7, 2, 1, 9, 5];
+    let strict = [0x31, 13, 2, 1, 7, 2, 1, 9, 2, 1, 9, 2, 2, 1, 0];
+    written_again::<_, SetOf<u32>>(&rt, alloc, &octets, 1, &strict)?;
+    let octets = [0x31, 0x80, 2, 1, 9, 2, 3, 0, 1, 0, 2, 1, 7, 2, 1, 9, 0, 0];
+    ber_written_again::<_, SetOf<u32>>(&rt, alloc, &octets, 0, &strict)?;
+    back_again::<_, SetOf<u32>>(&rt, alloc, &strict, &strict)?;
+    is_optional::<_, SetOf<u32>>(&rt, alloc, &[0x31, 0], true)?;
+    is_optional::<_, SetOf<u32>>(&rt, alloc, &[0x30, 0], false)
+}
+
+#[test]
+fn sets_within_sets(rt: HostRuntime) -> Result<(), Fail> {
+    let octets = [0x31, 11, 0x31, 6, 2, 1, 2, 2, 1, 1, 0x31, 1, 5];
+    assert_eq!(rt;
+        super::der_refusal::<Error, SetOf<SetOf<u32>>>(rt.alloc(), &octets).is_some(),
+        true
+    );
+    let octets = [0x31, 10, 0x31, 6, 2, 1, 2, 2, 1, 1, 0x31, 0];
+    let strict = [0x31, 10, 0x31, 0, 0x31, 6, 2, 1, 1, 2, 1, 2];
+    written_again::<_, SetOf<SetOf<u32>>>(&rt, rt.alloc(), &octets, 0, &strict)
+}
+
+#[test]
+fn more_than_twenty_values(rt: HostRuntime) -> Result<(), Fail> {
+    let mut values = SetOf::new(rt.alloc());
+    for value in 0..40u8 {
+        values.push(99 - value)?;
+    }
+    let written = values.to_der_vec(rt.alloc())?;
+    assert_eq!(rt; written.len(), 122);
+    assert_eq!(rt; &written.as_slice()[..5], [0x31, 120, 2, 1, 60].as_slice());
+    assert_eq!(rt; &written.as_slice()[119..], [2, 1, 99].as_slice());
+    Ok(())
+}
+
+// Takes one octet at a time, and so many of them.
+#[derive(Drop)]
+struct Narrow {
+    room: usize,
+    taken: Vec<u8>,
+}
+
+impl Write for Narrow {
+    fn write(&mut self, octets: &[u8]) -> Result<usize, io::Error> {
+        if self.room == 0 || octets.is_empty() {
+            return Ok(0);
+        }
+        self.room -= 1;
+        self.taken.extend_from_slice(&octets[..1])?;
+        Ok(1)
+    }
+
+    fn flush(&mut self) -> Result<(), io::Error> {
+        Ok(())
+    }
+}
+
+#[test]
+fn a_failed_write_leaves_a_front(rt: HostRuntime) -> Result<(), Fail> {
+    let mut values = SetOf::new(rt.alloc());
+    values.push(300u32)?;
+    values.push(1)?;
+    let octets = [0x31, 7, 2, 1, 1, 2, 2, 1, 0x2c];
+    for room in 0..10 {
+        let mut sink = WriteSink::new(Narrow {
+            room,
+            taken: Vec::new(rt.alloc()),
+        });
+        let answer = values.write_der(&mut sink);
+        let device = sink.into_inner();
+        if room < 9 {
+            assert_eq!(rt; answer, Err(SerializeError::IOError));
+            assert_eq!(rt; device.taken.as_slice(), &octets[..room]);
+        } else {
+            assert_eq!(rt; answer, Ok(9));
+            assert_eq!(rt; device.taken.as_slice(), octets.as_slice());
+        }
+    }
+    Ok(())
+}

@@ -1,0 +1,107 @@
+//! Parsers of optional elements: header and content are handed to a closure.
+
+ghost use Rattle.std.specs.Prelude.{◌≡◌};
+ghost use Rattle.asn1_any.specs.DerElements.{BeginsWithElement};
+ghost use Rattle.asn1_tagged.specs.Parsing.{DerHeaded, BerHeaded, BerBegins, Parsed};
+ghost use Rattle.asn1_tagged.specs.Parsers.{IsContextParser};
+
+use asn1_any::Any;
+use asn1_core::{Class, Err, Error, Header, IResult, Tag};
+
+/// A parser of an element of one class and tag number, which may be absent.
+///
+/// It is absent where no octet is left or the next element, which has to be whole, has another tag number, whatever its
+/// class. The constructed bit isn't looked at.
+#[derive(Clone, Copy, Debug, PartialEq, Eq)]
+pub struct OptTaggedParser {
+    /// The wanted class.
+    pub class: Class,
+    /// The wanted tag number.
+    pub tag: Tag,
+}
+
+impl OptTaggedParser {
+    /// A parser of elements of this class and tag number.
+    pub fn new(class: Class, tag: Tag) -> OptTaggedParser
+        ensures { result ≡ record { class = class; tag = tag } }
+    {
+        OptTaggedParser { class, tag }
+    }
+
+    /// Reads an element by BER's rules (`Any::from_ber`) and hands its header and content to `f`. The answer is that of `f`,
+    /// its value before the octets behind the element: what `f` leaves of the content is ignored. Where the element is
+    /// absent the answer is none, and all octets are left.
+    ///
+    /// Refusals: those of `Any::from_ber`; `UnexpectedClass` where the tag number is the wanted one and the class isn't;
+    /// those of `f`.
+    pub fn parse_ber<'a, T, E: From<Error>, F: FnOnce(Header, &'a [u8]) -> IResult<&'a [u8], T, E>>(
+        &self,
+        bytes: &'a [u8],
+        f: F,
+    ) -> IResult<&'a [u8], Option<T>, E>
+        requires { F.IsAlwaysCallable f }
+        ensures { Parsed E.from_gives (λ i. i.now) (BerHeaded bytes.now) (BerBegins bytes.now) (F.post f) self.now.class self.now.tag bytes.now result }
+    {
+        if bytes.is_empty() {
+            return Ok((bytes, None));
+        }
+        match Any::from_ber(bytes) {
+            Ok((rest, element)) => {
+                if element.tag() != self.tag {
+                    return Ok((bytes, None));
+                }
+                match element.class().assert_eq(self.class) {
+                    Ok(()) => match f(element.header, element.content) {
+                        Ok((_, read)) => Ok((rest, Some(read))),
+                        Err(e) => Err(e),
+                    },
+                    Err(e) => Err(Err::from(e)),
+                }
+            }
+            Err(refusal) => Err(Err::convert(refusal)),
+        }
+    }
+
+    /// Reads an element by DER's rules (`Any::from_der`) and hands its header and content to `f`. The answer is that of `f`,
+    /// its value before the octets behind the element: what `f` leaves of the content is ignored. Where the element is
+    /// absent the answer is none, and all octets are left.
+    ///
+    /// Refusals: those of `Any::from_der`; `UnexpectedClass` where the tag number is the wanted one and the class isn't;
+    /// those of `f`.
+    pub fn parse_der<'a, T, E: From<Error>, F: FnOnce(Header, &'a [u8]) -> IResult<&'a [u8], T, E>>(
+        &self,
+        bytes: &'a [u8],
+        f: F,
+    ) -> IResult<&'a [u8], Option<T>, E>
+        requires { F.IsAlwaysCallable f }
+        ensures { Parsed E.from_gives (λ i. i.now) (DerHeaded bytes.now) (BeginsWithElement bytes.now) (F.post f) self.now.class self.now.tag bytes.now result }
+    {
+        if bytes.is_empty() {
+            return Ok((bytes, None));
+        }
+        match Any::from_der(bytes) {
+            Ok((rest, any)) => {
+                if any.tag() != self.tag {
+                    return Ok((bytes, None));
+                }
+                match any.class().assert_eq(self.class) {
+                    Ok(()) => match f(any.header, any.content) {
+                        Ok((_, value)) => Ok((rest, Some(value))),
+                        Err(e) => Err(e),
+                    },
+                    Err(e) => Err(Err::from(e)),
+                }
+            }
+            Err(refusal) => Err(Err::convert(refusal)),
+        }
+    }
+}
+
+/// A parser of elements of the context-specific class.
+impl From<u32> for OptTaggedParser {
+    ghost from_gives = { IsContextParser };
+
+    fn from(tag: u32) -> OptTaggedParser {
+        OptTaggedParser::new(Class::ContextSpecific, Tag(tag))
+    }
+}
