@@ -1,0 +1,16 @@
+#!/usr/bin/env python3
+"""Times `Any::from_der` over each item of a bundle of 100,000 certificates (a sample, repeated), and over the elements
+within by `SequenceIterator` on all levels, against `sha256sum` of the same file.
+
+Prints medians of five, of whole processes that read the file: items/s, MB/s, and the time as a ratio to sha256sum.
+To reach: a ratio of at most 2. Exit status 1 where it is missed.
+"""
+import os
+import sys
+
+sys.path.insert(0, os.path.join(os.path.dirname(os.path.abspath(__file__)), os.pardir))
+import timing
+
+if __name__ == "__main__":
+    timing.run("Any::from_der", [timing.built("asn1_bench")],
+               lambda text, size: text.endswith(f"elements in {size} octets\n"), times=2)
