@@ -1,0 +1,15 @@
+#!/usr/bin/env python3
+"""Times `parse_der` over each item of a bundle of 100,000 certificates (a sample, repeated) against `sha256sum` of the same file.
+
+Prints medians of five, of whole processes that read the file: items/s, MB/s, and the time as a ratio to sha256sum.
+To reach: a ratio of at most 3. Exit status 1 where it is missed.
+"""
+import os
+import sys
+
+sys.path.insert(0, os.path.join(os.path.dirname(os.path.abspath(__file__)), os.pardir))
+import timing
+
+if __name__ == "__main__":
+    timing.run("parse_der", [timing.built("der_bench")],
+               lambda text, size: text.endswith(f"{timing.COPIES} objects in {size} octets\n"), times=3)

@@ -1,0 +1,12 @@
+pub mod Cuts
+pub mod Leveled
+pub mod Objects
+pub mod Shapes
+pub mod Texts
+pub mod TimeLemmas
+pub mod Views
+pub mod Exits
+pub mod Reading
+pub mod Encoded
+pub mod OneTree
+pub mod Fronts

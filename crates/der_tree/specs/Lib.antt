@@ -1,0 +1,11 @@
+pub mod Time
+pub mod Table
+pub mod Object
+pub mod Tree
+pub mod Shape
+pub mod Access
+pub mod View
+pub mod Outcome
+pub mod Charset
+pub mod TimeReading
+pub mod Encode

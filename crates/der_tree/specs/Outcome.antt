@@ -1,0 +1,29 @@
+-- What a refusal says: that no value is there, or that memory ran out, which comes as a failure alone.
+use Rattle.std.specs.Prelude.{◌≡◌, ◌≢◌}
+use Rattle.asn1_core.specs.declared.error.Error.{Error}
+use Rattle.asn1_core.specs.declared.error.Error.TheVariants as errors
+use Rattle.asn1_core.specs.declared.error.Error.TheVariants.{OutOfMemory}
+use Rattle.asn1_core.specs.declared.outcome.Err.{Err as Refusal}
+use Rattle.asn1_core.specs.declared.outcome.Err.TheVariants as refusals
+
+-- `None` says that there is no such value
+abbrev pub Refuses : Refusal Error → Type 0 → Type 0
+Refuses (refusals.Incomplete n) None = None
+Refuses (refusals.Error e) None = None × (e ≢ OutOfMemory)
+Refuses (refusals.Failure e) None = e ≡ OutOfMemory
+
+-- octets that are missing within a content don't come behind it
+abbrev pub within_of : Refusal Error → Refusal Error
+within_of (refusals.Incomplete n) = refusals.Error (errors.Incomplete n)
+within_of (refusals.Error e) = refusals.Error e
+within_of (refusals.Failure e) = refusals.Failure e
+
+-- not that octets are missing behind the input
+abbrev pub IsNotCut : Refusal Error → Type 0
+IsNotCut (refusals.Incomplete n) = ⊥
+IsNotCut (refusals.Error e) = Unit {0}
+IsNotCut (refusals.Failure e) = Unit {0}
+
+-- memory ran out
+abbrev pub WantsMemory : Refusal Error → Type 0
+WantsMemory e = e ≡ refusals.Failure OutOfMemory

@@ -1,0 +1,151 @@
+//! The strict reader of objects.
+
+ghost use Rattle.std.specs.Prelude.{◌≡◌, ◌↔◌, ◌+◌, ◌<◌, ◌≤◌, ◌^◌, ℕ, List, ◌++◌, length, IfOk, IfErr, MatchResult, IsTrue};
+ghost use Rattle.asn1_core.specs.Counts.{attempts};
+ghost use Rattle.asn1_core.specs.Missing.{IsMissing};
+ghost use Rattle.der_tree.specs.Object.{IsDerObject};
+ghost use Rattle.der_tree.specs.Table.{IsConstructed};
+ghost use Rattle.der_tree.specs.Tree.{Trees, Content, octets, all_octets, element_count, part_count, all_count};
+ghost use Rattle.der_tree.specs.Shape.{IsObject, IsContent, AreObjects, BeginsWithObject};
+ghost use Rattle.der_tree.specs.View.{element_under, view, content_view, views};
+ghost use Rattle.der_tree.specs.Outcome.{Refuses, WantsMemory, IsNotCut, within_of};
+
+use crate::cut::cut_of;
+use crate::leaf::leaf_of;
+use crate::object::{BerObject, BerObjectContent, BerResult, MAX_RECURSION};
+use asn1_core::{Class, Err as Refusal, Error, Header, HeaderCount, Needed};
+use std::alloc::Global;
+
+/// Reads one DER object of at most `MAX_RECURSION` levels from the front of the octets (X.690, 8, 10 and 11).
+pub fn parse_der<'a>(alloc: Global, i: &'a [u8]) -> BerResult<'a>
+    ensures found { IfOk result (λ p. IsObject 50 (view p.1) × (i.now ≡ octets (view p.1) ++ p.0.now)) }
+    ensures none { IfErr result (λ e. Refuses e (BeginsWithObject 50 i.now → ⊥)) }
+    ensures missing { IfErr result (IsMissing (BeginsWithObject 50) i.now) }
+
+    // the same in the words of octets alone
+    ensures object { IfOk result (λ p. IsDerObject 50 (octets (view p.1))) }
+    ensures only { (s r : List ℕ) → IsDerObject 50 s → i.now ≡ s ++ r
+        → MatchResult result (λ p. (octets (view p.1) ≡ s) × (p.0.now ≡ r)) WantsMemory }
+{
+    parse_der_recursive(alloc, i, MAX_RECURSION)
+}
+
+/// Reads one DER object of at most so many levels from the front of the octets (X.690, 8, 10 and 11). Each element takes
+/// one level. Answers the octets after the object, and its tree, whose windows lie in `i`.
+///
+/// Refusals: `Incomplete` where the octets end before the object does, `Failure` of `OutOfMemory` where memory ran out,
+/// and else an error: no object of so many levels begins the octets.
+pub fn parse_der_recursive<'a>(alloc: Global, i: &'a [u8], levels: usize) -> BerResult<'a>
+    ensures found { IfOk result (λ p. IsObject levels (view p.1) × (i.now ≡ octets (view p.1) ++ p.0.now)) }
+    ensures none { IfErr result (λ e. Refuses e (BeginsWithObject levels i.now → ⊥)) }
+    ensures missing { IfErr result (IsMissing (BeginsWithObject levels) i.now) }
+
+    // the same in the words of octets alone
+    ensures object { IfOk result (λ p. IsDerObject levels (octets (view p.1))) }
+    ensures only { (s r : List ℕ) → IsDerObject levels s → i.now ≡ s ++ r
+        → MatchResult result (λ p. (octets (view p.1) ≡ s) × (p.0.now ≡ r)) WantsMemory }
+{
+    let mut count = HeaderCount::new();
+    parse_der_recursive_counted(alloc, i, levels, &mut count)
+}
+
+/// `parse_der_recursive`, which raises the count by one for each header that it tries: for each element of the tree that
+/// it answers, and never by more than one for each octet of `i`.
+#[cycle(reading)]
+pub fn parse_der_recursive_counted<'a>(
+    alloc: Global,
+    i: &'a [u8],
+    levels: usize,
+    count: &mut HeaderCount,
+) -> BerResult<'a>
+    requires { attempts count.old + length i.now < 2 ^ 64 }
+    ensures found { IfOk result (λ p. IsObject levels (view p.1) × (i.now ≡ octets (view p.1) ++ p.0.now)) }
+    ensures none { IfErr result (λ e. Refuses e (BeginsWithObject levels i.now → ⊥)) }
+    ensures missing { IfErr result (IsMissing (BeginsWithObject levels) i.now) }
+    ensures each { IfOk result (λ p. attempts count.new ≡ attempts count.old + element_count (view p.1)) }
+    ensures at_most { attempts count.new ≤ attempts count.old + length i.now }
+{
+    if levels == 0 {
+        return Err(Refusal::Error(Error::BerMaxDepth));
+    }
+    if i.is_empty() {
+        return Err(Refusal::Incomplete(Needed::Size(1)));
+    }
+    let (after, cut) = cut_of(i, count)?;
+    let content = content_of(alloc, cut.header, cut.content, levels - 1, count)?;
+    let object = BerObject::new(cut.header, content, cut.raw);
+    Ok((after, object))
+}
+
+/// Reads the content under a header, its parts being of at most that many levels.
+#[cycle(reading)]
+pub(crate) fn content_of<'a>(
+    alloc: Global,
+    header: Header,
+    content: &'a [u8],
+    levels: usize,
+    count: &mut HeaderCount,
+) -> Result<BerObjectContent<'a>, Refusal<Error>>
+    requires { attempts count.old + length content.now < 2 ^ 64 }
+    ensures each { IfOk result (λ c. attempts count.new ≡ attempts count.old + part_count (content_view c)) }
+    ensures at_most { attempts count.new ≤ attempts count.old + length content.now }
+    ensures found { IfOk result (λ c. IsContent levels (element_under header content.now) (content_view c)) }
+    ensures none { IfErr result (λ e. Refuses e ((c : Content) → IsContent levels (element_under header content.now) c → ⊥)) }
+    ensures whole { IfErr result IsNotCut }
+{
+    if is_constructed(header, 16) {
+        return Ok(BerObjectContent::Sequence(objects_of(alloc, content, levels, count)?));
+    }
+    if is_constructed(header, 17) {
+        return Ok(BerObjectContent::Set(objects_of(alloc, content, levels, count)?));
+    }
+    match leaf_of(header, content) {
+        Ok(leaf) => Ok(leaf),
+        Err(e) => Err(Refusal::Error(e)),
+    }
+}
+
+/// Reads objects to the end.
+#[cycle(reading)]
+fn objects_of<'a>(
+    alloc: Global,
+    content: &'a [u8],
+    levels: usize,
+    count: &mut HeaderCount,
+) -> Result<Vec<BerObject<'a>>, Refusal<Error>>
+    requires { attempts count.old + length content.now < 2 ^ 64 }
+    ensures each { IfOk result (λ v. attempts count.new ≡ attempts count.old + all_count (views v.items)) }
+    ensures at_most { attempts count.new ≤ attempts count.old + length content.now }
+    ensures found { IfOk result (λ v. AreObjects levels (views v.items) × (content.now ≡ all_octets (views v.items))) }
+    ensures none { IfErr result (λ e. Refuses e ((ts : Trees) → AreObjects levels ts → content.now ≡ all_octets ts → ⊥)) }
+    ensures whole { IfErr result IsNotCut }
+{
+    let mut rest = content;
+    let mut objects = Vec::new(alloc);
+    while !rest.is_empty() {
+        let (after, object) = match parse_der_recursive_counted(alloc, rest, levels, count) {
+            Ok(read) => read,
+            Err(refusal) => return Err(within(refusal)),
+        };
+        objects.push(object)?;
+        rest = after;
+    }
+    Ok(objects)
+}
+
+/// A part's refusal as that of the whole: octets that are missing within it don't come behind the whole.
+fn within(refusal: Refusal<Error>) -> Refusal<Error>
+    ensures { result ≡ within_of refusal }
+{
+    match refusal {
+        Refusal::Incomplete(needed) => Refusal::Error(Error::Incomplete(needed)),
+        Refusal::Error(e) => Refusal::Error(e),
+        Refusal::Failure(e) => Refusal::Failure(e),
+    }
+}
+
+fn is_constructed(header: Header, tag: u32) -> bool
+    ensures { (s : List ℕ) → IsTrue result ↔ IsConstructed (element_under header s) tag }
+{
+    header.class() == Class::Universal && header.is_constructed() && header.tag().0 == tag
+}
