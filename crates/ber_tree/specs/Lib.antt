@@ -1,0 +1,4 @@
+pub mod Time
+pub mod TimeReading
+pub mod Table
+pub mod Object

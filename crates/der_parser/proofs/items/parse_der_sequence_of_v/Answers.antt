@@ -1,0 +1,8 @@
+use Rattle.std.proofs.Common.{inr}
+use Rattle.der_parser.proofs.Handing.{unwanted}
+use Rattle.der_parser.proofs.items.parse_der_sequence_of_v.Goals as goal
+
+pub returns-in-Err : goal.returns-in-Err
+returns-in-Err g c =
+    let e = c.in-Err.ensures in
+    inr (unwanted g.E.From.from_gives 16 c.args.i.now c.in-Err.refusal _ (λ p. e.only p.2 p.0 p.1 p.3 p.4) e.missing e.memory c.convert.ensures)

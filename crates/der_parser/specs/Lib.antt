@@ -1,0 +1,5 @@
+pub mod Tagged
+pub mod Typed
+pub mod Outcome
+pub mod Handed
+pub mod Items

@@ -1,0 +1,37 @@
+//! The content behind a header.
+
+ghost use Rattle.der_parser.specs.Outcome.{ReadsOrWants};
+ghost use Rattle.der_parser.specs.Typed.{ReadsContent};
+ghost use Rattle.der_tree.specs.View.{content_view};
+
+use asn1_core::{Err as Refusal, Error, Header, Length, Needed, Tag};
+use der_tree::{BerObjectContent, BerResult, content_under};
+use std::alloc::Global;
+
+/// Reads as many octets as the header tells, by the table's line of this tag number: an object's content, the object being of
+/// at most so many levels. The header's class and tag number aren't looked at. A tag number without a line is left raw.
+///
+/// Refusals: `BerMaxDepth` at no level, `IndefiniteLengthUnexpected`, `Incomplete` where octets are missing, `Failure` of
+/// `OutOfMemory`, and else an error: the line doesn't allow the content or the constructed bit.
+pub fn parse_der_content<'a>(
+    alloc: Global,
+    i: &'a [u8],
+    tag: Tag,
+    header: Header,
+    levels: usize,
+) -> BerResult<'a, BerObjectContent<'a>>
+    ensures { ReadsOrWants content_view (ReadsContent levels tag.0 header) i.now result }
+{
+    if levels == 0 {
+        return Err(Refusal::Error(Error::BerMaxDepth));
+    }
+    let Length::Definite(size) = header.length() else {
+        return Err(Refusal::Error(Error::IndefiniteLengthUnexpected));
+    };
+    if i.len() < size {
+        return Err(Refusal::Incomplete(Needed::Size(size - i.len())));
+    }
+    let (octets, rest) = i.split_at(size);
+    let content = content_under(alloc, header.with_tag(tag), octets, levels - 1)?;
+    Ok((rest, content))
+}

@@ -1,0 +1,38 @@
+//! Headers alone.
+
+ghost use Rattle.std.specs.Prelude.{◌≡◌, ℕ, List, ◌++◌, IfOk, IfErr, IsOkAnd};
+ghost use Rattle.asn1_core.specs.Answers.{TakesNoMemory};
+ghost use Rattle.asn1_core.specs.Lenient.{SpellsHeader, BerHead, IsBerHead, SpellsBerHeader};
+ghost use Rattle.asn1_core.specs.Missing.{HasHeader, HasBerHeader, IsMissing};
+ghost use Rattle.asn1_core.specs.Strict.{Head, IsHead};
+ghost use Rattle.asn1_core.specs.Views.{IsDefinite, head_of, ber_head_of, length_of};
+
+use asn1_core::Header;
+use der_tree::BerResult;
+
+/// Reads a header by the rules of BER (X.690, 8.1.2 and 8.1.3) from the front of the octets: `Header::from_ber`, whose
+/// refusals it has.
+pub fn ber_read_element_header(i: &[u8]) -> BerResult<'_, Header>
+    ensures found { IfOk result (λ r. IsBerHead (ber_head_of r.1)
+        × ((octets : List ℕ) × SpellsBerHeader octets (ber_head_of r.1) × (i.now ≡ octets ++ r.0.now))) }
+    ensures only { (octets rest : List ℕ) (h : BerHead) → IsBerHead h → SpellsBerHeader octets h
+        → i.now ≡ octets ++ rest → IsOkAnd result (λ r. (ber_head_of r.1 ≡ h) × (r.0.now ≡ rest)) }
+    ensures missing { IfErr result (IsMissing HasBerHeader i.now) }
+    ensures memory { IfErr result TakesNoMemory }
+{
+    Header::from_ber(i)
+}
+
+/// Reads a header of definite length, in any of its forms, from the front of the octets (X.690, 8.1.2 and 8.1.3):
+/// `Header::from_der`, whose refusals it has.
+pub fn der_read_element_header(i: &[u8]) -> BerResult<'_, Header>
+    ensures found { IfOk result (λ r. IsHead (head_of r.1)
+        × ((octets : List ℕ) × SpellsHeader octets (head_of r.1) × (i.now ≡ octets ++ r.0.now))) }
+    ensures definite { IfOk result (λ r. IsDefinite (length_of r.1)) }
+    ensures only { (octets rest : List ℕ) (h : Head) → IsHead h → SpellsHeader octets h
+        → i.now ≡ octets ++ rest → IsOkAnd result (λ r. (head_of r.1 ≡ h) × (r.0.now ≡ rest)) }
+    ensures missing { IfErr result (IsMissing HasHeader i.now) }
+    ensures memory { IfErr result TakesNoMemory }
+{
+    Header::from_der(i)
+}
