@@ -1,0 +1,13 @@
+pub mod Fields
+pub mod Octets
+pub mod Range
+pub mod Class
+pub mod Examples
+pub mod Reads
+pub mod Times
+pub mod Pieces
+pub mod PieceOctets
+pub mod Assembly
+pub mod View
+pub mod Versions
+pub mod AttributePieces

@@ -1,0 +1,9 @@
+//! What certificates and revocation lists are, by one spelling (RFC 5280, 4.1 and 5.1; X.690, 10 and 11).
+//!
+//! The definitions go from fields to octets. They read nothing.
+#![tactic(auto)]
+
+mod ascending;
+pub mod fields;
+pub mod laws;
+mod range;

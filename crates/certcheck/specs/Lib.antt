@@ -1,0 +1,2 @@
+pub mod ClassView
+pub mod PieceView

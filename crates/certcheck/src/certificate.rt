@@ -1,0 +1,303 @@
+//! Certificates (RFC 5280, 4.1).
+
+ghost use Rattle.std.specs.Prelude.{◌≡◌, ℕ, Option, option_map, map, IfOk, MatchOption};
+ghost use Rattle.der_tree.specs.Tree.{octets};
+ghost use Rattle.der_tree.specs.Shape.{IsObject};
+ghost use Rattle.der_tree.specs.View.{view, views};
+ghost use Rattle.cert_model.specs.Octets.{certificate_octets};
+ghost use Rattle.cert_model.specs.Range.{AreCertificateFields};
+ghost use Rattle.cert_model.specs.Assembly.{version_number, version_in, bits_in, id_in, fits_version};
+ghost use Rattle.cert_model.specs.Class.{NoCertificate};
+ghost use Rattle.cert_model.specs.View.{any_view, time_view, alg_view, bit_view, key_view, name_view, ext_view, certificate_view};
+ghost use Rattle.cert_model.specs.Reads.{next_at, number_at, algorithm_at, bits_at, key_at, name_at};
+ghost use Rattle.cert_model.specs.Pieces.{validity_at, tbs_at, signed_at};
+ghost use Rattle.certcheck.specs.PieceView.{cert_pieces_view, signed_certificate_view};
+
+use crate::extensions::extensions_in;
+use crate::names::name_of;
+use crate::parts::{algorithm_of, bits_of, key_of, number_of, sequence_of, tagged_of};
+use crate::times::time_of;
+use asn1_core::OutOfMemory;
+use cert_model::fields::{
+    AlgField, AnyField, BitField, CertFields, ExtField, KeyField, NameFields,
+};
+use der_tree::{BerObject, end_of, first_of};
+use jiff::civil::DateTime;
+use std::alloc::Global;
+
+/// TBSCertificate, what has a context-specific tag being left as an element.
+#[derive(Drop)]
+pub(crate) struct CertPieces<'a> {
+    pub version: Option<AnyField<'a>>,
+    pub serial: &'a [u8],
+    pub signature: AlgField<'a>,
+    pub issuer: NameFields<'a>,
+    pub not_before: DateTime,
+    pub not_after: DateTime,
+    pub subject: NameFields<'a>,
+    pub key: KeyField<'a>,
+    pub issuer_id: Option<AnyField<'a>>,
+    pub subject_id: Option<AnyField<'a>>,
+    pub extensions: Option<AnyField<'a>>,
+}
+
+pub(crate) fn next_number<'b, 'a>(
+    parts: &'b [BerObject<'a>],
+) -> Option<(&'a [u8], &'b [BerObject<'a>])>
+    ensures { option_map (λ p. (p.0.now, views p.1.now)) result ≡ next_at number_at (views parts.now) }
+{
+    let (first, rest) = first_of(parts)?;
+    Some((number_of(first)?, rest))
+}
+
+pub(crate) fn next_algorithm<'b, 'a>(
+    parts: &'b [BerObject<'a>],
+) -> Option<(AlgField<'a>, &'b [BerObject<'a>])>
+    ensures { option_map (λ p. (alg_view p.0, views p.1.now)) result ≡ next_at algorithm_at (views parts.now) }
+{
+    let (first, rest) = first_of(parts)?;
+    Some((algorithm_of(first)?, rest))
+}
+
+pub(crate) fn next_bits<'b, 'a>(
+    parts: &'b [BerObject<'a>],
+) -> Option<(BitField<'a>, &'b [BerObject<'a>])>
+    ensures { option_map (λ p. (bit_view p.0, views p.1.now)) result ≡ next_at bits_at (views parts.now) }
+{
+    let (first, rest) = first_of(parts)?;
+    Some((bits_of(first)?, rest))
+}
+
+fn next_key<'b, 'a>(parts: &'b [BerObject<'a>]) -> Option<(KeyField<'a>, &'b [BerObject<'a>])>
+    ensures { option_map (λ p. (key_view p.0, views p.1.now)) result ≡ next_at key_at (views parts.now) }
+{
+    let (first, rest) = first_of(parts)?;
+    Some((key_of(first)?, rest))
+}
+
+/// Validity (RFC 5280, 4.1.2.5).
+#[tactic(auto, unfolding(cert_model::specs::Pieces::validity_at))]
+fn validity_of(object: &BerObject<'_>) -> Option<(DateTime, DateTime)>
+    ensures { option_map (λ p. (time_view p.0, time_view p.1)) result ≡ validity_at (view object.now) }
+{
+    let (first, rest) = first_of(sequence_of(object)?)?;
+    let not_before = time_of(first)?;
+    let (second, rest) = first_of(rest)?;
+    let not_after = time_of(second)?;
+    end_of(rest)?;
+    Some((not_before, not_after))
+}
+
+/// TBSCertificate.
+#[tactic(auto, unfolding(cert_model::specs::Pieces::tbs_at))]
+pub(crate) fn tbs_of<'a>(
+    alloc: Global,
+    object: &BerObject<'a>,
+) -> Result<Option<CertPieces<'a>>, OutOfMemory>
+    ensures { IfOk result (λ r. option_map cert_pieces_view r ≡ tbs_at (view object.now)) }
+{
+    let Some(parts) = sequence_of(object) else {
+        return Ok(None);
+    };
+    let (version, rest) = tagged_of(0, parts);
+    let Some((serial, rest)) = next_number(rest) else {
+        return Ok(None);
+    };
+    let Some((signature, rest)) = next_algorithm(rest) else {
+        return Ok(None);
+    };
+    let Some((first, rest)) = first_of(rest) else {
+        return Ok(None);
+    };
+    let Some(issuer) = name_of(alloc, first)? else {
+        return Ok(None);
+    };
+    let Some((validity, rest)) = first_of(rest) else {
+        return Ok(None);
+    };
+    let Some((not_before, not_after)) = validity_of(validity) else {
+        return Ok(None);
+    };
+    let Some((first, rest)) = first_of(rest) else {
+        return Ok(None);
+    };
+    let Some(subject) = name_of(alloc, first)? else {
+        return Ok(None);
+    };
+    let Some((key, rest)) = next_key(rest) else {
+        return Ok(None);
+    };
+    let (issuer_id, rest) = tagged_of(1, rest);
+    let (subject_id, rest) = tagged_of(2, rest);
+    let (extensions, rest) = tagged_of(3, rest);
+    if end_of(rest).is_none() {
+        return Ok(None);
+    }
+    Ok(Some(CertPieces {
+        version,
+        serial,
+        signature,
+        issuer,
+        not_before,
+        not_after,
+        subject,
+        key,
+        issuer_id,
+        subject_id,
+        extensions,
+    }))
+}
+
+/// Certificate: its first part, the algorithm and the signature value.
+#[derive(Drop)]
+pub(crate) struct SignedCertificate<'a> {
+    pub tbs: CertPieces<'a>,
+    pub algorithm: AlgField<'a>,
+    pub signature_value: BitField<'a>,
+}
+
+fn signed_certificate<'a>(
+    alloc: Global,
+    object: &BerObject<'a>,
+) -> Result<Option<SignedCertificate<'a>>, OutOfMemory>
+    ensures { IfOk result (λ r. option_map signed_certificate_view r ≡ signed_at tbs_at (view object.now)) }
+{
+    let Some(parts) = sequence_of(object) else {
+        return Ok(None);
+    };
+    let Some((first, rest)) = first_of(parts) else {
+        return Ok(None);
+    };
+    let Some(tbs) = tbs_of(alloc, first)? else {
+        return Ok(None);
+    };
+    let Some((algorithm, rest)) = next_algorithm(rest) else {
+        return Ok(None);
+    };
+    let Some((signature_value, rest)) = next_bits(rest) else {
+        return Ok(None);
+    };
+    if end_of(rest).is_none() {
+        return Ok(None);
+    }
+    Ok(Some(SignedCertificate {
+        tbs,
+        algorithm,
+        signature_value,
+    }))
+}
+
+/// The INTEGER in [0], which is 1 or 2.
+fn version_number(content: &[u8]) -> Option<u8>
+    ensures { result ≡ version_number content.now }
+{
+    match content {
+        [tag, length, version] => {
+            if *tag == 2 && *length == 1 && (*version == 1 || *version == 2) {
+                Some(*version)
+            } else {
+                None
+            }
+        }
+        _ => None,
+    }
+}
+
+/// The version, 0 where it isn't written.
+fn version_of(element: Option<AnyField<'_>>) -> Option<u8>
+    ensures { result ≡ version_in (option_map any_view element.entry) }
+{
+    match element {
+        None => Some(0),
+        Some(element) => {
+            if element.constructed {
+                version_number(element.content)
+            } else {
+                None
+            }
+        }
+    }
+}
+
+fn id_content<'a>(content: &'a [u8]) -> Option<Option<BitField<'a>>>
+    ensures { option_map (option_map bit_view) result ≡ bits_in content.now }
+{
+    match der_tree::bits_of(content) {
+        Some((unused, octets)) => Some(Some(BitField { unused, octets })),
+        None => None,
+    }
+}
+
+/// A unique identifier, or none.
+fn id_of<'a>(element: Option<AnyField<'a>>) -> Option<Option<BitField<'a>>>
+    ensures { option_map (option_map bit_view) result ≡ id_in (option_map any_view element.entry) }
+{
+    match element {
+        None => Some(None),
+        Some(element) => {
+            if element.constructed {
+                None
+            } else {
+                id_content(element.content)
+            }
+        }
+    }
+}
+
+/// Identifiers with version 2 or 3 only, extensions with version 3 only (RFC 5280, 4.1.2.8 and 4.1.2.9).
+fn fits_version(
+    version: u8,
+    issuer_id: Option<BitField<'_>>,
+    subject_id: Option<BitField<'_>>,
+    extensions: &[ExtField<'_>],
+) -> bool
+    ensures { result ≡ fits_version version (option_map bit_view issuer_id.entry) (option_map bit_view subject_id.entry) (map ext_view extensions.now) }
+{
+    (issuer_id.is_none() || version > 0)
+        && (subject_id.is_none() || version > 0)
+        && (extensions.is_empty() || version == 2)
+}
+
+/// The fields of the certificate that the object is; none where it is none.
+pub(crate) fn certificate_of<'a>(
+    alloc: Global,
+    object: &BerObject<'a>,
+) -> Result<Option<CertFields<'a>>, OutOfMemory>
+    requires { IsObject 50 (view object.now) }
+    ensures { IfOk result (λ r. MatchOption r (NoCertificate (octets (view object.now)))
+        (λ f. AreCertificateFields (certificate_view f) × (certificate_octets (certificate_view f) ≡ octets (view object.now)))) }
+{
+    let Some(signed) = signed_certificate(alloc, object)? else {
+        return Ok(None);
+    };
+    let Some(version) = version_of(signed.tbs.version) else {
+        return Ok(None);
+    };
+    let Some(issuer_id) = id_of(signed.tbs.issuer_id) else {
+        return Ok(None);
+    };
+    let Some(subject_id) = id_of(signed.tbs.subject_id) else {
+        return Ok(None);
+    };
+    let Some(extensions) = extensions_in(alloc, signed.tbs.extensions)? else {
+        return Ok(None);
+    };
+    if !fits_version(version, issuer_id, subject_id, &extensions) {
+        return Ok(None);
+    }
+    Ok(Some(CertFields {
+        version,
+        serial: signed.tbs.serial,
+        signature: signed.tbs.signature,
+        issuer: signed.tbs.issuer,
+        not_before: signed.tbs.not_before,
+        not_after: signed.tbs.not_after,
+        subject: signed.tbs.subject,
+        key: signed.tbs.key,
+        issuer_id,
+        subject_id,
+        extensions,
+        algorithm: signed.algorithm,
+        signature_value: signed.signature_value,
+    }))
+}

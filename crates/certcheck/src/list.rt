@@ -1,0 +1,356 @@
+//! Revocation lists (RFC 5280, 5.1).
+
+ghost use Rattle.std.specs.Prelude.{◌≡◌, ◌&&◌, ℕ, Option, option_map, map, IfOk, MatchOption};
+ghost use Rattle.der_tree.specs.Table.{integer};
+ghost use Rattle.der_tree.specs.Access.{plain_at};
+ghost use Rattle.der_tree.specs.Tree.{octets};
+ghost use Rattle.der_tree.specs.Shape.{IsObject};
+ghost use Rattle.der_tree.specs.View.{view, views};
+ghost use Rattle.cert_model.specs.Octets.{list_octets};
+ghost use Rattle.cert_model.specs.Range.{AreListFields};
+ghost use Rattle.cert_model.specs.Class.{NoList};
+ghost use Rattle.cert_model.specs.View.{time_view, ext_view, entry_view, list_view};
+ghost use Rattle.cert_model.specs.Reads.{list_at};
+ghost use Rattle.cert_model.specs.Pieces.{last_extensions_at, entry_at, list_version_of, list_version_at, maybe_time_at, some_entries_at, entries_in, behind_entries, tbs_list_at, signed_at};
+ghost use Rattle.cert_model.specs.Assembly.{is_some, implies, is_version_two, entries_fit};
+ghost use Rattle.certcheck.specs.PieceView.{list_pieces_view, signed_list_view};
+
+use crate::certificate::{next_algorithm, next_bits, next_number};
+use crate::extensions::{extensions_in, extensions_of};
+use crate::names::name_of;
+use crate::parts::{integer_of, sequence_of, tagged_of};
+use crate::times::time_of;
+use asn1_core::OutOfMemory;
+use cert_model::fields::{
+    AlgField, AnyField, BitField, EntryFields, ExtField, ListFields, NameFields,
+};
+use der_tree::{BerObject, end_of, first_of};
+use jiff::civil::DateTime;
+use std::alloc::Global;
+
+/// TBSCertList, the tagged extensions being left as an element.
+#[derive(Drop)]
+pub(crate) struct ListPieces<'a> {
+    pub version: Option<u8>,
+    pub signature: AlgField<'a>,
+    pub issuer: NameFields<'a>,
+    pub this_update: DateTime,
+    pub next_update: Option<DateTime>,
+    pub entries: Vec<EntryFields<'a>>,
+    pub extensions: Option<AnyField<'a>>,
+}
+
+/// CertificateList: its first part, the algorithm and the signature value.
+#[derive(Drop)]
+pub(crate) struct SignedList<'a> {
+    pub tbs: ListPieces<'a>,
+    pub algorithm: AlgField<'a>,
+    pub signature_value: BitField<'a>,
+}
+
+/// Extensions to the end, or nothing.
+fn last_extensions<'a>(
+    alloc: Global,
+    parts: &[BerObject<'a>],
+) -> Result<Option<Vec<ExtField<'a>>>, OutOfMemory>
+    ensures { IfOk result (λ r. option_map (λ v. map ext_view v.items) r ≡ last_extensions_at (views parts.now)) }
+{
+    match first_of(parts) {
+        None => Ok(Some(Vec::new(alloc))),
+        Some((first, rest)) => {
+            if end_of(rest).is_none() {
+                return Ok(None);
+            }
+            extensions_of(alloc, first)
+        }
+    }
+}
+
+/// An entry of revokedCertificates (RFC 5280, 5.1.2.6).
+#[tactic(auto, unfolding(cert_model::specs::Pieces::entry_at))]
+fn entry_of<'a>(
+    alloc: Global,
+    object: &BerObject<'a>,
+) -> Result<Option<EntryFields<'a>>, OutOfMemory>
+    ensures { IfOk result (λ r. option_map entry_view r ≡ entry_at (view object.now)) }
+{
+    let Some(parts) = sequence_of(object) else {
+        return Ok(None);
+    };
+    let Some((serial, rest)) = next_number(parts) else {
+        return Ok(None);
+    };
+    let Some((second, rest)) = first_of(rest) else {
+        return Ok(None);
+    };
+    let Some(date) = time_of(second) else {
+        return Ok(None);
+    };
+    let Some(extensions) = last_extensions(alloc, rest)? else {
+        return Ok(None);
+    };
+    Ok(Some(EntryFields {
+        serial,
+        date,
+        extensions,
+    }))
+}
+
+/// The entries that all of the parts are.
+fn each_entry<'a>(
+    alloc: Global,
+    parts: &[BerObject<'a>],
+) -> Result<Option<Vec<EntryFields<'a>>>, OutOfMemory>
+    ensures { IfOk result (λ r. option_map (λ v. map entry_view v.items) r ≡ list_at entry_at (views parts.now)) }
+{
+    let mut entries = Vec::new(alloc);
+    for part in parts {
+        let Some(entry) = entry_of(alloc, part)? else {
+            return Ok(None);
+        };
+        entries.push(entry)?;
+    }
+    Ok(Some(entries))
+}
+
+/// One or more entries.
+#[tactic(auto, unfolding(cert_model::specs::Pieces::some_entries_at))]
+fn some_entries<'a>(
+    alloc: Global,
+    parts: &[BerObject<'a>],
+) -> Result<Option<Vec<EntryFields<'a>>>, OutOfMemory>
+    ensures { IfOk result (λ r. option_map (λ v. map entry_view v.items) r ≡ some_entries_at (views parts.now)) }
+{
+    let Some(entries) = each_entry(alloc, parts)? else {
+        return Ok(None);
+    };
+    if entries.is_empty() {
+        return Ok(None);
+    }
+    Ok(Some(entries))
+}
+
+/// The entries of the sequence at the front; no entries where there is no sequence.
+#[tactic(auto, unfolding(cert_model::specs::Pieces::entries_in))]
+fn entries_of<'a>(
+    alloc: Global,
+    parts: &[BerObject<'a>],
+) -> Result<Option<Vec<EntryFields<'a>>>, OutOfMemory>
+    ensures { IfOk result (λ r. option_map (λ v. map entry_view v.items) r ≡ entries_in (views parts.now)) }
+{
+    let Some((first, _)) = first_of(parts) else {
+        return Ok(Some(Vec::new(alloc)));
+    };
+    let Some(listed) = sequence_of(first) else {
+        return Ok(Some(Vec::new(alloc)));
+    };
+    some_entries(alloc, listed)
+}
+
+/// What follows the sequence at the front, or all where there is no sequence.
+#[tactic(auto, unfolding(cert_model::specs::Pieces::behind_entries))]
+fn after_entries<'b, 'a>(parts: &'b [BerObject<'a>]) -> &'b [BerObject<'a>]
+    ensures { views result.now ≡ behind_entries (views parts.now) }
+{
+    let Some((first, rest)) = first_of(parts) else {
+        return parts;
+    };
+    if sequence_of(first).is_none() {
+        return parts;
+    }
+    rest
+}
+
+/// The time at the front, where there is one.
+#[tactic(auto, unfolding(cert_model::specs::Pieces::maybe_time_at))]
+fn time_in(parts: &[BerObject<'_>]) -> Option<DateTime>
+    ensures { let m = maybe_time_at (views parts.now) in option_map time_view result ≡ m.0 }
+{
+    match first_of(parts) {
+        None => None,
+        Some((first, _)) => time_of(first),
+    }
+}
+
+/// What follows the time at the front, or all where there is none.
+#[tactic(auto, unfolding(cert_model::specs::Pieces::maybe_time_at))]
+fn after_time<'b, 'a>(parts: &'b [BerObject<'a>]) -> &'b [BerObject<'a>]
+    ensures { let m = maybe_time_at (views parts.now) in views result.now ≡ m.1 }
+{
+    let Some((first, rest)) = first_of(parts) else {
+        return parts;
+    };
+    if time_of(first).is_none() {
+        return parts;
+    }
+    rest
+}
+
+/// The version, which is 1, or none, and the rest.
+#[tactic(auto, unfolding(cert_model::specs::Pieces::list_version_at))]
+fn list_version<'b, 'a>(parts: &'b [BerObject<'a>]) -> Option<(Option<u8>, &'b [BerObject<'a>])>
+    ensures { option_map (λ p. (p.0, views p.1.now)) result ≡ list_version_at (views parts.now) }
+{
+    let Some((first, rest)) = first_of(parts) else {
+        return Some((None, parts));
+    };
+    match integer_of(first) {
+        None => Some((None, parts)),
+        Some(number) => match number {
+            [version] => {
+                if *version == 1 {
+                    Some((Some(*version), rest))
+                } else {
+                    None
+                }
+            }
+            _ => None,
+        },
+    }
+}
+
+/// TBSCertList.
+#[tactic(auto, unfolding(cert_model::specs::Pieces::tbs_list_at))]
+fn tbs_list_of<'a>(
+    alloc: Global,
+    object: &BerObject<'a>,
+) -> Result<Option<ListPieces<'a>>, OutOfMemory>
+    ensures { IfOk result (λ r. option_map list_pieces_view r ≡ tbs_list_at (view object.now)) }
+{
+    let Some(parts) = sequence_of(object) else {
+        return Ok(None);
+    };
+    let Some((version, rest)) = list_version(parts) else {
+        return Ok(None);
+    };
+    let Some((signature, rest)) = next_algorithm(rest) else {
+        return Ok(None);
+    };
+    let Some((first, rest)) = first_of(rest) else {
+        return Ok(None);
+    };
+    let Some(issuer) = name_of(alloc, first)? else {
+        return Ok(None);
+    };
+    let Some((first, rest)) = first_of(rest) else {
+        return Ok(None);
+    };
+    let Some(this_update) = time_of(first) else {
+        return Ok(None);
+    };
+    let next_update = time_in(rest);
+    let rest = after_time(rest);
+    let Some(entries) = entries_of(alloc, rest)? else {
+        return Ok(None);
+    };
+    let (extensions, rest) = tagged_of(0, after_entries(rest));
+    if end_of(rest).is_none() {
+        return Ok(None);
+    }
+    Ok(Some(ListPieces {
+        version,
+        signature,
+        issuer,
+        this_update,
+        next_update,
+        entries,
+        extensions,
+    }))
+}
+
+fn signed_list<'a>(
+    alloc: Global,
+    object: &BerObject<'a>,
+) -> Result<Option<SignedList<'a>>, OutOfMemory>
+    ensures { IfOk result (λ r. option_map signed_list_view r ≡ signed_at tbs_list_at (view object.now)) }
+{
+    let Some(parts) = sequence_of(object) else {
+        return Ok(None);
+    };
+    let Some((first, rest)) = first_of(parts) else {
+        return Ok(None);
+    };
+    let Some(tbs) = tbs_list_of(alloc, first)? else {
+        return Ok(None);
+    };
+    let Some((algorithm, rest)) = next_algorithm(rest) else {
+        return Ok(None);
+    };
+    let Some((signature_value, rest)) = next_bits(rest) else {
+        return Ok(None);
+    };
+    if end_of(rest).is_none() {
+        return Ok(None);
+    }
+    Ok(Some(SignedList {
+        tbs,
+        algorithm,
+        signature_value,
+    }))
+}
+
+/// Whether the list is of version 2, which is written 1.
+fn is_version_two(version: Option<u8>) -> bool
+    ensures { result ≡ is_version_two version }
+{
+    match version {
+        None => false,
+        Some(version) => version == 1,
+    }
+}
+
+fn entry_fits(version: Option<u8>, entry: &EntryFields<'_>) -> bool
+    ensures { result ≡ implies (is_some (map ext_view entry.now.extensions.items)) (is_version_two version) }
+{
+    entry.extensions.is_empty() || is_version_two(version)
+}
+
+/// Entry extensions with version 2 only (RFC 5280, 5.1.2.6).
+fn entries_fit(version: Option<u8>, entries: &[EntryFields<'_>]) -> bool
+    ensures { result ≡ entries_fit version (map entry_view entries.now) }
+{
+    for entry in entries {
+        if !entry_fits(version, entry) {
+            return false;
+        }
+    }
+    true
+}
+
+/// Extensions, of entries too, with version 2 only (RFC 5280, 5.1.2.6 and 5.1.2.7).
+fn fits_list(version: Option<u8>, entries: &[EntryFields<'_>], extensions: &[ExtField<'_>]) -> bool
+    ensures { result ≡ (entries_fit version (map entry_view entries.now) && implies (is_some (map ext_view extensions.now)) (is_version_two version)) }
+{
+    entries_fit(version, entries) && (extensions.is_empty() || is_version_two(version))
+}
+
+/// The fields of the list that the object is; none where it is none.
+pub(crate) fn list_of<'a>(
+    alloc: Global,
+    object: &BerObject<'a>,
+) -> Result<Option<ListFields<'a>>, OutOfMemory>
+    requires { IsObject 50 (view object.now) }
+    ensures { IfOk result (λ r. MatchOption r (NoList (octets (view object.now)))
+        (λ f. AreListFields (list_view f) × (list_octets (list_view f) ≡ octets (view object.now)))) }
+{
+    let Some(signed) = signed_list(alloc, object)? else {
+        return Ok(None);
+    };
+    let Some(extensions) = extensions_in(alloc, signed.tbs.extensions)? else {
+        return Ok(None);
+    };
+    if !fits_list(signed.tbs.version, &signed.tbs.entries, &extensions) {
+        return Ok(None);
+    }
+    Ok(Some(ListFields {
+        version: signed.tbs.version,
+        signature: signed.tbs.signature,
+        issuer: signed.tbs.issuer,
+        this_update: signed.tbs.this_update,
+        next_update: signed.tbs.next_update,
+        entries: signed.tbs.entries,
+        extensions,
+        algorithm: signed.algorithm,
+        signature_value: signed.signature_value,
+    }))
+}
