@@ -5,7 +5,7 @@ use Rattle.std.specs.Result.{result_ok}
 use Rattle.asn1_core.specs.Strict.{Head}
 use Rattle.asn1_core.specs.Lenient.{BerHead}
 use Rattle.asn1_core.specs.Elements.{Element}
-use Rattle.asn1_core.specs.Answers.{Answer, lack, then_read}
+use Rattle.asn1_core.specs.Answers.{Answer, lack, refuse, then_read}
 use Rattle.asn1_core.specs.Reading.{header_at, ber_header_at}
 use Rattle.asn1_core.specs.declared.error.Error.{Error}
 use Rattle.asn1_core.specs.declared.error.Error.TheVariants as errors
@@ -90,6 +90,11 @@ ber_content_at levels h after = sized_at levels h h.size after
 -- an element of at most so many levels beside its own
 unfoldable pub ber_element_at : ℕ → List ℕ → Answer BerElement
 ber_element_at levels octets = then_read (ber_header_at octets) (ber_content_at levels)
+
+-- an element of at most so many levels, its own counted: where none is left, the header is read and refused
+abbrev pub ber_levels_at : ℕ → List ℕ → Answer BerElement
+ber_levels_at zero octets = then_read (ber_header_at octets) (λ h after. refuse errors.BerMaxDepth)
+ber_levels_at (suc levels) octets = ber_element_at levels octets
 
 -- class, constructed bit, tag number and content
 abbrev pub element_of_ber : BerElement → Element

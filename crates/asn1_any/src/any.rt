@@ -7,7 +7,7 @@ ghost use Rattle.asn1_core.specs.Missing.{IsMissing};
 ghost use Rattle.asn1_core.specs.Views.{class_of, tag_of, length_of, is_constructed_tag};
 ghost use Rattle.asn1_any.specs.DerElements.{BeginsWithElement, HasElement};
 ghost use Rattle.asn1_any.specs.BerElements.{BerElement, BeginsWithBerElement, HasBerElement};
-ghost use Rattle.asn1_any.specs.Reading.{der_element_at, ber_element_at};
+ghost use Rattle.asn1_any.specs.Reading.{der_element_at, ber_element_at, ber_levels_at};
 ghost use Rattle.asn1_any.specs.Views.{any_of, ber_any_of};
 
 use crate::read::{self, MAX_RECURSION};
@@ -90,6 +90,7 @@ impl<'a> Any<'a> {
             → IsOkAnd result (λ r. (ber_any_of r.1 ≡ e) × (r.0.now ≡ rest)) }
         ensures missing { IfErr result (IsMissing (λ s. (0 < levels) × HasBerElement (levels - 1) s) i.now) }
         ensures memory { IfErr result TakesNoMemory }
+        ensures exact { Gives (λ r. (ber_any_of r.1, r.0.now)) result (ber_levels_at levels i.now) }
     {
         if levels == 0 {
             Header::from_ber(i)?;
