@@ -7,11 +7,12 @@ ghost use Rattle.asn1_traits.specs.Reads.{Checks};
 ghost use Rattle.asn1_traits.specs.Lists.{ReadsAll};
 ghost use Rattle.asn1_lists.specs.Containers.{container, HoldsContent};
 ghost use Rattle.asn1_lists.specs.ContainerLaws.{container_one, container_back, container_same};
+ghost use Rattle.asn1_core.specs.Views.{class_number};
 
 use crate::iterator::SequenceIterator;
 use crate::parser::{BerParser, DerParser};
 use asn1_any::Any;
-use asn1_core::{Err, Error, IResult, SerializeResult, Tag};
+use asn1_core::{Class, Err, Error, IResult, SerializeResult, Tag};
 use asn1_device::Sink;
 use asn1_traits::{
     AnyMeaning, BerMeaning, CheckDerConstraints, DerAutoDerive, DerElement, DerKind, DerMeaning,
@@ -110,6 +111,12 @@ impl<'b> Tagged for Sequence<'b> {
     const TAG: Tag = Tag(16);
 
     ghost tag_number = { 16 };
+
+    fn own_class() -> Class
+        ensures { class_number result ≡ 0 }
+    {
+        Class::Universal
+    }
 
     fn own_tag() -> Tag
         ensures { result.0 ≡ 16 }

@@ -8,7 +8,7 @@ ghost use Rattle.asn1_traits.specs.Lists.{ContainerMeans, container_of, EachIs, 
 ghost use Rattle.asn1_traits.specs.ListLaws.{list_back, list_same};
 
 use asn1_any::Any;
-use asn1_core::{Err, Error, OutOfMemory, SerializeResult, Tag};
+use asn1_core::{Class, Err, Error, OutOfMemory, SerializeResult, Tag};
 use asn1_device::Sink;
 use asn1_traits::{
     AnyMeaning, BerMeaning, DerAnyMeaning, DerElement, DerKind, DerMeaning, FromAny, FromBer,
@@ -108,6 +108,10 @@ impl<T> Tagged for SequenceOf<T> {
     const TAG: Tag = Tag(16);
 
     ghost tag_number = { 16 };
+
+    fn own_class() -> Class {
+        Class::Universal
+    }
 
     fn own_tag() -> Tag {
         Tag(16)

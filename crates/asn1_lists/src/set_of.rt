@@ -10,7 +10,7 @@ ghost use Rattle.asn1_lists.specs.SetLaws.{set_back, set_same};
 
 use crate::encoding::set_content;
 use asn1_any::Any;
-use asn1_core::{Err, Error, OutOfMemory, SerializeResult, Tag};
+use asn1_core::{Class, Err, Error, OutOfMemory, SerializeResult, Tag};
 use asn1_device::Sink;
 use asn1_traits::{
     AnyMeaning, BerMeaning, DerAnyMeaning, DerElement, DerKind, DerMeaning, FromAny, FromBer,
@@ -112,6 +112,10 @@ impl<T> Tagged for SetOf<T> {
     const TAG: Tag = Tag(17);
 
     ghost tag_number = { 17 };
+
+    fn own_class() -> Class {
+        Class::Universal
+    }
 
     fn own_tag() -> Tag {
         Tag(17)

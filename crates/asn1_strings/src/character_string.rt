@@ -7,8 +7,9 @@ ghost use Rattle.asn1_traits.specs.Leaves.{ChecksContent};
 ghost use Rattle.asn1_strings.specs.CharsetLaws.{text_is_utf8};
 ghost use Rattle.asn1_strings.specs.Charsets.{IsTextOf};
 ghost use Rattle.asn1_strings.specs.Texts.{MeansTextOf, TestsCharset};
+ghost use Rattle.asn1_core.specs.Views.{class_number};
 
-use asn1_core::{Error, SerializeResult, Tag};
+use asn1_core::{Class, Error, SerializeResult, Tag};
 use asn1_device::Sink;
 use asn1_traits::{DerLeaf, FromLeaf, Tagged, write_all};
 use std::alloc::{AllocError, Global};
@@ -133,6 +134,12 @@ impl<'b, C: TestValidCharset> Tagged for CharacterString<'b, C> {
     const TAG: Tag = C::TAG;
 
     ghost tag_number = { C.tag_number };
+
+    fn own_class() -> Class
+        ensures { class_number result ≡ 0 }
+    {
+        Class::Universal
+    }
 
     fn own_tag() -> Tag
         ensures { result.0 ≡ C.tag_number }

@@ -6,7 +6,7 @@ ghost use Rattle.asn1_strings.specs.Charsets.{is_numeric, is_printable, is_below
 ghost use Rattle.asn1_strings.specs.CharsetLaws.{numeric_below_80, printable_below_80, below_80, visible_below_80};
 
 use crate::character_string::{CharacterString, OctetCharset, TestValidCharset};
-use asn1_core::{Error, Tag};
+use asn1_core::{Class, Error, Tag};
 use asn1_traits::Tagged;
 
 /// Tag 12, any characters.
@@ -48,6 +48,10 @@ impl Tagged for Utf8 {
 
     ghost tag_number = { 12 };
 
+    fn own_class() -> Class {
+        Class::Universal
+    }
+
     fn own_tag() -> Tag {
         Self::TAG
     }
@@ -77,6 +81,10 @@ impl Tagged for Numeric {
 
     ghost tag_number = { 18 };
 
+    fn own_class() -> Class {
+        Class::Universal
+    }
+
     fn own_tag() -> Tag {
         Self::TAG
     }
@@ -102,6 +110,10 @@ impl Tagged for Printable {
     const TAG: Tag = Tag(19);
 
     ghost tag_number = { 19 };
+
+    fn own_class() -> Class {
+        Class::Universal
+    }
 
     fn own_tag() -> Tag {
         Self::TAG
@@ -135,6 +147,10 @@ impl Tagged for Ia5 {
 
     ghost tag_number = { 22 };
 
+    fn own_class() -> Class {
+        Class::Universal
+    }
+
     fn own_tag() -> Tag {
         Self::TAG
     }
@@ -160,6 +176,10 @@ impl Tagged for Visible {
     const TAG: Tag = Tag(26);
 
     ghost tag_number = { 26 };
+
+    fn own_class() -> Class {
+        Class::Universal
+    }
 
     fn own_tag() -> Tag {
         Self::TAG
@@ -187,6 +207,10 @@ impl Tagged for Teletex {
 
     ghost tag_number = { 20 };
 
+    fn own_class() -> Class {
+        Class::Universal
+    }
+
     fn own_tag() -> Tag {
         Self::TAG
     }
@@ -212,6 +236,10 @@ impl Tagged for Videotex {
     const TAG: Tag = Tag(21);
 
     ghost tag_number = { 21 };
+
+    fn own_class() -> Class {
+        Class::Universal
+    }
 
     fn own_tag() -> Tag {
         Self::TAG
@@ -239,6 +267,10 @@ impl Tagged for Graphic {
 
     ghost tag_number = { 25 };
 
+    fn own_class() -> Class {
+        Class::Universal
+    }
+
     fn own_tag() -> Tag {
         Self::TAG
     }
@@ -265,6 +297,10 @@ impl Tagged for General {
 
     ghost tag_number = { 27 };
 
+    fn own_class() -> Class {
+        Class::Universal
+    }
+
     fn own_tag() -> Tag {
         Self::TAG
     }
@@ -290,6 +326,10 @@ impl Tagged for Descriptor {
     const TAG: Tag = Tag(7);
 
     ghost tag_number = { 7 };
+
+    fn own_class() -> Class {
+        Class::Universal
+    }
 
     fn own_tag() -> Tag {
         Self::TAG

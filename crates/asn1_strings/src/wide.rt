@@ -7,7 +7,7 @@ ghost use Rattle.asn1_traits.specs.Writes.{IsLong, Measures, Writes};
 ghost use Rattle.asn1_strings.specs.Texts.{TestsCharset};
 ghost use Rattle.asn1_strings.specs.Wide.{octets_of, wide_octets, MeansWide, IsWideText, BeginsWithChar, BeginsWithNone, ReadsWide};
 
-use asn1_core::{Error, SerializeError, SerializeResult, Tag};
+use asn1_core::{Class, Error, SerializeError, SerializeResult, Tag};
 use asn1_device::Sink;
 use asn1_traits::{DerLeaf, FromLeaf, Tagged, write_all};
 use std::alloc::{AllocError, Global};
@@ -189,6 +189,10 @@ impl<F: WideForm> Tagged for WideString<F> {
     const TAG: Tag = F::TAG;
 
     ghost tag_number = { F.tag_number };
+
+    fn own_class() -> Class {
+        Class::Universal
+    }
 
     fn own_tag() -> Tag {
         F::own_tag()

@@ -6,7 +6,7 @@ ghost use Rattle.asn1_strings.specs.Wide.{utf16_octets, utf32_octets, BeginsWith
 ghost use Rattle.asn1_strings.specs.WideLaws.{utf16_some, utf16_one, utf32_some, utf32_one};
 
 use crate::wide::{CharOctets, WideForm, WideString};
-use asn1_core::Tag;
+use asn1_core::{Class, Tag};
 use asn1_traits::Tagged;
 
 /// Tag 30, text whose characters stand as UTF-16, the high octet first.
@@ -23,6 +23,10 @@ impl Tagged for Utf16 {
     const TAG: Tag = Tag(30);
 
     ghost tag_number = { 30 };
+
+    fn own_class() -> Class {
+        Class::Universal
+    }
 
     fn own_tag() -> Tag {
         Self::TAG
@@ -87,6 +91,10 @@ impl Tagged for Utf32 {
     const TAG: Tag = Tag(28);
 
     ghost tag_number = { 28 };
+
+    fn own_class() -> Class {
+        Class::Universal
+    }
 
     fn own_tag() -> Tag {
         Self::TAG

@@ -23,10 +23,10 @@ pub record ExplicitMeans {V : Type 0} (class tag : ℕ) (reads : List ℕ → V 
 abbrev pub retagged : ℕ → ℕ → Element → Element
 retagged class tag e = record { class = class; constructed = e.constructed; tag = tag; content = e.content }
 
--- implicit: under the value's own tag the element would mean the value
-pub record ImplicitMeans {V : Type 0} (class tag own : ℕ) (means : Element → V → Type 0) (e : Element) (v : V) : Type 0 where
+-- implicit: under the own class and tag number of the value's type the element would mean the value
+pub record ImplicitMeans {V : Type 0} (class tag own_class own : ℕ) (means : Element → V → Type 0) (e : Element) (v : V) : Type 0 where
   pub tagged : IsTagged class tag e
-  pub meant : means (retagged 0 own e) v
+  pub meant : means (retagged own_class own e) v
 
 -- numbers above 3 are no class, and nothing is written under one (X.690, 8.1.2.2)
 abbrev pub explicit_element : ℕ → ℕ → Option Element → Option Element
@@ -41,15 +41,15 @@ pub record IsExplicitForm (class tag : ℕ) (form : Type 0) : Type 0 where
   pub tag_is : tag < 2 ^ 32
   pub inner : form
 
--- the kind is universal, of this tag number
-abbrev pub IsUniversal : ℕ → Option Kind → Type 0
-IsUniversal tag None = ⊥
-IsUniversal tag (Some k) = (k.class ≡ 0) × (k.tag ≡ tag)
+-- the kind is of this class and tag number
+abbrev pub IsOf : ℕ → ℕ → Option Kind → Type 0
+IsOf class tag None = ⊥
+IsOf class tag (Some k) = (k.class ≡ class) × (k.tag ≡ tag)
 
--- the same, and the value's own element is universal, of its type's tag number, and can be counted
-pub record IsImplicitForm (class tag own : ℕ) (form : Type 0) (o : Option Element) : Type 0 where
+-- the same, and the value's own element is of its type's class and tag number, and can be counted
+pub record IsImplicitForm (class tag own_class own : ℕ) (form : Type 0) (o : Option Element) : Type 0 where
   pub class_is : class < 4
   pub tag_is : tag < 2 ^ 32
   pub inner : form
-  pub own_is : IsUniversal own (option_map kind_of_element o)
+  pub own_is : IsOf own_class own (option_map kind_of_element o)
   pub short : IsLong (written o) → ⊥

@@ -1,9 +1,10 @@
 //! Values under a tag in place of their own (X.690, 8.14.3).
 
 ghost use Rattle.std.specs.Prelude.{◌≡◌, ◌↔◌, IsTrue, option_map};
+ghost use Rattle.asn1_core.specs.Views.{class_number};
 ghost use Rattle.asn1_any.specs.Views.{any_of};
 ghost use Rattle.asn1_traits.specs.Writes.{kind_of};
-ghost use Rattle.asn1_tagged.specs.Tagging.{ImplicitMeans, retagged, implicit_element, IsUniversal, IsImplicitForm};
+ghost use Rattle.asn1_tagged.specs.Tagging.{ImplicitMeans, retagged, implicit_element, IsOf, IsImplicitForm};
 
 use crate::check::check_tagged;
 use crate::value::{Implicit, TaggedValue};
@@ -13,19 +14,16 @@ use asn1_device::Sink;
 use asn1_traits::{AnyMeaning, DerAnyMeaning, DerKind, FromAny, FromDerAny, Tagged, ToDer};
 use std::alloc::Global;
 
-// The element under this universal tag, its constructed bit and content as they are.
-fn retag<'a>(any: Any<'a>, tag: Tag) -> Any<'a>
-    ensures { any_of result ≡ retagged 0 tag.0 (any_of any.entry) }
+// The element under this class and tag number, its constructed bit and content as they are.
+fn retag<'a>(any: Any<'a>, class: Class, tag: Tag) -> Any<'a>
+    ensures { any_of result ≡ retagged (class_number class) tag.0 (any_of any.entry) }
 {
-    Any::new(
-        any.header.with_class(Class::Universal).with_tag(tag),
-        any.content,
-    )
+    Any::new(any.header.with_class(class).with_tag(tag), any.content)
 }
 
 impl<T: AnyMeaning + Tagged, E, const CLASS: u8, const TAG: u32> AnyMeaning
     for TaggedValue<T, E, Implicit, CLASS, TAG> {
-    ghost means = { λ e v. ImplicitMeans CLASS TAG T.tag_number T.means e v.inner };
+    ghost means = { λ e v. ImplicitMeans CLASS TAG T.own_class_number T.tag_number T.means e v.inner };
 }
 
 impl<
@@ -37,7 +35,7 @@ impl<
 > FromAny<'a, E> for TaggedValue<T, E, Implicit, CLASS, TAG> {
     fn try_from_any(alloc: Global, any: Any<'a>) -> Result<Self, Err<E>> {
         match check_tagged(&any, CLASS, TAG) {
-            Ok(()) => match T::try_from_any(alloc, retag(any, T::own_tag())) {
+            Ok(()) => match T::try_from_any(alloc, retag(any, T::own_class(), T::own_tag())) {
                 Ok(inner) => Ok(TaggedValue::implicit(inner)),
                 Err(e) => Err(e),
             },
@@ -48,7 +46,7 @@ impl<
 
 impl<T: DerAnyMeaning + Tagged, E, const CLASS: u8, const TAG: u32> DerAnyMeaning
     for TaggedValue<T, E, Implicit, CLASS, TAG> {
-    ghost der_means = { λ e v. ImplicitMeans CLASS TAG T.tag_number T.der_means e v.inner };
+    ghost der_means = { λ e v. ImplicitMeans CLASS TAG T.own_class_number T.tag_number T.der_means e v.inner };
 }
 
 impl<
@@ -60,7 +58,7 @@ impl<
 > FromDerAny<'a, E> for TaggedValue<T, E, Implicit, CLASS, TAG> {
     fn try_from_der_any(alloc: Global, any: Any<'a>) -> Result<Self, Err<E>> {
         match check_tagged(&any, CLASS, TAG) {
-            Ok(()) => match T::try_from_der_any(alloc, retag(any, T::own_tag())) {
+            Ok(()) => match T::try_from_der_any(alloc, retag(any, T::own_class(), T::own_tag())) {
                 Ok(inner) => Ok(TaggedValue::implicit(inner)),
                 Err(e) => Err(e),
             },
@@ -69,19 +67,19 @@ impl<
     }
 }
 
-// Whether the kind is universal, of this tag number.
-fn is_universal(kind: Option<DerKind>, tag: Tag) -> bool
-    ensures { IsTrue result ↔ IsUniversal tag.0 (option_map kind_of kind) }
+// Whether the kind is of this class and tag number.
+fn is_of(kind: Option<DerKind>, class: Class, tag: Tag) -> bool
+    ensures { IsTrue result ↔ IsOf (class_number class) tag.0 (option_map kind_of kind) }
 {
     match kind {
-        Some(kind) => kind.class == Class::Universal && kind.tag.0 == tag.0,
+        Some(kind) => kind.class == class && kind.tag.0 == tag.0,
         None => false,
     }
 }
 
 impl<T: ToDer + Tagged, E, const CLASS: u8, const TAG: u32> ToDer
     for TaggedValue<T, E, Implicit, CLASS, TAG> {
-    ghost is_der = { λ v. IsImplicitForm CLASS TAG T.tag_number (T.is_der v.inner) (T.element v.inner) };
+    ghost is_der = { λ v. IsImplicitForm CLASS TAG T.own_class_number T.tag_number (T.is_der v.inner) (T.element v.inner) };
 
     ghost element = { λ v. implicit_element CLASS TAG (T.element v.inner) };
 
@@ -90,7 +88,7 @@ impl<T: ToDer + Tagged, E, const CLASS: u8, const TAG: u32> ToDer
     fn in_der_form(&self) -> bool {
         CLASS < 4
             && self.inner.in_der_form()
-            && is_universal(self.inner.der_kind(), T::own_tag())
+            && is_of(self.inner.der_kind(), T::own_class(), T::own_tag())
             && self.inner.to_der_len().is_ok()
     }
 

@@ -23,14 +23,14 @@ impl<T: DerElement, E, const CLASS: u8, const TAG: u32> TaggedElement
 
 impl<T: DerElement + DerAnyMeaning + Tagged, E, const CLASS: u8, const TAG: u32> DerElement
     for TaggedValue<T, E, Implicit, CLASS, TAG> {
-    ghost one_element = { λ v form. implicit_one CLASS TAG T.tag_number (T.is_der v.inner) (T.element v.inner) form };
+    ghost one_element = { λ v form. implicit_one CLASS TAG T.own_class_number T.tag_number (T.is_der v.inner) (T.element v.inner) form };
 
-    ghost reads_back = { implicit_back CLASS TAG T.tag_number T.is_der T.element T.der_means (λ v. v.inner) (λ v w. record v { inner = w }) (λ v w. refl) T.one_element T.reads_back };
+    ghost reads_back = { implicit_back CLASS TAG T.own_class_number T.tag_number T.is_der T.element T.der_means (λ v. v.inner) (λ v w. record v { inner = w }) (λ v w. refl) T.one_element T.reads_back };
 
-    ghost same_back = { implicit_same CLASS TAG T.tag_number T.is_der T.element T.der_means (λ v. v.inner) T.one_element T.same_back };
+    ghost same_back = { implicit_same CLASS TAG T.own_class_number T.tag_number T.is_der T.element T.der_means (λ v. v.inner) T.one_element T.same_back };
 }
 
 impl<T: DerElement + DerAnyMeaning + Tagged, E, const CLASS: u8, const TAG: u32> TaggedElement
     for TaggedValue<T, E, Implicit, CLASS, TAG> {
-    ghost has_tag = { λ v form. implicit_tag CLASS TAG T.tag_number (T.is_der v.inner) (T.element v.inner) form };
+    ghost has_tag = { λ v form. implicit_tag CLASS TAG T.own_class_number T.tag_number (T.is_der v.inner) (T.element v.inner) form };
 }

@@ -32,7 +32,7 @@ pub fn opt_explicit_by_ber<T: BerMeaning, E, const CLASS: u8, const TAG: u32>()
 /// `opt_explicit_by_der`.
 pub fn opt_implicit_by_der<T: DerAnyMeaning + Tagged, E, const CLASS: u8, const TAG: u32>()
     ensures reads { (octets : List ℕ) (v : _) (rest : List ℕ) → ⟦<Option<TaggedValue<T, E, Implicit, CLASS, TAG>> as DerMeaning>⟧.der_reads octets v rest
-        ↔ OptTaggedReads BeginsWithTag TAG (ReadsElement (λ e x. ImplicitMeans CLASS TAG T.tag_number T.der_means e x.inner)) octets v rest }
+        ↔ OptTaggedReads BeginsWithTag TAG (ReadsElement (λ e x. ImplicitMeans CLASS TAG T.own_class_number T.tag_number T.der_means e x.inner)) octets v rest }
     ensures wanted { (octets rest : List ℕ) → BeginsWithTag octets TAG → ⟦<Option<TaggedValue<T, E, Implicit, CLASS, TAG>> as DerMeaning>⟧.der_reads octets None rest → ⊥ }
     ensures unread { (octets : List ℕ) → octets ≢ [] → ((n : ℕ) → BeginsWithTag octets n → ⊥) → NoneReads ⟦<Option<TaggedValue<T, E, Implicit, CLASS, TAG>> as DerMeaning>⟧.der_reads octets }
 {}
@@ -40,7 +40,7 @@ pub fn opt_implicit_by_der<T: DerAnyMeaning + Tagged, E, const CLASS: u8, const 
 /// The same by BER's rules.
 pub fn opt_implicit_by_ber<T: AnyMeaning + Tagged, E, const CLASS: u8, const TAG: u32>()
     ensures reads { (octets : List ℕ) (v : _) (rest : List ℕ) → ⟦<Option<TaggedValue<T, E, Implicit, CLASS, TAG>> as BerMeaning>⟧.ber_reads octets v rest
-        ↔ OptTaggedReads BeginsWithBerTag TAG (ReadsBerElement (λ e x. ImplicitMeans CLASS TAG T.tag_number T.means e x.inner)) octets v rest }
+        ↔ OptTaggedReads BeginsWithBerTag TAG (ReadsBerElement (λ e x. ImplicitMeans CLASS TAG T.own_class_number T.tag_number T.means e x.inner)) octets v rest }
     ensures wanted { (octets rest : List ℕ) → BeginsWithBerTag octets TAG → ⟦<Option<TaggedValue<T, E, Implicit, CLASS, TAG>> as BerMeaning>⟧.ber_reads octets None rest → ⊥ }
     ensures unread { (octets : List ℕ) → octets ≢ [] → ((n : ℕ) → BeginsWithBerTag octets n → ⊥) → NoneReads ⟦<Option<TaggedValue<T, E, Implicit, CLASS, TAG>> as BerMeaning>⟧.ber_reads octets }
 {}

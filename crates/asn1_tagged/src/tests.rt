@@ -278,12 +278,33 @@ fn tags_within_tags(rt: HostRuntime) -> Result<(), Fail> {
         TaggedImplicit::implicit(2),
     );
     both_ways(&rt, rt.alloc(), &[0xa0, 3, 0x81, 1, 2], value)?;
+    Ok(())
+}
 
-    // a tag in place of a value's own stands for a universal one
+// A tag in place of one that stands behind or in place of another.
+#[test]
+fn implicit_tags_within_tags(rt: HostRuntime) -> Result<(), Fail> {
     let value: TaggedImplicit<TaggedExplicit<u8, Error, 1>, Error, 0> = TaggedImplicit::implicit(
         TaggedExplicit::explicit(2),
     );
-    assert_eq!(rt; value.in_der_form(), false);
+    assert_eq!(rt; value.in_der_form(), true);
+    both_ways(&rt, rt.alloc(), &[0xa0, 3, 2, 1, 2], value)?;
+    let value: ApplicationImplicit<TaggedImplicit<u8, Error, 1>, Error, 0> = TaggedValue::implicit(
+        TaggedImplicit::implicit(2),
+    );
+    both_ways(&rt, rt.alloc(), &[0x40, 1, 2], value)?;
+    Ok(())
+}
+
+// Under the inner tag itself nothing is read.
+#[test]
+fn implicit_tags_replace_tags(rt: HostRuntime) -> Result<(), Fail> {
+    type Twice = TaggedImplicit<TaggedImplicit<u8, Error, 1>, Error, 0>;
+    assert_eq!(rt;
+        by_der::<Error, Twice>(rt.alloc(), &[0x81, 1, 2]),
+        Err(Refusal::Error(Error::unexpected_tag(Some(Tag(0)), Tag(1))))
+    );
+    assert_eq!(rt; Twice::own_class(), Class::ContextSpecific);
     Ok(())
 }
 
@@ -550,6 +571,10 @@ impl Tagged for Hungry {
     const TAG: Tag = Tag(4);
 
     ghost tag_number = { 4 };
+
+    fn own_class() -> Class {
+        Class::Universal
+    }
 
     fn own_tag() -> Tag {
         Tag(4)

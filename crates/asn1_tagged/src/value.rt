@@ -1,8 +1,8 @@
 //! The type of a value under a tag.
 
-ghost use Rattle.std.specs.Prelude.{◌≡◌};
+ghost use Rattle.std.specs.Prelude.{◌≡◌, nat_lt, if◌then◌else◌};
 
-use asn1_core::Tag;
+use asn1_core::{Class, Tag};
 use asn1_traits::Tagged;
 use std::convert::AsRef;
 use std::marker::PhantomData;
@@ -108,7 +108,17 @@ impl<T, E, Kind, const CLASS: u8, const TAG: u32> AsRef<T> for TaggedValue<T, E,
 impl<T, E, Kind, const CLASS: u8, const TAG: u32> Tagged for TaggedValue<T, E, Kind, CLASS, TAG> {
     const TAG: Tag = Tag(TAG);
 
+    ghost own_class_number = { if nat_lt CLASS 4 then CLASS else 0 };
+
     ghost tag_number = { TAG };
+
+    // (universal where `CLASS` is no class, of which there is no element)
+    fn own_class() -> Class {
+        match Class::try_from(CLASS) {
+            Ok(class) => class,
+            Err(_) => Class::Universal,
+        }
+    }
 
     fn own_tag() -> Tag {
         Tag(TAG)

@@ -11,7 +11,7 @@ use crate::datetime::{ASN1DateTime, ASN1TimeZone};
 use crate::reading::generalized_of;
 use crate::writing::{Octets, push_pair, push_time};
 use arrayvec::ArrayVec;
-use asn1_core::{DerConstraint, Error, SerializeResult, Tag};
+use asn1_core::{Class, DerConstraint, Error, SerializeResult, Tag};
 use asn1_device::Sink;
 use asn1_traits::{DerLeaf, FromLeaf, Tagged, write_all};
 use std::alloc::Global;
@@ -56,6 +56,10 @@ impl Tagged for GeneralizedTime {
     const TAG: Tag = Tag(24);
 
     ghost tag_number = { 24 };
+
+    fn own_class() -> Class {
+        Class::Universal
+    }
 
     fn own_tag() -> Tag {
         Self::TAG

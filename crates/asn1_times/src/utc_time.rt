@@ -10,7 +10,7 @@ use crate::datetime::ASN1DateTime;
 use crate::reading::utc_of;
 use crate::writing::{Octets, push_pair, push_time};
 use arrayvec::ArrayVec;
-use asn1_core::{Error, SerializeResult, Tag};
+use asn1_core::{Class, Error, SerializeResult, Tag};
 use asn1_device::Sink;
 use asn1_traits::{DerLeaf, FromLeaf, Tagged, write_all};
 use std::alloc::Global;
@@ -53,6 +53,10 @@ impl Tagged for UtcTime {
     const TAG: Tag = Tag(23);
 
     ghost tag_number = { 23 };
+
+    fn own_class() -> Class {
+        Class::Universal
+    }
 
     fn own_tag() -> Tag {
         Self::TAG

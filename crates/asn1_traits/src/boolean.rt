@@ -8,7 +8,7 @@ ghost use Rattle.asn1_traits.specs.BooleanLaws.{boolean_fits, boolean_same};
 use crate::leaf::{DerLeaf, FromLeaf};
 use crate::read::Tagged;
 use crate::write::write_all;
-use asn1_core::{DerConstraint, Error, SerializeResult, Tag};
+use asn1_core::{Class, DerConstraint, Error, SerializeResult, Tag};
 use asn1_device::Sink;
 use std::alloc::Global;
 
@@ -16,6 +16,10 @@ impl Tagged for bool {
     const TAG: Tag = Tag(1);
 
     ghost tag_number = { 1 };
+
+    fn own_class() -> Class {
+        Class::Universal
+    }
 
     fn own_tag() -> Tag {
         Self::TAG

@@ -7,12 +7,16 @@ ghost use Rattle.asn1_traits.specs.IntegerLaws.{unsigned_small, signed_small};
 
 use crate::integer::{DerInteger, Whole};
 use crate::read::Tagged;
-use asn1_core::{Error, Tag};
+use asn1_core::{Class, Error, Tag};
 
 impl Tagged for u8 {
     const TAG: Tag = Tag(2);
 
     ghost tag_number = { 2 };
+
+    fn own_class() -> Class {
+        Class::Universal
+    }
 
     fn own_tag() -> Tag {
         Self::TAG
@@ -51,6 +55,10 @@ impl Tagged for u16 {
 
     ghost tag_number = { 2 };
 
+    fn own_class() -> Class {
+        Class::Universal
+    }
+
     fn own_tag() -> Tag {
         Self::TAG
     }
@@ -87,6 +95,10 @@ impl Tagged for u32 {
     const TAG: Tag = Tag(2);
 
     ghost tag_number = { 2 };
+
+    fn own_class() -> Class {
+        Class::Universal
+    }
 
     fn own_tag() -> Tag {
         Self::TAG
@@ -125,6 +137,10 @@ impl Tagged for u64 {
 
     ghost tag_number = { 2 };
 
+    fn own_class() -> Class {
+        Class::Universal
+    }
+
     fn own_tag() -> Tag {
         Self::TAG
     }
@@ -162,6 +178,10 @@ impl Tagged for u128 {
 
     ghost tag_number = { 2 };
 
+    fn own_class() -> Class {
+        Class::Universal
+    }
+
     fn own_tag() -> Tag {
         Self::TAG
     }
@@ -195,6 +215,10 @@ impl Tagged for i8 {
     const TAG: Tag = Tag(2);
 
     ghost tag_number = { 2 };
+
+    fn own_class() -> Class {
+        Class::Universal
+    }
 
     fn own_tag() -> Tag {
         Self::TAG
@@ -237,6 +261,10 @@ impl Tagged for i16 {
 
     ghost tag_number = { 2 };
 
+    fn own_class() -> Class {
+        Class::Universal
+    }
+
     fn own_tag() -> Tag {
         Self::TAG
     }
@@ -277,6 +305,10 @@ impl Tagged for i32 {
     const TAG: Tag = Tag(2);
 
     ghost tag_number = { 2 };
+
+    fn own_class() -> Class {
+        Class::Universal
+    }
 
     fn own_tag() -> Tag {
         Self::TAG
@@ -319,6 +351,10 @@ impl Tagged for i64 {
 
     ghost tag_number = { 2 };
 
+    fn own_class() -> Class {
+        Class::Universal
+    }
+
     fn own_tag() -> Tag {
         Self::TAG
     }
@@ -359,6 +395,10 @@ impl Tagged for i128 {
     const TAG: Tag = Tag(2);
 
     ghost tag_number = { 2 };
+
+    fn own_class() -> Class {
+        Class::Universal
+    }
 
     fn own_tag() -> Tag {
         Self::TAG

@@ -36,6 +36,10 @@ impl<T> Tagged for Vec<T> {
 
     ghost tag_number = { 16 };
 
+    fn own_class() -> Class {
+        Class::Universal
+    }
+
     fn own_tag() -> Tag {
         Tag(16)
     }

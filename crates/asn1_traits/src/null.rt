@@ -7,7 +7,7 @@ ghost use Rattle.std.specs.Prelude.{[]};
 use crate::leaf::{DerLeaf, FromLeaf};
 use crate::read::Tagged;
 use crate::write::write_all;
-use asn1_core::{Error, SerializeResult, Tag};
+use asn1_core::{Class, Error, SerializeResult, Tag};
 use asn1_device::Sink;
 use std::alloc::Global;
 
@@ -15,6 +15,10 @@ impl Tagged for () {
     const TAG: Tag = Tag(5);
 
     ghost tag_number = { 5 };
+
+    fn own_class() -> Class {
+        Class::Universal
+    }
 
     fn own_tag() -> Tag {
         Self::TAG

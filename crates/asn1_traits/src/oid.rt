@@ -3,11 +3,12 @@
 ghost use Rattle.std.specs.Prelude.{◌≡◌, ◌↔◌, IsTrue, refl};
 ghost use Rattle.std.proofs.Common.{lit<};
 ghost use Rattle.asn1_traits.specs.Leaves.{ChecksContent, MeansOctets};
+ghost use Rattle.asn1_core.specs.Views.{class_number};
 
 use crate::leaf::{DerLeaf, FromLeaf};
 use crate::read::Tagged;
 use crate::write::write_all;
-use asn1_core::{Error, SerializeResult, Tag};
+use asn1_core::{Class, Error, SerializeResult, Tag};
 use asn1_device::Sink;
 use asn1_oid::Oid;
 use std::alloc::Global;
@@ -16,6 +17,12 @@ impl<'b> Tagged for Oid<'b> {
     const TAG: Tag = Tag(6);
 
     ghost tag_number = { 6 };
+
+    fn own_class() -> Class
+        ensures { class_number result ≡ 0 }
+    {
+        Class::Universal
+    }
 
     fn own_tag() -> Tag
         ensures { result.0 ≡ 6 }

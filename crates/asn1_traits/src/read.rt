@@ -4,21 +4,29 @@
 
 ghost use Rattle.std.specs.Prelude.{◌≡◌, ℕ, List};
 ghost use Rattle.asn1_core.specs.Elements.{Element};
+ghost use Rattle.asn1_core.specs.Views.{class_number};
 ghost use Rattle.asn1_any.specs.Views.{any_of};
 ghost use Rattle.asn1_traits.specs.Reads.{ReadsOf, Reads, Checks, AndAllowed};
 ghost use Rattle.asn1_traits.specs.Elements.{ReadsElement, ReadsBerElement, one_element_rest, one_ber_element_rest};
 
 use asn1_any::Any;
-use asn1_core::{Err, Error, IResult, Tag};
+use asn1_core::{Class, Err, Error, IResult, Tag};
 use std::alloc::Global;
 
-/// A type whose elements have one universal tag number.
+/// A type whose elements have one class and one tag number.
 pub trait Tagged {
     /// The tag number.
     const TAG: Tag;
 
+    /// The number of the class, universal where a type says nothing else.
+    ghost own_class_number: { ℕ } = { 0 };
+
     /// The number in `TAG`.
     ghost tag_number: { ℕ };
+
+    /// The class.
+    fn own_class() -> Class
+        ensures { class_number result ≡ own_class_number };
 
     /// `TAG`, with a contract.
     fn own_tag() -> Tag

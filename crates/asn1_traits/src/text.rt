@@ -4,11 +4,12 @@ ghost use Rattle.std.specs.Prelude.{◌≡◌, ◌↔◌, IsTrue, refl, string_b
 ghost use Rattle.std.proofs.Common.{lit<};
 ghost use Rattle.std.specs.Str.{IsUtf8};
 ghost use Rattle.asn1_traits.specs.Leaves.{ChecksContent, MeansText};
+ghost use Rattle.asn1_core.specs.Views.{class_number};
 
 use crate::leaf::{DerLeaf, FromLeaf};
 use crate::read::Tagged;
 use crate::write::write_all;
-use asn1_core::{Error, SerializeResult, Tag};
+use asn1_core::{Class, Error, SerializeResult, Tag};
 use asn1_device::Sink;
 use std::alloc::Global;
 
@@ -16,6 +17,12 @@ impl<'b> Tagged for &'b str {
     const TAG: Tag = Tag(12);
 
     ghost tag_number = { 12 };
+
+    fn own_class() -> Class
+        ensures { class_number result ≡ 0 }
+    {
+        Class::Universal
+    }
 
     fn own_tag() -> Tag
         ensures { result.0 ≡ 12 }
@@ -72,6 +79,10 @@ impl Tagged for String {
     const TAG: Tag = Tag(12);
 
     ghost tag_number = { 12 };
+
+    fn own_class() -> Class {
+        Class::Universal
+    }
 
     fn own_tag() -> Tag {
         Self::TAG

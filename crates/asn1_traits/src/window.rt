@@ -3,11 +3,12 @@
 ghost use Rattle.std.specs.Prelude.{◌≡◌, ◌↔◌, IsTrue, refl};
 ghost use Rattle.std.proofs.Common.{lit<};
 ghost use Rattle.asn1_traits.specs.Leaves.{ChecksContent, MeansOctets};
+ghost use Rattle.asn1_core.specs.Views.{class_number};
 
 use crate::leaf::{DerLeaf, FromLeaf};
 use crate::read::Tagged;
 use crate::write::write_all;
-use asn1_core::{Error, SerializeResult, Tag};
+use asn1_core::{Class, Error, SerializeResult, Tag};
 use asn1_device::Sink;
 use std::alloc::Global;
 
@@ -15,6 +16,12 @@ impl<'b> Tagged for &'b [u8] {
     const TAG: Tag = Tag(4);
 
     ghost tag_number = { 4 };
+
+    fn own_class() -> Class
+        ensures { class_number result ≡ 0 }
+    {
+        Class::Universal
+    }
 
     fn own_tag() -> Tag
         ensures { result.0 ≡ 4 }

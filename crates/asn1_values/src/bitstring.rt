@@ -5,8 +5,9 @@ ghost use Rattle.std.proofs.Common.{lit<};
 ghost use Rattle.asn1_traits.specs.Leaves.{ChecksContent};
 ghost use Rattle.asn1_values.specs.Bits.{bit_at, BitsMean, AreUnusedZero, AreStrictBits, IsStrictBitContent, ReadsBits};
 ghost use Rattle.asn1_values.specs.BitLaws.{bits_fit, bits_same};
+ghost use Rattle.asn1_core.specs.Views.{class_number};
 
-use asn1_core::{DerConstraint, Error, SerializeError, SerializeResult, Tag};
+use asn1_core::{Class, DerConstraint, Error, SerializeError, SerializeResult, Tag};
 use asn1_device::Sink;
 use asn1_traits::{DerLeaf, FromLeaf, Tagged, write_all};
 use std::alloc::Global;
@@ -63,6 +64,12 @@ impl<'b> Tagged for BitString<'b> {
     const TAG: Tag = Tag(3);
 
     ghost tag_number = { 3 };
+
+    fn own_class() -> Class
+        ensures { class_number result ≡ 0 }
+    {
+        Class::Universal
+    }
 
     fn own_tag() -> Tag
         ensures { result.0 ≡ 3 }

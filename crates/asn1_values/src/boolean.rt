@@ -5,7 +5,7 @@ ghost use Rattle.std.proofs.Common.{lit<};
 ghost use Rattle.asn1_traits.specs.Booleans.{IsStrictBoolean, boolean_octets};
 ghost use Rattle.asn1_values.specs.BooleanLaws.{octet_fits, octet_same};
 
-use asn1_core::{DerConstraint, Error, SerializeResult, Tag};
+use asn1_core::{Class, DerConstraint, Error, SerializeResult, Tag};
 use asn1_device::Sink;
 use asn1_traits::{DerLeaf, FromLeaf, Tagged, write_all};
 use std::alloc::Global;
@@ -45,6 +45,10 @@ impl Tagged for Boolean {
     const TAG: Tag = Tag(1);
 
     ghost tag_number = { 1 };
+
+    fn own_class() -> Class {
+        Class::Universal
+    }
 
     fn own_tag() -> Tag {
         Self::TAG

@@ -5,7 +5,7 @@ ghost use Rattle.std.proofs.Common.{lit<, lit≤};
 ghost use Rattle.asn1_traits.specs.Integers.{IsUnsigned};
 ghost use Rattle.asn1_traits.specs.IntegerLaws.{unsigned_small};
 
-use asn1_core::{Error, Tag};
+use asn1_core::{Class, Error, Tag};
 use asn1_traits::{DerInteger, Tagged, Whole};
 
 /// An enumerated value: its number, which is read and written as that of an INTEGER.
@@ -25,6 +25,10 @@ impl Tagged for Enumerated {
     const TAG: Tag = Tag(10);
 
     ghost tag_number = { 10 };
+
+    fn own_class() -> Class {
+        Class::Universal
+    }
 
     fn own_tag() -> Tag {
         Self::TAG

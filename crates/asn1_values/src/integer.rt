@@ -8,10 +8,11 @@ ghost use Rattle.asn1_traits.specs.Leaves.{ChecksContent};
 ghost use Rattle.asn1_values.specs.Contents.{HoldsSome, shortest_fits};
 ghost use Rattle.asn1_unsigned.specs.Numbers.{number_of};
 ghost use Rattle.asn1_values.specs.Numbers.{IsNegative, RefusesNatural, RefusesUnsigned, RefusesSigned};
+ghost use Rattle.asn1_core.specs.Views.{class_number};
 
 use crate::whole::{is_negative, read_unsigned, read_whole};
 use asn1_any::Any;
-use asn1_core::{Error, SerializeResult, Tag};
+use asn1_core::{Class, Error, SerializeResult, Tag};
 use asn1_device::Sink;
 use asn1_traits::{DerInteger, DerLeaf, FromLeaf, Tagged, check_shortest, write_all};
 use asn1_unsigned::UnsignedBytes;
@@ -224,6 +225,12 @@ impl<'b> Tagged for Integer<'b> {
     const TAG: Tag = Tag(2);
 
     ghost tag_number = { 2 };
+
+    fn own_class() -> Class
+        ensures { class_number result ≡ 0 }
+    {
+        Class::Universal
+    }
 
     fn own_tag() -> Tag
         ensures { result.0 ≡ 2 }

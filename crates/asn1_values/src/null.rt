@@ -3,7 +3,7 @@
 ghost use Rattle.std.specs.Prelude.{◌≡◌, [], refl};
 ghost use Rattle.std.proofs.Common.{lit<};
 
-use asn1_core::{Error, SerializeResult, Tag};
+use asn1_core::{Class, Error, SerializeResult, Tag};
 use asn1_device::Sink;
 use asn1_traits::{DerLeaf, FromLeaf, Tagged, write_all};
 use std::alloc::Global;
@@ -23,6 +23,10 @@ impl Tagged for Null {
     const TAG: Tag = Tag(5);
 
     ghost tag_number = { 5 };
+
+    fn own_class() -> Class {
+        Class::Universal
+    }
 
     fn own_tag() -> Tag {
         Self::TAG

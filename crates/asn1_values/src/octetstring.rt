@@ -3,8 +3,9 @@
 ghost use Rattle.std.specs.Prelude.{◌≡◌, ◌↔◌, IsTrue, refl};
 ghost use Rattle.std.proofs.Common.{lit<};
 ghost use Rattle.asn1_traits.specs.Leaves.{ChecksContent, MeansOctets};
+ghost use Rattle.asn1_core.specs.Views.{class_number};
 
-use asn1_core::{Error, SerializeResult, Tag};
+use asn1_core::{Class, Error, SerializeResult, Tag};
 use asn1_device::Sink;
 use asn1_traits::{DerLeaf, FromLeaf, Tagged, write_all};
 use std::alloc::Global;
@@ -36,6 +37,12 @@ impl<'b> Tagged for OctetString<'b> {
     const TAG: Tag = Tag(4);
 
     ghost tag_number = { 4 };
+
+    fn own_class() -> Class
+        ensures { class_number result ≡ 0 }
+    {
+        Class::Universal
+    }
 
     fn own_tag() -> Tag
         ensures { result.0 ≡ 4 }

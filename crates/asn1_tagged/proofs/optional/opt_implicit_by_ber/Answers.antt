@@ -13,4 +13,4 @@ pub returns-clause-wanted : goal.returns-clause-wanted
 returns-clause-wanted g c = λ octets rest p q. not_both BeginsWithBerTag _ octets ber_headers p q.0
 
 pub returns-clause-unread : goal.returns-clause-unread
-returns-clause-unread g c = λ octets some none. none_headed BeginsWithBerTag _ (ReadsBerElement (λ e x. ImplicitMeans g.row.CLASS g.row.TAG g.T.Tagged.tag_number g.T.AnyMeaning.means e x.inner)) octets some none
+returns-clause-unread g c = λ octets some none. none_headed BeginsWithBerTag _ (ReadsBerElement (λ e x. ImplicitMeans g.row.CLASS g.row.TAG g.T.Tagged.own_class_number g.T.Tagged.tag_number g.T.AnyMeaning.means e x.inner)) octets some none

@@ -13,4 +13,4 @@ pub returns-clause-wanted : goal.returns-clause-wanted
 returns-clause-wanted g c = λ octets rest p q. not_both BeginsWithTag _ octets der_headers p q.0
 
 pub returns-clause-unread : goal.returns-clause-unread
-returns-clause-unread g c = λ octets some none. none_headed BeginsWithTag _ (ReadsElement (λ e x. ImplicitMeans g.row.CLASS g.row.TAG g.T.Tagged.tag_number g.T.DerAnyMeaning.der_means e x.inner)) octets some none
+returns-clause-unread g c = λ octets some none. none_headed BeginsWithTag _ (ReadsElement (λ e x. ImplicitMeans g.row.CLASS g.row.TAG g.T.Tagged.own_class_number g.T.Tagged.tag_number g.T.DerAnyMeaning.der_means e x.inner)) octets some none
