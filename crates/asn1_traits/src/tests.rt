@@ -16,21 +16,26 @@ use std::io::{self, Write};
 use std::process::Abort;
 use std::test::Fail;
 
+// What came is what was wanted.
+fn same<R: Abort, T: PartialEq + Debug + Drop>(rt: &R, got: T, want: T) {
+    assert_eq!(rt; got, want);
+}
+
 // Octets and the value that they stand for: read to their end, and written again.
 fn both_ways<
     'a,
     R: Abort,
     T: FromDer<'a, Error> + FromBer<'a, Error> + ToDer + PartialEq + Debug + Drop,
 >(rt: &R, alloc: Global, octets: &'a [u8], value: T) -> Result<(), Fail> {
-    assert_eq!(rt; value.in_der_form(), true);
-    assert_eq!(rt; value.to_der_len(), Ok(octets.len()));
+    same(rt, value.in_der_form(), true);
+    same(rt, value.to_der_len(), Ok(octets.len()));
     let written = value.to_der_vec(alloc)?;
-    assert_eq!(rt; written.as_slice(), octets);
+    same(rt, written.as_slice(), octets);
     let (rest, read) = T::from_der(alloc, octets)?;
-    assert_eq!(rt; rest.len(), 0);
+    same(rt, rest.len(), 0);
     assert!(rt; read == value);
     let (rest, read) = T::from_ber(alloc, octets)?;
-    assert_eq!(rt; rest.len(), 0);
+    same(rt, rest.len(), 0);
     assert!(rt; read == value);
     Ok(())
 }
@@ -80,40 +85,48 @@ fn der_value<'a, E: From<Error>, T: FromDer<'a, E>>(
 fn booleans(rt: HostRuntime) -> Result<(), Fail> {
     both_ways(&rt, rt.alloc(), &[1, 1, 0], false)?;
     both_ways(&rt, rt.alloc(), &[1, 1, 0xff], true)?;
-    assert_eq!(rt;
+    same(
+        &rt,
         ber_value::<Error, bool>(rt.alloc(), &[1, 1, 1, 7]),
-        Ok((1, true))
+        Ok((1, true)),
     );
-    assert_eq!(rt;
+    same(
+        &rt,
         der_refusal::<Error, bool>(rt.alloc(), &[1, 1, 1]),
-        Some(Refusal::Error(Error::DerConstraintFailed(DerConstraint::InvalidBoolean)))
+        Some(Refusal::Error(Error::DerConstraintFailed(DerConstraint::InvalidBoolean))),
     );
-    assert_eq!(rt;
+    same(
+        &rt,
         der_refusal::<Error, bool>(rt.alloc(), &[1, 0]),
-        Some(Refusal::Error(Error::InvalidLength))
+        Some(Refusal::Error(Error::InvalidLength)),
     );
-    assert_eq!(rt;
+    same(
+        &rt,
         der_refusal::<Error, bool>(rt.alloc(), &[1, 2, 0, 0]),
-        Some(Refusal::Error(Error::InvalidLength))
+        Some(Refusal::Error(Error::InvalidLength)),
     );
-    assert_eq!(rt;
+    same(
+        &rt,
         ber_refusal::<Error, bool>(rt.alloc(), &[1, 0]),
-        Some(Refusal::Error(Error::InvalidLength))
+        Some(Refusal::Error(Error::InvalidLength)),
     );
-    assert_eq!(rt;
+    same(
+        &rt,
         der_refusal::<Error, bool>(rt.alloc(), &[2, 1, 0]),
         Some(Refusal::Error(Error::UnexpectedTag {
             expected: Some(Tag(1)),
-            actual: Tag(2)
-        }))
+            actual: Tag(2),
+        })),
     );
-    assert_eq!(rt;
+    same(
+        &rt,
         der_refusal::<Error, bool>(rt.alloc(), &[0x21, 1, 0]),
-        Some(Refusal::Error(Error::ConstructUnexpected))
+        Some(Refusal::Error(Error::ConstructUnexpected)),
     );
-    assert_eq!(rt;
+    same(
+        &rt,
         der_refusal::<Error, bool>(rt.alloc(), &[1, 1]),
-        Some(Refusal::Incomplete(Needed::Size(1)))
+        Some(Refusal::Incomplete(Needed::Size(1))),
     );
     Ok(())
 }
@@ -124,24 +137,28 @@ fn integers_of_8_bits(rt: HostRuntime) -> Result<(), Fail> {
     both_ways(&rt, rt.alloc(), &[2, 1, 0x7f], 127u8)?;
     both_ways(&rt, rt.alloc(), &[2, 2, 0, 0x80], 128u8)?;
     both_ways(&rt, rt.alloc(), &[2, 2, 0, 0xff], 255u8)?;
-    assert_eq!(rt;
+    same(
+        &rt,
         der_refusal::<Error, u8>(rt.alloc(), &[2, 2, 1, 0]),
-        Some(Refusal::Error(Error::IntegerTooLarge))
+        Some(Refusal::Error(Error::IntegerTooLarge)),
     );
-    assert_eq!(rt;
+    same(
+        &rt,
         der_refusal::<Error, u8>(rt.alloc(), &[2, 1, 0xff]),
-        Some(Refusal::Error(Error::IntegerNegative))
+        Some(Refusal::Error(Error::IntegerNegative)),
     );
     both_ways(&rt, rt.alloc(), &[2, 1, 0xff], -1i8)?;
     both_ways(&rt, rt.alloc(), &[2, 1, 0x7f], 127i8)?;
     both_ways(&rt, rt.alloc(), &[2, 1, 0x80], -128i8)?;
-    assert_eq!(rt;
+    same(
+        &rt,
         der_refusal::<Error, i8>(rt.alloc(), &[2, 2, 0, 0x80]),
-        Some(Refusal::Error(Error::IntegerTooLarge))
+        Some(Refusal::Error(Error::IntegerTooLarge)),
     );
-    assert_eq!(rt;
+    same(
+        &rt,
         der_refusal::<Error, i8>(rt.alloc(), &[2, 2, 0xff, 0x7f]),
-        Some(Refusal::Error(Error::IntegerTooLarge))
+        Some(Refusal::Error(Error::IntegerTooLarge)),
     );
     Ok(())
 }
@@ -149,15 +166,17 @@ fn integers_of_8_bits(rt: HostRuntime) -> Result<(), Fail> {
 #[test]
 fn integers_of_16_and_32_bits(rt: HostRuntime) -> Result<(), Fail> {
     both_ways(&rt, rt.alloc(), &[2, 3, 0, 0xff, 0xff], 0xffffu16)?;
-    assert_eq!(rt;
+    same(
+        &rt,
         der_refusal::<Error, u16>(rt.alloc(), &[2, 3, 1, 0, 0]),
-        Some(Refusal::Error(Error::IntegerTooLarge))
+        Some(Refusal::Error(Error::IntegerTooLarge)),
     );
     both_ways(&rt, rt.alloc(), &[2, 2, 0x7f, 0xff], 0x7fffi16)?;
     both_ways(&rt, rt.alloc(), &[2, 2, 0x80, 0], -0x8000i16)?;
-    assert_eq!(rt;
+    same(
+        &rt,
         der_refusal::<Error, i16>(rt.alloc(), &[2, 3, 0, 0x80, 0]),
-        Some(Refusal::Error(Error::IntegerTooLarge))
+        Some(Refusal::Error(Error::IntegerTooLarge)),
     );
     both_ways(&rt, rt.alloc(), &[2, 3, 1, 0, 0], 65536u32)?;
     both_ways(
@@ -166,9 +185,10 @@ fn integers_of_16_and_32_bits(rt: HostRuntime) -> Result<(), Fail> {
         &[2, 5, 0, 0xff, 0xff, 0xff, 0xff],
         0xffff_ffffu32,
     )?;
-    assert_eq!(rt;
+    same(
+        &rt,
         der_refusal::<Error, u32>(rt.alloc(), &[2, 5, 1, 0, 0, 0, 0]),
-        Some(Refusal::Error(Error::IntegerTooLarge))
+        Some(Refusal::Error(Error::IntegerTooLarge)),
     );
     both_ways(&rt, rt.alloc(), &[2, 4, 0x80, 0, 0, 0], -0x8000_0000i32)?;
     both_ways(
@@ -177,9 +197,10 @@ fn integers_of_16_and_32_bits(rt: HostRuntime) -> Result<(), Fail> {
         &[2, 4, 0x7f, 0xff, 0xff, 0xff],
         0x7fff_ffffi32,
     )?;
-    assert_eq!(rt;
+    same(
+        &rt,
         der_refusal::<Error, i32>(rt.alloc(), &[2, 5, 0xff, 0x7f, 0xff, 0xff, 0xff]),
-        Some(Refusal::Error(Error::IntegerTooLarge))
+        Some(Refusal::Error(Error::IntegerTooLarge)),
     );
     Ok(())
 }
@@ -192,9 +213,10 @@ fn integers_of_64_and_128_bits(rt: HostRuntime) -> Result<(), Fail> {
         &[2, 9, 0, 0xff, 0xff, 0xff, 0xff, 0xff, 0xff, 0xff, 0xff],
         u64::MAX,
     )?;
-    assert_eq!(rt;
+    same(
+        &rt,
         der_refusal::<Error, u64>(rt.alloc(), &[2, 9, 1, 0, 0, 0, 0, 0, 0, 0, 0]),
-        Some(Refusal::Error(Error::IntegerTooLarge))
+        Some(Refusal::Error(Error::IntegerTooLarge)),
     );
     both_ways(
         &rt,
@@ -202,9 +224,10 @@ fn integers_of_64_and_128_bits(rt: HostRuntime) -> Result<(), Fail> {
         &[2, 8, 0x80, 0, 0, 0, 0, 0, 0, 0],
         i64::MIN,
     )?;
-    assert_eq!(rt;
+    same(
+        &rt,
         der_refusal::<Error, i64>(rt.alloc(), &[2, 9, 0, 0x80, 0, 0, 0, 0, 0, 0, 0]),
-        Some(Refusal::Error(Error::IntegerTooLarge))
+        Some(Refusal::Error(Error::IntegerTooLarge)),
     );
     both_ways(
         &rt,
@@ -215,12 +238,13 @@ fn integers_of_64_and_128_bits(rt: HostRuntime) -> Result<(), Fail> {
         ],
         u128::MAX,
     )?;
-    assert_eq!(rt;
+    same(
+        &rt,
         der_refusal::<Error, u128>(
             rt.alloc(),
-            &[2, 17, 1, 0, 0, 0, 0, 0, 0, 0, 0, 0, 0, 0, 0, 0, 0, 0, 0]
+            &[2, 17, 1, 0, 0, 0, 0, 0, 0, 0, 0, 0, 0, 0, 0, 0, 0, 0, 0],
         ),
-        Some(Refusal::Error(Error::IntegerTooLarge))
+        Some(Refusal::Error(Error::IntegerTooLarge)),
     );
     both_ways(
         &rt,
@@ -228,49 +252,58 @@ fn integers_of_64_and_128_bits(rt: HostRuntime) -> Result<(), Fail> {
         &[2, 16, 0x80, 0, 0, 0, 0, 0, 0, 0, 0, 0, 0, 0, 0, 0, 0, 0],
         i128::MIN,
     )?;
-    assert_eq!(rt;
+    same(
+        &rt,
         der_refusal::<Error, i128>(
             rt.alloc(),
-            &[2, 17, 0, 0x80, 0, 0, 0, 0, 0, 0, 0, 0, 0, 0, 0, 0, 0, 0, 0]
+            &[2, 17, 0, 0x80, 0, 0, 0, 0, 0, 0, 0, 0, 0, 0, 0, 0, 0, 0, 0],
         ),
-        Some(Refusal::Error(Error::IntegerTooLarge))
+        Some(Refusal::Error(Error::IntegerTooLarge)),
     );
     Ok(())
 }
 
 #[test]
 fn padding_octets(rt: HostRuntime) -> Result<(), Fail> {
-    assert_eq!(rt;
+    same(
+        &rt,
         ber_value::<Error, u32>(rt.alloc(), &[2, 3, 1, 0, 1, 2, 3, 1, 0, 0]),
-        Ok((5, 65537))
+        Ok((5, 65537)),
     );
-    assert_eq!(rt;
+    same(
+        &rt,
         ber_value::<Error, u32>(rt.alloc(), &[2, 3, 1, 0, 0]),
-        Ok((0, 65536))
+        Ok((0, 65536)),
     );
-    assert_eq!(rt;
+    same(
+        &rt,
         ber_value::<Error, u32>(rt.alloc(), &[2, 3, 0, 0, 1]),
-        Ok((0, 1))
+        Ok((0, 1)),
     );
-    assert_eq!(rt;
+    same(
+        &rt,
         ber_value::<Error, i8>(rt.alloc(), &[2, 3, 0xff, 0xff, 0x80]),
-        Ok((0, -128))
+        Ok((0, -128)),
     );
-    assert_eq!(rt;
+    same(
+        &rt,
         ber_refusal::<Error, u32>(rt.alloc(), &[2, 0]),
-        Some(Refusal::Error(Error::InvalidLength))
+        Some(Refusal::Error(Error::InvalidLength)),
     );
-    assert_eq!(rt;
+    same(
+        &rt,
         der_refusal::<Error, u32>(rt.alloc(), &[2, 3, 0, 0, 1]),
-        Some(Refusal::Error(Error::DerConstraintFailed(DerConstraint::IntegerLeadingZeroes)))
+        Some(Refusal::Error(Error::DerConstraintFailed(DerConstraint::IntegerLeadingZeroes))),
     );
-    assert_eq!(rt;
+    same(
+        &rt,
         der_refusal::<Error, i8>(rt.alloc(), &[2, 2, 0xff, 0x80]),
-        Some(Refusal::Error(Error::DerConstraintFailed(DerConstraint::IntegerLeadingFF)))
+        Some(Refusal::Error(Error::DerConstraintFailed(DerConstraint::IntegerLeadingFF))),
     );
-    assert_eq!(rt;
+    same(
+        &rt,
         der_refusal::<Error, u32>(rt.alloc(), &[2, 0]),
-        Some(Refusal::Error(Error::DerConstraintFailed(DerConstraint::IntegerEmpty)))
+        Some(Refusal::Error(Error::DerConstraintFailed(DerConstraint::IntegerEmpty))),
     );
     Ok(())
 }
@@ -279,29 +312,36 @@ fn padding_octets(rt: HostRuntime) -> Result<(), Fail> {
 fn octets_and_texts(rt: HostRuntime) -> Result<(), Fail> {
     let octets = [4, 3, 1, 2, 3, 9];
     let (left, value) = der_value::<Error, &[u8]>(rt.alloc(), &octets)?;
-    assert_eq!(rt; left, 1);
-    assert_eq!(rt; value, [1, 2, 3].as_slice());
-    assert_eq!(rt; value.to_der_vec(rt.alloc())?.as_slice(), &octets[..5]);
+    same(&rt, left, 1);
+    same(&rt, value, [1, 2, 3].as_slice());
+    same(&rt, value.to_der_vec(rt.alloc())?.as_slice(), &octets[..5]);
     both_ways(&rt, rt.alloc(), &[5, 0], ())?;
-    assert_eq!(rt;
+    same(
+        &rt,
         der_refusal::<Error, ()>(rt.alloc(), &[5, 1, 0]),
-        Some(Refusal::Error(Error::InvalidLength))
+        Some(Refusal::Error(Error::InvalidLength)),
     );
     let text = [12, 3, 0x61, 0xc3, 0xa9];
     let (_, value) = der_value::<Error, &str>(rt.alloc(), &text)?;
-    assert_eq!(rt; value, "aé");
+    same(&rt, value, "aé");
     let (_, value) = der_value::<Error, String>(rt.alloc(), &text)?;
-    assert_eq!(rt; value.as_str(), "aé");
-    assert_eq!(rt; value.to_der_vec(rt.alloc())?.as_slice(), text.as_slice());
-    assert_eq!(rt;
+    same(&rt, value.as_str(), "aé");
+    same(
+        &rt,
+        value.to_der_vec(rt.alloc())?.as_slice(),
+        text.as_slice(),
+    );
+    same(
+        &rt,
         der_refusal::<Error, String>(rt.alloc(), &[12, 1, 0xff]),
-        Some(Refusal::Error(Error::StringInvalidCharset))
+        Some(Refusal::Error(Error::StringInvalidCharset)),
     );
     let (_, oid) = der_value::<Error, Oid>(rt.alloc(), &[6, 2, 0x2a, 3])?;
-    assert_eq!(rt; oid.as_bytes(), [0x2a, 3].as_slice());
-    assert_eq!(rt;
+    same(&rt, oid.as_bytes(), [0x2a, 3].as_slice());
+    same(
+        &rt,
         oid.to_der_vec(rt.alloc())?.as_slice(),
-        [6, 2, 0x2a, 3].as_slice()
+        [6, 2, 0x2a, 3].as_slice(),
     );
     Ok(())
 }
@@ -310,92 +350,110 @@ fn octets_and_texts(rt: HostRuntime) -> Result<(), Fail> {
 fn lists(rt: HostRuntime) -> Result<(), Fail> {
     let octets = [0x30, 6, 2, 1, 1, 2, 1, 2];
     let (left, items) = der_value::<Error, Vec<u32>>(rt.alloc(), &octets)?;
-    assert_eq!(rt; left, 0);
-    assert_eq!(rt; items.as_slice(), [1, 2].as_slice());
-    assert_eq!(rt; items.to_der_vec(rt.alloc())?.as_slice(), octets.as_slice());
+    same(&rt, left, 0);
+    same(&rt, items.as_slice(), [1, 2].as_slice());
+    same(
+        &rt,
+        items.to_der_vec(rt.alloc())?.as_slice(),
+        octets.as_slice(),
+    );
     let (left, items) = ber_value::<Error, Vec<u32>>(
         rt.alloc(),
         &[0x30, 0x80, 2, 1, 1, 2, 2, 0, 2, 0, 0, 9],
     )?;
-    assert_eq!(rt; left, 1);
-    assert_eq!(rt; items.as_slice(), [1, 2].as_slice());
-    assert_eq!(rt;
+    same(&rt, left, 1);
+    same(&rt, items.as_slice(), [1, 2].as_slice());
+    same(
+        &rt,
         der_refusal::<Error, Vec<u32>>(rt.alloc(), &[0x10, 0]),
-        Some(Refusal::Error(Error::ConstructExpected))
+        Some(Refusal::Error(Error::ConstructExpected)),
     );
-    assert_eq!(rt;
+    same(
+        &rt,
         der_refusal::<Error, Vec<u32>>(rt.alloc(), &[0x31, 0]),
         Some(Refusal::Error(Error::UnexpectedTag {
             expected: Some(Tag(16)),
-            actual: Tag(17)
-        }))
+            actual: Tag(17),
+        })),
     );
-    assert_eq!(rt;
+    same(
+        &rt,
         der_refusal::<Error, Vec<u32>>(rt.alloc(), &[0xb0, 0]),
         Some(Refusal::Error(Error::UnexpectedClass {
             expected: Some(Class::Universal),
-            actual: Class::ContextSpecific
-        }))
+            actual: Class::ContextSpecific,
+        })),
     );
-    assert_eq!(rt;
+    same(
+        &rt,
         der_refusal::<Error, Vec<u32>>(rt.alloc(), &[0x30, 3, 1, 1, 0]),
         Some(Refusal::Error(Error::UnexpectedTag {
             expected: Some(Tag(2)),
-            actual: Tag(1)
-        }))
+            actual: Tag(1),
+        })),
     );
-    assert_eq!(rt;
+    same(
+        &rt,
         der_refusal::<Error, Vec<Option<u32>>>(rt.alloc(), &[0x30, 3, 1, 1, 0]),
-        Some(Refusal::Error(Error::NomError(ErrorKind::Many0)))
+        Some(Refusal::Error(Error::NomError(ErrorKind::Many0))),
     );
     let (_, nested) = der_value::<Error, Vec<Vec<bool>>>(
         rt.alloc(),
         &[0x30, 5, 0x30, 3, 1, 1, 0xff],
     )?;
-    assert_eq!(rt; nested.to_der_len(), Ok(7));
+    same(&rt, nested.to_der_len(), Ok(7));
     Ok(())
 }
 
 #[test]
 fn absent_values(rt: HostRuntime) -> Result<(), Fail> {
-    assert_eq!(rt;
+    same(
+        &rt,
         der_value::<Error, Option<u8>>(rt.alloc(), &[]),
-        Ok((0, None))
+        Ok((0, None)),
     );
-    assert_eq!(rt;
+    same(
+        &rt,
         der_value::<Error, Option<u8>>(rt.alloc(), &[1, 1, 0]),
-        Ok((3, None))
+        Ok((3, None)),
     );
-    assert_eq!(rt;
+    same(
+        &rt,
         der_value::<Error, Option<u8>>(rt.alloc(), &[1]),
-        Err(Refusal::Incomplete(Needed::Size(1)))
+        Err(Refusal::Incomplete(Needed::Size(1))),
     );
-    assert_eq!(rt;
+    same(
+        &rt,
         der_value::<Error, Option<u8>>(rt.alloc(), &[2, 1, 7, 5]),
-        Ok((1, Some(7)))
+        Ok((1, Some(7))),
     );
-    assert_eq!(rt;
+    same(
+        &rt,
         ber_value::<Error, Option<u8>>(rt.alloc(), &[2, 2, 0, 7]),
-        Ok((0, Some(7)))
+        Ok((0, Some(7))),
     );
-    assert_eq!(rt;
+    same(
+        &rt,
         ber_value::<Error, Option<u8>>(rt.alloc(), &[0x30, 0x80]),
-        Ok((2, None))
+        Ok((2, None)),
     );
-    assert_eq!(rt;
+    same(
+        &rt,
         der_refusal::<Error, Option<u8>>(rt.alloc(), &[2, 2, 1, 0]),
-        Some(Refusal::Error(Error::IntegerTooLarge))
+        Some(Refusal::Error(Error::IntegerTooLarge)),
     );
-    assert_eq!(rt;
+    same(
+        &rt,
         der_refusal::<Error, Option<u8>>(rt.alloc(), &[0x1f]),
-        Some(Refusal::Error(Error::InvalidTag))
+        Some(Refusal::Error(Error::InvalidTag)),
     );
     let none: Option<u8> = None;
-    assert_eq!(rt; none.to_der_vec(rt.alloc())?.len(), 0);
-    assert_eq!(rt; none.in_der_form(), true);
-    assert_eq!(rt;
+    same(&rt, none.to_der_vec(rt.alloc())?.len(), 0);
+    same(&rt, none.in_der_form(), true);
+    same(
+        &rt,
         Some(2u8).to_der_vec(rt.alloc())?.as_slice(),
-        [2, 1, 2].as_slice()
+        [2, 1, 2].as_slice(),
     );
     Ok(())
 }
@@ -404,11 +462,12 @@ fn absent_values(rt: HostRuntime) -> Result<(), Fail> {
 fn whole_elements(rt: HostRuntime) -> Result<(), Fail> {
     let any = Any::from_tag_and_data(Tag(2), &[0, 5]);
     let read: Result<u8, Refusal<Error>> = u8::try_from_any(rt.alloc(), any);
-    assert_eq!(rt; read, Ok(5));
+    same(&rt, read, Ok(5));
     let read: Result<u8, Refusal<Error>> = u8::try_from_der_any(rt.alloc(), any);
-    assert_eq!(rt;
+    same(
+        &rt,
         read,
-        Err(Refusal::Error(Error::DerConstraintFailed(DerConstraint::IntegerLeadingZeroes)))
+        Err(Refusal::Error(Error::DerConstraintFailed(DerConstraint::IntegerLeadingZeroes))),
     );
     Ok(())
 }
@@ -437,21 +496,24 @@ fn again_optional<'a, E: From<Error>, T: FromDer<'a, E> + TaggedElement>(
 #[test]
 fn round_trips(rt: HostRuntime) -> Result<(), Fail> {
     let written = 65536u32.to_der_vec(rt.alloc())?;
-    assert_eq!(rt; written.as_slice(), [2, 3, 1, 0, 0].as_slice());
-    assert_eq!(rt;
+    same(&rt, written.as_slice(), [2, 3, 1, 0, 0].as_slice());
+    same(
+        &rt,
         again::<Error, u32>(rt.alloc(), written.as_slice()),
-        Ok((0, 65536))
+        Ok((0, 65536)),
     );
-    assert_eq!(rt;
+    same(
+        &rt,
         again_optional::<Error, u32>(rt.alloc(), written.as_slice()),
-        Ok((0, Some(65536)))
+        Ok((0, Some(65536))),
     );
-    assert_eq!(rt;
+    same(
+        &rt,
         again_optional::<Error, u32>(rt.alloc(), &[]),
-        Ok((0, None))
+        Ok((0, None)),
     );
     let (_, items) = again::<Error, Vec<u32>>(rt.alloc(), &[0x30, 3, 2, 1, 9])?;
-    assert_eq!(rt; items.as_slice(), [9].as_slice());
+    same(&rt, items.as_slice(), [9].as_slice());
     Ok(())
 }
 
@@ -491,11 +553,11 @@ fn a_failed_write_leaves_a_front(rt: HostRuntime) -> Result<(), Fail> {
         let answer = items.write_der(&mut sink);
         let device = sink.into_inner();
         if room < 9 {
-            assert_eq!(rt; answer, Err(SerializeError::IOError));
-            assert_eq!(rt; device.taken.as_slice(), &octets[..room]);
+            same(&rt, answer, Err(SerializeError::IOError));
+            same(&rt, device.taken.as_slice(), &octets[..room]);
         } else {
-            assert_eq!(rt; answer, Ok(9));
-            assert_eq!(rt; device.taken.as_slice(), octets.as_slice());
+            same(&rt, answer, Ok(9));
+            same(&rt, device.taken.as_slice(), octets.as_slice());
         }
     }
     Ok(())
@@ -505,10 +567,14 @@ fn a_failed_write_leaves_a_front(rt: HostRuntime) -> Result<(), Fail> {
 fn long_headers(rt: HostRuntime) -> Result<(), Fail> {
     let content = [7; 300];
     let written = content.as_slice().to_der_vec(rt.alloc())?;
-    assert_eq!(rt; written.len(), 304);
-    assert_eq!(rt; &written.as_slice()[..5], [4, 0x82, 1, 0x2c, 7].as_slice());
-    assert_eq!(rt; content.as_slice().der_constructed(), false);
+    same(&rt, written.len(), 304);
+    same(
+        &rt,
+        &written.as_slice()[..5],
+        [4, 0x82, 1, 0x2c, 7].as_slice(),
+    );
+    same(&rt, content.as_slice().der_constructed(), false);
     let value = &content[..200];
-    assert_eq!(rt; value.to_der_len(), Ok(203));
+    same(&rt, value.to_der_len(), Ok(203));
     Ok(())
 }
