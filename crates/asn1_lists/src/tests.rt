@@ -10,8 +10,14 @@ use asn1_traits::{
     DerElement, FromBer, FromDer, TaggedElement, ToDer, read_back, read_back_optional,
 };
 use std::alloc::Global;
+use std::fmt::Debug;
 use std::process::Abort;
 use std::test::Fail;
+
+// What came is what was wanted.
+fn same<R: Abort, T: PartialEq + Debug + Drop>(rt: &R, got: T, want: T) {
+    assert_eq!(rt; got, want);
+}
 
 // Reads by DER's rules and writes again, through the bounds: these octets are written, and so many are left.
 fn written_again<'a, R: Abort, T: FromDer<'a, Error> + ToDer + Drop>(
@@ -22,12 +28,12 @@ fn written_again<'a, R: Abort, T: FromDer<'a, Error> + ToDer + Drop>(
     want: &[u8],
 ) -> Result<(), Fail> {
     let (rest, value) = T::from_der(alloc, octets)?;
-    assert_eq!(rt; rest.len(), left);
-    assert_eq!(rt; value.in_der_form(), true);
-    assert_eq!(rt; value.der_constructed(), true);
-    assert_eq!(rt; value.to_der_len(), Ok(want.len()));
+    same(rt, rest.len(), left);
+    same(rt, value.in_der_form(), true);
+    same(rt, value.der_constructed(), true);
+    same(rt, value.to_der_len(), Ok(want.len()));
     let written = value.to_der_vec(alloc)?;
-    assert_eq!(rt; written.as_slice(), want);
+    same(rt, written.as_slice(), want);
     Ok(())
 }
 
@@ -40,9 +46,9 @@ fn ber_written_again<'a, R: Abort, T: FromBer<'a, Error> + ToDer + Drop>(
     want: &[u8],
 ) -> Result<(), Fail> {
     let (rest, value) = T::from_ber(alloc, octets)?;
-    assert_eq!(rt; rest.len(), left);
+    same(rt, rest.len(), left);
     let written = value.to_der_vec(alloc)?;
-    assert_eq!(rt; written.as_slice(), want);
+    same(rt, written.as_slice(), want);
     Ok(())
 }
 
@@ -54,9 +60,9 @@ fn back_again<'a, R: Abort, T: FromDer<'a, Error> + DerElement + Drop>(
     want: &[u8],
 ) -> Result<(), Fail> {
     let (rest, value) = read_back::<Error, T>(alloc, octets)?;
-    assert_eq!(rt; rest.len(), 0);
+    same(rt, rest.len(), 0);
     let written = value.to_der_vec(alloc)?;
-    assert_eq!(rt; written.as_slice(), want);
+    same(rt, written.as_slice(), want);
     Ok(())
 }
 
@@ -67,7 +73,7 @@ fn is_optional<'a, R: Abort, T: FromDer<'a, Error> + TaggedElement + Drop>(
     present: bool,
 ) -> Result<(), Fail> {
     let (_, value) = read_back_optional::<Error, T>(alloc, octets)?;
-    assert_eq!(rt; value.is_some(), present);
+    same(rt, value.is_some(), present);
     Ok(())
 }
 

@@ -1,6 +1,8 @@
 //! `SequenceOf` and what `SetOf` has in common with it.
 
-use super::{back_again, ber_refusal, ber_written_again, der_refusal, is_optional, written_again};
+use super::{
+    back_again, ber_refusal, ber_written_again, der_refusal, is_optional, same, written_again,
+};
 use crate::{SequenceOf, SetOf};
 use asn1_core::{Class, DerConstraint, Err as Refusal, Error, ErrorKind, Needed, Tag};
 use asn1_traits::ToDer;
@@ -9,23 +11,24 @@ use std::test::Fail;
 #[test]
 fn values_are_pushed_and_read(rt: HostRuntime) -> Result<(), Fail> {
     let mut values = SequenceOf::new(rt.alloc());
-    assert_eq!(rt; values.is_empty(), true);
-    assert_eq!(rt; values.len(), 0);
+    same(&rt, values.is_empty(), true);
+    same(&rt, values.len(), 0);
     values.push(300u32)?;
     values.push(1)?;
-    assert_eq!(rt; values.is_empty(), false);
-    assert_eq!(rt; values.len(), 2);
-    assert_eq!(rt; values.as_slice(), [300, 1].as_slice());
-    assert_eq!(rt; values.as_ref(), [300, 1].as_slice());
-    assert_eq!(rt; values.iter().next(), Some(&300));
+    same(&rt, values.is_empty(), false);
+    same(&rt, values.len(), 2);
+    same(&rt, values.as_slice(), [300, 1].as_slice());
+    same(&rt, values.as_ref(), [300, 1].as_slice());
+    same(&rt, values.iter().next(), Some(&300));
     let written = values.to_der_vec(rt.alloc())?;
-    assert_eq!(rt;
+    same(
+        &rt,
         written.as_slice(),
-        [0x30, 7, 2, 2, 1, 0x2c, 2, 1, 1].as_slice()
+        [0x30, 7, 2, 2, 1, 0x2c, 2, 1, 1].as_slice(),
     );
     let held = values.into_vec();
-    assert_eq!(rt; held.as_slice(), [300, 1].as_slice());
-    assert_eq!(rt; SequenceOf::from_vec(held).len(), 2);
+    same(&rt, held.as_slice(), [300, 1].as_slice());
+    same(&rt, SequenceOf::from_vec(held).len(), 2);
     Ok(())
 }
 
@@ -51,39 +54,46 @@ fn refused_values(rt: HostRuntime) -> Result<(), Fail> {
         DerConstraint::InvalidBoolean,
     )));
     let octets = [0x30, 6, 1, 1, 0xff, 1, 1, 1];
-    assert_eq!(rt;
+    same(
+        &rt,
         der_refusal::<Error, SequenceOf<bool>>(alloc, &octets),
-        not_boolean
+        not_boolean,
     );
-    assert_eq!(rt;
+    same(
+        &rt,
         ber_refusal::<Error, SequenceOf<bool>>(alloc, &octets),
-        None
+        None,
     );
     let octets = [0x31, 6, 1, 1, 0xff, 1, 1, 1];
-    assert_eq!(rt;
+    same(
+        &rt,
         der_refusal::<Error, SetOf<bool>>(alloc, &octets),
-        not_boolean
+        not_boolean,
     );
-    assert_eq!(rt; ber_refusal::<Error, SetOf<bool>>(alloc, &octets), None);
+    same(&rt, ber_refusal::<Error, SetOf<bool>>(alloc, &octets), None);
     let cut = Some(Refusal::Incomplete(Needed::Size(1)));
-    assert_eq!(rt;
+    same(
+        &rt,
         der_refusal::<Error, SequenceOf<bool>>(alloc, &[0x30, 2, 1, 1]),
-        cut
+        cut,
     );
-    assert_eq!(rt;
+    same(
+        &rt,
         ber_refusal::<Error, SetOf<bool>>(alloc, &[0x31, 2, 1, 1]),
-        cut
+        cut,
     );
     let no_octet = Some(Refusal::Error(Error::NomError(ErrorKind::Many0)));
     let octets = [0x30, 3, 2, 1, 0];
-    assert_eq!(rt;
+    same(
+        &rt,
         der_refusal::<Error, SequenceOf<Option<bool>>>(alloc, &octets),
-        no_octet
+        no_octet,
     );
     let octets = [0x31, 3, 2, 1, 0];
-    assert_eq!(rt;
+    same(
+        &rt,
         der_refusal::<Error, SetOf<Option<bool>>>(alloc, &octets),
-        no_octet
+        no_octet,
     );
     Ok(())
 }
@@ -95,46 +105,54 @@ fn other_elements_are_refused(rt: HostRuntime) -> Result<(), Fail> {
         expected: Some(Tag(16)),
         actual: Tag(17),
     }));
-    assert_eq!(rt;
+    same(
+        &rt,
         der_refusal::<Error, SequenceOf<bool>>(alloc, &[0x31, 0]),
-        another_tag
+        another_tag,
     );
-    assert_eq!(rt;
+    same(
+        &rt,
         ber_refusal::<Error, SequenceOf<bool>>(alloc, &[0x31, 0]),
-        another_tag
+        another_tag,
     );
     let another_tag = Some(Refusal::Error(Error::UnexpectedTag {
         expected: Some(Tag(17)),
         actual: Tag(16),
     }));
-    assert_eq!(rt;
+    same(
+        &rt,
         der_refusal::<Error, SetOf<bool>>(alloc, &[0x30, 0]),
-        another_tag
+        another_tag,
     );
-    assert_eq!(rt;
+    same(
+        &rt,
         ber_refusal::<Error, SetOf<bool>>(alloc, &[0x30, 0]),
-        another_tag
+        another_tag,
     );
     let another_class = Some(Refusal::Error(Error::UnexpectedClass {
         expected: Some(Class::Universal),
         actual: Class::Private,
     }));
-    assert_eq!(rt;
+    same(
+        &rt,
         der_refusal::<Error, SequenceOf<bool>>(alloc, &[0xf0, 0]),
-        another_class
+        another_class,
     );
-    assert_eq!(rt;
+    same(
+        &rt,
         ber_refusal::<Error, SetOf<bool>>(alloc, &[0xf1, 0]),
-        another_class
+        another_class,
     );
     let primitive = Some(Refusal::Error(Error::ConstructExpected));
-    assert_eq!(rt;
+    same(
+        &rt,
         der_refusal::<Error, SequenceOf<bool>>(alloc, &[0x10, 0]),
-        primitive
+        primitive,
     );
-    assert_eq!(rt;
+    same(
+        &rt,
         ber_refusal::<Error, SetOf<bool>>(alloc, &[0x11, 0]),
-        primitive
+        primitive,
     );
     Ok(())
 }

@@ -1,6 +1,8 @@
 //! `Sequence` and `Set`.
 
-use super::{back_again, ber_refusal, ber_written_again, der_refusal, is_optional, written_again};
+use super::{
+    back_again, ber_refusal, ber_written_again, der_refusal, is_optional, same, written_again,
+};
 use crate::{Sequence, Set};
 use asn1_core::{Class, DerConstraint, Err as Refusal, Error, IResult, Needed, Tag};
 use asn1_traits::{FromDer, ToDer};
@@ -10,22 +12,22 @@ use std::test::Fail;
 fn a_sequence_keeps_its_content(rt: HostRuntime) -> Result<(), Fail> {
     let octets = [0x30, 6, 2, 1, 7, 2, 1, 9];
     let (rest, sequence) = <Sequence as FromDer<Error>>::from_der(rt.alloc(), &octets)?;
-    assert_eq!(rt; rest.len(), 0);
-    assert_eq!(rt; sequence, Sequence::new(&octets[2..]));
-    assert_eq!(rt; sequence.as_ref(), &octets[2..]);
-    assert_eq!(rt; sequence.into_content(), &octets[2..]);
+    same(&rt, rest.len(), 0);
+    same(&rt, sequence, Sequence::new(&octets[2..]));
+    same(&rt, sequence.as_ref(), &octets[2..]);
+    same(&rt, sequence.into_content(), &octets[2..]);
     let values = sequence.der_sequence_of::<Error, u32>(rt.alloc())?;
-    assert_eq!(rt; values.as_slice(), [7, 9].as_slice());
+    same(&rt, values.as_slice(), [7, 9].as_slice());
     let values = sequence.ber_sequence_of::<Error, u32>(rt.alloc())?;
-    assert_eq!(rt; values.as_slice(), [7, 9].as_slice());
+    same(&rt, values.as_slice(), [7, 9].as_slice());
     let mut items = sequence.der_iter::<u32, Error>(rt.alloc());
-    assert_eq!(rt; items.next(), Some(Ok(7)));
+    same(&rt, items.next(), Some(Ok(7)));
     let mut items = sequence.ber_iter::<u32, Error>(rt.alloc());
-    assert_eq!(rt; items.next(), Some(Ok(7)));
+    same(&rt, items.next(), Some(Ok(7)));
     let first: IResult<&[u8], u32, Error> = sequence.parse(|i| u32::from_der(rt.alloc(), i));
     let (rest, value) = first?;
-    assert_eq!(rt; rest, &octets[5..]);
-    assert_eq!(rt; value, 7);
+    same(&rt, rest, &octets[5..]);
+    same(&rt, value, 7);
     let first: IResult<&[u8], bool, Error> = sequence.and_then(|i| bool::from_der(rt.alloc(), i));
     assert!(rt; first.is_err());
     Ok(())
@@ -35,22 +37,22 @@ fn a_sequence_keeps_its_content(rt: HostRuntime) -> Result<(), Fail> {
 fn a_set_keeps_its_content(rt: HostRuntime) -> Result<(), Fail> {
     let octets = [0x31, 6, 2, 1, 9, 2, 1, 7];
     let (rest, set) = <Set as FromDer<Error>>::from_der(rt.alloc(), &octets)?;
-    assert_eq!(rt; rest.len(), 0);
-    assert_eq!(rt; set, Set::new(&octets[2..]));
-    assert_eq!(rt; set.as_ref(), &octets[2..]);
-    assert_eq!(rt; set.into_content(), &octets[2..]);
+    same(&rt, rest.len(), 0);
+    same(&rt, set, Set::new(&octets[2..]));
+    same(&rt, set.as_ref(), &octets[2..]);
+    same(&rt, set.into_content(), &octets[2..]);
     let values = set.der_set_of::<Error, u32>(rt.alloc())?;
-    assert_eq!(rt; values.as_slice(), [9, 7].as_slice());
+    same(&rt, values.as_slice(), [9, 7].as_slice());
     let values = set.ber_set_of::<Error, u32>(rt.alloc())?;
-    assert_eq!(rt; values.as_slice(), [9, 7].as_slice());
+    same(&rt, values.as_slice(), [9, 7].as_slice());
     let mut items = set.der_iter::<u32, Error>(rt.alloc());
-    assert_eq!(rt; items.next(), Some(Ok(9)));
+    same(&rt, items.next(), Some(Ok(9)));
     let mut items = set.ber_iter::<u32, Error>(rt.alloc());
-    assert_eq!(rt; items.next(), Some(Ok(9)));
+    same(&rt, items.next(), Some(Ok(9)));
     let first: IResult<&[u8], u32, Error> = set.parse(|i| u32::from_der(rt.alloc(), i));
     let (rest, value) = first?;
-    assert_eq!(rt; rest, &octets[5..]);
-    assert_eq!(rt; value, 9);
+    same(&rt, rest, &octets[5..]);
+    same(&rt, value, 9);
     let first: IResult<&[u8], bool, Error> = set.and_then(|i| bool::from_der(rt.alloc(), i));
     assert!(rt; first.is_err());
     Ok(())
@@ -92,54 +94,64 @@ fn other_elements_are_refused(rt: HostRuntime) -> Result<(), Fail> {
         expected: Some(Tag(16)),
         actual: Tag(17),
     }));
-    assert_eq!(rt;
+    same(
+        &rt,
         der_refusal::<Error, Sequence>(rt.alloc(), &[0x31, 0]),
-        another_tag
+        another_tag,
     );
-    assert_eq!(rt;
+    same(
+        &rt,
         ber_refusal::<Error, Sequence>(rt.alloc(), &[0x31, 0]),
-        another_tag
+        another_tag,
     );
     let another_tag = Some(Refusal::Error(Error::UnexpectedTag {
         expected: Some(Tag(17)),
         actual: Tag(16),
     }));
-    assert_eq!(rt;
+    same(
+        &rt,
         der_refusal::<Error, Set>(rt.alloc(), &[0x30, 0]),
-        another_tag
+        another_tag,
     );
-    assert_eq!(rt;
+    same(
+        &rt,
         ber_refusal::<Error, Set>(rt.alloc(), &[0x30, 0]),
-        another_tag
+        another_tag,
     );
     let another_class = Some(Refusal::Error(Error::UnexpectedClass {
         expected: Some(Class::Universal),
         actual: Class::ContextSpecific,
     }));
-    assert_eq!(rt;
+    same(
+        &rt,
         der_refusal::<Error, Sequence>(rt.alloc(), &[0xb0, 0]),
-        another_class
+        another_class,
     );
-    assert_eq!(rt;
+    same(
+        &rt,
         der_refusal::<Error, Set>(rt.alloc(), &[0xb1, 0]),
-        another_class
+        another_class,
     );
     let primitive = Some(Refusal::Error(Error::ConstructExpected));
-    assert_eq!(rt;
+    same(
+        &rt,
         der_refusal::<Error, Sequence>(rt.alloc(), &[0x10, 0]),
-        primitive
+        primitive,
     );
-    assert_eq!(rt;
+    same(
+        &rt,
         der_refusal::<Error, Set>(rt.alloc(), &[0x11, 0]),
-        primitive
+        primitive,
     );
-    assert_eq!(rt;
+    same(
+        &rt,
         der_refusal::<Error, Sequence>(rt.alloc(), &[0x30, 2, 0]),
-        Some(Refusal::Incomplete(Needed::Size(1)))
+        Some(Refusal::Incomplete(Needed::Size(1))),
     );
-    assert_eq!(rt;
+    same(
+        &rt,
         der_refusal::<Error, Set>(rt.alloc(), &[0x31, 0x80, 0, 0]),
-        Some(Refusal::Error(Error::DerConstraintFailed(DerConstraint::IndefiniteLength)))
+        Some(Refusal::Error(Error::DerConstraintFailed(DerConstraint::IndefiniteLength))),
     );
     Ok(())
 }

@@ -1,5 +1,6 @@
 //! The iterator over a content.
 
+use super::same;
 use crate::{BerParser, DerParser, SequenceIterator};
 use asn1_any::Any;
 use asn1_core::{DerConstraint, Err as Refusal, Error, ErrorKind, Needed, Tag};
@@ -12,12 +13,12 @@ fn elements_until_one_is_cut(rt: HostRuntime) -> Result<(), Fail> {
         &[2, 1, 1, 2, 1],
     );
     let first = items.next().ok_or("an element")??;
-    assert_eq!(rt; first.tag(), Tag(2));
-    assert_eq!(rt; first.as_bytes(), [1].as_slice());
+    same(&rt, first.tag(), Tag(2));
+    same(&rt, first.as_bytes(), [1].as_slice());
     let Some(Err(refusal)) = items.next() else {
         return Err(Fail::new("a refusal"));
     };
-    assert_eq!(rt; refusal, Refusal::Incomplete(Needed::Size(1)));
+    same(&rt, refusal, Refusal::Incomplete(Needed::Size(1)));
     assert!(rt; items.next().is_none());
     assert!(rt; items.next().is_none());
     Ok(())
@@ -29,24 +30,24 @@ fn values_until_the_end(rt: HostRuntime) -> Result<(), Fail> {
         rt.alloc(),
         &[2, 1, 7, 2, 2, 1, 0],
     );
-    assert_eq!(rt; items.next(), Some(Ok(7)));
-    assert_eq!(rt; items.next(), Some(Ok(256)));
-    assert_eq!(rt; items.next(), None);
-    assert_eq!(rt; items.next(), None);
+    same(&rt, items.next(), Some(Ok(7)));
+    same(&rt, items.next(), Some(Ok(256)));
+    same(&rt, items.next(), None);
+    same(&rt, items.next(), None);
     let mut sum = 0u64;
     for item in SequenceIterator::<u32, BerParser, Error>::new(rt.alloc(), &[2, 2, 0, 7, 2, 1, 1]) {
         sum = sum.saturating_add(u64::from(item?));
     }
-    assert_eq!(rt; sum, 8);
+    same(&rt, sum, 8);
     Ok(())
 }
 
 #[test]
 fn no_octets_hold_no_value(rt: HostRuntime) -> Result<(), Fail> {
     let mut items: SequenceIterator<u32, DerParser, Error> = SequenceIterator::new(rt.alloc(), &[]);
-    assert_eq!(rt; items.next(), None);
+    same(&rt, items.next(), None);
     let mut items: SequenceIterator<u32, BerParser, Error> = SequenceIterator::new(rt.alloc(), &[]);
-    assert_eq!(rt; items.next(), None);
+    same(&rt, items.next(), None);
     Ok(())
 }
 
@@ -57,29 +58,31 @@ fn a_refusal_ends_it(rt: HostRuntime) -> Result<(), Fail> {
         rt.alloc(),
         &octets,
     );
-    assert_eq!(rt; items.next(), Some(Ok(true)));
-    assert_eq!(rt;
+    same(&rt, items.next(), Some(Ok(true)));
+    same(
+        &rt,
         items.next(),
-        Some(Err(Refusal::Error(Error::DerConstraintFailed(DerConstraint::InvalidBoolean))))
+        Some(Err(Refusal::Error(Error::DerConstraintFailed(DerConstraint::InvalidBoolean)))),
     );
-    assert_eq!(rt; items.next(), None);
+    same(&rt, items.next(), None);
     let mut items: SequenceIterator<bool, BerParser, Error> = SequenceIterator::new(
         rt.alloc(),
         &octets,
     );
-    assert_eq!(rt; items.next(), Some(Ok(true)));
-    assert_eq!(rt; items.next(), Some(Ok(true)));
-    assert_eq!(rt; items.next(), Some(Ok(false)));
-    assert_eq!(rt; items.next(), None);
+    same(&rt, items.next(), Some(Ok(true)));
+    same(&rt, items.next(), Some(Ok(true)));
+    same(&rt, items.next(), Some(Ok(false)));
+    same(&rt, items.next(), None);
     let mut items: SequenceIterator<bool, BerParser, Error> = SequenceIterator::new(
         rt.alloc(),
         &[1, 0, 1, 1, 0],
     );
-    assert_eq!(rt;
+    same(
+        &rt,
         items.next(),
-        Some(Err(Refusal::Error(Error::InvalidLength)))
+        Some(Err(Refusal::Error(Error::InvalidLength))),
     );
-    assert_eq!(rt; items.next(), None);
+    same(&rt, items.next(), None);
     Ok(())
 }
 
@@ -89,20 +92,22 @@ fn a_value_takes_an_octet(rt: HostRuntime) -> Result<(), Fail> {
         rt.alloc(),
         &[2, 1, 7, 4, 0],
     );
-    assert_eq!(rt; items.next(), Some(Ok(Some(7))));
-    assert_eq!(rt;
+    same(&rt, items.next(), Some(Ok(Some(7))));
+    same(
+        &rt,
         items.next(),
-        Some(Err(Refusal::Error(Error::NomError(ErrorKind::Many0))))
+        Some(Err(Refusal::Error(Error::NomError(ErrorKind::Many0)))),
     );
-    assert_eq!(rt; items.next(), None);
+    same(&rt, items.next(), None);
     let mut items: SequenceIterator<Option<u32>, BerParser, Error> = SequenceIterator::new(
         rt.alloc(),
         &[4, 0],
     );
-    assert_eq!(rt;
+    same(
+        &rt,
         items.next(),
-        Some(Err(Refusal::Error(Error::NomError(ErrorKind::Many0))))
+        Some(Err(Refusal::Error(Error::NomError(ErrorKind::Many0)))),
     );
-    assert_eq!(rt; items.next(), None);
+    same(&rt, items.next(), None);
     Ok(())
 }

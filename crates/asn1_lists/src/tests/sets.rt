@@ -1,6 +1,6 @@
 //! The order in which a `SetOf` is written.
 
-use super::{back_again, ber_written_again, is_optional, written_again};
+use super::{back_again, ber_written_again, is_optional, same, written_again};
 use crate::SetOf;
 use asn1_core::{Error, SerializeError};
 use asn1_device::WriteSink;
@@ -12,22 +12,22 @@ use std::test::Fail;
 fn octet_strings_in_ascending_order(rt: HostRuntime) -> Result<(), Fail> {
     let (one, two) = ([1u8], [2u8]);
     let mut values = SetOf::new(rt.alloc());
-    assert_eq!(rt; values.is_empty(), true);
+    same(&rt, values.is_empty(), true);
     values.push(two.as_slice())?;
     values.push(one.as_slice())?;
-    assert_eq!(rt; values.is_empty(), false);
-    assert_eq!(rt; values.len(), 2);
+    same(&rt, values.is_empty(), false);
+    same(&rt, values.len(), 2);
     let want = [0x31, 6, 4, 1, 1, 4, 1, 2];
-    assert_eq!(rt; values.in_der_form(), true);
-    assert_eq!(rt; values.to_der_len(), Ok(8));
+    same(&rt, values.in_der_form(), true);
+    same(&rt, values.to_der_len(), Ok(8));
     let written = values.to_der_vec(rt.alloc())?;
-    assert_eq!(rt; written.as_slice(), want.as_slice());
-    assert_eq!(rt; values.as_slice()[0], two.as_slice());
+    same(&rt, written.as_slice(), want.as_slice());
+    same(&rt, values.as_slice()[0], two.as_slice());
     let mut others = SetOf::new(rt.alloc());
     others.push(one.as_slice())?;
     others.push(two.as_slice())?;
     let written = others.to_der_vec(rt.alloc())?;
-    assert_eq!(rt; written.as_slice(), want.as_slice());
+    same(&rt, written.as_slice(), want.as_slice());
     Ok(())
 }
 
@@ -36,12 +36,12 @@ fn values_are_kept_as_pushed(rt: HostRuntime) -> Result<(), Fail> {
     let mut values = SetOf::new(rt.alloc());
     values.push(9u32)?;
     values.push(7)?;
-    assert_eq!(rt; values.as_ref(), [9, 7].as_slice());
-    assert_eq!(rt; values.iter().next(), Some(&9));
+    same(&rt, values.as_ref(), [9, 7].as_slice());
+    same(&rt, values.iter().next(), Some(&9));
     let held = values.into_vec();
-    assert_eq!(rt; held.as_slice(), [9, 7].as_slice());
+    same(&rt, held.as_slice(), [9, 7].as_slice());
     let values = SetOf::from_vec(held);
-    assert_eq!(rt; values.as_slice(), [9, 7].as_slice());
+    same(&rt, values.as_slice(), [9, 7].as_slice());
     Ok(())
 }
 
@@ -63,9 +63,10 @@ fn sets_of_values(rt: HostRuntime) -> Result<(), Fail> {
 #[test]
 fn sets_within_sets(rt: HostRuntime) -> Result<(), Fail> {
     let octets = [0x31, 11, 0x31, 6, 2, 1, 2, 2, 1, 1, 0x31, 1, 5];
-    assert_eq!(rt;
+    same(
+        &rt,
         super::der_refusal::<Error, SetOf<SetOf<u32>>>(rt.alloc(), &octets).is_some(),
-        true
+        true,
     );
     let octets = [0x31, 10, 0x31, 6, 2, 1, 2, 2, 1, 1, 0x31, 0];
     let strict = [0x31, 10, 0x31, 0, 0x31, 6, 2, 1, 1, 2, 1, 2];
@@ -80,8 +81,12 @@ fn more_than_twenty_values(rt: HostRuntime) -> Result<(), Fail> {
     }
     let written = values.to_der_vec(rt.alloc())?;
     assert_eq!(rt; written.len(), 122);
-    assert_eq!(rt; &written.as_slice()[..5], [0x31, 120, 2, 1, 60].as_slice());
-    assert_eq!(rt; &written.as_slice()[119..], [2, 1, 99].as_slice());
+    same(
+        &rt,
+        &written.as_slice()[..5],
+        [0x31, 120, 2, 1, 60].as_slice(),
+    );
+    same(&rt, &written.as_slice()[119..], [2, 1, 99].as_slice());
     Ok(())
 }
 
@@ -121,11 +126,11 @@ fn a_failed_write_leaves_a_front(rt: HostRuntime) -> Result<(), Fail> {
         let answer = values.write_der(&mut sink);
         let device = sink.into_inner();
         if room < 9 {
-            assert_eq!(rt; answer, Err(SerializeError::IOError));
-            assert_eq!(rt; device.taken.as_slice(), &octets[..room]);
+            same(&rt, answer, Err(SerializeError::IOError));
+            same(&rt, device.taken.as_slice(), &octets[..room]);
         } else {
-            assert_eq!(rt; answer, Ok(9));
-            assert_eq!(rt; device.taken.as_slice(), octets.as_slice());
+            same(&rt, answer, Ok(9));
+            same(&rt, device.taken.as_slice(), octets.as_slice());
         }
     }
     Ok(())
