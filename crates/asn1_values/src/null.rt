@@ -14,7 +14,9 @@ pub struct Null;
 
 impl Null {
     /// The one NULL.
-    pub fn new() -> Null {
+    pub fn new() -> Null
+        ensures { result ≡ record {} }
+    {
         Null
     }
 }
