@@ -52,7 +52,8 @@ impl<T> SequenceOf<T> {
     pub fn into_vec(self) -> Vec<T>
         ensures { result.items ≡ self }
     {
-        self.items
+        let SequenceOf { items } = self;
+        items
     }
 
     /// Puts one more value at the end. Where memory ran out, the values stay as they were.
@@ -92,7 +93,7 @@ impl<T> SequenceOf<T> {
     pub fn as_ref(&self) -> &[T]
         ensures { result.now ≡ self.now }
     {
-        self.items.as_slice()
+        self.as_slice()
     }
 
     /// The values, one by one.
@@ -100,7 +101,7 @@ impl<T> SequenceOf<T> {
         ensures rest { iter_rest result ≡ self.now }
         ensures runs { IterYieldsInOrder T }
     {
-        self.items.as_slice().iter()
+        self.items.iter()
     }
 }
 

@@ -47,7 +47,7 @@ impl<'a> Set<'a> {
     pub fn into_content(self) -> &'a [u8]
         ensures { result ≡ self.entry.content }
     {
-        self.content
+        self.as_ref()
     }
 
     /// What the reader answers of the content; the octets that it leaves are the rest of the answer.
@@ -76,14 +76,14 @@ impl<'a> Set<'a> {
     pub fn ber_iter<T, E>(&self, alloc: Global) -> SequenceIterator<'a, T, BerParser, E>
         ensures { result ≡ self.now.content.now }
     {
-        SequenceIterator::new(alloc, self.content)
+        SequenceIterator::<T, BerParser, E>::new(alloc, self.content)
     }
 
     /// The values of the content one after the other, by DER's rules.
     pub fn der_iter<T, E>(&self, alloc: Global) -> SequenceIterator<'a, T, DerParser, E>
         ensures { result ≡ self.now.content.now }
     {
-        SequenceIterator::new(alloc, self.content)
+        SequenceIterator::<T, DerParser, E>::new(alloc, self.content)
     }
 
     /// All values of the content, by BER's rules; refusals as of `read_items`.

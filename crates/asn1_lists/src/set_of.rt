@@ -56,7 +56,8 @@ impl<T> SetOf<T> {
     pub fn into_vec(self) -> Vec<T>
         ensures { result.items ≡ self }
     {
-        self.items
+        let SetOf { items } = self;
+        items
     }
 
     /// Puts one more value at the end. Where memory ran out, the values stay as they were.
@@ -96,7 +97,7 @@ impl<T> SetOf<T> {
     pub fn as_ref(&self) -> &[T]
         ensures { result.now ≡ self.now }
     {
-        self.items.as_slice()
+        self.as_slice()
     }
 
     /// The values, one by one.
@@ -104,7 +105,7 @@ impl<T> SetOf<T> {
         ensures rest { iter_rest result ≡ self.now }
         ensures runs { IterYieldsInOrder T }
     {
-        self.items.as_slice().iter()
+        self.items.iter()
     }
 }
 
