@@ -2,6 +2,7 @@ pub mod Fields
 pub mod UtcTimes
 pub mod GeneralizedTimes
 pub mod Reading
+pub mod Refused
 pub mod ReadingLaws
 pub mod UtcLaws
 pub mod GeneralizedLaws

@@ -1,10 +1,11 @@
 //! GeneralizedTime (X.680, 46; X.690, 11.7).
 
-ghost use Rattle.std.specs.Prelude.{◌≡◌, ◌↔◌, ◌≤◌, IsTrue, length};
+ghost use Rattle.std.specs.Prelude.{◌≡◌, ◌↔◌, ◌≤◌, IsTrue, IfErr, length};
 ghost use Rattle.std.proofs.Common.{lit<};
 ghost use Rattle.asn1_traits.specs.Leaves.{ReadsContent};
 ghost use Rattle.asn1_times.specs.Fields.{IsFraction};
 ghost use Rattle.asn1_times.specs.GeneralizedTimes.{HasFields, IsGeneralizedTime, HasSecondsAndZ, GeneralizedMeans, generalized_octets};
+ghost use Rattle.asn1_times.specs.Refused.{IsInvalidValue};
 ghost use Rattle.asn1_times.specs.GeneralizedLaws.{generalized_fits, generalized_same};
 
 use crate::datetime::{ASN1DateTime, ASN1TimeZone};
@@ -34,7 +35,8 @@ impl GeneralizedTime {
     /// to three digits, the last not 0, or nothing; then Z, an offset +hhmm or -hhmm, or no zone. Each field is in range
     /// (X.680, 46.3). Seconds that aren't told are 0. Whether the month has the day isn't asked. `InvalidValue` of other octets.
     pub fn from_bytes(octets: &[u8]) -> Result<GeneralizedTime, Error>
-        ensures { ReadsContent (λ content v. GeneralizedMeans content v.0) octets.now result }
+        ensures value { ReadsContent (λ content v. GeneralizedMeans content v.0) octets.now result }
+        ensures refused { IfErr result (IsInvalidValue 24) }
     {
         let Some(time) = generalized_of(octets) else {
             return Err(Error::InvalidValue {
@@ -108,7 +110,10 @@ impl DerLeaf for GeneralizedTime {
 }
 
 impl<'a> FromLeaf<'a> for GeneralizedTime {
-    fn from_content(_alloc: Global, octets: &'a [u8]) -> Result<GeneralizedTime, Error> {
+    fn from_content(_alloc: Global, octets: &'a [u8]) -> Result<GeneralizedTime, Error>
+        ensures value { ReadsContent (λ content v. GeneralizedMeans content v.0) octets.now result }
+        ensures refused { IfErr result (IsInvalidValue 24) }
+    {
         GeneralizedTime::from_bytes(octets)
     }
 }

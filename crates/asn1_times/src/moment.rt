@@ -29,7 +29,7 @@ impl UtcTime {
         ensures moment { GivesMoment self.now.0.year self.now.0 result }
         ensures fields { HasNoOffset self.now.0.tz → IfOk result (HasSameFields self.now.0.year self.now.0) }
     {
-        self.0.to_datetime()
+        moment_in(self.0.year, &self.0)
     }
 
     /// The moment in universal time, the year being 19YY where YY is 50 or more, else 20YY (RFC 5280, 4.1.2.5.1). Refusals as
