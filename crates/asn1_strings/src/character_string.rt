@@ -1,9 +1,9 @@
 //! Character strings whose content is borrowed as it stands.
 
-ghost use Rattle.std.specs.Prelude.{◌≡◌, ◌↔◌, ◌^◌, ◌<◌, ℕ, Bool, true, List, IsTrue, IfOk, refl, string_bytes};
+ghost use Rattle.std.specs.Prelude.{◌≡◌, ◌↔◌, ◌^◌, ◌<◌, ℕ, Bool, true, List, IsTrue, IfOk, IfErr, refl, string_bytes};
 ghost use Rattle.std.specs.List.{list_all};
 ghost use Rattle.std.specs.Str.{IsUtf8};
-ghost use Rattle.asn1_traits.specs.Leaves.{ChecksContent};
+ghost use Rattle.asn1_traits.specs.Leaves.{ChecksContent, ReadsContent};
 ghost use Rattle.asn1_strings.specs.CharsetLaws.{text_is_utf8};
 ghost use Rattle.asn1_strings.specs.Charsets.{IsTextOf};
 ghost use Rattle.asn1_strings.specs.Texts.{MeansTextOf, TestsCharset};
@@ -117,7 +117,7 @@ impl<'a, C> AsStr for CharacterString<'a, C> {
     ghost text = { λ string. string.text.now };
 
     fn as_str(&self) -> &str {
-        self.text
+        CharacterString::as_str(self)
     }
 }
 
@@ -183,7 +183,10 @@ impl<'b, C: TestValidCharset> DerLeaf for CharacterString<'b, C> {
 }
 
 impl<'b, C: TestValidCharset> FromLeaf<'b> for CharacterString<'b, C> {
-    fn from_content(_alloc: Global, octets: &'b [u8]) -> Result<CharacterString<'b, C>, Error> {
+    fn from_content(_alloc: Global, octets: &'b [u8]) -> Result<CharacterString<'b, C>, Error>
+        ensures value { ReadsContent (MeansTextOf C.is_text (λ v. v.text.now)) octets.now result }
+        ensures refused { IfErr result (λ e. e ≡ Error.StringInvalidCharset) }
+    {
         C::test_valid_charset(octets)?;
         match str::from_utf8(octets) {
             Ok(text) => Ok(CharacterString::new(text)),

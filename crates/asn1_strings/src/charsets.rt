@@ -164,7 +164,7 @@ impl OctetCharset for Ia5 {
     ghost ascii = { below_80 };
 
     fn has(octet: u8) -> bool {
-        octet < 0x80
+        is_below_80(octet)
     }
 }
 
@@ -224,7 +224,7 @@ impl OctetCharset for Teletex {
     ghost ascii = { below_80 };
 
     fn has(octet: u8) -> bool {
-        octet < 0x80
+        is_below_80(octet)
     }
 }
 
@@ -254,7 +254,7 @@ impl OctetCharset for Videotex {
     ghost ascii = { below_80 };
 
     fn has(octet: u8) -> bool {
-        octet < 0x80
+        is_below_80(octet)
     }
 }
 
@@ -284,7 +284,7 @@ impl OctetCharset for Graphic {
     ghost ascii = { below_80 };
 
     fn has(octet: u8) -> bool {
-        octet < 0x80
+        is_below_80(octet)
     }
 }
 
@@ -314,7 +314,7 @@ impl OctetCharset for General {
     ghost ascii = { below_80 };
 
     fn has(octet: u8) -> bool {
-        octet < 0x80
+        is_below_80(octet)
     }
 }
 
@@ -344,6 +344,13 @@ impl OctetCharset for Descriptor {
     ghost ascii = { below_80 };
 
     fn has(octet: u8) -> bool {
-        octet < 0x80
+        is_below_80(octet)
     }
+}
+
+// Whether the octet is below 80 hex.
+fn is_below_80(octet: u8) -> bool
+    ensures { result ≡ is_below_80 octet }
+{
+    octet < 0x80
 }

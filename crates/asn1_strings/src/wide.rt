@@ -1,8 +1,8 @@
 //! Strings whose characters take two or four octets each, read as text.
 
-ghost use Rattle.std.specs.Prelude.{◌≡◌, ◌↔◌, ◌^◌, ◌<◌, ◌++◌, ℕ, List, IsTrue, IfOk, MatchOption, length, refl, string_bytes};
+ghost use Rattle.std.specs.Prelude.{◌≡◌, ◌↔◌, ◌^◌, ◌<◌, ◌++◌, ◌⊎◌, ℕ, List, IsTrue, IfOk, IfErr, MatchOption, length, refl, string_bytes};
 ghost use Rattle.std.specs.Char.{IsScalar};
-ghost use Rattle.asn1_traits.specs.Leaves.{ChecksContent};
+ghost use Rattle.asn1_traits.specs.Leaves.{ChecksContent, ReadsContent};
 ghost use Rattle.asn1_traits.specs.Writes.{IsLong, Measures, Writes};
 ghost use Rattle.asn1_strings.specs.Texts.{TestsCharset};
 ghost use Rattle.asn1_strings.specs.Wide.{octets_of, wide_octets, MeansWide, IsWideText, BeginsWithChar, BeginsWithNone, ReadsWide};
@@ -110,7 +110,7 @@ impl<F> AsStr for WideString<F> {
     ghost text = { λ string. string_bytes string.text };
 
     fn as_str(&self) -> &str {
-        self.text.as_str()
+        WideString::as_str(self)
     }
 }
 
@@ -232,7 +232,10 @@ impl<F: WideForm> DerLeaf for WideString<F> {
 }
 
 impl<'a, F: WideForm> FromLeaf<'a> for WideString<F> {
-    fn from_content(alloc: Global, octets: &'a [u8]) -> Result<WideString<F>, Error> {
+    fn from_content(alloc: Global, octets: &'a [u8]) -> Result<WideString<F>, Error>
+        ensures value { ReadsContent (MeansWide F.char_octets (λ v. string_bytes v.text)) octets.now result }
+        ensures refused { IfErr result (λ e. (e ≡ Error.OutOfMemory) ⊎ (e ≡ Error.StringInvalidCharset)) }
+    {
         match read_text::<F>(alloc, octets) {
             Ok(text) => Ok(WideString::new(text)),
             Err(e) => Err(e),
