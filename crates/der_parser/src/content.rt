@@ -1,7 +1,10 @@
 //! The content behind a header.
 
+ghost use Rattle.std.specs.Prelude.{◌≡◌, ◌<◌, ◌≤◌, ◌-◌, ℕ, length, IfErr, IsErrAnd};
+ghost use Rattle.asn1_core.specs.Views.{length_of};
 ghost use Rattle.der_parser.specs.Outcome.{ReadsOrWants};
 ghost use Rattle.der_parser.specs.Typed.{ReadsContent};
+ghost use Rattle.der_tree.specs.Outcome.{IsNotCut};
 ghost use Rattle.der_tree.specs.View.{content_view};
 
 use asn1_core::{Err as Refusal, Error, Header, Length, Needed, Tag};
@@ -20,7 +23,15 @@ pub fn parse_der_content<'a>(
     header: Header,
     levels: usize,
 ) -> BerResult<'a, BerObjectContent<'a>>
-    ensures { ReadsOrWants content_view (ReadsContent levels tag.0 header) i.now result }
+    ensures read { ReadsOrWants content_view (ReadsContent levels tag.0 header) i.now result }
+
+    // which refusal
+    ensures no_level { levels ≡ 0 → IsErrAnd result (λ e. e ≡ Refusal.Error Error.BerMaxDepth) }
+    ensures no_length { 0 < levels → length_of header ≡ Length.Indefinite
+        → IsErrAnd result (λ e. e ≡ Refusal.Error Error.IndefiniteLengthUnexpected) }
+    ensures cut { (n : ℕ) → 0 < levels → length_of header ≡ Length.Definite n → length i.now < n
+        → IsErrAnd result (λ e. e ≡ Refusal.Incomplete (Needed.Size (n - length i.now))) }
+    ensures whole { (n : ℕ) → length_of header ≡ Length.Definite n → n ≤ length i.now → IfErr result IsNotCut }
 {
     if levels == 0 {
         return Err(Refusal::Error(Error::BerMaxDepth));

@@ -1,10 +1,11 @@
 //! Objects read by their type. Each reader compares the tag number alone, not the class; the constructed bit and the
 //! content are those of the table's line of the tag number.
 
-ghost use Rattle.std.specs.Prelude.{◌≢◌, ◌^◌, IfOk, IfErr};
+ghost use Rattle.std.specs.Prelude.{◌≡◌, ◌≢◌, ◌^◌, ℕ, List, Err, IfOk, IfErr, IsErrAnd};
 ghost use Rattle.der_parser.specs.Outcome.{Reads, ReadsOrWants};
 ghost use Rattle.der_parser.specs.Typed.{HoldsBerBoolean, ReadsTagged, ReadsDer, ReadsNumber};
-ghost use Rattle.der_tree.specs.Tree.{Content};
+ghost use Rattle.der_tree.specs.Access.{number_of, below, content_in};
+ghost use Rattle.der_tree.specs.Tree.{Tree, Content};
 ghost use Rattle.der_tree.specs.View.{element_under, view, content_view};
 
 use crate::element::element_of_tag;
@@ -78,7 +79,9 @@ pub fn parse_der_integer(i: &[u8]) -> BerResult<'_>
 
 /// An INTEGER below 2^32, as a number: `IntegerNegative` below 0, `IntegerTooLarge` above.
 pub fn parse_der_u32(i: &[u8]) -> BerResult<'_, u32>
-    ensures { Reads (λ v. v) (ReadsNumber (2 ^ 32)) i.now result }
+    ensures read { Reads (λ v. v) (ReadsNumber (2 ^ 32)) i.now result }
+    ensures refused { (t : Tree) (rest : List ℕ) (e : Error) → ReadsDer 2 i.now t rest
+        → below (2 ^ 32) (number_of (content_in t)) ≡ Err e → IsErrAnd result (λ r. r ≡ Refusal.Error e) }
 {
     let (rest, object) = parse_der_integer(i)?;
     match object.as_u32() {
