@@ -10,21 +10,26 @@ use std::io::{self, Write};
 use std::process::Abort;
 use std::test::Fail;
 
+// What came is what was wanted.
+fn same<R: Abort, T: PartialEq + Debug + Drop>(rt: &R, got: T, want: T) {
+    assert_eq!(rt; got, want);
+}
+
 // Octets and the value that they stand for: read to their end, and written again.
 fn both_ways<
     'a,
     R: Abort,
     T: FromDer<'a, Error> + FromBer<'a, Error> + TaggedElement + PartialEq + Debug + Drop,
 >(rt: &R, alloc: Global, octets: &'a [u8], value: T) -> Result<(), Fail> {
-    assert_eq!(rt; value.in_der_form(), true);
-    assert_eq!(rt; value.to_der_len(), Ok(octets.len()));
+    same(rt, value.in_der_form(), true);
+    same(rt, value.to_der_len(), Ok(octets.len()));
     let written = value.to_der_vec(alloc)?;
-    assert_eq!(rt; written.as_slice(), octets);
+    same(rt, written.as_slice(), octets);
     let (rest, read) = read_back::<Error, T>(alloc, octets)?;
-    assert_eq!(rt; rest.len(), 0);
+    same(rt, rest.len(), 0);
     assert!(rt; read == value);
     let (rest, read) = read_back_optional::<Error, T>(alloc, octets)?;
-    assert_eq!(rt; rest.len(), 0);
+    same(rt, rest.len(), 0);
     assert!(rt; read == Some(value));
     Ok(())
 }
@@ -75,47 +80,56 @@ fn booleans(rt: HostRuntime) -> Result<(), Fail> {
     both_ways(&rt, alloc, &[1, 1, 0xff], Boolean::TRUE)?;
     assert!(rt; Boolean::TRUE.bool());
     assert!(rt; !Boolean::FALSE.bool());
-    assert_eq!(rt;
+    same(
+        &rt,
         ber_value::<Error, Boolean>(alloc, &[1, 1, 5, 7]),
-        Ok((1, Boolean::new(5)))
+        Ok((1, Boolean::new(5))),
     );
     assert!(rt; Boolean::new(5).bool());
     assert!(rt; Boolean::new(5) != Boolean::TRUE);
     assert!(rt; !Boolean::new(5).in_der_form());
-    assert_eq!(rt;
+    same(
+        &rt,
         Boolean::new(5).to_der_vec(alloc)?.as_slice(),
-        [1, 1, 0xff].as_slice()
+        [1, 1, 0xff].as_slice(),
     );
-    assert_eq!(rt;
+    same(
+        &rt,
         der_refusal::<Error, Boolean>(alloc, &[1, 1, 1]),
-        breaks(DerConstraint::InvalidBoolean)
+        breaks(DerConstraint::InvalidBoolean),
     );
-    assert_eq!(rt;
+    same(
+        &rt,
         der_refusal::<Error, Boolean>(alloc, &[1, 0]),
-        refuses(Error::InvalidLength)
+        refuses(Error::InvalidLength),
     );
-    assert_eq!(rt;
+    same(
+        &rt,
         ber_refusal::<Error, Boolean>(alloc, &[1, 0]),
-        refuses(Error::InvalidLength)
+        refuses(Error::InvalidLength),
     );
-    assert_eq!(rt;
+    same(
+        &rt,
         der_refusal::<Error, Boolean>(alloc, &[1, 2, 0, 0]),
-        refuses(Error::InvalidLength)
+        refuses(Error::InvalidLength),
     );
-    assert_eq!(rt;
+    same(
+        &rt,
         der_refusal::<Error, Boolean>(alloc, &[2, 1, 0]),
         refuses(Error::UnexpectedTag {
             expected: Some(Tag(1)),
-            actual: Tag(2)
-        })
+            actual: Tag(2),
+        }),
     );
-    assert_eq!(rt;
+    same(
+        &rt,
         der_refusal::<Error, Boolean>(alloc, &[0x21, 1, 0]),
-        refuses(Error::ConstructUnexpected)
+        refuses(Error::ConstructUnexpected),
     );
-    assert_eq!(rt;
+    same(
+        &rt,
         der_refusal::<Error, Boolean>(alloc, &[1, 1]),
-        Some(Refusal::Incomplete(Needed::Size(1)))
+        Some(Refusal::Incomplete(Needed::Size(1))),
     );
     Ok(())
 }
@@ -124,18 +138,21 @@ fn booleans(rt: HostRuntime) -> Result<(), Fail> {
 fn nulls(rt: HostRuntime) -> Result<(), Fail> {
     let alloc = rt.alloc();
     both_ways(&rt, alloc, &[5, 0], Null::new())?;
-    assert_eq!(rt; Null::default(), Null);
-    assert_eq!(rt;
+    same(&rt, Null::default(), Null);
+    same(
+        &rt,
         ber_value::<Error, Null>(alloc, &[5, 0x81, 0, 9]),
-        Ok((1, Null))
+        Ok((1, Null)),
     );
-    assert_eq!(rt;
+    same(
+        &rt,
         der_refusal::<Error, Null>(alloc, &[5, 1, 0]),
-        refuses(Error::InvalidLength)
+        refuses(Error::InvalidLength),
     );
-    assert_eq!(rt;
+    same(
+        &rt,
         ber_refusal::<Error, Null>(alloc, &[5, 1, 0]),
-        refuses(Error::InvalidLength)
+        refuses(Error::InvalidLength),
     );
     Ok(())
 }
@@ -151,32 +168,38 @@ fn enumerated_values(rt: HostRuntime) -> Result<(), Fail> {
         &[10, 5, 0, 0xff, 0xff, 0xff, 0xff],
         Enumerated(u32::MAX),
     )?;
-    assert_eq!(rt;
+    same(
+        &rt,
         ber_value::<Error, Enumerated>(alloc, &[10, 3, 0, 0, 7]),
-        Ok((0, Enumerated(7)))
+        Ok((0, Enumerated(7))),
     );
-    assert_eq!(rt;
+    same(
+        &rt,
         der_refusal::<Error, Enumerated>(alloc, &[10, 5, 1, 0, 0, 0, 0]),
-        refuses(Error::IntegerTooLarge)
+        refuses(Error::IntegerTooLarge),
     );
-    assert_eq!(rt;
+    same(
+        &rt,
         der_refusal::<Error, Enumerated>(alloc, &[10, 1, 0xff]),
-        refuses(Error::IntegerNegative)
+        refuses(Error::IntegerNegative),
     );
-    assert_eq!(rt;
+    same(
+        &rt,
         der_refusal::<Error, Enumerated>(alloc, &[10, 2, 0, 1]),
-        breaks(DerConstraint::IntegerLeadingZeroes)
+        breaks(DerConstraint::IntegerLeadingZeroes),
     );
-    assert_eq!(rt;
+    same(
+        &rt,
         der_refusal::<Error, Enumerated>(alloc, &[10, 0]),
-        breaks(DerConstraint::IntegerEmpty)
+        breaks(DerConstraint::IntegerEmpty),
     );
-    assert_eq!(rt;
+    same(
+        &rt,
         der_refusal::<Error, Enumerated>(alloc, &[2, 1, 0]),
         refuses(Error::UnexpectedTag {
             expected: Some(Tag(10)),
-            actual: Tag(2)
-        })
+            actual: Tag(2),
+        }),
     );
     Ok(())
 }
@@ -191,125 +214,161 @@ fn integers_of_any_size(rt: HostRuntime) -> Result<(), Fail> {
         2, 18, 1, 2, 3, 4, 5, 6, 7, 8, 9, 10, 11, 12, 13, 14, 15, 16, 17, 18,
     ];
     both_ways(&rt, alloc, &long, Integer::new(&long[2..]))?;
-    assert_eq!(rt;
+    same(
+        &rt,
         ber_value::<Error, Integer>(alloc, &[2, 2, 0, 1, 9]),
-        Ok((1, Integer::new(&[0, 1])))
+        Ok((1, Integer::new(&[0, 1]))),
     );
     assert!(rt; Integer::new(&[0, 1]) != Integer::new(&[1]));
     assert!(rt; !Integer::new(&[0, 1]).in_der_form());
     assert!(rt; !Integer::new(&[0xff, 0x80]).in_der_form());
     assert!(rt; !Integer::new(&[]).in_der_form());
-    assert_eq!(rt;
+    same(
+        &rt,
         der_refusal::<Error, Integer>(alloc, &[2, 2, 0, 1]),
-        breaks(DerConstraint::IntegerLeadingZeroes)
+        breaks(DerConstraint::IntegerLeadingZeroes),
     );
-    assert_eq!(rt;
+    same(
+        &rt,
         der_refusal::<Error, Integer>(alloc, &[2, 2, 0xff, 0x80]),
-        breaks(DerConstraint::IntegerLeadingFF)
+        breaks(DerConstraint::IntegerLeadingFF),
     );
-    assert_eq!(rt;
+    same(
+        &rt,
         der_refusal::<Error, Integer>(alloc, &[2, 0]),
-        breaks(DerConstraint::IntegerEmpty)
+        breaks(DerConstraint::IntegerEmpty),
     );
-    assert_eq!(rt;
+    same(
+        &rt,
         ber_refusal::<Error, Integer>(alloc, &[2, 0]),
-        refuses(Error::InvalidLength)
+        refuses(Error::InvalidLength),
     );
-    assert_eq!(rt; Integer::new(&[1, 2]).as_ref(), [1, 2].as_slice());
+    same(&rt, Integer::new(&[1, 2]).as_ref(), [1, 2].as_slice());
     let any = Integer::new(&[1, 2]).any();
-    assert_eq!(rt; any.tag(), Tag(2));
-    assert_eq!(rt; any.to_der_vec(alloc)?.as_slice(), [2, 2, 1, 2].as_slice());
+    same(&rt, any.tag(), Tag(2));
+    same(
+        &rt,
+        any.to_der_vec(alloc)?.as_slice(),
+        [2, 2, 1, 2].as_slice(),
+    );
     Ok(())
 }
 
 #[test]
 fn integers_as_numbers_without_sign(rt: HostRuntime) {
-    assert_eq!(rt; Integer::new(&[0, 0xff]).as_u8(), Ok(255));
-    assert_eq!(rt; Integer::new(&[0, 0, 7]).as_u8(), Ok(7));
-    assert_eq!(rt; Integer::new(&[1, 0]).as_u8(), Err(Error::IntegerTooLarge));
-    assert_eq!(rt; Integer::new(&[0x80]).as_u8(), Err(Error::IntegerNegative));
-    assert_eq!(rt; Integer::new(&[]).as_u8(), Err(Error::InvalidLength));
-    assert_eq!(rt; Integer::new(&[0, 0xff, 0xff]).as_u16(), Ok(u16::MAX));
-    assert_eq!(rt;
+    same(&rt, Integer::new(&[0, 0xff]).as_u8(), Ok(255));
+    same(&rt, Integer::new(&[0, 0, 7]).as_u8(), Ok(7));
+    same(
+        &rt,
+        Integer::new(&[1, 0]).as_u8(),
+        Err(Error::IntegerTooLarge),
+    );
+    same(
+        &rt,
+        Integer::new(&[0x80]).as_u8(),
+        Err(Error::IntegerNegative),
+    );
+    same(&rt, Integer::new(&[]).as_u8(), Err(Error::InvalidLength));
+    same(&rt, Integer::new(&[0, 0xff, 0xff]).as_u16(), Ok(u16::MAX));
+    same(
+        &rt,
         Integer::new(&[1, 0, 0]).as_u16(),
-        Err(Error::IntegerTooLarge)
+        Err(Error::IntegerTooLarge),
     );
-    assert_eq!(rt;
+    same(
+        &rt,
         Integer::new(&[0, 0xff, 0xff, 0xff, 0xff]).as_u32(),
-        Ok(u32::MAX)
+        Ok(u32::MAX),
     );
-    assert_eq!(rt;
+    same(
+        &rt,
         Integer::new(&[1, 0, 0, 0, 0]).as_u32(),
-        Err(Error::IntegerTooLarge)
+        Err(Error::IntegerTooLarge),
     );
-    assert_eq!(rt;
+    same(
+        &rt,
         Integer::new(&[0, 0xff, 0xff, 0xff, 0xff, 0xff, 0xff, 0xff, 0xff]).as_u64(),
-        Ok(u64::MAX)
+        Ok(u64::MAX),
     );
-    assert_eq!(rt;
+    same(
+        &rt,
         Integer::new(&[1, 0, 0, 0, 0, 0, 0, 0, 0]).as_u64(),
-        Err(Error::IntegerTooLarge)
+        Err(Error::IntegerTooLarge),
     );
     let mut octets = [0xff; 17];
     octets[0] = 0;
-    assert_eq!(rt; Integer::new(&octets).as_u128(), Ok(u128::MAX));
+    same(&rt, Integer::new(&octets).as_u128(), Ok(u128::MAX));
     octets[0] = 1;
-    assert_eq!(rt;
+    same(
+        &rt,
         Integer::new(&octets).as_u128(),
-        Err(Error::IntegerTooLarge)
+        Err(Error::IntegerTooLarge),
     );
     octets[0] = 0x80;
-    assert_eq!(rt;
+    same(
+        &rt,
         Integer::new(&octets).as_u128(),
-        Err(Error::IntegerNegative)
+        Err(Error::IntegerNegative),
     );
-    assert_eq!(rt; Integer::new(&octets).as_u64(), Err(Error::IntegerNegative));
+    same(
+        &rt,
+        Integer::new(&octets).as_u64(),
+        Err(Error::IntegerNegative),
+    );
 }
 
 #[test]
 fn integers_as_numbers_with_sign(rt: HostRuntime) {
-    assert_eq!(rt; Integer::new(&[0x80]).as_i8(), Ok(i8::MIN));
-    assert_eq!(rt; Integer::new(&[0xff, 0xff, 0x80]).as_i8(), Ok(-128));
-    assert_eq!(rt;
+    same(&rt, Integer::new(&[0x80]).as_i8(), Ok(i8::MIN));
+    same(&rt, Integer::new(&[0xff, 0xff, 0x80]).as_i8(), Ok(-128));
+    same(
+        &rt,
         Integer::new(&[0, 0x80]).as_i8(),
-        Err(Error::IntegerTooLarge)
+        Err(Error::IntegerTooLarge),
     );
-    assert_eq!(rt;
+    same(
+        &rt,
         Integer::new(&[0xff, 0x7f]).as_i8(),
-        Err(Error::IntegerTooLarge)
+        Err(Error::IntegerTooLarge),
     );
-    assert_eq!(rt; Integer::new(&[]).as_i8(), Err(Error::InvalidLength));
-    assert_eq!(rt; Integer::new(&[0x7f, 0xff]).as_i16(), Ok(i16::MAX));
-    assert_eq!(rt;
+    same(&rt, Integer::new(&[]).as_i8(), Err(Error::InvalidLength));
+    same(&rt, Integer::new(&[0x7f, 0xff]).as_i16(), Ok(i16::MAX));
+    same(
+        &rt,
         Integer::new(&[0, 0x80, 0]).as_i16(),
-        Err(Error::IntegerTooLarge)
+        Err(Error::IntegerTooLarge),
     );
-    assert_eq!(rt; Integer::new(&[0xff]).as_i32(), Ok(-1));
-    assert_eq!(rt;
+    same(&rt, Integer::new(&[0xff]).as_i32(), Ok(-1));
+    same(
+        &rt,
         Integer::new(&[0, 0x80, 0, 0, 0]).as_i32(),
-        Err(Error::IntegerTooLarge)
+        Err(Error::IntegerTooLarge),
     );
-    assert_eq!(rt;
+    same(
+        &rt,
         Integer::new(&[0x80, 0, 0, 0, 0, 0, 0, 0]).as_i64(),
-        Ok(i64::MIN)
+        Ok(i64::MIN),
     );
-    assert_eq!(rt;
+    same(
+        &rt,
         Integer::new(&[0xff, 0x7f, 0, 0, 0, 0, 0, 0, 0]).as_i64(),
-        Err(Error::IntegerTooLarge)
+        Err(Error::IntegerTooLarge),
     );
     let mut octets = [0; 16];
     octets[0] = 0x80;
-    assert_eq!(rt; Integer::new(&octets).as_i128(), Ok(i128::MIN));
-    assert_eq!(rt; Integer::new(&[0xff; 40]).as_i128(), Ok(-1));
+    same(&rt, Integer::new(&octets).as_i128(), Ok(i128::MIN));
+    same(&rt, Integer::new(&[0xff; 40]).as_i128(), Ok(-1));
     let mut longer = [0; 17];
     longer[1] = 0x80;
-    assert_eq!(rt;
+    same(
+        &rt,
         Integer::new(&longer).as_i128(),
-        Err(Error::IntegerTooLarge)
+        Err(Error::IntegerTooLarge),
     );
-    assert_eq!(rt;
+    same(
+        &rt,
         Integer::new(&[0x40; 17]).as_i128(),
-        Err(Error::IntegerTooLarge)
+        Err(Error::IntegerTooLarge),
     );
 }
 
@@ -319,14 +378,19 @@ fn integers_of_any_size_without_sign(rt: HostRuntime) {
     assert!(rt; !Integer::new(&[0x7f, 0xff]).is_negative());
     assert!(rt; !Integer::new(&[]).is_negative());
     match Integer::new(&[0, 0x80, 1]).as_unsigned() {
-        Ok(number) => assert_eq!(rt; number.as_bytes(), [0x80, 1].as_slice()),
+        Ok(number) => same(&rt, number.as_bytes(), [0x80, 1].as_slice()),
         Err(_) => panic!(rt; "refused"),
     }
-    assert_eq!(rt;
+    same(
+        &rt,
         Integer::new(&[0xff]).as_unsigned(),
-        Err(Error::IntegerNegative)
+        Err(Error::IntegerNegative),
     );
-    assert_eq!(rt; Integer::new(&[]).as_unsigned(), Err(Error::InvalidLength));
+    same(
+        &rt,
+        Integer::new(&[]).as_unsigned(),
+        Err(Error::InvalidLength),
+    );
 }
 
 #[test]
@@ -341,41 +405,50 @@ fn bit_strings(rt: HostRuntime) -> Result<(), Fail> {
         &[3, 4, 6, 0x6e, 0x5d, 0xc0],
         BitString::new(6, &[0x6e, 0x5d, 0xc0]),
     )?;
-    assert_eq!(rt;
+    same(
+        &rt,
         ber_value::<Error, BitString>(alloc, &[3, 0x81, 4, 6, 0x6e, 0x5d, 0xc0]),
-        Ok((0, BitString::new(6, &[0x6e, 0x5d, 0xc0])))
+        Ok((0, BitString::new(6, &[0x6e, 0x5d, 0xc0]))),
     );
-    assert_eq!(rt;
+    same(
+        &rt,
         ber_value::<Error, BitString>(alloc, &[3, 4, 6, 0x6e, 0x5d, 0xe0]),
-        Ok((0, BitString::new(6, &[0x6e, 0x5d, 0xe0])))
+        Ok((0, BitString::new(6, &[0x6e, 0x5d, 0xe0]))),
     );
-    assert_eq!(rt;
+    same(
+        &rt,
         der_refusal::<Error, BitString>(alloc, &[3, 4, 6, 0x6e, 0x5d, 0xe0]),
-        breaks(DerConstraint::UnusedBitsNotZero)
+        breaks(DerConstraint::UnusedBitsNotZero),
     );
-    assert_eq!(rt;
+    same(
+        &rt,
         der_refusal::<Error, BitString>(alloc, &[3, 2, 1, 1]),
-        breaks(DerConstraint::UnusedBitsNotZero)
+        breaks(DerConstraint::UnusedBitsNotZero),
     );
-    assert_eq!(rt;
+    same(
+        &rt,
         der_refusal::<Error, BitString>(alloc, &[3, 2, 8, 0]),
-        refuses(Error::BerValueError)
+        refuses(Error::BerValueError),
     );
-    assert_eq!(rt;
+    same(
+        &rt,
         ber_refusal::<Error, BitString>(alloc, &[3, 2, 8, 0]),
-        refuses(Error::BerValueError)
+        refuses(Error::BerValueError),
     );
-    assert_eq!(rt;
+    same(
+        &rt,
         ber_refusal::<Error, BitString>(alloc, &[3, 0]),
-        refuses(Error::InvalidLength)
+        refuses(Error::InvalidLength),
     );
-    assert_eq!(rt;
+    same(
+        &rt,
         der_refusal::<Error, BitString>(alloc, &[3, 0]),
-        refuses(Error::InvalidLength)
+        refuses(Error::InvalidLength),
     );
-    assert_eq!(rt;
+    same(
+        &rt,
         ber_refusal::<Error, BitString>(alloc, &[3, 1, 1]),
-        refuses(Error::InvalidLength)
+        refuses(Error::InvalidLength),
     );
     assert!(rt; !BitString::new(8, &[0]).in_der_form());
     assert!(rt; !BitString::new(1, &[]).in_der_form());
@@ -387,8 +460,8 @@ fn bit_strings(rt: HostRuntime) -> Result<(), Fail> {
 #[test]
 fn bits(rt: HostRuntime) {
     let bits = BitString::new(6, &[0x6e, 0x5d, 0xc0]);
-    assert_eq!(rt; bits.bit_len(), 18);
-    assert_eq!(rt; bits.as_ref(), [0x6e, 0x5d, 0xc0].as_slice());
+    same(&rt, bits.bit_len(), 18);
+    same(&rt, bits.as_ref(), [0x6e, 0x5d, 0xc0].as_slice());
     assert!(rt; !bits.is_set(0));
     assert!(rt; bits.is_set(1));
     assert!(rt; !bits.is_set(7));
@@ -399,7 +472,7 @@ fn bits(rt: HostRuntime) {
     assert!(rt; !bits.is_set(24));
     assert!(rt; !bits.is_set(usize::MAX));
     assert!(rt; BitString::new(7, &[1]).is_set(7));
-    assert_eq!(rt; BitString::new(7, &[]).bit_len(), 0);
+    same(&rt, BitString::new(7, &[]).bit_len(), 0);
 }
 
 #[test]
@@ -407,18 +480,21 @@ fn octet_strings(rt: HostRuntime) -> Result<(), Fail> {
     let alloc = rt.alloc();
     both_ways(&rt, alloc, &[4, 0], OctetString::new(&[]))?;
     both_ways(&rt, alloc, &[4, 2, 0, 0xff], OctetString::new(&[0, 0xff]))?;
-    assert_eq!(rt; OctetString::new(&[1, 2]).as_ref(), [1, 2].as_slice());
-    assert_eq!(rt;
+    same(&rt, OctetString::new(&[1, 2]).as_ref(), [1, 2].as_slice());
+    same(
+        &rt,
         ber_value::<Error, OctetString>(alloc, &[4, 0x81, 1, 7, 9]),
-        Ok((1, OctetString::new(&[7])))
+        Ok((1, OctetString::new(&[7]))),
     );
-    assert_eq!(rt;
+    same(
+        &rt,
         ber_refusal::<Error, OctetString>(alloc, &[0x24, 0]),
-        refuses(Error::ConstructUnexpected)
+        refuses(Error::ConstructUnexpected),
     );
-    assert_eq!(rt;
+    same(
+        &rt,
         der_refusal::<Error, OctetString>(alloc, &[4, 3, 1]),
-        Some(Refusal::Incomplete(Needed::Size(2)))
+        Some(Refusal::Incomplete(Needed::Size(2))),
     );
     Ok(())
 }
@@ -428,9 +504,13 @@ fn values_of_a_sequence(rt: HostRuntime) -> Result<(), Fail> {
     let alloc = rt.alloc();
     let octets = [0x30, 6, 10, 1, 2, 10, 1, 3];
     let (rest, items) = read_back::<Error, Vec<Enumerated>>(alloc, &octets)?;
-    assert_eq!(rt; rest.len(), 0);
-    assert_eq!(rt; items.as_slice(), [Enumerated(2), Enumerated(3)].as_slice());
-    assert_eq!(rt; items.to_der_vec(alloc)?.as_slice(), octets.as_slice());
+    same(&rt, rest.len(), 0);
+    same(
+        &rt,
+        items.as_slice(),
+        [Enumerated(2), Enumerated(3)].as_slice(),
+    );
+    same(&rt, items.to_der_vec(alloc)?.as_slice(), octets.as_slice());
     Ok(())
 }
 
@@ -468,11 +548,11 @@ fn a_failed_write_leaves_a_front(rt: HostRuntime) -> Result<(), Fail> {
         let answer = bits.write_der(&mut sink);
         let taken = sink.into_inner().taken;
         if room < octets.len() {
-            assert_eq!(rt; answer, Err(SerializeError::IOError));
-            assert_eq!(rt; taken.as_slice(), &octets[..room]);
+            same(&rt, answer, Err(SerializeError::IOError));
+            same(&rt, taken.as_slice(), &octets[..room]);
         } else {
-            assert_eq!(rt; answer, Ok(octets.len()));
-            assert_eq!(rt; taken.as_slice(), octets.as_slice());
+            same(&rt, answer, Ok(octets.len()));
+            same(&rt, taken.as_slice(), octets.as_slice());
         }
     }
     Ok(())
