@@ -17,21 +17,26 @@ use std::fmt::Debug;
 use std::process::Abort;
 use std::test::Fail;
 
+// What came is what was wanted.
+fn same<R: Abort, T: PartialEq + Debug + Drop>(rt: &R, got: T, want: T) {
+    assert_eq!(rt; got, want);
+}
+
 // Octets and the value that they stand for: read to their end by both rules, and written again.
 fn both_ways<
     'a,
     R: Abort,
     T: FromDer<'a, Error> + FromBer<'a, Error> + ToDer + PartialEq + Debug + Drop,
 >(rt: &R, alloc: Global, octets: &'a [u8], value: T) -> Result<(), Fail> {
-    assert_eq!(rt; value.in_der_form(), true);
-    assert_eq!(rt; value.to_der_len(), Ok(octets.len()));
+    same(rt, value.in_der_form(), true);
+    same(rt, value.to_der_len(), Ok(octets.len()));
     let written = value.to_der_vec(alloc)?;
-    assert_eq!(rt; written.as_slice(), octets);
+    same(rt, written.as_slice(), octets);
     let (rest, read) = T::from_der(alloc, octets)?;
-    assert_eq!(rt; rest.len(), 0);
+    same(rt, rest.len(), 0);
     assert!(rt; read == value);
     let (rest, read) = T::from_ber(alloc, octets)?;
-    assert_eq!(rt; rest.len(), 0);
+    same(rt, rest.len(), 0);
     assert!(rt; read == value);
     Ok(())
 }
@@ -77,8 +82,8 @@ fn charset_refused<'a, R: Abort, T: FromDer<'a, Error> + FromBer<'a, Error> + Dr
     octets: &'a [u8],
 ) {
     let refusal = Some(Refusal::Error(Error::StringInvalidCharset));
-    assert_eq!(rt; der_refusal::<Error, T>(alloc, octets), refusal);
-    assert_eq!(rt; ber_refusal::<Error, T>(alloc, octets), refusal);
+    same(rt, der_refusal::<Error, T>(alloc, octets), refusal);
+    same(rt, ber_refusal::<Error, T>(alloc, octets), refusal);
 }
 
 // The text of one octet is taken exactly where the octet is one of these.
@@ -90,7 +95,7 @@ fn takes_exactly<C: TestValidCharset, R: Abort>(rt: &R, octets: &[u8]) {
             "{octet:02x}"
         );
     }
-    assert_eq!(rt; C::test_valid_charset(&[]), Ok(()));
+    same(rt, C::test_valid_charset(&[]), Ok(()));
 }
 
 // What holds of each type: its tag number, the shortest and the long form of a length, and what is refused beside text.
@@ -124,28 +129,32 @@ fn is_string_type<R: Abort, C: TestValidCharset + Debug>(
     both_ways(rt, alloc, &long, CharacterString::<C>::new(text))?;
     let octets = [number, 2, b'1', b'2', 9];
     let (rest, read) = der_value::<Error, CharacterString<'_, C>>(alloc, &octets)?;
-    assert_eq!(rt; rest, &[9u8][..]);
-    assert_eq!(rt; read.as_str(), "12");
+    same(rt, rest, &[9u8][..]);
+    same(rt, read.as_str(), "12");
     let cut = [number, 2, b'1'];
-    assert_eq!(rt;
+    same(
+        rt,
         der_refusal::<Error, CharacterString<'_, C>>(alloc, &cut),
-        Some(Refusal::Incomplete(Needed::Size(1)))
+        Some(Refusal::Incomplete(Needed::Size(1))),
     );
     let constructed = [number | 0x20, 1, b'1'];
-    assert_eq!(rt;
+    same(
+        rt,
         der_refusal::<Error, CharacterString<'_, C>>(alloc, &constructed),
-        Some(Refusal::Error(Error::ConstructUnexpected))
+        Some(Refusal::Error(Error::ConstructUnexpected)),
     );
-    assert_eq!(rt;
+    same(
+        rt,
         ber_refusal::<Error, CharacterString<'_, C>>(alloc, &constructed),
-        Some(Refusal::Error(Error::ConstructUnexpected))
+        Some(Refusal::Error(Error::ConstructUnexpected)),
     );
-    assert_eq!(rt;
+    same(
+        rt,
         der_refusal::<Error, CharacterString<'_, C>>(alloc, &[4, 1, b'1']),
         Some(Refusal::Error(Error::UnexpectedTag {
             expected: Some(Tag(number.into())),
-            actual: Tag(4)
-        }))
+            actual: Tag(4),
+        })),
     );
     charset_refused::<R, CharacterString<'_, C>>(rt, alloc, &[number, 1, 0x80]);
     charset_refused::<R, CharacterString<'_, C>>(rt, alloc, &[number, 3, b'1', b'2', 0xff]);
@@ -233,26 +242,27 @@ fn worked_texts(rt: HostRuntime) -> Result<(), Fail> {
 // Text that its type lacks isn't in DER form.
 #[test]
 fn out_of_form(rt: HostRuntime) {
-    assert_eq!(rt; PrintableString::new("a*b").in_der_form(), false);
-    assert_eq!(rt; NumericString::new("1-2").in_der_form(), false);
-    assert_eq!(rt; VisibleString::new("\x7f").in_der_form(), false);
-    assert_eq!(rt; Ia5String::new("é").in_der_form(), false);
-    assert_eq!(rt; TeletexString::new("é").in_der_form(), false);
-    assert_eq!(rt; Utf8String::new("é").in_der_form(), true);
-    assert_eq!(rt;
+    same(&rt, PrintableString::new("a*b").in_der_form(), false);
+    same(&rt, NumericString::new("1-2").in_der_form(), false);
+    same(&rt, VisibleString::new("\x7f").in_der_form(), false);
+    same(&rt, Ia5String::new("é").in_der_form(), false);
+    same(&rt, TeletexString::new("é").in_der_form(), false);
+    same(&rt, Utf8String::new("é").in_der_form(), true);
+    same(
+        &rt,
         PrintableString::test_valid_charset(b"a*b"),
-        Err(Error::StringInvalidCharset)
+        Err(Error::StringInvalidCharset),
     );
-    assert_eq!(rt; PrintableString::test_valid_charset(b"a b"), Ok(()));
+    same(&rt, PrintableString::test_valid_charset(b"a b"), Ok(()));
 }
 
 #[test]
 fn held_text(rt: HostRuntime) -> Result<(), Fail> {
     let string: Ia5String<'_> = "host".into();
-    assert_eq!(rt; string.as_str(), "host");
-    assert_eq!(rt; AsStr::as_str(&string), "host");
-    assert_eq!(rt; string.text, "host");
-    assert_eq!(rt; string.string(rt.alloc())?.as_str(), "host");
+    same(&rt, string.as_str(), "host");
+    same(&rt, AsStr::as_str(&string), "host");
+    same(&rt, string.text, "host");
+    same(&rt, string.string(rt.alloc())?.as_str(), "host");
     let copy = string;
     assert!(rt; copy == string);
     assert!(rt; copy != Ia5String::new("hos"));
@@ -267,16 +277,16 @@ fn wide_both_ways<R: Abort, F: WideForm + Drop>(
     text: &str,
 ) -> Result<(), Fail> {
     let value = WideString::<F>::new(String::from_str(alloc, text)?);
-    assert_eq!(rt; value.in_der_form(), true);
-    assert_eq!(rt; value.to_der_len(), Ok(octets.len()));
+    same(rt, value.in_der_form(), true);
+    same(rt, value.to_der_len(), Ok(octets.len()));
     let written = value.to_der_vec(alloc)?;
-    assert_eq!(rt; written.as_slice(), octets);
+    same(rt, written.as_slice(), octets);
     let (rest, read) = der_value::<Error, WideString<F>>(alloc, octets)?;
-    assert_eq!(rt; rest.len(), 0);
-    assert_eq!(rt; read.as_str(), text);
+    same(rt, rest.len(), 0);
+    same(rt, read.as_str(), text);
     let (rest, read) = ber_value::<Error, WideString<F>>(alloc, octets)?;
-    assert_eq!(rt; rest.len(), 0);
-    assert_eq!(rt; read.as_str(), text);
+    same(rt, rest.len(), 0);
+    same(rt, read.as_str(), text);
     assert!(rt; read == value);
     Ok(())
 }
@@ -284,7 +294,7 @@ fn wide_both_ways<R: Abort, F: WideForm + Drop>(
 #[test]
 fn bmp_strings(rt: HostRuntime) -> Result<(), Fail> {
     let alloc = rt.alloc();
-    assert_eq!(rt; <BmpString as Tagged>::TAG, Tag(30));
+    same(&rt, <BmpString as Tagged>::TAG, Tag(30));
     wide_both_ways::<_, Utf16>(&rt, alloc, &[30, 0], "")?;
     wide_both_ways::<_, Utf16>(&rt, alloc, &[30, 4, 0, 0x41, 0, 0x42], "AB")?;
     wide_both_ways::<_, Utf16>(&rt, alloc, &[30, 2, 0, 0], "\0")?;
@@ -315,7 +325,7 @@ fn bmp_strings(rt: HostRuntime) -> Result<(), Fail> {
 #[test]
 fn universal_strings(rt: HostRuntime) -> Result<(), Fail> {
     let alloc = rt.alloc();
-    assert_eq!(rt; <UniversalString as Tagged>::TAG, Tag(28));
+    same(&rt, <UniversalString as Tagged>::TAG, Tag(28));
     wide_both_ways::<_, Utf32>(&rt, alloc, &[28, 0], "")?;
     wide_both_ways::<_, Utf32>(&rt, alloc, &[28, 4, 0, 0, 0, 0], "\0")?;
     wide_both_ways::<_, Utf32>(&rt, alloc, &[28, 8, 0, 0, 0, 0x41, 0, 0, 0, 0x42], "AB")?;
@@ -361,22 +371,25 @@ fn lengths_of_wide_strings(rt: HostRuntime) -> Result<(), Fail> {
     octets[2] = 0;
     octets[3] = b'7';
     let (rest, read) = der_value::<Error, BmpString>(alloc, &octets[..6])?;
-    assert_eq!(rt; rest, &[b'A', 0][..]);
-    assert_eq!(rt; read.as_str(), "7");
-    assert_eq!(rt;
+    same(&rt, rest, &[b'A', 0][..]);
+    same(&rt, read.as_str(), "7");
+    same(
+        &rt,
         der_refusal::<Error, BmpString>(alloc, &octets[..3]),
-        Some(Refusal::Incomplete(Needed::Size(1)))
+        Some(Refusal::Incomplete(Needed::Size(1))),
     );
-    assert_eq!(rt;
+    same(
+        &rt,
         der_refusal::<Error, BmpString>(alloc, &[0x3e, 2, 0, 0x41]),
-        Some(Refusal::Error(Error::ConstructUnexpected))
+        Some(Refusal::Error(Error::ConstructUnexpected)),
     );
-    assert_eq!(rt;
+    same(
+        &rt,
         ber_refusal::<Error, UniversalString>(alloc, &[30, 2, 0, 0x41]),
         Some(Refusal::Error(Error::UnexpectedTag {
             expected: Some(Tag(28)),
-            actual: Tag(30)
-        }))
+            actual: Tag(30),
+        })),
     );
     Ok(())
 }
@@ -385,29 +398,41 @@ fn lengths_of_wide_strings(rt: HostRuntime) -> Result<(), Fail> {
 fn held_wide_text(rt: HostRuntime) -> Result<(), Fail> {
     let alloc = rt.alloc();
     let string: BmpString = String::from_str(alloc, "é€")?.into();
-    assert_eq!(rt; string.as_str(), "é€");
-    assert_eq!(rt; AsStr::as_str(&string), "é€");
-    assert_eq!(rt; string.string(alloc)?.as_str(), "é€");
+    same(&rt, string.as_str(), "é€");
+    same(&rt, AsStr::as_str(&string), "é€");
+    same(&rt, string.string(alloc)?.as_str(), "é€");
     let copy = string.clone()?;
     assert!(rt; copy == string);
-    assert_eq!(rt; copy.into_string().as_str(), "é€");
-    assert_eq!(rt;
+    same(&rt, copy.into_string().as_str(), "é€");
+    same(
+        &rt,
         BmpString::test_valid_charset(&[0xd8, 0x3d, 0xde, 0]),
-        Ok(())
+        Ok(()),
     );
-    assert_eq!(rt;
+    same(
+        &rt,
         BmpString::test_valid_charset(&[0xd8, 0x3d]),
-        Err(Error::StringInvalidCharset)
+        Err(Error::StringInvalidCharset),
     );
-    assert_eq!(rt;
+    same(
+        &rt,
         UniversalString::test_valid_charset(&[0, 0x10, 0xff, 0xff]),
-        Ok(())
+        Ok(()),
     );
-    assert_eq!(rt;
+    same(
+        &rt,
         UniversalString::test_valid_charset(&[0, 0x11, 0, 0]),
-        Err(Error::StringInvalidCharset)
+        Err(Error::StringInvalidCharset),
     );
-    assert_eq!(rt; Utf16::first_char(&[0, 0x41, 7]), Some(('A', &[7u8][..])));
-    assert_eq!(rt; Utf32::octets_of_char('é').as_slice(), &[0, 0, 0, 0xe9][..]);
+    same(
+        &rt,
+        Utf16::first_char(&[0, 0x41, 7]),
+        Some(('A', &[7u8][..])),
+    );
+    same(
+        &rt,
+        Utf32::octets_of_char('é').as_slice(),
+        &[0, 0, 0, 0xe9][..],
+    );
     Ok(())
 }
