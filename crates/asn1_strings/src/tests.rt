@@ -98,17 +98,27 @@ fn takes_exactly<C: TestValidCharset, R: Abort>(rt: &R, octets: &[u8]) {
     same(rt, C::test_valid_charset(&[]), Ok(()));
 }
 
-// What holds of each type: its tag number, the shortest and the long form of a length, and what is refused beside text.
-fn is_string_type<R: Abort, C: TestValidCharset + Debug>(
+// A text of its type: read to its end by both rules, and written again.
+fn is_text<'a, R: Abort, C: TestValidCharset + Debug>(
+    rt: &R,
+    alloc: Global,
+    octets: &'a [u8],
+    value: CharacterString<'a, C>,
+) -> Result<(), Fail> {
+    both_ways(rt, alloc, octets, value)
+}
+
+// By both rules, the octets' text is refused.
+fn is_no_text<R: Abort, C: TestValidCharset>(rt: &R, alloc: Global, octets: &[u8]) {
+    charset_refused::<R, CharacterString<'_, C>>(rt, alloc, octets);
+}
+
+// The shortest and the long form of a length.
+fn has_lengths<R: Abort, C: TestValidCharset + Debug>(
     rt: &R,
     alloc: Global,
     number: u8,
 ) -> Result<(), Fail> {
-    assert_eq!(rt; <CharacterString<'_, C> as Tagged>::TAG, Tag(number.into()));
-    assert_eq!(rt;
-        <CharacterString<'_, C> as Tagged>::own_tag(),
-        Tag(number.into())
-    );
     both_ways(rt, alloc, &[number, 0], CharacterString::<C>::new(""))?;
     both_ways(
         rt,
@@ -126,11 +136,24 @@ fn is_string_type<R: Abort, C: TestValidCharset + Debug>(
     long[1] = 0x81;
     long[2] = 128;
     let text = str::from_utf8(&long[3..])?;
-    both_ways(rt, alloc, &long, CharacterString::<C>::new(text))?;
+    both_ways(rt, alloc, &long, CharacterString::<C>::new(text))
+}
+
+// An octet after the text is left.
+fn leaves_an_octet<R: Abort, C: TestValidCharset>(
+    rt: &R,
+    alloc: Global,
+    number: u8,
+) -> Result<(), Fail> {
     let octets = [number, 2, b'1', b'2', 9];
     let (rest, read) = der_value::<Error, CharacterString<'_, C>>(alloc, &octets)?;
     same(rt, rest, &[9u8][..]);
     same(rt, read.as_str(), "12");
+    Ok(())
+}
+
+// What is refused beside text.
+fn refuses_other_elements<R: Abort, C: TestValidCharset>(rt: &R, alloc: Global, number: u8) {
     let cut = [number, 2, b'1'];
     same(
         rt,
@@ -156,8 +179,22 @@ fn is_string_type<R: Abort, C: TestValidCharset + Debug>(
             actual: Tag(4),
         })),
     );
-    charset_refused::<R, CharacterString<'_, C>>(rt, alloc, &[number, 1, 0x80]);
-    charset_refused::<R, CharacterString<'_, C>>(rt, alloc, &[number, 3, b'1', b'2', 0xff]);
+}
+
+// What holds of each type: its tag number, the forms of a length, and what is refused.
+fn is_string_type<R: Abort, C: TestValidCharset + Debug>(
+    rt: &R,
+    alloc: Global,
+    number: u8,
+) -> Result<(), Fail> {
+    let tag = Tag(number.into());
+    same(rt, <CharacterString<'_, C> as Tagged>::TAG, tag);
+    same(rt, <CharacterString<'_, C> as Tagged>::own_tag(), tag);
+    has_lengths::<R, C>(rt, alloc, number)?;
+    leaves_an_octet::<R, C>(rt, alloc, number)?;
+    refuses_other_elements::<R, C>(rt, alloc, number);
+    is_no_text::<R, C>(rt, alloc, &[number, 1, 0x80]);
+    is_no_text::<R, C>(rt, alloc, &[number, 3, b'1', b'2', 0xff]);
     Ok(())
 }
 
@@ -202,41 +239,41 @@ fn characters_of_each_type(rt: HostRuntime) {
 
 #[test]
 fn worked_texts(rt: HostRuntime) -> Result<(), Fail> {
-    both_ways(&rt, rt.alloc(), &[12, 2, 0xc3, 0xa9], Utf8String::new("é"))?;
-    both_ways(
+    let alloc = rt.alloc();
+    is_text(&rt, alloc, &[12, 2, 0xc3, 0xa9], Utf8String::new("é"))?;
+    is_text(
         &rt,
-        rt.alloc(),
+        alloc,
         &[12, 4, 0xf0, 0x9f, 0x98, 0x80],
         Utf8String::new("😀"),
     )?;
-    charset_refused::<_, Utf8String<'_>>(&rt, rt.alloc(), &[12, 1, 0xc3]);
-    charset_refused::<_, Utf8String<'_>>(&rt, rt.alloc(), &[12, 2, 0xc0, 0x80]);
-    charset_refused::<_, Utf8String<'_>>(&rt, rt.alloc(), &[12, 3, 0xed, 0xa0, 0x80]);
-    both_ways(&rt, rt.alloc(), b"\x12\x0412 0", NumericString::new("12 0"))?;
-    charset_refused::<_, NumericString<'_>>(&rt, rt.alloc(), b"\x12\x0312a");
-    both_ways(
-        &rt,
-        rt.alloc(),
-        b"\x13\x05O=A?b",
-        PrintableString::new("O=A?b"),
-    )?;
-    charset_refused::<_, PrintableString<'_>>(&rt, rt.alloc(), b"\x13\x03a*b");
-    charset_refused::<_, PrintableString<'_>>(&rt, rt.alloc(), b"\x13\x03a@b");
-    both_ways(&rt, rt.alloc(), b"\x16\x03a@b", Ia5String::new("a@b"))?;
-    both_ways(
-        &rt,
-        rt.alloc(),
-        b"\x1a\x05Jones",
-        VisibleString::new("Jones"),
-    )?;
-    charset_refused::<_, VisibleString<'_>>(&rt, rt.alloc(), b"\x1a\x03a\nb");
-    both_ways(&rt, rt.alloc(), b"\x14\x02a\n", TeletexString::new("a\n"))?;
-    both_ways(&rt, rt.alloc(), b"\x15\x01v", VideotexString::new("v"))?;
-    both_ways(&rt, rt.alloc(), b"\x19\x01g", GraphicString::new("g"))?;
-    both_ways(&rt, rt.alloc(), b"\x1b\x01\x7f", GeneralString::new("\x7f"))?;
-    both_ways(&rt, rt.alloc(), b"\x07\x01d", ObjectDescriptor::new("d"))?;
-    charset_refused::<_, GeneralString<'_>>(&rt, rt.alloc(), &[27, 2, 0xc3, 0xa9]);
-    Ok(())
+    is_text(&rt, alloc, b"\x12\x0412 0", NumericString::new("12 0"))?;
+    is_text(&rt, alloc, b"\x13\x05O=A?b", PrintableString::new("O=A?b"))?;
+    is_text(&rt, alloc, b"\x16\x03a@b", Ia5String::new("a@b"))?;
+    is_text(&rt, alloc, b"\x1a\x05Jones", VisibleString::new("Jones"))
+}
+
+#[test]
+fn worked_texts_of_older_types(rt: HostRuntime) -> Result<(), Fail> {
+    let alloc = rt.alloc();
+    is_text(&rt, alloc, b"\x14\x02a\n", TeletexString::new("a\n"))?;
+    is_text(&rt, alloc, b"\x15\x01v", VideotexString::new("v"))?;
+    is_text(&rt, alloc, b"\x19\x01g", GraphicString::new("g"))?;
+    is_text(&rt, alloc, b"\x1b\x01\x7f", GeneralString::new("\x7f"))?;
+    is_text(&rt, alloc, b"\x07\x01d", ObjectDescriptor::new("d"))
+}
+
+#[test]
+fn octets_outside_a_type(rt: HostRuntime) {
+    let alloc = rt.alloc();
+    is_no_text::<_, Utf8>(&rt, alloc, &[12, 1, 0xc3]);
+    is_no_text::<_, Utf8>(&rt, alloc, &[12, 2, 0xc0, 0x80]);
+    is_no_text::<_, Utf8>(&rt, alloc, &[12, 3, 0xed, 0xa0, 0x80]);
+    is_no_text::<_, Numeric>(&rt, alloc, b"\x12\x0312a");
+    is_no_text::<_, Printable>(&rt, alloc, b"\x13\x03a*b");
+    is_no_text::<_, Printable>(&rt, alloc, b"\x13\x03a@b");
+    is_no_text::<_, Visible>(&rt, alloc, b"\x1a\x03a\nb");
+    is_no_text::<_, General>(&rt, alloc, &[27, 2, 0xc3, 0xa9]);
 }
 
 // Text that its type lacks isn't in DER form.
