@@ -10,6 +10,11 @@ use std::fmt::Debug;
 use std::process::Abort;
 use std::test::Fail;
 
+// What came is what was wanted.
+fn same<R: Abort, T: PartialEq + Debug + Drop>(rt: &R, got: T, want: T) {
+    assert_eq!(rt; got, want);
+}
+
 const NOON: ASN1DateTime = ASN1DateTime {
     year: 2026,
     month: 11,
@@ -39,15 +44,15 @@ fn both_ways<
     R: Abort,
     T: FromDer<'a, Error> + FromBer<'a, Error> + ToDer + PartialEq + Debug + Drop,
 >(rt: &R, alloc: Global, octets: &'a [u8], value: T) -> Result<(), Fail> {
-    assert_eq!(rt; value.in_der_form(), true);
-    assert_eq!(rt; value.to_der_len(), Ok(octets.len()));
+    same(rt, value.in_der_form(), true);
+    same(rt, value.to_der_len(), Ok(octets.len()));
     let written = value.to_der_vec(alloc)?;
-    assert_eq!(rt; written.as_slice(), octets);
+    same(rt, written.as_slice(), octets);
     let (rest, read) = T::from_der(alloc, octets)?;
-    assert_eq!(rt; rest.len(), 0);
+    same(rt, rest.len(), 0);
     assert!(rt; read == value);
     let (rest, read) = T::from_ber(alloc, octets)?;
-    assert_eq!(rt; rest.len(), 0);
+    same(rt, rest.len(), 0);
     assert!(rt; read == value);
     Ok(())
 }
@@ -115,219 +120,246 @@ fn utc_times_both_ways(rt: HostRuntime) -> Result<(), Fail> {
 #[test]
 fn other_texts_of_utc_times(rt: HostRuntime) -> Result<(), Fail> {
     let minute = ASN1DateTime { second: 0, ..SHORT };
-    assert_eq!(rt; utc(b"2611221230Z"), Some(minute));
-    assert_eq!(rt; utc(b"261122123000Z"), Some(minute));
-    assert_eq!(rt;
+    same(&rt, utc(b"2611221230Z"), Some(minute));
+    same(&rt, utc(b"261122123000Z"), Some(minute));
+    same(
+        &rt,
         utc(b"2611221230-0500"),
         Some(ASN1DateTime {
             tz: offset(-5, 0),
             ..minute
-        })
+        }),
     );
-    assert_eq!(rt;
+    same(
+        &rt,
         utc(b"261122123059-0530"),
         Some(ASN1DateTime {
             tz: offset(-5, 30),
             ..SHORT
-        })
+        }),
     );
-    assert_eq!(rt;
+    same(
+        &rt,
         utc(b"261122123059-0000"),
         Some(ASN1DateTime {
             tz: offset(0, 0),
             ..SHORT
-        })
+        }),
     );
     let octets = element(rt.alloc(), 23, b"2611221230Z")?;
     let (rest, read) = <UtcTime as FromDer<'_, Error>>::from_der(rt.alloc(), octets.as_slice())?;
-    assert_eq!(rt; rest.len(), 0);
+    same(&rt, rest.len(), 0);
     let written = read.to_der_vec(rt.alloc())?;
-    assert_eq!(rt;
+    same(
+        &rt,
         written.as_slice(),
-        element(rt.alloc(), 23, b"261122123000Z")?.as_slice()
+        element(rt.alloc(), 23, b"261122123000Z")?.as_slice(),
     );
     Ok(())
 }
 
 #[test]
 fn borders_of_utc_fields(rt: HostRuntime) -> Result<(), Fail> {
-    assert_eq!(rt; utc(b"260022123059Z"), None);
-    assert_eq!(rt;
+    same(&rt, utc(b"260022123059Z"), None);
+    same(
+        &rt,
         utc(b"260122123059Z"),
-        Some(ASN1DateTime { month: 1, ..SHORT })
+        Some(ASN1DateTime { month: 1, ..SHORT }),
     );
-    assert_eq!(rt;
+    same(
+        &rt,
         utc(b"261222123059Z"),
-        Some(ASN1DateTime { month: 12, ..SHORT })
+        Some(ASN1DateTime { month: 12, ..SHORT }),
     );
-    assert_eq!(rt; utc(b"261322123059Z"), None);
-    assert_eq!(rt; utc(b"261100123059Z"), None);
-    assert_eq!(rt;
+    same(&rt, utc(b"261322123059Z"), None);
+    same(&rt, utc(b"261100123059Z"), None);
+    same(
+        &rt,
         utc(b"261101123059Z"),
-        Some(ASN1DateTime { day: 1, ..SHORT })
+        Some(ASN1DateTime { day: 1, ..SHORT }),
     );
-    assert_eq!(rt;
+    same(
+        &rt,
         utc(b"261131123059Z"),
-        Some(ASN1DateTime { day: 31, ..SHORT })
+        Some(ASN1DateTime { day: 31, ..SHORT }),
     );
-    assert_eq!(rt; utc(b"261132123059Z"), None);
-    assert_eq!(rt;
+    same(&rt, utc(b"261132123059Z"), None);
+    same(
+        &rt,
         utc(b"260230123059Z"),
         Some(ASN1DateTime {
             month: 2,
             day: 30,
             ..SHORT
-        })
+        }),
     );
-    assert_eq!(rt;
+    same(
+        &rt,
         utc(b"261122003059Z"),
-        Some(ASN1DateTime { hour: 0, ..SHORT })
+        Some(ASN1DateTime { hour: 0, ..SHORT }),
     );
-    assert_eq!(rt;
+    same(
+        &rt,
         utc(b"261122233059Z"),
-        Some(ASN1DateTime { hour: 23, ..SHORT })
+        Some(ASN1DateTime { hour: 23, ..SHORT }),
     );
-    assert_eq!(rt; utc(b"261122243059Z"), None);
-    assert_eq!(rt;
+    same(&rt, utc(b"261122243059Z"), None);
+    same(
+        &rt,
         utc(b"261122125959Z"),
         Some(ASN1DateTime {
             minute: 59,
             ..SHORT
-        })
+        }),
     );
-    assert_eq!(rt; utc(b"261122126059Z"), None);
-    assert_eq!(rt; utc(b"261122123060Z"), None);
-    assert_eq!(rt;
+    same(&rt, utc(b"261122126059Z"), None);
+    same(&rt, utc(b"261122123060Z"), None);
+    same(
+        &rt,
         utc(b"261122123059+2359"),
         Some(ASN1DateTime {
             tz: offset(23, 59),
             ..SHORT
-        })
+        }),
     );
-    assert_eq!(rt; utc(b"261122123059+2400"), None);
-    assert_eq!(rt; utc(b"261122123059-0060"), None);
+    same(&rt, utc(b"261122123059+2400"), None);
+    same(&rt, utc(b"261122123059-0060"), None);
     Ok(())
 }
 
 #[test]
 fn refused_texts_of_utc_times(rt: HostRuntime) -> Result<(), Fail> {
-    assert_eq!(rt; utc(b""), None);
-    assert_eq!(rt; utc(b"Z"), None);
-    assert_eq!(rt; utc(b"26112212305"), None);
-    assert_eq!(rt; utc(b"26112212305Z"), None);
-    assert_eq!(rt; utc(b"2611221230"), None);
-    assert_eq!(rt; utc(b"261122123059"), None);
-    assert_eq!(rt; utc(b"261122123059z"), None);
-    assert_eq!(rt; utc(b"261122123059ZZ"), None);
-    assert_eq!(rt; utc(b"261122123059 Z"), None);
-    assert_eq!(rt; utc(b"261122123059.5Z"), None);
-    assert_eq!(rt; utc(b"2611221230590Z"), None);
-    assert_eq!(rt; utc(b"261122123059+053"), None);
-    assert_eq!(rt; utc(b"261122123059+05300"), None);
-    assert_eq!(rt; utc(b"261122123059*0530"), None);
-    assert_eq!(rt; utc(b"261122123059+05:30"), None);
-    assert_eq!(rt; utc(b"26112212305/Z"), None);
-    assert_eq!(rt; utc(b"26112212305:Z"), None);
-    assert_eq!(rt; utc(b"+61122123059Z"), None);
-    assert_eq!(rt; utc(b"20261122123059Z"), None);
+    same(&rt, utc(b""), None);
+    same(&rt, utc(b"Z"), None);
+    same(&rt, utc(b"26112212305"), None);
+    same(&rt, utc(b"26112212305Z"), None);
+    same(&rt, utc(b"2611221230"), None);
+    same(&rt, utc(b"261122123059"), None);
+    same(&rt, utc(b"261122123059z"), None);
+    same(&rt, utc(b"261122123059ZZ"), None);
+    same(&rt, utc(b"261122123059 Z"), None);
+    same(&rt, utc(b"261122123059.5Z"), None);
+    same(&rt, utc(b"2611221230590Z"), None);
+    same(&rt, utc(b"261122123059+053"), None);
+    same(&rt, utc(b"261122123059+05300"), None);
+    same(&rt, utc(b"261122123059*0530"), None);
+    same(&rt, utc(b"261122123059+05:30"), None);
+    same(&rt, utc(b"26112212305/Z"), None);
+    same(&rt, utc(b"26112212305:Z"), None);
+    same(&rt, utc(b"+61122123059Z"), None);
+    same(&rt, utc(b"20261122123059Z"), None);
     let empty = Error::InvalidValue {
         tag: Tag(23),
         msg: "malformed time string",
     };
-    assert_eq!(rt;
+    same(
+        &rt,
         der_refusal::<Error, UtcTime>(rt.alloc(), &[23, 0]),
-        Some(Refusal::Error(empty))
+        Some(Refusal::Error(empty)),
     );
     let octets = element(rt.alloc(), 23, b"261322123059Z")?;
     let month = Error::InvalidValue {
         tag: Tag(23),
         msg: "time components with invalid values",
     };
-    assert_eq!(rt;
+    same(
+        &rt,
         der_refusal::<Error, UtcTime>(rt.alloc(), octets.as_slice()),
-        Some(Refusal::Error(month))
+        Some(Refusal::Error(month)),
     );
-    assert_eq!(rt;
+    same(
+        &rt,
         der_refusal::<Error, UtcTime>(rt.alloc(), &[24, 0]),
         Some(Refusal::Error(Error::UnexpectedTag {
             expected: Some(Tag(23)),
-            actual: Tag(24)
-        }))
+            actual: Tag(24),
+        })),
     );
-    assert_eq!(rt;
+    same(
+        &rt,
         der_refusal::<Error, UtcTime>(rt.alloc(), &[0x37, 0]),
-        Some(Refusal::Error(Error::ConstructUnexpected))
+        Some(Refusal::Error(Error::ConstructUnexpected)),
     );
-    assert_eq!(rt;
+    same(
+        &rt,
         der_refusal::<Error, UtcTime>(rt.alloc(), &[23, 1]),
-        Some(Refusal::Incomplete(Needed::Size(1)))
+        Some(Refusal::Incomplete(Needed::Size(1))),
     );
     Ok(())
 }
 
 #[test]
 fn utc_times_out_of_form(rt: HostRuntime) -> Result<(), Fail> {
-    assert_eq!(rt; UtcTime::new(SHORT).in_der_form(), true);
-    assert_eq!(rt;
+    same(&rt, UtcTime::new(SHORT).in_der_form(), true);
+    same(
+        &rt,
         UtcTime::new(ASN1DateTime { year: 99, ..SHORT }).in_der_form(),
-        true
+        true,
     );
-    assert_eq!(rt;
+    same(
+        &rt,
         UtcTime::new(ASN1DateTime { year: 100, ..SHORT }).in_der_form(),
-        false
+        false,
     );
-    assert_eq!(rt; UtcTime::new(NOON).in_der_form(), false);
-    assert_eq!(rt;
+    same(&rt, UtcTime::new(NOON).in_der_form(), false);
+    same(
+        &rt,
         UtcTime::new(ASN1DateTime { month: 0, ..SHORT }).in_der_form(),
-        false
+        false,
     );
-    assert_eq!(rt;
+    same(
+        &rt,
         UtcTime::new(ASN1DateTime {
             month: 255,
             ..SHORT
         })
         .in_der_form(),
-        false
+        false,
     );
-    assert_eq!(rt;
+    same(
+        &rt,
         UtcTime::new(ASN1DateTime {
             millisecond: Some(5),
             ..SHORT
         })
         .in_der_form(),
-        false
+        false,
     );
-    assert_eq!(rt;
+    same(
+        &rt,
         UtcTime::new(ASN1DateTime {
             tz: ASN1TimeZone::Undefined,
             ..SHORT
         })
         .in_der_form(),
-        false
+        false,
     );
-    assert_eq!(rt;
+    same(
+        &rt,
         UtcTime::new(ASN1DateTime {
             tz: offset(-5, -30),
             ..SHORT
         })
         .in_der_form(),
-        false
+        false,
     );
-    assert_eq!(rt;
+    same(
+        &rt,
         UtcTime::new(ASN1DateTime {
             tz: offset(24, 0),
             ..SHORT
         })
         .in_der_form(),
-        false
+        false,
     );
-    assert_eq!(rt;
+    same(
+        &rt,
         UtcTime::new(ASN1DateTime {
             tz: offset(-128, 0),
             ..SHORT
         })
         .in_der_form(),
-        false
+        false,
     );
     Ok(())
 }
@@ -410,42 +442,46 @@ fn generalized_times_of_ber(rt: HostRuntime) -> Result<(), Fail> {
         tz: ASN1TimeZone::Undefined,
         ..NOON
     };
-    assert_eq!(rt; generalized(b"202611221230Z"), Some(minute));
-    assert_eq!(rt;
+    same(&rt, generalized(b"202611221230Z"), Some(minute));
+    same(
+        &rt,
         generalized(b"202611221230"),
-        Some(ASN1DateTime { second: 0, ..local })
+        Some(ASN1DateTime { second: 0, ..local }),
     );
-    assert_eq!(rt;
+    same(
+        &rt,
         generalized(b"202611221230+0100"),
         Some(ASN1DateTime {
             tz: offset(1, 0),
             ..minute
-        })
+        }),
     );
-    assert_eq!(rt; generalized(b"20261122123059"), Some(local));
-    assert_eq!(rt;
+    same(&rt, generalized(b"20261122123059"), Some(local));
+    same(
+        &rt,
         generalized(b"20261122123059.25"),
         Some(ASN1DateTime {
             millisecond: Some(250),
             ..local
-        })
+        }),
     );
-    assert_eq!(rt;
+    same(
+        &rt,
         generalized(b"20261122123059.25-0330"),
         Some(ASN1DateTime {
             millisecond: Some(250),
             tz: offset(-3, 30),
             ..NOON
-        })
+        }),
     );
     let octets = element(rt.alloc(), 24, b"20261122123059-0330")?;
     let (rest, read) = <GeneralizedTime as FromBer<'_, Error>>::from_ber(
         rt.alloc(),
         octets.as_slice(),
     )?;
-    assert_eq!(rt; rest.len(), 0);
-    assert_eq!(rt; read.0.tz, offset(-3, 30));
-    assert_eq!(rt; read.in_der_form(), false);
+    same(&rt, rest.len(), 0);
+    same(&rt, read.0.tz, offset(-3, 30));
+    same(&rt, read.in_der_form(), false);
     Ok(())
 }
 
@@ -454,125 +490,138 @@ fn generalized_times_of_ber_alone(rt: HostRuntime) -> Result<(), Fail> {
     let seconds = Some(Refusal::Error(Error::DerConstraintFailed(DerConstraint::MissingSeconds)));
     let zone = Some(Refusal::Error(Error::DerConstraintFailed(DerConstraint::MissingTimeZone)));
     let octets = element(rt.alloc(), 24, b"202611221230Z")?;
-    assert_eq!(rt;
+    same(
+        &rt,
         der_refusal::<Error, GeneralizedTime>(rt.alloc(), octets.as_slice()),
-        seconds
+        seconds,
     );
     let octets = element(rt.alloc(), 24, b"20261122123059")?;
-    assert_eq!(rt;
+    same(
+        &rt,
         der_refusal::<Error, GeneralizedTime>(rt.alloc(), octets.as_slice()),
-        zone
+        zone,
     );
     let octets = element(rt.alloc(), 24, b"20261122123059+0100")?;
-    assert_eq!(rt;
+    same(
+        &rt,
         der_refusal::<Error, GeneralizedTime>(rt.alloc(), octets.as_slice()),
-        zone
+        zone,
     );
-    assert_eq!(rt;
+    same(
+        &rt,
         der_refusal::<Error, GeneralizedTime>(rt.alloc(), &[24, 0]),
-        zone
+        zone,
     );
     let octets = element(rt.alloc(), 24, b"20261322123059Z")?;
     let month = Error::InvalidValue {
         tag: Tag(24),
         msg: "time components with invalid values",
     };
-    assert_eq!(rt;
+    same(
+        &rt,
         der_refusal::<Error, GeneralizedTime>(rt.alloc(), octets.as_slice()),
-        Some(Refusal::Error(month))
+        Some(Refusal::Error(month)),
     );
     let octets = element(rt.alloc(), 24, b"20261122123059,5Z")?;
     let comma = Error::InvalidValue {
         tag: Tag(24),
         msg: "malformed time string",
     };
-    assert_eq!(rt;
+    same(
+        &rt,
         der_refusal::<Error, GeneralizedTime>(rt.alloc(), octets.as_slice()),
-        Some(Refusal::Error(comma))
+        Some(Refusal::Error(comma)),
     );
     Ok(())
 }
 
 #[test]
 fn refused_texts_of_generalized_times(rt: HostRuntime) -> Result<(), Fail> {
-    assert_eq!(rt; generalized(b""), None);
-    assert_eq!(rt; generalized(b"20261122123"), None);
-    assert_eq!(rt; generalized(b"20260022123059Z"), None);
-    assert_eq!(rt; generalized(b"20261322123059Z"), None);
-    assert_eq!(rt; generalized(b"20261100123059Z"), None);
-    assert_eq!(rt; generalized(b"20261132123059Z"), None);
-    assert_eq!(rt; generalized(b"20261122243059Z"), None);
-    assert_eq!(rt; generalized(b"20261122126059Z"), None);
-    assert_eq!(rt; generalized(b"20261122123060Z"), None);
-    assert_eq!(rt;
+    same(&rt, generalized(b""), None);
+    same(&rt, generalized(b"20261122123"), None);
+    same(&rt, generalized(b"20260022123059Z"), None);
+    same(&rt, generalized(b"20261322123059Z"), None);
+    same(&rt, generalized(b"20261100123059Z"), None);
+    same(&rt, generalized(b"20261132123059Z"), None);
+    same(&rt, generalized(b"20261122243059Z"), None);
+    same(&rt, generalized(b"20261122126059Z"), None);
+    same(&rt, generalized(b"20261122123060Z"), None);
+    same(
+        &rt,
         generalized(b"20260230123059Z"),
         Some(ASN1DateTime {
             month: 2,
             day: 30,
             ..NOON
-        })
+        }),
     );
-    assert_eq!(rt; generalized(b"20261122123059.Z"), None);
-    assert_eq!(rt; generalized(b"20261122123059.0Z"), None);
-    assert_eq!(rt; generalized(b"20261122123059.50Z"), None);
-    assert_eq!(rt; generalized(b"20261122123059.500Z"), None);
-    assert_eq!(rt; generalized(b"20261122123059.000Z"), None);
-    assert_eq!(rt; generalized(b"20261122123059.1234Z"), None);
-    assert_eq!(rt; generalized(b"20261122123059,5Z"), None);
-    assert_eq!(rt; generalized(b"202611221230.5Z"), None);
-    assert_eq!(rt; generalized(b"2026112212305Z"), None);
-    assert_eq!(rt; generalized(b"20261122123059ZZ"), None);
-    assert_eq!(rt; generalized(b"20261122123059+01"), None);
-    assert_eq!(rt; generalized(b"20261122123059+2400"), None);
+    same(&rt, generalized(b"20261122123059.Z"), None);
+    same(&rt, generalized(b"20261122123059.0Z"), None);
+    same(&rt, generalized(b"20261122123059.50Z"), None);
+    same(&rt, generalized(b"20261122123059.500Z"), None);
+    same(&rt, generalized(b"20261122123059.000Z"), None);
+    same(&rt, generalized(b"20261122123059.1234Z"), None);
+    same(&rt, generalized(b"20261122123059,5Z"), None);
+    same(&rt, generalized(b"202611221230.5Z"), None);
+    same(&rt, generalized(b"2026112212305Z"), None);
+    same(&rt, generalized(b"20261122123059ZZ"), None);
+    same(&rt, generalized(b"20261122123059+01"), None);
+    same(&rt, generalized(b"20261122123059+2400"), None);
     Ok(())
 }
 
 #[test]
 fn generalized_times_out_of_form(rt: HostRuntime) -> Result<(), Fail> {
-    assert_eq!(rt; GeneralizedTime::new(NOON).in_der_form(), true);
-    assert_eq!(rt;
+    same(&rt, GeneralizedTime::new(NOON).in_der_form(), true);
+    same(
+        &rt,
         GeneralizedTime::new(ASN1DateTime {
             year: 10000,
             ..NOON
         })
         .in_der_form(),
-        false
+        false,
     );
-    assert_eq!(rt;
+    same(
+        &rt,
         GeneralizedTime::new(ASN1DateTime { second: 60, ..NOON }).in_der_form(),
-        false
+        false,
     );
-    assert_eq!(rt;
+    same(
+        &rt,
         GeneralizedTime::new(ASN1DateTime {
             millisecond: Some(0),
             ..NOON
         })
         .in_der_form(),
-        false
+        false,
     );
-    assert_eq!(rt;
+    same(
+        &rt,
         GeneralizedTime::new(ASN1DateTime {
             millisecond: Some(1000),
             ..NOON
         })
         .in_der_form(),
-        false
+        false,
     );
-    assert_eq!(rt;
+    same(
+        &rt,
         GeneralizedTime::new(ASN1DateTime {
             tz: offset(0, 0),
             ..NOON
         })
         .in_der_form(),
-        false
+        false,
     );
-    assert_eq!(rt;
+    same(
+        &rt,
         GeneralizedTime::new(ASN1DateTime {
             tz: ASN1TimeZone::Undefined,
             ..NOON
         })
         .in_der_form(),
-        false
+        false,
     );
     Ok(())
 }
