@@ -7,9 +7,15 @@ use crate::{
 use asn1_core::{Err, Error, HeaderCount, Needed, SerializeError};
 use asn1_device::WriteSink;
 use std::alloc::Global;
+use std::fmt::Debug;
 use std::io::{ErrorKind, Write};
 use std::process::Abort;
 use std::test::Fail;
+
+// What came is what was wanted.
+fn same<R: Abort, T: PartialEq + Debug + Drop>(rt: &R, got: T, want: T) {
+    assert_eq!(rt; got, want);
+}
 
 fn is_taken(alloc: Global, octets: &[u8]) -> bool {
     parse_der(alloc, octets).is_ok()
@@ -19,16 +25,16 @@ fn is_taken(alloc: Global, octets: &[u8]) -> bool {
 fn takes(rt: &impl Abort, alloc: Global, octets: &[u8]) -> Result<(), Fail> {
     let (rest, object) = parse_der(alloc, octets)?;
     assert!(rt; rest.is_empty(), "{octets:?}");
-    assert_eq!(rt; object.as_raw(), octets);
+    same(rt, object.as_raw(), octets);
     let written = object.to_vec(alloc)?;
-    assert_eq!(rt; written.as_slice(), octets);
+    same(rt, written.as_slice(), octets);
     for end in 0..octets.len() {
         assert!(rt; !is_taken(alloc, &octets[..end]), "{octets:?} to {end}");
     }
     let mut longer = octets.to_vec(alloc)?;
     longer.push(0)?;
     let (rest, _) = parse_der(alloc, longer.as_slice())?;
-    assert_eq!(rt; rest, [0].as_slice());
+    same(rt, rest, [0].as_slice());
     Ok(())
 }
 
@@ -279,10 +285,10 @@ fn headers_are_counted(rt: HostRuntime) {
     let alloc = rt.alloc();
     let mut count = HeaderCount::new();
     assert!(rt; parse_der_recursive_counted(alloc, b"", 50, &mut count).is_err());
-    assert_eq!(rt; count.get(), 0);
+    same(&rt, count.get(), 0);
     let octets = b"\x30\x06\x01\x01\xff\x02\x01\x00";
     assert!(rt; parse_der_recursive_counted(alloc, octets, 50, &mut count).is_ok());
-    assert_eq!(rt; count.get(), 3);
+    same(&rt, count.get(), 3);
 }
 
 #[test]
@@ -295,24 +301,25 @@ fn accessors_answer_what_is_held(rt: HostRuntime) -> Result<(), Fail> {
     let (boolean, rest) = first_of(parts).ok_or("boolean")?;
     assert!(rt; boolean.as_bool()?);
     let (integer, rest) = first_of(rest).ok_or("integer")?;
-    assert_eq!(rt; integer.as_u32()?, 255);
-    assert_eq!(rt; integer.as_u64()?, 255);
-    assert_eq!(rt; integer.as_slice()?, [0, 255].as_slice());
+    same(&rt, integer.as_u32()?, 255);
+    same(&rt, integer.as_u64()?, 255);
+    same(&rt, integer.as_slice()?, [0, 255].as_slice());
     let (identifier, rest) = first_of(rest).ok_or("identifier")?;
-    assert_eq!(rt;
+    same(
+        &rt,
         identifier.as_oid()?.as_bytes(),
-        b"\x2a\x81\x7a\x01\x10\x09".as_slice()
+        b"\x2a\x81\x7a\x01\x10\x09".as_slice(),
     );
     let (bits, rest) = first_of(rest).ok_or("bits")?;
-    assert_eq!(rt; bits.as_bitstring()?.0, 4);
-    assert_eq!(rt; bits.as_bitstring()?.1, [0xf0].as_slice());
+    same(&rt, bits.as_bitstring()?.0, 4);
+    same(&rt, bits.as_bitstring()?.1, [0xf0].as_slice());
     let (text, rest) = first_of(rest).ok_or("text")?;
-    assert_eq!(rt; text.as_str()?, "é");
+    same(&rt, text.as_str()?, "é");
     let (set, rest) = first_of(rest).ok_or("set")?;
     assert!(rt; set.as_set()?.is_empty());
     let (raw, rest) = first_of(rest).ok_or("raw")?;
-    assert_eq!(rt; raw.as_raw(), b"\x81\x01\x05".as_slice());
-    assert_eq!(rt; raw.as_slice()?, [5].as_slice());
+    same(&rt, raw.as_raw(), b"\x81\x01\x05".as_slice());
+    same(&rt, raw.as_slice()?, [5].as_slice());
     assert!(rt; matches!(raw.content, BerObjectContent::Unknown(_)));
     assert!(rt; end_of(rest).is_some());
     assert!(rt; raw.as_bool() == Err(Error::BerTypeError));
@@ -326,9 +333,10 @@ fn integers_of_any_size_are_answered(rt: HostRuntime) -> Result<(), Fail> {
     assert!(rt; zero.as_unsigned()?.as_bytes().is_empty());
     let (_, large) = parse_der(alloc, b"\x02\x0a\x00\x80\x00\x00\x00\x00\x00\x00\x00\x01")?;
     let number = large.as_unsigned()?;
-    assert_eq!(rt;
+    same(
+        &rt,
         number.as_bytes(),
-        b"\x80\x00\x00\x00\x00\x00\x00\x00\x01".as_slice()
+        b"\x80\x00\x00\x00\x00\x00\x00\x00\x01".as_slice(),
     );
     assert!(rt; number.as_u64().is_none());
     let (_, negative) = parse_der(alloc, b"\x02\x01\x80")?;
@@ -345,7 +353,7 @@ fn an_object_is_written_to_a_device(rt: HostRuntime) -> Result<(), Fail> {
     let (_, object) = parse_der(alloc, octets)?;
     let mut sink = WriteSink::new(Vec::new(alloc));
     assert!(rt; ber_encode_object(alloc, &mut sink, &object) == Ok(8));
-    assert_eq!(rt; sink.into_inner().as_slice(), octets.as_slice());
+    same(&rt, sink.into_inner().as_slice(), octets.as_slice());
     Ok(())
 }
 
