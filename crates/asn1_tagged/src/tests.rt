@@ -1,5 +1,7 @@
 //! Worked octets: what is read and written under tags, what is absent, and each refusal by its name.
 
+mod optional;
+
 use crate::{
     ApplicationExplicit, ApplicationImplicit, Explicit, Implicit, OptTaggedExplicit,
     OptTaggedImplicit, OptTaggedParser, PrivateExplicit, PrivateImplicit, TaggedExplicit,
@@ -21,21 +23,26 @@ use std::fmt::Debug;
 use std::process::Abort;
 use std::test::Fail;
 
+// What came is what was wanted.
+fn same<R: Abort, T: PartialEq + Debug + Drop>(rt: &R, got: T, want: T) {
+    assert_eq!(rt; got, want);
+}
+
 // Octets and the value that they stand for: read to their end, and written again.
 fn both_ways<
     'a,
     R: Abort,
     T: FromDer<'a, Error> + FromBer<'a, Error> + ToDer + PartialEq + Debug + Drop,
 >(rt: &R, alloc: Global, octets: &'a [u8], value: T) -> Result<(), Fail> {
-    assert_eq!(rt; value.in_der_form(), true);
-    assert_eq!(rt; value.to_der_len(), Ok(octets.len()));
+    same(rt, value.in_der_form(), true);
+    same(rt, value.to_der_len(), Ok(octets.len()));
     let written = value.to_der_vec(alloc)?;
-    assert_eq!(rt; written.as_slice(), octets);
+    same(rt, written.as_slice(), octets);
     let (rest, read) = T::from_der(alloc, octets)?;
-    assert_eq!(rt; rest.len(), 0);
+    same(rt, rest.len(), 0);
     assert!(rt; read == value);
     let (rest, read) = T::from_ber(alloc, octets)?;
-    assert_eq!(rt; rest.len(), 0);
+    same(rt, rest.len(), 0);
     assert!(rt; read == value);
     Ok(())
 }
@@ -82,55 +89,64 @@ fn wrong_class(expected: Option<Class>, actual: Class) -> Error {
 #[test]
 fn explicit_values(rt: HostRuntime) -> Result<(), Fail> {
     both_ways(&rt, rt.alloc(), &[0xa0, 3, 2, 1, 2], two(2))?;
-    assert_eq!(rt;
+    same(
+        &rt,
         two(2).to_der_vec(rt.alloc())?.as_slice(),
-        [0xa0, 3, 2, 1, 2].as_slice()
+        [0xa0, 3, 2, 1, 2].as_slice(),
     );
-    assert_eq!(rt; two(2).der_constructed(), true);
-    assert_eq!(rt; two(2).into_inner(), 2);
-    assert_eq!(rt; *two(2).as_ref(), 2);
-    assert_eq!(rt; two(2).class(), 2);
-    assert_eq!(rt; two(2).tag(), Tag(0));
-    assert_eq!(rt; Two::own_tag(), Tag(0));
+    same(&rt, two(2).der_constructed(), true);
+    same(&rt, two(2).into_inner(), 2);
+    same(&rt, *two(2).as_ref(), 2);
+    same(&rt, two(2).class(), 2);
+    same(&rt, two(2).tag(), Tag(0));
+    same(&rt, Two::own_tag(), Tag(0));
 
     // octets after the value are ignored, those after the element are left
-    assert_eq!(rt;
+    same(
+        &rt,
         by_der::<Error, Two>(rt.alloc(), &[0xa0, 4, 2, 1, 2, 0xff, 9]),
-        Ok((1, two(2)))
+        Ok((1, two(2))),
     );
-    assert_eq!(rt;
+    same(
+        &rt,
         by_der::<Error, Two>(rt.alloc(), &[0x80, 3, 2, 1, 2]),
-        Err(Refusal::Error(Error::ConstructExpected))
+        Err(Refusal::Error(Error::ConstructExpected)),
     );
-    assert_eq!(rt;
+    same(
+        &rt,
         by_der::<Error, Two>(rt.alloc(), &[0x60, 3, 2, 1, 2]),
-        Err(Refusal::Error(wrong_class(Some(Class::ContextSpecific), Class::Application)))
+        Err(Refusal::Error(wrong_class(Some(Class::ContextSpecific), Class::Application))),
     );
-    assert_eq!(rt;
+    same(
+        &rt,
         by_der::<Error, Two>(rt.alloc(), &[0xa1, 3, 2, 1, 2]),
         Err(Refusal::Error(Error::UnexpectedTag {
             expected: Some(Tag(0)),
-            actual: Tag(1)
-        }))
+            actual: Tag(1),
+        })),
     );
-    assert_eq!(rt;
+    same(
+        &rt,
         by_der::<Error, Two>(rt.alloc(), &[0xa0, 3, 1, 1, 0]),
         Err(Refusal::Error(Error::UnexpectedTag {
             expected: Some(Tag(2)),
-            actual: Tag(1)
-        }))
+            actual: Tag(1),
+        })),
     );
-    assert_eq!(rt;
+    same(
+        &rt,
         by_der::<Error, Two>(rt.alloc(), &[0xa0, 0]),
-        Err(Refusal::Incomplete(Needed::Size(1)))
+        Err(Refusal::Incomplete(Needed::Size(1))),
     );
-    assert_eq!(rt;
+    same(
+        &rt,
         by_der::<Error, Two>(rt.alloc(), &[0xa0, 3, 2, 1]),
-        Err(Refusal::Incomplete(Needed::Size(1)))
+        Err(Refusal::Incomplete(Needed::Size(1))),
     );
-    assert_eq!(rt;
+    same(
+        &rt,
         by_der::<Error, Two>(rt.alloc(), &[]),
-        Err(Refusal::Incomplete(Needed::Size(1)))
+        Err(Refusal::Incomplete(Needed::Size(1))),
     );
     Ok(())
 }
@@ -138,22 +154,30 @@ fn explicit_values(rt: HostRuntime) -> Result<(), Fail> {
 #[test]
 fn explicit_values_by_ber(rt: HostRuntime) -> Result<(), Fail> {
     let octets = [0xa0, 0x80, 2, 2, 0, 2, 0, 0, 9];
-    assert_eq!(rt; by_ber::<Error, Two>(rt.alloc(), &octets), Ok((1, two(2))));
-    assert_eq!(rt;
+    same(
+        &rt,
+        by_ber::<Error, Two>(rt.alloc(), &octets),
+        Ok((1, two(2))),
+    );
+    same(
+        &rt,
         by_der::<Error, Two>(rt.alloc(), &octets),
-        Err(Refusal::Error(Error::DerConstraintFailed(DerConstraint::IndefiniteLength)))
+        Err(Refusal::Error(Error::DerConstraintFailed(DerConstraint::IndefiniteLength))),
     );
-    assert_eq!(rt;
+    same(
+        &rt,
         by_der::<Error, Two>(rt.alloc(), &[0xa0, 4, 2, 2, 0, 2]),
-        Err(Refusal::Error(Error::DerConstraintFailed(DerConstraint::IntegerLeadingZeroes)))
+        Err(Refusal::Error(Error::DerConstraintFailed(DerConstraint::IntegerLeadingZeroes))),
     );
-    assert_eq!(rt;
+    same(
+        &rt,
         by_ber::<Error, Two>(rt.alloc(), &[0xe0, 3, 2, 1, 2]),
-        Err(Refusal::Error(wrong_class(Some(Class::ContextSpecific), Class::Private)))
+        Err(Refusal::Error(wrong_class(Some(Class::ContextSpecific), Class::Private))),
     );
-    assert_eq!(rt;
+    same(
+        &rt,
         by_ber::<Error, Two>(rt.alloc(), &[0x80, 3, 2, 1, 2]),
-        Err(Refusal::Error(Error::ConstructExpected))
+        Err(Refusal::Error(Error::ConstructExpected)),
     );
     Ok(())
 }
@@ -181,27 +205,29 @@ fn other_classes(rt: HostRuntime) -> Result<(), Fail> {
 #[test]
 fn no_class(rt: HostRuntime) -> Result<(), Fail> {
     let value: TaggedValue<u8, Error, Explicit, 4, 0> = TaggedValue::explicit(2);
-    assert_eq!(rt; value.in_der_form(), false);
-    assert_eq!(rt; value.to_der_len(), Ok(0));
-    assert_eq!(rt; value.der_constructed(), false);
+    same(&rt, value.in_der_form(), false);
+    same(&rt, value.to_der_len(), Ok(0));
+    same(&rt, value.der_constructed(), false);
     match value.to_der_vec(rt.alloc()) {
         Ok(_) => assert!(rt; false),
-        Err(e) => assert_eq!(rt; e, SerializeError::InvalidClass { class: 4 }),
+        Err(e) => same(&rt, e, SerializeError::InvalidClass { class: 4 }),
     }
-    assert_eq!(rt;
+    same(
+        &rt,
         by_der::<Error, TaggedValue<u8, Error, Explicit, 4, 0>>(rt.alloc(), &[0x20, 3, 2, 1, 2]),
-        Err(Refusal::Error(wrong_class(None, Class::Universal)))
+        Err(Refusal::Error(wrong_class(None, Class::Universal))),
     );
     let value: TaggedValue<u8, Error, Implicit, 4, 0> = TaggedValue::implicit(2);
-    assert_eq!(rt; value.in_der_form(), false);
-    assert_eq!(rt; value.to_der_len(), Ok(0));
+    same(&rt, value.in_der_form(), false);
+    same(&rt, value.to_der_len(), Ok(0));
     match value.to_der_vec(rt.alloc()) {
         Ok(_) => assert!(rt; false),
-        Err(e) => assert_eq!(rt; e, SerializeError::InvalidClass { class: 4 }),
+        Err(e) => same(&rt, e, SerializeError::InvalidClass { class: 4 }),
     }
-    assert_eq!(rt;
+    same(
+        &rt,
         by_ber::<Error, TaggedValue<u8, Error, Implicit, 4, 0>>(rt.alloc(), &[0, 1, 2]),
-        Err(Refusal::Error(wrong_class(None, Class::Universal)))
+        Err(Refusal::Error(wrong_class(None, Class::Universal))),
     );
     Ok(())
 }
@@ -209,42 +235,50 @@ fn no_class(rt: HostRuntime) -> Result<(), Fail> {
 #[test]
 fn implicit_values(rt: HostRuntime) -> Result<(), Fail> {
     both_ways(&rt, rt.alloc(), &[0x80, 1, 2], short(2))?;
-    assert_eq!(rt; short(2).der_constructed(), false);
-    assert_eq!(rt; short(2).into_inner(), 2);
-    assert_eq!(rt;
+    same(&rt, short(2).der_constructed(), false);
+    same(&rt, short(2).into_inner(), 2);
+    same(
+        &rt,
         by_der::<Error, Short>(rt.alloc(), &[0x80, 1, 2, 9]),
-        Ok((1, short(2)))
+        Ok((1, short(2))),
     );
-    assert_eq!(rt;
+    same(
+        &rt,
         by_ber::<Error, Short>(rt.alloc(), &[0x80, 2, 0, 2]),
-        Ok((0, short(2)))
+        Ok((0, short(2))),
     );
-    assert_eq!(rt;
+    same(
+        &rt,
         by_der::<Error, Short>(rt.alloc(), &[0x80, 2, 0, 2]),
-        Err(Refusal::Error(Error::DerConstraintFailed(DerConstraint::IntegerLeadingZeroes)))
+        Err(Refusal::Error(Error::DerConstraintFailed(DerConstraint::IntegerLeadingZeroes))),
     );
-    assert_eq!(rt;
+    same(
+        &rt,
         by_der::<Error, Short>(rt.alloc(), &[0xa0, 1, 2]),
-        Err(Refusal::Error(Error::ConstructUnexpected))
+        Err(Refusal::Error(Error::ConstructUnexpected)),
     );
-    assert_eq!(rt;
+    same(
+        &rt,
         by_der::<Error, Short>(rt.alloc(), &[0x40, 1, 2]),
-        Err(Refusal::Error(wrong_class(Some(Class::ContextSpecific), Class::Application)))
+        Err(Refusal::Error(wrong_class(Some(Class::ContextSpecific), Class::Application))),
     );
-    assert_eq!(rt;
+    same(
+        &rt,
         by_ber::<Error, Short>(rt.alloc(), &[0x40, 1, 2]),
-        Err(Refusal::Error(wrong_class(Some(Class::ContextSpecific), Class::Application)))
+        Err(Refusal::Error(wrong_class(Some(Class::ContextSpecific), Class::Application))),
     );
-    assert_eq!(rt;
+    same(
+        &rt,
         by_der::<Error, Short>(rt.alloc(), &[0x81, 1, 2]),
         Err(Refusal::Error(Error::UnexpectedTag {
             expected: Some(Tag(0)),
-            actual: Tag(1)
-        }))
+            actual: Tag(1),
+        })),
     );
-    assert_eq!(rt;
+    same(
+        &rt,
         by_der::<Error, Short>(rt.alloc(), &[0x80, 1]),
-        Err(Refusal::Incomplete(Needed::Size(1)))
+        Err(Refusal::Incomplete(Needed::Size(1))),
     );
     Ok(())
 }
@@ -253,14 +287,18 @@ fn implicit_values(rt: HostRuntime) -> Result<(), Fail> {
 fn implicit_lists_are_constructed(rt: HostRuntime) -> Result<(), Fail> {
     let octets = [0xa1, 6, 2, 1, 1, 2, 1, 2];
     let (left, value) = by_der::<Error, Listed>(rt.alloc(), &octets)?;
-    assert_eq!(rt; left, 0);
-    assert_eq!(rt; value.as_ref().as_slice(), [1, 2].as_slice());
-    assert_eq!(rt; value.der_constructed(), true);
-    assert_eq!(rt; value.in_der_form(), true);
-    assert_eq!(rt; value.to_der_vec(rt.alloc())?.as_slice(), octets.as_slice());
+    same(&rt, left, 0);
+    same(&rt, value.as_ref().as_slice(), [1, 2].as_slice());
+    same(&rt, value.der_constructed(), true);
+    same(&rt, value.in_der_form(), true);
+    same(
+        &rt,
+        value.to_der_vec(rt.alloc())?.as_slice(),
+        octets.as_slice(),
+    );
     let (left, value) = by_ber::<Error, Listed>(rt.alloc(), &[0xa1, 0x80, 2, 1, 1, 0, 0, 7])?;
-    assert_eq!(rt; left, 1);
-    assert_eq!(rt; value.inner.as_slice(), [1].as_slice());
+    same(&rt, left, 1);
+    same(&rt, value.inner.as_slice(), [1].as_slice());
     let refused = by_der::<Error, Listed>(rt.alloc(), &[0x81, 3, 2, 1, 1]);
     assert!(rt; refused == Err(Refusal::Error(Error::ConstructExpected)));
     let refused = by_ber::<Error, Listed>(rt.alloc(), &[0x81, 3, 2, 1, 1]);
@@ -287,7 +325,7 @@ fn implicit_tags_within_tags(rt: HostRuntime) -> Result<(), Fail> {
     let value: TaggedImplicit<TaggedExplicit<u8, Error, 1>, Error, 0> = TaggedImplicit::implicit(
         TaggedExplicit::explicit(2),
     );
-    assert_eq!(rt; value.in_der_form(), true);
+    same(&rt, value.in_der_form(), true);
     both_ways(&rt, rt.alloc(), &[0xa0, 3, 2, 1, 2], value)?;
     let value: ApplicationImplicit<TaggedImplicit<u8, Error, 1>, Error, 0> = TaggedValue::implicit(
         TaggedImplicit::implicit(2),
@@ -300,11 +338,12 @@ fn implicit_tags_within_tags(rt: HostRuntime) -> Result<(), Fail> {
 #[test]
 fn implicit_tags_replace_tags(rt: HostRuntime) -> Result<(), Fail> {
     type Twice = TaggedImplicit<TaggedImplicit<u8, Error, 1>, Error, 0>;
-    assert_eq!(rt;
+    same(
+        &rt,
         by_der::<Error, Twice>(rt.alloc(), &[0x81, 1, 2]),
-        Err(Refusal::Error(Error::unexpected_tag(Some(Tag(0)), Tag(1))))
+        Err(Refusal::Error(Error::unexpected_tag(Some(Tag(0)), Tag(1)))),
     );
-    assert_eq!(rt; Twice::own_class(), Class::ContextSpecific);
+    same(&rt, Twice::own_class(), Class::ContextSpecific);
     Ok(())
 }
 
@@ -312,128 +351,12 @@ fn implicit_tags_replace_tags(rt: HostRuntime) -> Result<(), Fail> {
 fn whole_elements(rt: HostRuntime) -> Result<(), Fail> {
     let header = Header::new(Class::ContextSpecific, true, Tag(0), Length::Definite(3));
     let any = Any::new(header, &[2, 1, 2]);
-    assert_eq!(rt; Two::try_from_any(rt.alloc(), any), Ok(two(2)));
-    assert_eq!(rt; Two::try_from_der_any(rt.alloc(), any), Ok(two(2)));
+    same(&rt, Two::try_from_any(rt.alloc(), any), Ok(two(2)));
+    same(&rt, Two::try_from_der_any(rt.alloc(), any), Ok(two(2)));
     let header = Header::new(Class::ContextSpecific, false, Tag(0), Length::Definite(1));
     let any = Any::new(header, &[2]);
-    assert_eq!(rt; Short::try_from_any(rt.alloc(), any), Ok(short(2)));
-    assert_eq!(rt; Short::try_from_der_any(rt.alloc(), any), Ok(short(2)));
-    Ok(())
-}
-
-#[test]
-fn absent_explicit_value(rt: HostRuntime) -> Result<(), Fail> {
-    let other = [0xa1, 3, 2, 1, 2];
-    let (rest, value) = OptTaggedExplicit::<u8, Error, 0>::from_der(rt.alloc(), &other)?;
-    assert_eq!(rt; rest, other.as_slice());
-    assert!(rt; value.is_none());
-    Ok(())
-}
-
-type Opt = OptTaggedExplicit<u8, Error, 0>;
-
-#[test]
-fn optional_explicit_values(rt: HostRuntime) -> Result<(), Fail> {
-    let other = [0xa1, 3, 2, 1, 2];
-    both_ways(&rt, rt.alloc(), &[0xa0, 3, 2, 1, 2], Some(two(2)))?;
-    let none: Opt = None;
-    both_ways(&rt, rt.alloc(), &[], none)?;
-    assert_eq!(rt; by_ber::<Error, Opt>(rt.alloc(), &other), Ok((5, None)));
-    assert_eq!(rt;
-        by_ber::<Error, Opt>(rt.alloc(), &[0xa0, 0x80, 2, 1, 2, 0, 0]),
-        Ok((0, Some(two(2))))
-    );
-
-    // the class plays no part in absence: a universal element of another number is another, one of the number is refused
-    assert_eq!(rt; by_der::<Error, Opt>(rt.alloc(), &[2, 1, 2]), Ok((3, None)));
-    assert_eq!(rt;
-        by_der::<Error, Opt>(rt.alloc(), &[0x60, 3, 2, 1, 2]),
-        Err(Refusal::Error(wrong_class(Some(Class::ContextSpecific), Class::Application)))
-    );
-    assert_eq!(rt;
-        by_ber::<Error, Opt>(rt.alloc(), &[0x60, 3, 2, 1, 2]),
-        Err(Refusal::Error(wrong_class(Some(Class::ContextSpecific), Class::Application)))
-    );
-    assert_eq!(rt;
-        by_der::<Error, Opt>(rt.alloc(), &[0x80, 3, 2, 1, 2]),
-        Err(Refusal::Error(Error::ConstructExpected))
-    );
-
-    Ok(())
-}
-
-// A cut element is refused behind the wanted number, and left before another; a header that can't be read is refused.
-#[test]
-fn cut_optional_explicit_values(rt: HostRuntime) -> Result<(), Fail> {
-    assert_eq!(rt;
-        by_der::<Error, Opt>(rt.alloc(), &[0xa0, 3, 2]),
-        Err(Refusal::Incomplete(Needed::Size(2)))
-    );
-    assert_eq!(rt;
-        by_ber::<Error, Opt>(rt.alloc(), &[0xa0, 3, 2]),
-        Err(Refusal::Incomplete(Needed::Size(2)))
-    );
-    assert_eq!(rt;
-        by_der::<Error, Opt>(rt.alloc(), &[0xa1, 3, 2]),
-        Ok((3, None))
-    );
-    assert_eq!(rt;
-        by_ber::<Error, Opt>(rt.alloc(), &[0xa1, 3, 2]),
-        Ok((3, None))
-    );
-    assert_eq!(rt;
-        by_der::<Error, Opt>(rt.alloc(), &[0xa1]),
-        Err(Refusal::Incomplete(Needed::Size(1)))
-    );
-    assert_eq!(rt;
-        by_der::<Error, Opt>(rt.alloc(), &[0xbf, 0x81]),
-        Err(Refusal::Error(Error::InvalidTag))
-    );
-    assert_eq!(rt;
-        by_der::<Error, Opt>(rt.alloc(), &[0xa1, 0x80, 0, 0]),
-        Err(Refusal::Error(Error::DerConstraintFailed(DerConstraint::IndefiniteLength)))
-    );
-    assert_eq!(rt;
-        by_ber::<Error, Opt>(rt.alloc(), &[0xa1, 0x80, 0, 0]),
-        Ok((4, None))
-    );
-    Ok(())
-}
-
-type ShortOpt = OptTaggedImplicit<u8, Error, 0>;
-
-#[test]
-fn optional_implicit_values(rt: HostRuntime) -> Result<(), Fail> {
-    both_ways(&rt, rt.alloc(), &[0x80, 1, 2], Some(short(2)))?;
-    assert_eq!(rt; by_der::<Error, ShortOpt>(rt.alloc(), &[]), Ok((0, None)));
-    assert_eq!(rt;
-        by_der::<Error, ShortOpt>(rt.alloc(), &[0x81, 1, 2]),
-        Ok((3, None))
-    );
-    assert_eq!(rt;
-        by_ber::<Error, ShortOpt>(rt.alloc(), &[0x80, 2, 0, 2]),
-        Ok((0, Some(short(2))))
-    );
-    assert_eq!(rt;
-        by_ber::<Error, ShortOpt>(rt.alloc(), &[1, 2]),
-        Ok((2, None))
-    );
-    assert_eq!(rt;
-        by_der::<Error, ShortOpt>(rt.alloc(), &[0, 1, 2]),
-        Err(Refusal::Error(wrong_class(Some(Class::ContextSpecific), Class::Universal)))
-    );
-    assert_eq!(rt;
-        by_ber::<Error, ShortOpt>(rt.alloc(), &[0, 1, 2]),
-        Err(Refusal::Error(wrong_class(Some(Class::ContextSpecific), Class::Universal)))
-    );
-    assert_eq!(rt;
-        by_der::<Error, ShortOpt>(rt.alloc(), &[0x80, 2, 1]),
-        Err(Refusal::Incomplete(Needed::Size(1)))
-    );
-    assert_eq!(rt;
-        by_der::<Error, ShortOpt>(rt.alloc(), &[0x81, 2, 1]),
-        Ok((3, None))
-    );
+    same(&rt, Short::try_from_any(rt.alloc(), any), Ok(short(2)));
+    same(&rt, Short::try_from_der_any(rt.alloc(), any), Ok(short(2)));
     Ok(())
 }
 
@@ -480,83 +403,98 @@ fn parse_ber(
 #[test]
 fn parsers(rt: HostRuntime) -> Result<(), Fail> {
     let parser = OptTaggedParser::from(1);
-    assert_eq!(rt;
+    same(
+        &rt,
         parser,
-        OptTaggedParser::new(Class::ContextSpecific, Tag(1))
+        OptTaggedParser::new(Class::ContextSpecific, Tag(1)),
     );
-    assert_eq!(rt; parse_der(&parser, rt.alloc(), &[]), Ok((0, None)));
-    assert_eq!(rt; parse_ber(&parser, rt.alloc(), &[]), Ok((0, None)));
-    assert_eq!(rt;
+    same(&rt, parse_der(&parser, rt.alloc(), &[]), Ok((0, None)));
+    same(&rt, parse_ber(&parser, rt.alloc(), &[]), Ok((0, None)));
+    same(
+        &rt,
         parse_der(&parser, rt.alloc(), &[0xa1, 4, 2, 1, 7, 0xff, 9]),
         Ok((
             1,
-            Some((Class::ContextSpecific, true, Length::Definite(4), 7))
-        ))
+            Some((Class::ContextSpecific, true, Length::Definite(4), 7)),
+        )),
     );
 
     // the constructed bit isn't looked at
-    assert_eq!(rt;
+    same(
+        &rt,
         parse_der(&parser, rt.alloc(), &[0x81, 3, 2, 1, 7]),
         Ok((
             0,
-            Some((Class::ContextSpecific, false, Length::Definite(3), 7))
-        ))
+            Some((Class::ContextSpecific, false, Length::Definite(3), 7)),
+        )),
     );
-    assert_eq!(rt;
+    same(
+        &rt,
         parse_ber(&parser, rt.alloc(), &[0xa1, 0x80, 2, 2, 0, 7, 0, 0, 5]),
         Ok((
             1,
-            Some((Class::ContextSpecific, true, Length::Indefinite, 7))
-        ))
+            Some((Class::ContextSpecific, true, Length::Indefinite, 7)),
+        )),
     );
 
     // another tag number, of whatever class, is another element, which has to be whole
-    assert_eq!(rt;
+    same(
+        &rt,
         parse_der(&parser, rt.alloc(), &[0xa2, 1, 0]),
-        Ok((3, None))
+        Ok((3, None)),
     );
-    assert_eq!(rt;
+    same(
+        &rt,
         parse_der(&parser, rt.alloc(), &[2, 1, 0, 9]),
-        Ok((4, None))
+        Ok((4, None)),
     );
-    assert_eq!(rt;
+    same(
+        &rt,
         parse_ber(&parser, rt.alloc(), &[0x30, 0x80, 0, 0]),
-        Ok((4, None))
+        Ok((4, None)),
     );
-    assert_eq!(rt;
+    same(
+        &rt,
         parse_der(&parser, rt.alloc(), &[0xa2, 3, 0]),
-        Err(Refusal::Incomplete(Needed::Size(2)))
+        Err(Refusal::Incomplete(Needed::Size(2))),
     );
-    assert_eq!(rt;
+    same(
+        &rt,
         parse_ber(&parser, rt.alloc(), &[0xa2, 3, 0]),
-        Err(Refusal::Incomplete(Needed::Size(2)))
+        Err(Refusal::Incomplete(Needed::Size(2))),
     );
-    assert_eq!(rt;
+    same(
+        &rt,
         parse_der(&parser, rt.alloc(), &[0xa1, 3, 2]),
-        Err(Refusal::Incomplete(Needed::Size(2)))
+        Err(Refusal::Incomplete(Needed::Size(2))),
     );
-    assert_eq!(rt;
+    same(
+        &rt,
         parse_der(&parser, rt.alloc(), &[0x61, 3, 2, 1, 7]),
-        Err(Refusal::Error(wrong_class(Some(Class::ContextSpecific), Class::Application)))
+        Err(Refusal::Error(wrong_class(Some(Class::ContextSpecific), Class::Application))),
     );
-    assert_eq!(rt;
+    same(
+        &rt,
         parse_ber(&parser, rt.alloc(), &[1, 1, 0]),
-        Err(Refusal::Error(wrong_class(Some(Class::ContextSpecific), Class::Universal)))
+        Err(Refusal::Error(wrong_class(Some(Class::ContextSpecific), Class::Universal))),
     );
 
     // the closure's refusal is handed on
-    assert_eq!(rt;
+    same(
+        &rt,
         parse_der(&parser, rt.alloc(), &[0xa1, 3, 2, 1, 0xff]),
-        Err(Refusal::Error(Error::IntegerNegative))
+        Err(Refusal::Error(Error::IntegerNegative)),
     );
-    assert_eq!(rt;
+    same(
+        &rt,
         parse_ber(&parser, rt.alloc(), &[0xa1, 2, 2, 5]),
-        Err(Refusal::Incomplete(Needed::Size(5)))
+        Err(Refusal::Incomplete(Needed::Size(5))),
     );
     let universal = OptTaggedParser::new(Class::Universal, Tag(16));
-    assert_eq!(rt;
+    same(
+        &rt,
         parse_der(&universal, rt.alloc(), &[0x30, 3, 2, 1, 7]),
-        Ok((0, Some((Class::Universal, true, Length::Definite(3), 7))))
+        Ok((0, Some((Class::Universal, true, Length::Definite(3), 7)))),
     );
     Ok(())
 }
@@ -644,46 +582,56 @@ fn hungry_by_ber(parser: &OptTaggedParser, alloc: Global, octets: &[u8]) -> Opti
 fn want_of_memory_is_told(rt: HostRuntime) -> Result<(), Fail> {
     let explicit = [0xa0, 2, 4, 0];
     let implicit = [0x80, 0];
-    assert_eq!(rt;
+    same(
+        &rt,
         by_der::<Error, TaggedExplicit<Hungry, Error, 0>>(rt.alloc(), &explicit),
-        Err(Refusal::Failure(Error::OutOfMemory))
+        Err(Refusal::Failure(Error::OutOfMemory)),
     );
-    assert_eq!(rt;
+    same(
+        &rt,
         by_ber::<Error, TaggedExplicit<Hungry, Error, 0>>(rt.alloc(), &explicit),
-        Err(Refusal::Failure(Error::OutOfMemory))
+        Err(Refusal::Failure(Error::OutOfMemory)),
     );
-    assert_eq!(rt;
+    same(
+        &rt,
         by_der::<Error, TaggedImplicit<Hungry, Error, 0>>(rt.alloc(), &implicit),
-        Err(Refusal::Failure(Error::OutOfMemory))
+        Err(Refusal::Failure(Error::OutOfMemory)),
     );
-    assert_eq!(rt;
+    same(
+        &rt,
         by_ber::<Error, TaggedImplicit<Hungry, Error, 0>>(rt.alloc(), &implicit),
-        Err(Refusal::Failure(Error::OutOfMemory))
+        Err(Refusal::Failure(Error::OutOfMemory)),
     );
-    assert_eq!(rt;
+    same(
+        &rt,
         by_der::<Error, OptTaggedExplicit<Hungry, Error, 0>>(rt.alloc(), &explicit),
-        Err(Refusal::Failure(Error::OutOfMemory))
+        Err(Refusal::Failure(Error::OutOfMemory)),
     );
-    assert_eq!(rt;
+    same(
+        &rt,
         by_ber::<Error, OptTaggedExplicit<Hungry, Error, 0>>(rt.alloc(), &explicit),
-        Err(Refusal::Failure(Error::OutOfMemory))
+        Err(Refusal::Failure(Error::OutOfMemory)),
     );
-    assert_eq!(rt;
+    same(
+        &rt,
         by_der::<Error, OptTaggedImplicit<Hungry, Error, 0>>(rt.alloc(), &implicit),
-        Err(Refusal::Failure(Error::OutOfMemory))
+        Err(Refusal::Failure(Error::OutOfMemory)),
     );
-    assert_eq!(rt;
+    same(
+        &rt,
         by_ber::<Error, OptTaggedImplicit<Hungry, Error, 0>>(rt.alloc(), &implicit),
-        Err(Refusal::Failure(Error::OutOfMemory))
+        Err(Refusal::Failure(Error::OutOfMemory)),
     );
     let parser = OptTaggedParser::from(0);
-    assert_eq!(rt;
+    same(
+        &rt,
         hungry_by_der(&parser, rt.alloc(), &explicit),
-        Some(Refusal::Failure(Error::OutOfMemory))
+        Some(Refusal::Failure(Error::OutOfMemory)),
     );
-    assert_eq!(rt;
+    same(
+        &rt,
         hungry_by_ber(&parser, rt.alloc(), &explicit),
-        Some(Refusal::Failure(Error::OutOfMemory))
+        Some(Refusal::Failure(Error::OutOfMemory)),
     );
     Ok(())
 }
@@ -712,38 +660,45 @@ fn again_optional<'a, E: From<Error>, T: FromDer<'a, E> + TaggedElement>(
 #[test]
 fn round_trips(rt: HostRuntime) -> Result<(), Fail> {
     let written = two(2).to_der_vec(rt.alloc())?;
-    assert_eq!(rt;
+    same(
+        &rt,
         again::<Error, Two>(rt.alloc(), written.as_slice()),
-        Ok((0, two(2)))
+        Ok((0, two(2))),
     );
-    assert_eq!(rt;
+    same(
+        &rt,
         again_optional::<Error, Two>(rt.alloc(), written.as_slice()),
-        Ok((0, Some(two(2))))
+        Ok((0, Some(two(2)))),
     );
     let written = short(2).to_der_vec(rt.alloc())?;
-    assert_eq!(rt;
+    same(
+        &rt,
         again::<Error, Short>(rt.alloc(), written.as_slice()),
-        Ok((0, short(2)))
+        Ok((0, short(2))),
     );
-    assert_eq!(rt;
+    same(
+        &rt,
         again_optional::<Error, Short>(rt.alloc(), written.as_slice()),
-        Ok((0, Some(short(2))))
+        Ok((0, Some(short(2)))),
     );
-    assert_eq!(rt;
+    same(
+        &rt,
         again_optional::<Error, Two>(rt.alloc(), &[]),
-        Ok((0, None))
+        Ok((0, None)),
     );
-    assert_eq!(rt;
+    same(
+        &rt,
         again_optional::<Error, Short>(rt.alloc(), &[1, 1, 0]),
-        Ok((3, None))
+        Ok((3, None)),
     );
     let mut sink = WriteSink::new(Vec::new(rt.alloc()));
-    assert_eq!(rt; two(2).write_der_header(&mut sink), Ok(2));
-    assert_eq!(rt; two(2).write_der_content(&mut sink), Ok(3));
-    assert_eq!(rt; short(2).write_der(&mut sink), Ok(3));
-    assert_eq!(rt;
+    same(&rt, two(2).write_der_header(&mut sink), Ok(2));
+    same(&rt, two(2).write_der_content(&mut sink), Ok(3));
+    same(&rt, short(2).write_der(&mut sink), Ok(3));
+    same(
+        &rt,
         sink.into_inner().as_slice(),
-        [0xa0, 3, 2, 1, 2, 0x80, 1, 2].as_slice()
+        [0xa0, 3, 2, 1, 2, 0x80, 1, 2].as_slice(),
     );
     Ok(())
 }
