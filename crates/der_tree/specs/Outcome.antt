@@ -1,5 +1,6 @@
 -- What a refusal says: that no value is there, or that memory ran out, which comes as a failure alone.
-use Rattle.std.specs.Prelude.{◌≡◌, ◌≢◌}
+use Rattle.std.specs.Prelude.{◌≡◌, ◌≢◌, ◌==◌, ◌||◌, ℕ, if◌then◌else◌}
+use Rattle.asn1_core.specs.Elements.{Element}
 use Rattle.asn1_core.specs.declared.error.Error.{Error}
 use Rattle.asn1_core.specs.declared.error.Error.TheVariants as errors
 use Rattle.asn1_core.specs.declared.error.Error.TheVariants.{OutOfMemory}
@@ -27,3 +28,15 @@ IsNotCut (refusals.Failure e) = Unit {0}
 -- memory ran out
 abbrev pub WantsMemory : Refusal Error → Type 0
 WantsMemory e = e ≡ refusals.Failure OutOfMemory
+
+-- the error of a primitive element of this tag number whose content its line doesn't allow
+abbrev pub line_error : ℕ → Error
+line_error n =
+    if n == 1 || n == 5 then errors.InvalidLength else
+    if n == 2 || n == 3 || n == 6 || n == 10 || n == 13 then errors.BerValueError else
+    if n == 12 || n == 18 || n == 19 || n == 22 || n == 26 then errors.StringInvalidCharset else
+    if n == 23 || n == 24 then errors.InvalidDateTime else errors.InvalidTag
+
+-- the error of an element that holds nothing, parts aside
+abbrev pub leaf_error : Element → Error
+leaf_error e = if e.constructed then errors.ConstructUnexpected else line_error e.tag

@@ -4,6 +4,7 @@ ghost use Rattle.std.specs.Prelude.{◌≡◌, ◌≢◌, ◌↔◌, IsTrue, IfO
 ghost use Rattle.asn1_core.specs.Views.{class_number};
 ghost use Rattle.der_tree.specs.Table.{is_listed};
 ghost use Rattle.der_tree.specs.Tree.{Content};
+ghost use Rattle.der_tree.specs.Outcome.{leaf_error};
 ghost use Rattle.der_tree.specs.Shape.{HoldsLeaf};
 ghost use Rattle.der_tree.specs.View.{element_under, content_view};
 
@@ -20,6 +21,7 @@ pub(crate) fn leaf_of<'a>(header: Header, content: &'a [u8]) -> Result<BerObject
     ensures found { IfOk result (λ c. HoldsLeaf (element_under header content.now) (content_view c)) }
     ensures none { IfErr result (λ e. (e ≢ Error.OutOfMemory)
         × ((c : Content) → HoldsLeaf (element_under header content.now) c → ⊥)) }
+    ensures refused { IfErr result (λ e. e ≡ leaf_error (element_under header content.now)) }
 {
     if !is_universal(header) || !has_line(header.tag().0) {
         return Ok(BerObjectContent::Unknown(Any { header, content }));
@@ -55,6 +57,7 @@ fn listed_of<'a>(header: Header, content: &'a [u8]) -> Result<BerObjectContent<'
     ensures found { IfOk result (λ c. HoldsLeaf (element_under header content.now) (content_view c)) }
     ensures none { IfErr result (λ e. (e ≢ Error.OutOfMemory)
         × ((c : Content) → HoldsLeaf (element_under header content.now) c → ⊥)) }
+    ensures refused { IfErr result (λ e. e ≡ leaf_error (element_under header content.now)) }
 {
     match header.tag().0 {
         1 => match content {

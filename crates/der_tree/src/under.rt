@@ -2,7 +2,7 @@
 
 ghost use Rattle.std.specs.Prelude.{◌≡◌, ◌≢◌, IfOk, IfErr};
 ghost use Rattle.asn1_core.specs.Views.{head_of};
-ghost use Rattle.der_tree.specs.Outcome.{Refuses, IsNotCut};
+ghost use Rattle.der_tree.specs.Outcome.{Refuses, IsNotCut, leaf_error};
 ghost use Rattle.der_tree.specs.Shape.{HoldsLeaf, IsContent};
 ghost use Rattle.der_tree.specs.Tree.{Content, node};
 ghost use Rattle.der_tree.specs.View.{as_universal, element_under, view, content_view};
@@ -40,10 +40,15 @@ pub fn content_under<'a>(
 }
 
 /// The same for a tag number whose elements have no parts. It takes no memory.
+///
+/// Errors: `ConstructUnexpected` of a constructed element of a type that is primitive; `InvalidLength` of a BOOLEAN or a NULL;
+/// `BerValueError` of a number, of bits or an identifier; `StringInvalidCharset` of a text; `InvalidDateTime` of a time;
+/// `InvalidTag` of a SEQUENCE or a SET.
 pub fn leaf_under<'a>(header: Header, content: &'a [u8]) -> Result<BerObjectContent<'a>, Error>
     ensures found { IfOk result (λ c. HoldsLeaf (as_universal (element_under header content.now)) (content_view c)) }
     ensures none { IfErr result (λ e. (e ≢ Error.OutOfMemory)
         × ((c : Content) → HoldsLeaf (as_universal (element_under header content.now)) c → ⊥)) }
+    ensures refused { IfErr result (λ e. e ≡ leaf_error (element_under header content.now)) }
 {
     leaf_of(header.with_class(Class::Universal), content)
 }
