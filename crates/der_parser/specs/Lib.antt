@@ -3,3 +3,4 @@ pub mod Typed
 pub mod Outcome
 pub mod Handed
 pub mod Items
+pub mod Refusals

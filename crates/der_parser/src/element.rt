@@ -1,10 +1,11 @@
 //! An element found by its tag number.
 
 ghost use Rattle.std.specs.Prelude.{◌≡◌, ℕ, List, ◌++◌, IfOk, IfErr, IsOkAnd};
-ghost use Rattle.asn1_core.specs.Answers.{TakesNoMemory};
+ghost use Rattle.asn1_core.specs.Answers.{Gives, TakesNoMemory};
 ghost use Rattle.asn1_core.specs.Elements.{Element, head_of_element};
 ghost use Rattle.asn1_core.specs.Missing.{IsMissing};
 ghost use Rattle.asn1_core.specs.Views.{head_of};
+ghost use Rattle.der_parser.specs.Refusals.{tagged_at};
 ghost use Rattle.der_parser.specs.Tagged.{IsTagged, HasTagged};
 ghost use Rattle.der_tree.specs.View.{element_under};
 
@@ -28,6 +29,7 @@ pub(crate) fn element_of_tag(i: &[u8], tag: Tag) -> BerResult<'_, Tagged<'_>>
         → IsOkAnd result (λ p. (element_under p.1.header p.1.content.now ≡ e) × (p.1.raw.now ≡ s) × (p.0.now ≡ r)) }
     ensures missing { IfErr result (IsMissing (HasTagged tag.0) i.now) }
     ensures memory { IfErr result TakesNoMemory }
+    ensures exact { Gives (λ p. (element_under p.1.header p.1.content.now, p.0.now)) result (tagged_at tag.0 i.now) }
 {
     let (after, header) = Header::from_der(i)?;
     if let Err(e) = header.assert_tag(tag) {

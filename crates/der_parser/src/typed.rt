@@ -3,6 +3,8 @@
 
 ghost use Rattle.std.specs.Prelude.{◌≡◌, ◌≢◌, ◌^◌, ℕ, List, Err, IfOk, IfErr, IsErrAnd};
 ghost use Rattle.der_parser.specs.Outcome.{Reads, ReadsOrWants};
+ghost use Rattle.der_parser.specs.Refusals.{tagged_at, refusal_of, ber_boolean_error, RefusesParts};
+ghost use Rattle.der_tree.specs.Outcome.{leaf_error};
 ghost use Rattle.der_parser.specs.Typed.{HoldsBerBoolean, ReadsTagged, ReadsDer, ReadsNumber};
 ghost use Rattle.der_tree.specs.Access.{number_of, below, content_in};
 ghost use Rattle.der_tree.specs.Tree.{Tree, Content};
@@ -19,7 +21,8 @@ use std::alloc::Global;
 fn leaf_of_tag(i: &[u8], tag: Tag) -> BerResult<'_>
     requires sequence { tag.0 ≢ 16 }
     requires set { tag.0 ≢ 17 }
-    ensures { Reads view (ReadsDer tag.0) i.now result }
+    ensures read { Reads view (ReadsDer tag.0) i.now result }
+    ensures refused { IfErr result (λ e. e ≡ refusal_of leaf_error (tagged_at tag.0 i.now)) }
 {
     let (rest, element) = element_of_tag(i, tag)?;
     match leaf_under(element.header, element.content) {
@@ -30,7 +33,8 @@ fn leaf_of_tag(i: &[u8], tag: Tag) -> BerResult<'_>
 
 /// An element of this tag number, its parts read too.
 fn object_of_tag<'a>(alloc: Global, i: &'a [u8], tag: Tag) -> BerResult<'a>
-    ensures { ReadsOrWants view (ReadsDer tag.0) i.now result }
+    ensures read { ReadsOrWants view (ReadsDer tag.0) i.now result }
+    ensures refused { IfErr result (RefusesParts (tagged_at tag.0 i.now)) }
 {
     let (rest, element) = element_of_tag(i, tag)?;
     let content = content_under(alloc, element.header, element.content, MAX_RECURSION - 1)?;
@@ -42,6 +46,7 @@ fn ber_boolean<'a>(header: Header, content: &'a [u8]) -> Result<BerObjectContent
     ensures found { IfOk result (λ c. HoldsBerBoolean (element_under header content.now) (content_view c)) }
     ensures none { IfErr result (λ e. (e ≢ Error.OutOfMemory)
         × ((c : Content) → HoldsBerBoolean (element_under header content.now) c → ⊥)) }
+    ensures refused { IfErr result (λ e. e ≡ ber_boolean_error (element_under header content.now)) }
 {
     if header.is_constructed() {
         return Err(Error::ConstructUnexpected);
@@ -54,7 +59,8 @@ fn ber_boolean<'a>(header: Header, content: &'a [u8]) -> Result<BerObjectContent
 
 /// A BOOLEAN of BER: one octet, 00 for false and any other for true (X.690, 8.2).
 pub fn parse_ber_bool(i: &[u8]) -> BerResult<'_>
-    ensures { Reads view (ReadsTagged 1 HoldsBerBoolean) i.now result }
+    ensures read { Reads view (ReadsTagged 1 HoldsBerBoolean) i.now result }
+    ensures refused { IfErr result (λ e. e ≡ refusal_of ber_boolean_error (tagged_at 1 i.now)) }
 {
     let (rest, element) = element_of_tag(i, Tag::Boolean)?;
     match ber_boolean(element.header, element.content) {
@@ -65,14 +71,16 @@ pub fn parse_ber_bool(i: &[u8]) -> BerResult<'_>
 
 /// A BOOLEAN: one octet, 00 or ff (X.690, 8.2 and 11.1).
 pub fn parse_der_bool(i: &[u8]) -> BerResult<'_>
-    ensures { Reads view (ReadsDer 1) i.now result }
+    ensures read { Reads view (ReadsDer 1) i.now result }
+    ensures refused { IfErr result (λ e. e ≡ refusal_of leaf_error (tagged_at 1 i.now)) }
 {
     leaf_of_tag(i, Tag::Boolean)
 }
 
 /// An INTEGER in the fewest octets (X.690, 8.3).
 pub fn parse_der_integer(i: &[u8]) -> BerResult<'_>
-    ensures { Reads view (ReadsDer 2) i.now result }
+    ensures read { Reads view (ReadsDer 2) i.now result }
+    ensures refused { IfErr result (λ e. e ≡ refusal_of leaf_error (tagged_at 2 i.now)) }
 {
     leaf_of_tag(i, Tag::Integer)
 }
@@ -92,105 +100,120 @@ pub fn parse_der_u32(i: &[u8]) -> BerResult<'_, u32>
 
 /// An ENUMERATED that isn't negative and below 2^64, in the fewest octets (X.690, 8.4).
 pub fn parse_der_enum(i: &[u8]) -> BerResult<'_>
-    ensures { Reads view (ReadsDer 10) i.now result }
+    ensures read { Reads view (ReadsDer 10) i.now result }
+    ensures refused { IfErr result (λ e. e ≡ refusal_of leaf_error (tagged_at 10 i.now)) }
 {
     leaf_of_tag(i, Tag::Enumerated)
 }
 
 /// A BIT STRING whose unused bits are 0 (X.690, 8.6 and 11.2).
 pub fn parse_der_bitstring(i: &[u8]) -> BerResult<'_>
-    ensures { Reads view (ReadsDer 3) i.now result }
+    ensures read { Reads view (ReadsDer 3) i.now result }
+    ensures refused { IfErr result (λ e. e ≡ refusal_of leaf_error (tagged_at 3 i.now)) }
 {
     leaf_of_tag(i, Tag::BitString)
 }
 
 /// An OCTET STRING (X.690, 8.7).
 pub fn parse_der_octetstring(i: &[u8]) -> BerResult<'_>
-    ensures { Reads view (ReadsDer 4) i.now result }
+    ensures read { Reads view (ReadsDer 4) i.now result }
+    ensures refused { IfErr result (λ e. e ≡ refusal_of leaf_error (tagged_at 4 i.now)) }
 {
     leaf_of_tag(i, Tag::OctetString)
 }
 
 /// A NULL: no content (X.690, 8.8).
 pub fn parse_der_null(i: &[u8]) -> BerResult<'_>
-    ensures { Reads view (ReadsDer 5) i.now result }
+    ensures read { Reads view (ReadsDer 5) i.now result }
+    ensures refused { IfErr result (λ e. e ≡ refusal_of leaf_error (tagged_at 5 i.now)) }
 {
     leaf_of_tag(i, Tag::Null)
 }
 
 /// An OBJECT IDENTIFIER (X.690, 8.19).
 pub fn parse_der_oid(i: &[u8]) -> BerResult<'_>
-    ensures { Reads view (ReadsDer 6) i.now result }
+    ensures read { Reads view (ReadsDer 6) i.now result }
+    ensures refused { IfErr result (λ e. e ≡ refusal_of leaf_error (tagged_at 6 i.now)) }
 {
     leaf_of_tag(i, Tag::Oid)
 }
 
 /// A SEQUENCE of objects of at most 49 levels (X.690, 8.9).
 pub fn parse_der_sequence<'a>(alloc: Global, i: &'a [u8]) -> BerResult<'a>
-    ensures { ReadsOrWants view (ReadsDer 16) i.now result }
+    ensures read { ReadsOrWants view (ReadsDer 16) i.now result }
+    ensures refused { IfErr result (RefusesParts (tagged_at 16 i.now)) }
 {
     object_of_tag(alloc, i, Tag::Sequence)
 }
 
 /// A SET of objects of at most 49 levels, in any order (X.690, 8.11).
 pub fn parse_der_set<'a>(alloc: Global, i: &'a [u8]) -> BerResult<'a>
-    ensures { ReadsOrWants view (ReadsDer 17) i.now result }
+    ensures read { ReadsOrWants view (ReadsDer 17) i.now result }
+    ensures refused { IfErr result (RefusesParts (tagged_at 17 i.now)) }
 {
     object_of_tag(alloc, i, Tag::Set)
 }
 
 /// A UTF8String (X.690, 8.23.10).
 pub fn parse_der_utf8string(i: &[u8]) -> BerResult<'_>
-    ensures { Reads view (ReadsDer 12) i.now result }
+    ensures read { Reads view (ReadsDer 12) i.now result }
+    ensures refused { IfErr result (λ e. e ≡ refusal_of leaf_error (tagged_at 12 i.now)) }
 {
     leaf_of_tag(i, Tag::Utf8String)
 }
 
 /// A PrintableString: letters, digits, space and ' ( ) + , - . / : = ? (X.680, 41.4).
 pub fn parse_der_printablestring(i: &[u8]) -> BerResult<'_>
-    ensures { Reads view (ReadsDer 19) i.now result }
+    ensures read { Reads view (ReadsDer 19) i.now result }
+    ensures refused { IfErr result (λ e. e ≡ refusal_of leaf_error (tagged_at 19 i.now)) }
 {
     leaf_of_tag(i, Tag::PrintableString)
 }
 
 /// An IA5String: octets below 80.
 pub fn parse_der_ia5string(i: &[u8]) -> BerResult<'_>
-    ensures { Reads view (ReadsDer 22) i.now result }
+    ensures read { Reads view (ReadsDer 22) i.now result }
+    ensures refused { IfErr result (λ e. e ≡ refusal_of leaf_error (tagged_at 22 i.now)) }
 {
     leaf_of_tag(i, Tag::Ia5String)
 }
 
 /// A UniversalString: any octets.
 pub fn parse_der_universalstring(i: &[u8]) -> BerResult<'_>
-    ensures { Reads view (ReadsDer 28) i.now result }
+    ensures read { Reads view (ReadsDer 28) i.now result }
+    ensures refused { IfErr result (λ e. e ≡ refusal_of leaf_error (tagged_at 28 i.now)) }
 {
     leaf_of_tag(i, Tag::UniversalString)
 }
 
 /// A BMPString: any octets.
 pub fn parse_der_bmpstring(i: &[u8]) -> BerResult<'_>
-    ensures { Reads view (ReadsDer 30) i.now result }
+    ensures read { Reads view (ReadsDer 30) i.now result }
+    ensures refused { IfErr result (λ e. e ≡ refusal_of leaf_error (tagged_at 30 i.now)) }
 {
     leaf_of_tag(i, Tag::BmpString)
 }
 
 /// A T61String, also called TeletexString: any octets.
 pub fn parse_der_t61string(i: &[u8]) -> BerResult<'_>
-    ensures { Reads view (ReadsDer 20) i.now result }
+    ensures read { Reads view (ReadsDer 20) i.now result }
+    ensures refused { IfErr result (λ e. e ≡ refusal_of leaf_error (tagged_at 20 i.now)) }
 {
     leaf_of_tag(i, Tag::T61String)
 }
 
 /// A UTCTime: YYMMDDHHMMSSZ, a real date and time (X.690, 11.8).
 pub fn parse_der_utctime(i: &[u8]) -> BerResult<'_>
-    ensures { Reads view (ReadsDer 23) i.now result }
+    ensures read { Reads view (ReadsDer 23) i.now result }
+    ensures refused { IfErr result (λ e. e ≡ refusal_of leaf_error (tagged_at 23 i.now)) }
 {
     leaf_of_tag(i, Tag::UtcTime)
 }
 
 /// A GeneralizedTime: YYYYMMDDHHMMSSZ, a real date and time, or with a fraction of the second (X.690, 11.7).
 pub fn parse_der_generalizedtime(i: &[u8]) -> BerResult<'_>
-    ensures { Reads view (ReadsDer 24) i.now result }
+    ensures read { Reads view (ReadsDer 24) i.now result }
+    ensures refused { IfErr result (λ e. e ≡ refusal_of leaf_error (tagged_at 24 i.now)) }
 {
     leaf_of_tag(i, Tag::GeneralizedTime)
 }
