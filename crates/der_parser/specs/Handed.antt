@@ -13,6 +13,7 @@ use Rattle.der_tree.specs.declared.object.BerObject.{BerObject}
 use Rattle.der_tree.specs.declared.object.BerObjectContent.{BerObjectContent}
 use Rattle.der_tree.specs.Tree.{node}
 use Rattle.der_tree.specs.View.{view, content_view}
+use Rattle.der_parser.specs.Refusals.{tagged_at}
 use Rattle.der_parser.specs.Tagged.{IsTagged, HasTagged}
 
 -- the octets begin with an element of this tag number, and the rest comes after it; `Called` tells what became of its whole
@@ -28,10 +29,10 @@ pub record Handed (n : ℕ) (Called : List ℕ → Bor (List ℕ) → Header →
   pub held : content.now ≡ element.content
   pub called : Called front content header
 
--- no such element begins the octets, or some are missing; memory didn't run out
+-- no such element begins the octets, or some are missing: the refusal is that of the element; memory didn't run out
 abbrev pub Unwanted : {E : Type 0} → (Error → E → Type 0) → ℕ → List ℕ → Refusal E → Type 0
-Unwanted gives n octets (refusals.Incomplete m) = (HasTagged n octets → ⊥) × IsMissing (HasTagged n) octets (refusals.Incomplete m)
-Unwanted gives n octets (refusals.Error x) = (HasTagged n octets → ⊥) × ((e : Error) × (e ≢ errors.OutOfMemory) × gives e x)
+Unwanted gives n octets (refusals.Incomplete m) = (HasTagged n octets → ⊥) × IsMissing (HasTagged n) octets (refusals.Incomplete m) × (tagged_at n octets ≡ Err (refusals.Incomplete m))
+Unwanted gives n octets (refusals.Error x) = (HasTagged n octets → ⊥) × ((e : Error) × (e ≢ errors.OutOfMemory) × gives e x × (tagged_at n octets ≡ Err (refusals.Error e)))
 Unwanted gives n octets (refusals.Failure x) = ⊥
 
 -- the closure is handed content and header; its value is handed on before the octets after the element, and its refusal as it is

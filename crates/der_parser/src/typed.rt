@@ -1,5 +1,8 @@
 //! Objects read by their type. Each reader compares the tag number alone, not the class; the constructed bit and the
 //! content are those of the table's line of the tag number.
+//!
+//! Refusals, in this order: those of `Header::from_der`; `UnexpectedTag`; `Incomplete` with the number of content octets that
+//! are missing; those of `leaf_under`, or of `content_under` for sequences and sets.
 
 ghost use Rattle.std.specs.Prelude.{◌≡◌, ◌≢◌, ◌^◌, ℕ, List, Err, IfOk, IfErr, IsErrAnd};
 ghost use Rattle.der_parser.specs.Outcome.{Reads, ReadsOrWants};
