@@ -14,6 +14,7 @@ use Rattle.asn1_any.specs.BerElements.{BerElement, end_of_contents, AreAll, Clos
 use Rattle.asn1_any.specs.Reading.{Rest, end_at, past_length, past_header, past_end, past_contents}
 use Rattle.asn1_core.proofs.Cases.{same_answer}
 use Rattle.asn1_core.proofs.Numbers.{append_below}
+use Rattle.asn1_core.proofs.Long.{header_long}
 use Rattle.asn1_core.proofs.Headers.{BeginsWithBer, ber_header_found, ber_header_again}
 use Rattle.asn1_core.proofs.Refusals.{ber_header_refused}
 
@@ -125,25 +126,6 @@ ends_found zero rest levels zero octets below e = cc
 ends_found zero rest levels (suc nested) octets below e = cc
 ends_found (suc steps) rest levels zero octets below e = cc
 ends_found (suc steps) rest levels (suc nested) octets below e = end_step (past_contents steps) rest (ends_found steps rest) levels nested octets (end_at octets) below refl e
-
-identifier_long : (octets : List ℕ) (class : ℕ) (constructed : Bool) (tag : ℕ) → SpellsIdentifier octets class constructed tag → 1 ≤ length octets
-identifier_long octets class constructed tag (inl low) = let e = ap length low.1 in omega arith
-identifier_long octets class constructed tag (inr high) = let e = ap length high.2 in omega arith
-
-definite_long : (octets : List ℕ) (n : ℕ) → SpellsLength octets n → 1 ≤ length octets
-definite_long octets n (inl short) = let e = ap length short.1 in omega arith
-definite_long octets n (inr long) = let e = ap length long.3 in omega arith
-
-length_long : (octets : List ℕ) (constructed : Bool) (size : Option ℕ) → SpellsBerLength octets constructed size → 1 ≤ length octets
-length_long octets constructed (Some n) spells = definite_long octets n spells
-length_long octets constructed None spells = let e = ap length spells.1 in omega arith
-
--- a header is not empty
-pub header_long : (front : List ℕ) (h : BerHead) → SpellsBerHeader front h → 2 ≤ length front
-header_long front h spells =
-    let identifier = identifier_long spells.identifier h.class h.constructed h.tag spells.spells_identifier in
-    let size = length_long spells.size h.constructed h.size spells.spells_length in
-    omega (arith, ap length spells.whole, length-append spells.identifier spells.size)
 
 -- what is spelled as an element within, before other octets: no end, and a header
 pub record Leads (levels : ℕ) (octets tail : List ℕ) : Type 0 where

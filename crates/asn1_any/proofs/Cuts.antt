@@ -4,18 +4,18 @@ use Rattle.std.specs.List.{AllByRecursion, flat_map}
 use Rattle.std.proofs.lemmas.List.{append_cancel_right, append-nil, take_at}
 use Rattle.std.proofs.lemmas.List.Concat.{flat_map-append}
 use Rattle.asn1_core.specs.Elements.{Element}
-use Rattle.asn1_core.specs.Lenient.{SpellsBerHeader}
 use Rattle.asn1_any.specs.DerElements.{BeginsWithElement, HasElement}
 use Rattle.asn1_any.specs.Cutting.{Piece, IsPiece, IsCutting}
 use Rattle.asn1_any.proofs.DerLaws.{der_once, der_found, der_only}
-use Rattle.asn1_any.specs.Reading.{der_element_at}
+use Rattle.asn1_any.specs.Reading.{any_der, der_element_at}
 use Rattle.std.specs.Int.Digits.{AllBelowBase}
-use Rattle.std.proofs.Common.{Ok, Err}
+use Rattle.std.proofs.Common.{Option, Some, None, Ok, Err}
+use Rattle.std.specs.Result.{result_ok}
+use Rattle.asn1_core.specs.Answers.{Answer}
 use Rattle.asn1_core.proofs.Numbers.{append_below}
 use Rattle.asn1_core.specs.declared.error.Error.{Error}
 use Rattle.asn1_core.specs.declared.outcome.Err.{Err as Refusal}
-use Rattle.asn1_any.proofs.BerLaws.{header_long}
-use Rattle.asn1_any.specs.BerElements.{definite_element}
+use Rattle.asn1_any.proofs.Long.{element_takes}
 
 -- the content up to its tail, in pieces
 pub record IsCutTo (content : List ℕ) (pieces : List Piece) (tail : List ℕ) : Type 0 where
@@ -35,14 +35,7 @@ front_is octets front rest whole =
 
 -- an element takes octets
 pub element_long : (octets rest : List ℕ) (e : Element) → BeginsWithElement octets e rest → length rest + 2 ≤ length octets
-element_long octets rest e begins =
-    let spells = begins.spells.spells in
-    let spelled : SpellsBerHeader begins.spells.header (definite_element e).head =
-    record { identifier = spells.identifier; size = spells.size; whole = spells.whole; spells_identifier = spells.spells_identifier; spells_length = spells.spells_length } in
-    let header = header_long begins.spells.header (definite_element e).head spelled in
-    let whole = ap length begins.whole in
-    let parts = ap length begins.spells.whole in
-    omega (arith, length-append begins.front rest, length-append begins.spells.header e.content)
+element_long octets rest e begins = omega (arith, element_takes octets rest e begins)
 
 -- where no element is read, none begins the octets
 pub none_begins : (octets : List ℕ) (e : Refusal Error) → der_element_at octets ≡ Err e → ¬ HasElement octets
@@ -117,3 +110,17 @@ cutting_once content (p ∷ pieces) (q ∷ others) tail last left right =
     let first : p ≡ q = ap (λ o. record { octets = o; element = p.element }) octets ∙ ap (λ e. record { octets = q.octets; element = e }) once.0 in
     let both = cutting_once start.rest pieces others tail last start.cutting (subst (λ z. IsCutting z others last) (sym once.1) other.cutting) in
     (ap (λ x. x ∷ pieces) first ∙ ap (λ xs. q ∷ xs) both.0, both.1)
+
+-- the reader at the front of a cutting: its first element, or none at its tail
+pub first_read : (content : List ℕ) (piece : Piece) (pieces : List Piece) (tail : List ℕ) → IsCutting content (piece ∷ pieces) tail →
+    (rest : List ℕ) × (any_der content ≡ Some (piece.element, rest)) × (content ≡ piece.octets ++ rest) × IsCutting rest pieces tail
+first_read content piece pieces tail cutting =
+    let start = one_cut content piece pieces tail cutting in
+    (start.rest, ap result_ok (der_only content start.rest piece.element start.begins), start.whole, start.cutting)
+
+none_by : (octets : List ℕ) (r : Answer Element) → AllBelowBase 256 octets → der_element_at octets ≡ r → ¬ HasElement octets → result_ok r ≡ None
+none_by octets (Ok x) below read none = absurd (none (x.0, x.1, der_found octets x.1 x.0 below read))
+none_by octets (Err e) below read none = refl
+
+pub none_read : (octets : List ℕ) → AllBelowBase 256 octets → ¬ HasElement octets → any_der octets ≡ None
+none_read octets below none = none_by octets (der_element_at octets) below refl none

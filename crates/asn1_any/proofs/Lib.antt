@@ -6,3 +6,4 @@ pub mod Walks
 pub mod Refusals
 pub mod BerRefusals
 pub mod Cuts
+pub mod Long

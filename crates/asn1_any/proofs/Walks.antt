@@ -16,7 +16,8 @@ use Rattle.asn1_core.proofs.Numbers.{append_below}
 use Rattle.asn1_core.proofs.Headers.{ber_header_found}
 use Rattle.asn1_any.specs.Reading.{Rest, part_at, end_at, past_length, past_header, past_end, past_contents}
 use Rattle.asn1_any.proofs.Readings.{part_found}
-use Rattle.asn1_any.proofs.BerLaws.{end_is, header_long}
+use Rattle.asn1_any.proofs.BerLaws.{end_is}
+use Rattle.asn1_core.proofs.Long.{header_long}
 
 -- the walk over all octets goes on with these
 pub record GoesOn (top : ℕ) (octets : List ℕ) (levels nested : ℕ) (rest : List ℕ) : Type 0 where

@@ -1,5 +1,5 @@
 -- What the elements of a cut content say, for clauses of this crate and of those above it.
-use Rattle.std.specs.Prelude.{◌≡◌, List, map, length}
+use Rattle.std.specs.Prelude.{◌≡◌, ◌+◌, ◌≤◌, List, map, length}
 use Rattle.asn1_core.specs.declared.length.Length.TheVariants.{Definite}
 use Rattle.asn1_core.specs.Views.{length_of}
 use Rattle.asn1_any.specs.declared.cut.Element.{Element}
@@ -15,3 +15,7 @@ pieces_of elements = map piece_of elements
 -- the header tells the number of the content octets
 abbrev pub HasCountedContent : Element → Type 0
 HasCountedContent element = length_of element.any.header ≡ Definite (length element.any.content.now)
+
+-- its header takes two octets at least
+abbrev pub IsLongerThanContent : Element → Type 0
+IsLongerThanContent element = length element.any.content.now + 2 ≤ length element.octets.now

@@ -1,7 +1,8 @@
 //! An element of any type, and its readers.
 
-ghost use Rattle.std.specs.Prelude.{◌≡◌, ◌-◌, ◌<◌, ◌++◌, ℕ, List, length, IfOk, IfErr, IsOkAnd, Ok};
+ghost use Rattle.std.specs.Prelude.{◌≡◌, ◌+◌, ◌-◌, ◌^◌, ◌<◌, ◌≤◌, ◌++◌, ℕ, List, length, IfOk, IfErr, IsOkAnd, Ok};
 ghost use Rattle.asn1_core.specs.Answers.{Gives, TakesNoMemory};
+ghost use Rattle.asn1_core.specs.Counts.{attempts};
 ghost use Rattle.asn1_core.specs.Elements.{Element};
 ghost use Rattle.asn1_core.specs.Missing.{IsMissing};
 ghost use Rattle.asn1_core.specs.Views.{class_of, tag_of, length_of, is_constructed_tag};
@@ -11,7 +12,7 @@ ghost use Rattle.asn1_any.specs.Reading.{der_element_at, ber_element_at, ber_lev
 ghost use Rattle.asn1_any.specs.Views.{any_of, ber_any_of};
 
 use crate::read::{self, MAX_RECURSION};
-use asn1_core::{Class, Err as Refusal, Error, Header, Length, ParseResult, Tag};
+use asn1_core::{Class, Err as Refusal, Error, Header, HeaderCount, Length, ParseResult, Tag};
 
 /// An element: its header and its content octets, a window of the octets that were read (X.690, 8.1.1).
 ///
@@ -52,11 +53,29 @@ impl<'a> Any<'a> {
         ensures length { IfOk result (λ r. length_of r.1.header ≡ Length.Definite (length r.1.content.now)) }
         ensures only { (e : Element) (rest : List ℕ) → BeginsWithElement i.now e rest
             → IsOkAnd result (λ r. (any_of r.1 ≡ e) × (r.0.now ≡ rest)) }
+        ensures shorter { IfOk result (λ r. length r.1.content.now + 2 + length r.0.now ≤ length i.now) }
         ensures missing { IfErr result (IsMissing HasElement i.now) }
         ensures memory { IfErr result TakesNoMemory }
         ensures exact { Gives (λ r. (any_of r.1, r.0.now)) result (der_element_at i.now) }
     {
-        read::der_element(i)
+        let mut count = HeaderCount::new();
+        Any::from_der_counted(i, &mut count)
+    }
+
+    /// `from_der`, and one header attempt more in the count.
+    pub fn from_der_counted(i: &'a [u8], count: &mut HeaderCount) -> ParseResult<'a, Any<'a>>
+        requires { attempts count.old + 1 < 2 ^ 128 }
+        ensures count { attempts count.new ≡ attempts count.old + 1 }
+        ensures found { IfOk result (λ r. BeginsWithElement i.now (any_of r.1) r.0.now) }
+        ensures length { IfOk result (λ r. length_of r.1.header ≡ Length.Definite (length r.1.content.now)) }
+        ensures only { (e : Element) (rest : List ℕ) → BeginsWithElement i.now e rest
+            → IsOkAnd result (λ r. (any_of r.1 ≡ e) × (r.0.now ≡ rest)) }
+        ensures shorter { IfOk result (λ r. length r.1.content.now + 2 + length r.0.now ≤ length i.now) }
+        ensures missing { IfErr result (IsMissing HasElement i.now) }
+        ensures memory { IfErr result TakesNoMemory }
+        ensures exact { Gives (λ r. (any_of r.1, r.0.now)) result (der_element_at i.now) }
+    {
+        read::der_element_counted(i, count)
     }
 
     /// Reads an element by BER's rules from the front of the octets, with the octets after it: of definite length, or of
@@ -74,6 +93,7 @@ impl<'a> Any<'a> {
         // With more octets after these the same element is read, before a rest with those octets at its end.
         ensures stays { IfOk result (λ r. (more : List ℕ)
             → ber_element_at (MAX_RECURSION - 1) (i.now ++ more) ≡ Ok (ber_any_of r.1, r.0.now ++ more)) }
+        ensures shorter { IfOk result (λ r. length r.1.content.now + 2 + length r.0.now ≤ length i.now) }
         ensures missing { IfErr result (IsMissing (HasBerElement (MAX_RECURSION - 1)) i.now) }
         ensures memory { IfErr result TakesNoMemory }
         ensures exact { Gives (λ r. (ber_any_of r.1, r.0.now)) result (ber_element_at (MAX_RECURSION - 1) i.now) }
@@ -88,6 +108,7 @@ impl<'a> Any<'a> {
         ensures found { IfOk result (λ r. (0 < levels) × BeginsWithBerElement (levels - 1) i.now (ber_any_of r.1) r.0.now) }
         ensures only { (e : BerElement) (rest : List ℕ) → 0 < levels → BeginsWithBerElement (levels - 1) i.now e rest
             → IsOkAnd result (λ r. (ber_any_of r.1 ≡ e) × (r.0.now ≡ rest)) }
+        ensures shorter { IfOk result (λ r. length r.1.content.now + 2 + length r.0.now ≤ length i.now) }
         ensures missing { IfErr result (IsMissing (λ s. (0 < levels) × HasBerElement (levels - 1) s) i.now) }
         ensures memory { IfErr result TakesNoMemory }
         ensures exact { Gives (λ r. (ber_any_of r.1, r.0.now)) result (ber_levels_at levels i.now) }

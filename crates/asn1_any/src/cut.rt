@@ -3,7 +3,7 @@
 ghost use Rattle.std.specs.Prelude.{◌≡◌, ◌+◌, ◌^◌, ◌<◌, ◌≤◌, All, IfOk, length};
 ghost use Rattle.asn1_core.specs.Counts.{attempts};
 ghost use Rattle.asn1_any.specs.Cutting.{IsCutting, attempts_at};
-ghost use Rattle.asn1_any.specs.CutViews.{HasCountedContent, pieces_of};
+ghost use Rattle.asn1_any.specs.CutViews.{HasCountedContent, IsLongerThanContent, pieces_of};
 
 use crate::any::Any;
 use crate::read;
@@ -32,6 +32,7 @@ pub struct Elements<'a> {
 pub fn cut_elements<'a>(alloc: Global, content: &'a [u8]) -> Result<Elements<'a>, OutOfMemory>
     ensures cut { IfOk result (λ cut. IsCutting content.now (pieces_of cut.items.items) cut.tail.now) }
     ensures lengths { IfOk result (λ cut. All HasCountedContent cut.items.items) }
+    ensures longer { IfOk result (λ cut. All IsLongerThanContent cut.items.items) }
 {
     let mut count = HeaderCount::new();
     cut_elements_counted(alloc, content, &mut count)
@@ -44,9 +45,10 @@ pub fn cut_elements_counted<'a>(
     content: &'a [u8],
     count: &mut HeaderCount,
 ) -> Result<Elements<'a>, OutOfMemory>
-    requires { attempts count.old + length content.now < 2 ^ 64 }
+    requires { attempts count.old + length content.now < 2 ^ 128 }
     ensures cut { IfOk result (λ cut. IsCutting content.now (pieces_of cut.items.items) cut.tail.now) }
     ensures lengths { IfOk result (λ cut. All HasCountedContent cut.items.items) }
+    ensures longer { IfOk result (λ cut. All IsLongerThanContent cut.items.items) }
     ensures counted { IfOk result (λ cut. attempts count.new ≡ attempts count.old + attempts_at (pieces_of cut.items.items) cut.tail.now) }
     ensures least { attempts count.old ≤ attempts count.new }
     ensures most { attempts count.new ≤ attempts count.old + length content.now }

@@ -1,6 +1,7 @@
 //! Laws of elements at the front of octets. Each is a function that does nothing: its contract is the law.
 
-ghost use Rattle.std.specs.Prelude.{◌≡◌, ℕ, List, [], ◌∷◌, ◌++◌, Some};
+ghost use Rattle.std.specs.Prelude.{◌≡◌, ℕ, List, [], ◌∷◌, ◌++◌, Some, None};
+ghost use Rattle.std.specs.Int.Digits.{AllBelowBase};
 ghost use Rattle.asn1_core.specs.Elements.{Element, IsElement, element_octets};
 ghost use Rattle.asn1_any.specs.DerElements.{SpellsElement, BeginsWithElement, HasElement};
 ghost use Rattle.asn1_any.specs.BerElements.{BerElement, definite_element, BeginsWithBerElement};
@@ -55,4 +56,13 @@ pub fn cutting_by_piece()
         → (rest : List ℕ) × (content ≡ piece.octets ++ rest) × BeginsWithElement content piece.element rest × IsCutting rest pieces tail }
     ensures more { (content rest : List ℕ) (piece : Piece) (pieces : List Piece) (tail : List ℕ) → IsPiece piece
         → content ≡ piece.octets ++ rest → IsCutting rest pieces tail → IsCutting content (piece ∷ pieces) tail }
+{}
+
+/// The reader of elements at the front of a cutting: it reads the first piece, before the cutting of what comes after that;
+/// it reads none at the tail of one, whose numbers are octets, nor of octets that no element begins.
+pub fn cutting_by_reader()
+    ensures first { (content : List ℕ) (piece : Piece) (pieces : List Piece) (tail : List ℕ) → IsCutting content (piece ∷ pieces) tail
+        → (rest : List ℕ) × (any_der content ≡ Some (piece.element, rest)) × (content ≡ piece.octets ++ rest) × IsCutting rest pieces tail }
+    ensures none { (content tail : List ℕ) → AllBelowBase 256 content → IsCutting content [] tail → any_der content ≡ None }
+    ensures tail { (content : List ℕ) (pieces : List Piece) (tail : List ℕ) → AllBelowBase 256 tail → IsCutting content pieces tail → any_der tail ≡ None }
 {}

@@ -40,23 +40,13 @@ fn definite<'a>(header: Header, after: &'a [u8]) -> ParseResult<'a, Any<'a>>
     Ok((rest, Any { header, content }))
 }
 
-/// An element of definite length.
-#[tactic(auto, unfolding(crate::specs::Reading::der_element_at))]
-pub(crate) fn der_element(i: &[u8]) -> ParseResult<'_, Any<'_>>
-    ensures exact { Gives (λ r. (any_of r.1, r.0.now)) result (der_element_at i.now) }
-    ensures length { IfOk result (λ r. length_of r.1.header ≡ Length.Definite (length r.1.content.now)) }
-{
-    let (after, header) = Header::from_der(i)?;
-    definite(header, after)
-}
-
-/// The same, and one header attempt more in the count.
+/// An element of definite length, and one header attempt more in the count.
 #[tactic(auto, unfolding(crate::specs::Reading::der_element_at))]
 pub(crate) fn der_element_counted<'a>(
     i: &'a [u8],
     count: &mut HeaderCount,
 ) -> ParseResult<'a, Any<'a>>
-    requires { attempts count.old + 1 < 2 ^ 64 }
+    requires { attempts count.old + 1 < 2 ^ 128 }
     ensures count { attempts count.new ≡ attempts count.old + 1 }
     ensures exact { Gives (λ r. (any_of r.1, r.0.now)) result (der_element_at i.now) }
     ensures length { IfOk result (λ r. length_of r.1.header ≡ Length.Definite (length r.1.content.now)) }

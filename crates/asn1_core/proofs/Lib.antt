@@ -9,3 +9,4 @@ pub mod StrictLaws
 pub mod Spellings
 pub mod Gives
 pub mod Refusals
+pub mod Long

@@ -1,11 +1,12 @@
 //! Counting how often a header was tried.
 
-ghost use Rattle.std.specs.Prelude.{◌≡◌, ◌+◌, ◌^◌, ◌<◌};
+ghost use Rattle.std.specs.Prelude.{◌≡◌, ◌+◌, ◌-◌, ◌^◌, ◌<◌, min};
 
-/// How many header attempts were made: each call of a header reader is one.
-#[derive(Clone, Copy, Debug, PartialEq, Eq)]
+/// How many header attempts were made: each call of a header reader is one. It counts to 2^128 - 1, so that no input that
+/// fits memory is too long for the calls that raise it.
+#[derive(Debug, Drop)]
 pub struct HeaderCount {
-    raised: u64,
+    raised: u128,
 }
 
 impl HeaderCount {
@@ -18,16 +19,20 @@ impl HeaderCount {
         HeaderCount { raised: 0 }
     }
 
-    /// The attempts so far.
+    /// The attempts so far; the greatest `u64` where there were more.
     pub fn get(&self) -> u64
-        ensures { result ≡ attempts self.now }
+        ensures { result ≡ min (attempts self.now) (2 ^ 64 - 1) }
     {
-        self.raised
+        if self.raised <= u128::from(u64::MAX) {
+            self.raised as u64
+        } else {
+            u64::MAX
+        }
     }
 
     /// One attempt more.
     pub(crate) fn raise(&mut self)
-        requires { attempts self.old + 1 < 2 ^ 64 }
+        requires { attempts self.old + 1 < 2 ^ 128 }
         ensures { attempts self.new ≡ attempts self.old + 1 }
     {
         self.raised += 1;

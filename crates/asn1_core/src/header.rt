@@ -1,6 +1,6 @@
 //! Headers of elements: identifier and length octets.
 
-ghost use Rattle.std.specs.Prelude.{◌≡◌, ◌+◌, ◌^◌, ◌<◌, ◌↔◌, not, ℕ, List, ◌++◌, IsTrue, IsOk, IfOk, IfErr, IsOkAnd, IsSome, IfSome, Some};
+ghost use Rattle.std.specs.Prelude.{◌≡◌, ◌+◌, ◌^◌, ◌<◌, ◌≤◌, ◌↔◌, length, not, ℕ, List, ◌++◌, IsTrue, IsOk, IfOk, IfErr, IsOkAnd, IsSome, IfSome, Some};
 ghost use Rattle.std.proofs.Common.{rules};
 ghost use Rattle.std.specs.Cmp.Rules.{comparing};
 
@@ -103,6 +103,7 @@ impl Header {
             × ((octets : List ℕ) × SpellsBerHeader octets (ber_head_of r.1) × (i.now ≡ octets ++ r.0.now))) }
         ensures only { (octets rest : List ℕ) (h : BerHead) → IsBerHead h → SpellsBerHeader octets h
             → i.now ≡ octets ++ rest → IsOkAnd result (λ r. (ber_head_of r.1 ≡ h) × (r.0.now ≡ rest)) }
+        ensures shorter { IfOk result (λ r. length r.0.now + 2 ≤ length i.now) }
         ensures missing { IfErr result (IsMissing HasBerHeader i.now) }
         ensures memory { IfErr result TakesNoMemory }
         ensures exact { Gives (λ r. (ber_head_of r.1, r.0.now)) result (ber_header_at i.now) }
@@ -121,6 +122,7 @@ impl Header {
         ensures definite { IfOk result (λ r. IsDefinite (length_of r.1)) }
         ensures only { (octets rest : List ℕ) (h : Head) → IsHead h → SpellsHeader octets h
             → i.now ≡ octets ++ rest → IsOkAnd result (λ r. (head_of r.1 ≡ h) × (r.0.now ≡ rest)) }
+        ensures shorter { IfOk result (λ r. length r.0.now + 2 ≤ length i.now) }
         ensures missing { IfErr result (IsMissing HasHeader i.now) }
         ensures memory { IfErr result TakesNoMemory }
         ensures exact { Gives (λ r. (head_of r.1, r.0.now)) result (header_at i.now) }
@@ -139,6 +141,7 @@ impl Header {
         ensures definite { IfOk result (λ r. IsDefinite (length_of r.1)) }
         ensures only { (h : Head) (rest : List ℕ) → IsHead h → i.now ≡ strict_header h ++ rest
             → IsOkAnd result (λ r. (head_of r.1 ≡ h) × (r.0.now ≡ rest)) }
+        ensures shorter { IfOk result (λ r. length r.0.now + 2 ≤ length i.now) }
         ensures missing { IfErr result (IsMissing HasStrictHeader i.now) }
         ensures memory { IfErr result TakesNoMemory }
         ensures exact { Gives (λ r. (head_of r.1, r.0.now)) result (strict_at i.now) }
@@ -162,13 +165,16 @@ impl Header {
 
     /// `from_der`, and one header attempt more in the count.
     pub fn from_der_counted<'a>(i: &'a [u8], count: &mut HeaderCount) -> ParseResult<'a, Header>
-        requires { attempts count.old + 1 < 2 ^ 64 }
+        requires { attempts count.old + 1 < 2 ^ 128 }
         ensures count { attempts count.new ≡ attempts count.old + 1 }
         ensures found { IfOk result (λ r. IsHead (head_of r.1)
             × ((octets : List ℕ) × SpellsHeader octets (head_of r.1) × (i.now ≡ octets ++ r.0.now))) }
         ensures definite { IfOk result (λ r. IsDefinite (length_of r.1)) }
         ensures only { (octets rest : List ℕ) (h : Head) → IsHead h → SpellsHeader octets h
             → i.now ≡ octets ++ rest → IsOkAnd result (λ r. (head_of r.1 ≡ h) × (r.0.now ≡ rest)) }
+        ensures shorter { IfOk result (λ r. length r.0.now + 2 ≤ length i.now) }
+        ensures missing { IfErr result (IsMissing HasHeader i.now) }
+        ensures memory { IfErr result TakesNoMemory }
         ensures exact { Gives (λ r. (head_of r.1, r.0.now)) result (header_at i.now) }
     {
         count.raise();
@@ -177,13 +183,16 @@ impl Header {
 
     /// `strict`, and one header attempt more in the count.
     pub fn strict_counted<'a>(i: &'a [u8], count: &mut HeaderCount) -> ParseResult<'a, Header>
-        requires { attempts count.old + 1 < 2 ^ 64 }
+        requires { attempts count.old + 1 < 2 ^ 128 }
         ensures count { attempts count.new ≡ attempts count.old + 1 }
         ensures found { IfOk result (λ r. IsHead (head_of r.1)
             × (i.now ≡ strict_header (head_of r.1) ++ r.0.now)) }
         ensures definite { IfOk result (λ r. IsDefinite (length_of r.1)) }
         ensures only { (h : Head) (rest : List ℕ) → IsHead h → i.now ≡ strict_header h ++ rest
             → IsOkAnd result (λ r. (head_of r.1 ≡ h) × (r.0.now ≡ rest)) }
+        ensures shorter { IfOk result (λ r. length r.0.now + 2 ≤ length i.now) }
+        ensures missing { IfErr result (IsMissing HasStrictHeader i.now) }
+        ensures memory { IfErr result TakesNoMemory }
         ensures exact { Gives (λ r. (head_of r.1, r.0.now)) result (strict_at i.now) }
     {
         count.raise();

@@ -9,7 +9,7 @@ use Rattle.asn1_core.specs.Elements.{Element, head_of_element, IsElement, elemen
 use Rattle.asn1_core.proofs.StrictLaws.{header_is_lenient}
 use Rattle.asn1_core.proofs.LenientLaws.{lenient_is_ber_lem}
 use Rattle.asn1_any.proofs.DerLaws.{strict_begins}
-use Rattle.asn1_any.proofs.BerLaws.{header_long}
+use Rattle.asn1_core.proofs.Long.{header_long}
 use Rattle.asn1_traits.specs.Elements.{ReadsElement}
 use Rattle.asn1_traits.specs.Writes.{written, IsLong, IsOneElement}
 use Rattle.asn1_traits.specs.Lists.{AllRead, IsContainer, ContainerMeans, all_written, container_of, EachIs}

@@ -3,7 +3,7 @@ use Rattle.std.proofs.Common.{arith, ◌≡◌, ◌≢◌, ◌∙◌, ◌⊎◌,
 use Rattle.asn1_core.specs.Lenient.{SpellsHeader, ber_head_of_head, BerHead}
 use Rattle.asn1_core.specs.Strict.{Head}
 use Rattle.asn1_core.proofs.LenientLaws.{one_lenient_header_lem, one_ber_header_lem, lenient_is_ber_lem}
-use Rattle.asn1_any.proofs.BerLaws.{header_long}
+use Rattle.asn1_core.proofs.Long.{header_long}
 use Rattle.asn1_traits.specs.Options.{BeginsWithTag, BeginsWithBerTag, IsAbsent, OptionReads}
 
 -- headers that begin octets: one at most, and none where there are no octets

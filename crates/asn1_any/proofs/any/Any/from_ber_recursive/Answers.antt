@@ -1,4 +1,4 @@
-use Rattle.std.proofs.Common.{◌<◌, ◌-◌, ℕ, List, arith}
+use Rattle.std.proofs.Common.{◌+◌, ◌≤◌, length, ◌<◌, ◌-◌, ℕ, List, arith}
 use Rattle.asn1_core.specs.Answers.{TakesNoMemory}
 use Rattle.asn1_core.specs.Missing.{IsMissing}
 use Rattle.asn1_core.proofs.Numbers.{octets_below}
@@ -7,6 +7,7 @@ use Rattle.asn1_any.specs.BerElements.{BerElement, BeginsWithBerElement, HasBerE
 use Rattle.asn1_any.specs.Reading.{ber_element_at}
 use Rattle.asn1_any.specs.Views.{ber_any_of}
 use Rattle.asn1_any.proofs.BerReading.{ber_found, ber_only}
+use Rattle.asn1_any.proofs.Long.{ber_element_takes}
 use Rattle.asn1_any.proofs.BerRefusals.{ber_told, missing_weaker}
 use Rattle.asn1_any.proofs.any.Any.from_ber_recursive.Goals as goal
 
@@ -40,3 +41,11 @@ returns-clause-memory c =
     let below = octets_below octets (λ k. omega (arith, c.type_inv.i k)) in
     gives_refused (λ r. (ber_any_of r.1, r.0.now)) c.ber_element.result (ber_element_at n octets) TakesNoMemory c.ber_element.ensures
     (λ e read. (ber_told n octets e below read).memory)
+
+pub returns-clause-shorter : goal.returns-clause-shorter
+returns-clause-shorter c =
+    let octets = c.args.i.now in
+    let n = c.args.levels - 1 in
+    let below = octets_below octets (λ k. omega (arith, c.type_inv.i k)) in
+    gives_found (λ r. (ber_any_of r.1, r.0.now)) c.ber_element.result (ber_element_at n octets) (λ (y : BerElement × List ℕ). length y.0.content + 2 + length y.1 ≤ length octets)
+    c.ber_element.ensures (λ y read. ber_element_takes n octets y.1 y.0 (ber_found n octets y.1 y.0 below read))

@@ -1,4 +1,4 @@
-use Rattle.std.proofs.Common.{◌≡◌, ℕ, List, ◌++◌, ap, ◌∙◌, arith}
+use Rattle.std.proofs.Common.{◌+◌, ◌≤◌, length, ◌≡◌, ℕ, List, ◌++◌, ap, ◌∙◌, arith}
 use Rattle.asn1_core.specs.Strict.{IsHead}
 use Rattle.asn1_core.specs.Lenient.{SpellsHeader}
 use Rattle.asn1_core.specs.Missing.{HasHeader, IsMissing}
@@ -8,6 +8,7 @@ use Rattle.asn1_core.specs.Views.{head_of}
 use Rattle.asn1_core.proofs.Numbers.{octets_below}
 use Rattle.asn1_core.proofs.Gives.{gives_found, gives_only, gives_refused}
 use Rattle.asn1_core.proofs.Headers.{header_found, header_again}
+use Rattle.asn1_core.proofs.Long.{shortens}
 use Rattle.asn1_core.proofs.Refusals.{header_refused, header_missing, no_memory}
 use Rattle.asn1_core.proofs.header.Header.from_der.Goals as goal
 
@@ -39,3 +40,11 @@ returns-clause-memory c =
     let below = octets_below octets (λ k. omega (arith, c.type_inv.i k)) in
     gives_refused (λ r. (head_of r.1, r.0.now)) c.definite_header.result (header_at octets) TakesNoMemory c.definite_header.ensures.exact
     (λ e read. no_memory header_at octets e (header_refused octets e below read))
+
+pub returns-clause-shorter : goal.returns-clause-shorter
+returns-clause-shorter c =
+    let octets = c.args.i.now in
+    let below = octets_below octets (λ k. omega (arith, c.type_inv.i k)) in
+    gives_found (λ r. (head_of r.1, r.0.now)) c.definite_header.result (header_at octets) (λ y. length y.1 + 2 ≤ length octets)
+    c.definite_header.ensures.exact
+    (λ y read. shortens octets y.1 y.0 (header_found octets y.0 y.1 below read))

@@ -1,4 +1,4 @@
-use Rattle.std.proofs.Common.{◌≡◌, ◌++◌, ap, ◌∙◌, arith}
+use Rattle.std.proofs.Common.{◌+◌, ◌≤◌, length, ◌≡◌, ◌++◌, ap, ◌∙◌, arith}
 use Rattle.asn1_core.specs.Strict.{IsHead, strict_header}
 use Rattle.asn1_core.specs.Missing.{HasStrictHeader, IsMissing}
 use Rattle.asn1_core.specs.Answers.{TakesNoMemory}
@@ -7,6 +7,7 @@ use Rattle.asn1_core.specs.Views.{head_of}
 use Rattle.asn1_core.proofs.Numbers.{octets_below}
 use Rattle.asn1_core.proofs.Gives.{gives_found, gives_only, gives_refused}
 use Rattle.asn1_core.proofs.StrictLaws.{strict_found, strict_again}
+use Rattle.asn1_core.proofs.Long.{strictly_shortens}
 use Rattle.asn1_core.proofs.Refusals.{strict_no_memory, strict_header_missing}
 use Rattle.asn1_core.proofs.header.Header.strict.Goals as goal
 
@@ -38,3 +39,11 @@ returns-clause-memory c =
     let below = octets_below octets (λ k. omega (arith, c.type_inv.i k)) in
     gives_refused (λ r. (head_of r.1, r.0.now)) c.strict_header.result (strict_at octets) TakesNoMemory c.strict_header.ensures.exact
     (λ e read. strict_no_memory octets e below read)
+
+pub returns-clause-shorter : goal.returns-clause-shorter
+returns-clause-shorter c =
+    let octets = c.args.i.now in
+    let below = octets_below octets (λ k. omega (arith, c.type_inv.i k)) in
+    gives_found (λ r. (head_of r.1, r.0.now)) c.strict_header.result (strict_at octets) (λ y. length y.1 + 2 ≤ length octets)
+    c.strict_header.ensures.exact
+    (λ y read. strictly_shortens octets y.1 y.0 (strict_found octets y.0 y.1 below read))
