@@ -48,3 +48,9 @@ abbrev pub IsIncomplete : {E : Type 0} → Refusal E → Type 0
 IsIncomplete (refusals.Incomplete n) = Unit {0}
 IsIncomplete (refusals.Error e) = ⊥
 IsIncomplete (refusals.Failure e) = ⊥
+
+-- a part's refusal as that of the whole: octets that are missing within it don't come behind the whole
+abbrev pub TellsWhole : {E : Type 0} → (Error → E → Type 0) → Refusal E → Refusal E → Type 0
+TellsWhole gives (refusals.Incomplete n) r = RefusesWith gives (errors.Incomplete n) r
+TellsWhole gives (refusals.Error e) r = r ≡ refusals.Error e
+TellsWhole gives (refusals.Failure e) r = r ≡ refusals.Failure e

@@ -24,7 +24,7 @@ pub type ParseResult<'a, T, E = Error> = Result<(&'a [u8], T), Err<E>>;
 
 impl<E> Err<E> {
     ghost use Rattle.std.specs.Prelude.{◌≡◌, ◌↔◌, IsTrue};
-    ghost use Rattle.asn1_core.specs.Conversions.{Converts, IsIncomplete};
+    ghost use Rattle.asn1_core.specs.Conversions.{Converts, IsIncomplete, TellsWhole};
 
     /// Whether octets are missing.
     pub fn is_incomplete(&self) -> bool
@@ -43,6 +43,20 @@ impl<E> Err<E> {
             Err::Incomplete(needed) => Err::Incomplete(needed),
             Err::Error(e) => Err::Error(E::from(e)),
             Err::Failure(e) => Err::Failure(E::from(e)),
+        }
+    }
+
+    /// A part's refusal as that of the whole that it stands in: octets that are missing within a whole element are an error
+    /// of it (`Error::Incomplete`), since no octet that comes behind can mend it.
+    pub fn within(refusal: Err<E>) -> Err<E>
+    where
+        E: From<Error>,
+        ensures { TellsWhole E.from_gives refusal result }
+    {
+        match refusal {
+            Err::Incomplete(needed) => Err::Error(E::from(Error::Incomplete(needed))),
+            Err::Error(e) => Err::Error(e),
+            Err::Failure(e) => Err::Failure(e),
         }
     }
 }

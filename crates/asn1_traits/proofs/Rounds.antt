@@ -3,10 +3,12 @@ use Rattle.std.proofs.Common.{◌≡◌, ◌∙◌, ◌++◌, refl, sym, ap, sub
 use Rattle.asn1_core.specs.Strict.{strict_header}
 use Rattle.asn1_core.specs.Elements.{Element, head_of_element, IsElement, element_octets}
 use Rattle.asn1_core.specs.declared.error.Error.{Error}
+use Rattle.asn1_core.specs.declared.error.Needed.{Needed}
 use Rattle.asn1_core.specs.declared.outcome.Err.{Err as Refusal}
 use Rattle.asn1_core.specs.declared.outcome.Err.TheVariants as refusals
 use Rattle.asn1_core.proofs.StrictLaws.{header_is_lenient}
-use Rattle.asn1_traits.specs.Reads.{Refuses, Reads, NoneReads}
+use Rattle.asn1_traits.specs.Reads.{Reads, NoneReads}
+use Rattle.asn1_traits.proofs.Outcomes.{lacks_none}
 use Rattle.asn1_traits.specs.Writes.{written, IsLong, IsOneElement, HasTag}
 use Rattle.asn1_traits.specs.Options.{BeginsWithTag, IsAbsent, OptionReads, option_element, WhereSome}
 use Rattle.asn1_traits.specs.OptionLaws.{der_headers, not_both}
@@ -15,20 +17,20 @@ use Rattle.asn1_traits.specs.ListLaws.{OneEach, BackEach, SameEach, OneRest}
 use Rattle.asn1_traits.specs.Rounds.{BackOr, SameOption, RestFits}
 
 -- where there is a value, the reader answers one, or memory ran out
-pub answered : {V E I : Type 0} (gives : Error → E → Type 0) (at : I → List ℕ) (reads : List ℕ → V → List ℕ → Type 0) (octets : List ℕ) (r : Result (I × V) (Refusal E)) (P : V → List ℕ → Type 0) (w : V) (rest : List ℕ) →
-    reads octets w rest → ((v : V) (s : List ℕ) → reads octets v s → P v s) → Reads gives at reads octets r → BackOr gives at P r
-answered gives at reads octets (Ok x) P w rest read f h = f x.1 (at x.0) h
-answered gives at reads octets (Err (refusals.Incomplete n)) P w rest read f h = h w rest read
-answered gives at reads octets (Err (refusals.Error e)) P w rest read f h = h.0 w rest read
-answered gives at reads octets (Err (refusals.Failure e)) P w rest read f h = h
+pub answered : {V E I : Type 0} (gives : Error → E → Type 0) (grows : Type 0) (Cut : List ℕ → Needed → Type 0) (at : I → List ℕ) (reads : List ℕ → V → List ℕ → Type 0) (octets : List ℕ) (r : Result (I × V) (Refusal E)) (P : V → List ℕ → Type 0) (w : V) (rest : List ℕ) →
+    reads octets w rest → ((v : V) (s : List ℕ) → reads octets v s → P v s) → Reads gives grows Cut at reads octets r → BackOr gives at P r
+answered gives grows Cut at reads octets (Ok x) P w rest read f h = f x.1 (at x.0) h
+answered gives grows Cut at reads octets (Err (refusals.Incomplete n)) P w rest read f h = lacks_none reads octets n h.1 w rest read
+answered gives grows Cut at reads octets (Err (refusals.Error e)) P w rest read f h = h.0 w rest read
+answered gives grows Cut at reads octets (Err (refusals.Failure e)) P w rest read f h = h.0
 
-pub element_back : {V E I : Type 0} (gives : Error → E → Type 0) (at : I → List ℕ) (formed : V → Type 0) (element : V → Option Element) (reads : List ℕ → V → List ℕ → Type 0) →
-    BackEach formed element reads → SameEach formed element reads → OneRest reads → (octets : List ℕ) (r : Result (I × V) (Refusal E)) → Reads gives at reads octets r →
+pub element_back : {V E I : Type 0} (gives : Error → E → Type 0) (grows : Type 0) (Cut : List ℕ → Needed → Type 0) (at : I → List ℕ) (formed : V → Type 0) (element : V → Option Element) (reads : List ℕ → V → List ℕ → Type 0) →
+    BackEach formed element reads → SameEach formed element reads → OneRest reads → (octets : List ℕ) (r : Result (I × V) (Refusal E)) → Reads gives grows Cut at reads octets r →
     (v : V) (rest : List ℕ) → formed v → (IsLong (written (element v)) → ⊥) → octets ≡ written (element v) ++ rest → BackOr gives at (λ w s. (element w ≡ element v) × (s ≡ rest)) r
-element_back gives at formed element reads back same once octets r h v rest form short e =
+element_back gives grows Cut at formed element reads back same once octets r h v rest form short e =
     let found = back v rest form short in
     let Read = λ (z : List ℕ). reads z found.0 rest in
-    answered gives at reads octets r (λ w s. (element w ≡ element v) × (s ≡ rest)) found.0 rest (subst Read (sym e) found.1)
+    answered gives grows Cut at reads octets r (λ w s. (element w ≡ element v) × (s ≡ rest)) found.0 rest (subst Read (sym e) found.1)
     (λ w s read.
     let Again = λ (z : List ℕ). reads z w s in
     let read_it = subst Again e read in
@@ -65,18 +67,18 @@ none_back tag element reads octets rest absent e (Some w) s other = absurd (not_
 none_back tag element reads octets rest absent e None s other = (tt, other.1 ∙ e)
 
 -- a present value is read back as one, an absent one before a rest that is read as absent
-pub option_back : {V E I : Type 0} (gives : Error → E → Type 0) (at : I → List ℕ) (tag : ℕ) (formed : V → Type 0) (element : V → Option Element) (reads : List ℕ → V → List ℕ → Type 0) →
+pub option_back : {V E I : Type 0} (gives : Error → E → Type 0) (grows : Type 0) (Cut : List ℕ → Needed → Type 0) (at : I → List ℕ) (tag : ℕ) (formed : V → Type 0) (element : V → Option Element) (reads : List ℕ → V → List ℕ → Type 0) →
     OneEach formed element → ((v : V) → formed v → HasTag tag (element v)) → BackEach formed element reads → SameEach formed element reads → OneRest reads →
-    (octets : List ℕ) (r : Result (I × Option V) (Refusal E)) → Reads gives at (OptionReads BeginsWithTag tag reads) octets r →
+    (octets : List ℕ) (r : Result (I × Option V) (Refusal E)) → Reads gives grows Cut at (OptionReads BeginsWithTag tag reads) octets r →
     (v : Option V) (rest : List ℕ) → WhereSome formed v → (IsLong (written (option_element element v)) → ⊥) → RestFits (IsAbsent BeginsWithTag tag) v rest → octets ≡ written (option_element element v) ++ rest →
     BackOr gives at (λ w s. SameOption element v w × (s ≡ rest)) r
-option_back gives at tag formed element reads one has back same once octets r h (Some v) rest form short fits e =
+option_back gives grows Cut at tag formed element reads one has back same once octets r h (Some v) rest form short fits e =
     let found = back v rest form short in
     let begins : BeginsWithTag octets tag = let Begins = λ (z : List ℕ). BeginsWithTag z tag in subst Begins (sym e) (tagged (element v) tag rest (one v form) (has v form) short) in
     let Read = λ (z : List ℕ). reads z found.0 rest in
-    answered gives at (OptionReads BeginsWithTag tag reads) octets r (λ w s. SameOption element (Some v) w × (s ≡ rest)) (Some found.0) rest (begins, subst Read (sym e) found.1)
+    answered gives grows Cut at (OptionReads BeginsWithTag tag reads) octets r (λ w s. SameOption element (Some v) w × (s ≡ rest)) (Some found.0) rest (begins, subst Read (sym e) found.1)
     (some_back tag formed element reads same once octets v rest form short begins e found.0 found.1) h
-option_back {V} gives at tag formed element reads one has back same once octets r h None rest form short fits e =
+option_back {V} gives grows Cut at tag formed element reads one has back same once octets r h None rest form short fits e =
     let absent : IsAbsent BeginsWithTag tag octets = let Absent = λ (z : List ℕ). IsAbsent BeginsWithTag tag z in subst Absent (sym e) fits in
-    answered gives at (OptionReads BeginsWithTag tag reads) octets r (λ w s. SameOption element None w × (s ≡ rest)) None octets (absent, refl)
+    answered gives grows Cut at (OptionReads BeginsWithTag tag reads) octets r (λ w s. SameOption element None w × (s ≡ rest)) None octets (absent, refl)
     (none_back tag element reads octets rest absent e) h

@@ -39,8 +39,8 @@ pub size_twos : (octets : List ℕ) (first : ℕ) (rest : List ℕ) → octets �
 size_twos octets first rest e = ap size_of (twos_of octets first rest e) ∙ size_is (nat_le 128 first) (number_from_digits 256 (unsigned_octets (nat_le 128 first) octets))
 
 -- the type's value of the number, or none
-pub from_fits : {V : Type 0} (number : V → ℤ) (InRange : ℤ → Type 0) (content : List ℕ) (z : ℤ) (r : Result V Error) → SpellsInteger content z → FitsWhole number InRange z r → ReadsContent (IntegerMeans number InRange) content r
+pub from_fits : {V : Type 0} (number : V → ℤ) (InRange : ℤ → Type 0) (content : List ℕ) (z : ℤ) (r : Result V Error) → SpellsInteger content z → FitsWhole number InRange z r → ReadsContent ⊥ (IntegerMeans number InRange) content r
 from_fits number InRange content z (Ok v) s f =
     let Spelled : ℤ → Type 0 = λ k. SpellsInteger content k in
     (subst Spelled (sym f.0) s, subst InRange (sym f.0) f.1)
-from_fits number InRange content z (Err e) s f = λ ne v m. f.1 (subst InRange (sym m.0.value ∙ s.value) m.1)
+from_fits number InRange content z (Err e) s f = (f.0, λ ne v m. f.1 (subst InRange (sym m.0.value ∙ s.value) m.1))

@@ -2,6 +2,8 @@
 use Rattle.std.specs.Prelude.{◌≡◌, ◌≢◌, ℕ, List, Bool, false, Result, Ok, Err}
 use Rattle.std.specs.Str.{IsUtf8}
 use Rattle.asn1_core.specs.Elements.{Element}
+use Rattle.asn1_any.specs.BerElements.{BerElement}
+use Rattle.asn1_any.specs.Reading.{element_of_ber}
 use Rattle.asn1_core.specs.declared.error.Error.{Error}
 use Rattle.asn1_core.specs.declared.error.Error.TheVariants as errors
 
@@ -11,8 +13,8 @@ pub record IsLeaf (tag : ℕ) (e : Element) : Type 0 where
   pub primitive : e.constructed ≡ false
 
 -- such an element, whose content means the value
-pub record LeafMeans {V : Type 0} (tag : ℕ) (means : List ℕ → V → Type 0) (e : Element) (v : V) : Type 0 where
-  pub leaf : IsLeaf tag e
+pub record LeafMeans {V : Type 0} (tag : ℕ) (means : List ℕ → V → Type 0) (e : BerElement) (v : V) : Type 0 where
+  pub leaf : IsLeaf tag (element_of_ber e)
   pub meant : means e.content v
 
 -- the value holds the content as it is
@@ -23,10 +25,10 @@ MeansOctets octets_of content v = octets_of v ≡ content
 abbrev pub MeansText : {V : Type 0} → (V → List ℕ) → List ℕ → V → Type 0
 MeansText octets_of content v = (octets_of v ≡ content) × IsUtf8 content
 
--- a value of the content, or an error; any but want of memory says that there is none
-abbrev pub ReadsContent : {V : Type 0} → (List ℕ → V → Type 0) → List ℕ → Result V Error → Type 0
-ReadsContent means content (Ok v) = means content v
-ReadsContent {V} means content (Err e) = e ≢ errors.OutOfMemory → (v : V) → means content v → ⊥
+-- a value of the content, or an error: want of memory where memory may be wanted, any other where there is none
+abbrev pub ReadsContent : {V : Type 0} → Type 0 → (List ℕ → V → Type 0) → List ℕ → Result V Error → Type 0
+ReadsContent grows means content (Ok v) = means content v
+ReadsContent {V} grows means content (Err e) = (e ≡ errors.OutOfMemory → grows) × (e ≢ errors.OutOfMemory → (v : V) → means content v → ⊥)
 
 -- such an element, whose content DER allows
 pub record LeafAllows (tag : ℕ) (Allowed : List ℕ → Type 0) (e : Element) : Type 0 where

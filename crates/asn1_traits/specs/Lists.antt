@@ -1,6 +1,8 @@
 -- Values one after the other, as the content of a sequence or a set (X.690, 8.10 and 8.12).
 use Rattle.std.specs.Prelude.{◌≡◌, ◌<◌, ◌⊎◌, ℕ, Bool, true, Option, Some, List, [], ◌∷◌, ◌++◌, length, Result, Ok, Err}
 use Rattle.asn1_core.specs.Elements.{Element}
+use Rattle.asn1_any.specs.BerElements.{BerElement}
+use Rattle.asn1_any.specs.Reading.{element_of_ber}
 use Rattle.asn1_core.specs.declared.error.Error.{Error}
 use Rattle.asn1_core.specs.declared.outcome.Err.{Err as Refusal}
 use Rattle.asn1_traits.specs.Reads.{Refuses}
@@ -18,14 +20,14 @@ pub record IsContainer (tag : ℕ) (e : Element) : Type 0 where
   pub tag_is : e.tag ≡ tag
 
 -- such an element, whose content is these values
-pub record ContainerMeans {V : Type 0} (tag : ℕ) (reads : List ℕ → V → List ℕ → Type 0) (e : Element) (vs : List V) : Type 0 where
-  pub container : IsContainer tag e
+pub record ContainerMeans {V : Type 0} (tag : ℕ) (reads : List ℕ → V → List ℕ → Type 0) (e : BerElement) (vs : List V) : Type 0 where
+  pub container : IsContainer tag (element_of_ber e)
   pub items : AllRead reads e.content vs
 
 -- the values of the octets, or a refusal where they aren't such values and nothing else; `items` are those of a collection
 abbrev pub ReadsAll : {V W E : Type 0} → (Error → E → Type 0) → (W → List V) → (List ℕ → V → List ℕ → Type 0) → List ℕ → Result W (Refusal E) → Type 0
 ReadsAll gives items reads octets (Ok w) = AllRead reads octets (items w)
-ReadsAll {V} gives items reads octets (Err r) = Refuses gives r ((vs : List V) → AllRead reads octets vs → ⊥)
+ReadsAll {V} gives items reads octets (Err r) = Refuses gives (Unit {0}) r ((vs : List V) → AllRead reads octets vs → ⊥)
 
 -- what is written of each, one after the other
 abbrev pub all_written : {V : Type 0} → (V → Option Element) → List V → List ℕ

@@ -1,5 +1,5 @@
 -- A value that may be absent is read in one way.
-use Rattle.std.proofs.Common.{arith, ◌≡◌, ◌≢◌, ◌∙◌, ◌⊎◌, inl, inr, refl, sym, ap, ℕ, ◌≤◌, ◌+◌, Option, Some, None, List, [], ◌++◌, length, length-append}
+use Rattle.std.proofs.Common.{arith, ◌≡◌, ◌≢◌, ◌∙◌, ◌⊎◌, inl, inr, refl, sym, ap, ℕ, ◌≤◌, ◌+◌, Option, Some, None, List, [], ◌++◌, length, length-append, append_assoc}
 use Rattle.asn1_core.specs.Lenient.{SpellsHeader, ber_head_of_head, BerHead}
 use Rattle.asn1_core.specs.Strict.{Head}
 use Rattle.asn1_core.proofs.LenientLaws.{one_lenient_header_lem, one_ber_header_lem, lenient_is_ber_lem}
@@ -10,6 +10,7 @@ use Rattle.asn1_traits.specs.Options.{BeginsWithTag, BeginsWithBerTag, IsAbsent,
 pub record AreHeaders (Begins : List ℕ → ℕ → Type 0) : Type 0 where
   pub once : (octets : List ℕ) (m n : ℕ) → Begins octets m → Begins octets n → m ≡ n
   pub some : (n : ℕ) → Begins [] n → ⊥
+  pub more : (octets behind : List ℕ) (n : ℕ) → Begins octets n → Begins (octets ++ behind) n
 
 pub der_headers : AreHeaders BeginsWithTag
 der_headers = record {
@@ -17,6 +18,7 @@ der_headers = record {
       let both = one_lenient_header_lem p.front q.front p.rest q.rest p.head q.head p.in_range q.in_range p.spells q.spells (sym p.whole ∙ q.whole) in
       sym p.tells ∙ ap (λ (h : Head). h.tag) both.0 ∙ q.tells;
   some = λ n p. omega (arith, ap length p.whole, length-append p.front p.rest, header_long p.front (ber_head_of_head p.head) (lenient_is_ber_lem p.front p.head p.spells));
+  more = λ octets behind n p. record { head = p.head; front = p.front; rest = p.rest ++ behind; in_range = p.in_range; spells = p.spells; whole = ap (λ z. z ++ behind) p.whole ∙ append_assoc p.front p.rest behind; tells = p.tells };
 }
 
 pub ber_headers : AreHeaders BeginsWithBerTag
@@ -25,6 +27,7 @@ ber_headers = record {
       let both = one_ber_header_lem p.front q.front p.rest q.rest p.head q.head p.in_range q.in_range p.spells q.spells (sym p.whole ∙ q.whole) in
       sym p.tells ∙ ap (λ (h : BerHead). h.tag) both.0 ∙ q.tells;
   some = λ n p. omega (arith, ap length p.whole, length-append p.front p.rest, header_long p.front p.head p.spells);
+  more = λ octets behind n p. record { head = p.head; front = p.front; rest = p.rest ++ behind; in_range = p.in_range; spells = p.spells; whole = ap (λ z. z ++ behind) p.whole ∙ append_assoc p.front p.rest behind; tells = p.tells };
 }
 
 -- a present value isn't absent

@@ -1,7 +1,10 @@
 -- Values that may be absent: the tag number of the next header tells it. Its class plays no part.
-use Rattle.std.specs.Prelude.{◌≡◌, ◌≢◌, ◌⊎◌, ℕ, Option, Some, None, List, [], ◌++◌}
+use Rattle.std.specs.Prelude.{◌≡◌, ◌≢◌, ◌⊎◌, ℕ, Option, Some, None, List, [], ◌++◌, Err}
 use Rattle.asn1_core.specs.Elements.{Element}
 use Rattle.asn1_core.specs.Strict.{Head, IsHead}
+use Rattle.asn1_core.specs.Reading.{header_at, ber_header_at}
+use Rattle.asn1_core.specs.declared.error.Needed.{Needed}
+use Rattle.asn1_core.specs.declared.outcome.Err.TheVariants as refusals
 use Rattle.asn1_core.specs.Lenient.{SpellsHeader, BerHead, IsBerHead, SpellsBerHeader}
 
 -- a header of definite length begins the octets, and tells this tag number
@@ -32,6 +35,17 @@ IsAbsent Begins tag octets = (octets ≡ []) ⊎ ((other : ℕ) × (other ≢ ta
 abbrev pub OptionReads : {V : Type 0} → (List ℕ → ℕ → Type 0) → ℕ → (List ℕ → V → List ℕ → Type 0) → List ℕ → Option V → List ℕ → Type 0
 OptionReads Begins tag reads octets (Some v) rest = Begins octets tag × reads octets v rest
 OptionReads Begins tag reads octets None rest = IsAbsent Begins tag octets × (rest ≡ octets)
+
+-- the octets end within a header: its reader tells that so many are missing
+abbrev pub EndsWithinHeader : List ℕ → Needed → Type 0
+EndsWithinHeader octets n = header_at octets ≡ Err (refusals.Incomplete n)
+
+abbrev pub EndsWithinBerHeader : List ℕ → Needed → Type 0
+EndsWithinBerHeader octets n = ber_header_at octets ≡ Err (refusals.Incomplete n)
+
+-- octets that aren't empty end within a header, or within a value behind a header of the wanted tag number
+abbrev pub OptionCut : (List ℕ → Needed → Type 0) → (List ℕ → ℕ → Type 0) → ℕ → (List ℕ → Needed → Type 0) → List ℕ → Needed → Type 0
+OptionCut Ends Begins tag Cut octets n = (octets ≢ []) × (Ends octets n ⊎ (Begins octets tag × Cut octets n))
 
 -- a present value's element, or nothing
 abbrev pub option_element : {V : Type 0} → (V → Option Element) → Option V → Option Element

@@ -1,7 +1,7 @@
 //! `Any`, an element of any type.
 
 ghost use Rattle.std.specs.Prelude.{◌≡◌, ◌↔◌, ◌^◌, ◌<◌, Some, IsTrue};
-ghost use Rattle.asn1_any.specs.Views.{any_of};
+ghost use Rattle.asn1_any.specs.Views.{any_of, ber_any_of};
 ghost use Rattle.asn1_traits.specs.AnyLaws.{any_one, any_back, any_same};
 ghost use Rattle.asn1_traits.specs.Reads.{Checks};
 
@@ -14,7 +14,7 @@ use asn1_device::Sink;
 use std::alloc::Global;
 
 impl<'b> AnyMeaning for Any<'b> {
-    ghost means = { λ e v. any_of v ≡ e };
+    ghost means = { λ e v. ber_any_of v ≡ e };
 }
 
 impl<'b, E: From<Error>> FromAny<'b, E> for Any<'b> {

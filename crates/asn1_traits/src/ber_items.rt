@@ -26,7 +26,7 @@ pub fn read_ber_items<'a, E: From<Error>, T: FromBer<'a, E> + BerMeaning + Drop>
                     Err(_) => return Err(Err::from(Error::OutOfMemory)),
                 }
             }
-            Err(e) => return Err(e),
+            Err(e) => return Err(Err::within(e)),
         }
     }
     Ok(items)

@@ -7,7 +7,7 @@ use asn1_core::{Err, Error, ErrorKind};
 use std::alloc::Global;
 
 /// The values of the octets, read by DER's rules to their end. A value that takes no octet is refused (`NomError(Many0)`),
-/// and so are octets where `T` is refused.
+/// and so are octets where `T` is refused. Octets that are missing within them are an error, since the octets are whole.
 pub fn read_items<'a, E: From<Error>, T: FromDer<'a, E> + DerMeaning + Drop>(
     alloc: Global,
     octets: &'a [u8],
@@ -27,7 +27,7 @@ pub fn read_items<'a, E: From<Error>, T: FromDer<'a, E> + DerMeaning + Drop>(
                     Err(_) => return Err(Err::from(Error::OutOfMemory)),
                 }
             }
-            Err(e) => return Err(e),
+            Err(e) => return Err(Err::within(e)),
         }
     }
     Ok(items)

@@ -20,6 +20,9 @@ pub trait DerLeaf: Tagged {
     /// The content means the value, by the wider rules (BER).
     ghost content_means: { List ℕ → Self → Type 0 };
 
+    /// Reading a content may want memory.
+    ghost content_grows: { Type 0 } = { ⊥ };
+
     /// DER allows the content.
     ghost content_allowed: { List ℕ → Type 0 };
 
@@ -58,13 +61,16 @@ pub trait DerLeaf: Tagged {
 
 /// Reading a primitive type's content.
 pub trait FromLeaf<'a>: DerLeaf + Sized {
-    /// The value of the content, or an error where it has none. `OutOfMemory` where memory ran out.
+    /// The value of the content, or an error where it has none: `OutOfMemory` where memory ran out, which a type that takes
+    /// none (`content_grows`) never answers.
     fn from_content(alloc: Global, octets: &'a [u8]) -> Result<Self, Error>
-        ensures { ReadsContent Self.content_means octets.now result };
+        ensures { ReadsContent Self.content_grows Self.content_means octets.now result };
 }
 
 impl<T: DerLeaf> AnyMeaning for T {
     ghost means = { LeafMeans T.tag_number T.content_means };
+
+    ghost reading_grows = { T.content_grows };
 }
 
 // A primitive element of the tag number, or the error that it is none.

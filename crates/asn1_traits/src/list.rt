@@ -47,6 +47,8 @@ impl<T> Tagged for Vec<T> {
 
 impl<T: BerMeaning> AnyMeaning for Vec<T> {
     ghost means = { λ e v. ContainerMeans 16 T.ber_reads e v.items };
+
+    ghost reading_grows = { Unit {0} };
 }
 
 impl<'a, E: From<Error>, T: FromBer<'a, E> + BerMeaning + Drop> FromAny<'a, E> for Vec<T> {
@@ -60,6 +62,8 @@ impl<'a, E: From<Error>, T: FromBer<'a, E> + BerMeaning + Drop> FromAny<'a, E> f
 
 impl<T: DerMeaning> DerAnyMeaning for Vec<T> {
     ghost der_means = { λ e v. ContainerMeans 16 T.der_reads e v.items };
+
+    ghost der_reading_grows = { Unit {0} };
 }
 
 impl<'a, E: From<Error>, T: FromDer<'a, E> + DerMeaning + Drop> FromDerAny<'a, E> for Vec<T> {

@@ -1,7 +1,7 @@
 //! Values that may be absent.
 
 ghost use Rattle.std.specs.Prelude.{◌≡◌, ◌↔◌, IsTrue};
-ghost use Rattle.asn1_traits.specs.Options.{BeginsWithTag, BeginsWithBerTag, OptionReads, option_element, WhereSome, OnlySome};
+ghost use Rattle.asn1_traits.specs.Options.{BeginsWithTag, BeginsWithBerTag, EndsWithinHeader, EndsWithinBerHeader, OptionReads, OptionCut, option_element, WhereSome, OnlySome};
 ghost use Rattle.asn1_traits.specs.OptionLaws.{der_headers, ber_headers, option_rest};
 
 use crate::read::{BerMeaning, DerMeaning, FromBer, FromDer, Tagged};
@@ -12,6 +12,10 @@ use std::alloc::Global;
 
 impl<T: DerMeaning + Tagged> DerMeaning for Option<T> {
     ghost der_reads = { OptionReads BeginsWithTag T.tag_number T.der_reads };
+
+    ghost der_cut = { OptionCut EndsWithinHeader BeginsWithTag T.tag_number T.der_cut };
+
+    ghost der_grows = { T.der_grows };
 
     ghost one_rest = { option_rest BeginsWithTag T.tag_number T.der_reads der_headers T.one_rest };
 }
@@ -38,6 +42,10 @@ impl<'a, E: From<Error>, T: FromDer<'a, E> + DerMeaning + Tagged> FromDer<'a, E>
 
 impl<T: BerMeaning + Tagged> BerMeaning for Option<T> {
     ghost ber_reads = { OptionReads BeginsWithBerTag T.tag_number T.ber_reads };
+
+    ghost ber_cut = { OptionCut EndsWithinBerHeader BeginsWithBerTag T.tag_number T.ber_cut };
+
+    ghost ber_grows = { T.ber_grows };
 
     ghost one_ber_rest = { option_rest BeginsWithBerTag T.tag_number T.ber_reads ber_headers T.one_ber_rest };
 }

@@ -92,6 +92,8 @@ impl Tagged for String {
 impl DerLeaf for String {
     ghost content_means = { MeansText string_bytes };
 
+    ghost content_grows = { Unit {0} };
+
     ghost content_allowed = { λ _. Unit {0} };
 
     ghost leaf_form = { λ v. IsUtf8 (string_bytes v) };

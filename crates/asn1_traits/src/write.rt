@@ -174,9 +174,11 @@ fn encode<T: ToDer>(value: &T, alloc: Global) -> SerializeResult<Vec<u8>>
     }
 }
 
-/// Appends all of the octets, and answers their number. `IOError` where the writer failed, behind a front of them.
+/// Appends all of the octets, and answers their number. `IOError` where the writer failed, behind a front of them. It does
+/// not flush.
 pub fn write_all<S: Sink>(writer: &mut S, octets: &[u8]) -> SerializeResult<usize>
-    ensures { Writes (S.contents writer.old) (S.contents writer.new) (S.failures writer.old) (S.failures writer.new) ⊥ ⊥ ⊥ octets.now result }
+    ensures octets { Writes (S.contents writer.old) (S.contents writer.new) (S.failures writer.old) (S.failures writer.new) ⊥ ⊥ ⊥ octets.now result }
+    ensures flushes { S.flushes writer.new ≡ S.flushes writer.old }
 {
     match write_octets(writer, octets) {
         Ok(()) => Ok(octets.len()),
