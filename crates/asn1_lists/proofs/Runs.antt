@@ -10,36 +10,36 @@ use Rattle.asn1_traits.specs.ListLaws.{OneRest}
 use Rattle.asn1_lists.specs.Steps.{Steps, NoneTakes, Given, ValuesOr}
 
 -- nothing is given behind nothing
-none_behind : {V E : Type 0} (gives : Error → E → Type 0) (reads : List ℕ → V → List ℕ → Type 0) (octets last : List ℕ) (answers : List (Result V (Refusal E))) → octets ≡ [] →
-    Yields (Steps gives reads) octets answers last → answers ≡ []
-none_behind gives reads octets last [] e run = refl
-none_behind {V} gives reads octets last (Ok v ∷ answers) e run = absurd (omega (arith, (let P : List ℕ → Type 0 = λ z. length run.0 < length z in let q : P [] = subst P e run.1.1 in q)))
-none_behind gives reads octets last (Err r ∷ answers) e run = absurd (run.1.0 e)
+none_behind : {V E : Type 0} (gives : Error → E → Type 0) (grows : Type 0) (reads : List ℕ → V → List ℕ → Type 0) (octets last : List ℕ) (answers : List (Result V (Refusal E))) → octets ≡ [] →
+    Yields (Steps gives grows reads) octets answers last → answers ≡ []
+none_behind gives grows reads octets last [] e run = refl
+none_behind {V} gives grows reads octets last (Ok v ∷ answers) e run = absurd (omega (arith, (let P : List ℕ → Type 0 = λ z. length run.0 < length z in let q : P [] = subst P e run.1.1 in q)))
+none_behind gives grows reads octets last (Err r ∷ answers) e run = absurd (run.1.0 e)
 
-pub given : {V E : Type 0} (gives : Error → E → Type 0) (reads : List ℕ → V → List ℕ → Type 0) (octets last : List ℕ) (answers : List (Result V (Refusal E))) →
-    Yields (Steps gives reads) octets answers last → last ≡ [] → Given gives reads octets answers
-given gives reads octets last [] run e = run ∙ e
-given gives reads octets last (Ok v ∷ answers) run e = (run.0, run.1.0, run.1.1, given gives reads run.0 last answers run.2 e)
-given gives reads octets last (Err r ∷ answers) run e = (run.1.0, run.1.1, none_behind gives reads run.0 last answers run.1.2 run.2)
+pub given : {V E : Type 0} (gives : Error → E → Type 0) (grows : Type 0) (reads : List ℕ → V → List ℕ → Type 0) (octets last : List ℕ) (answers : List (Result V (Refusal E))) →
+    Yields (Steps gives grows reads) octets answers last → last ≡ [] → Given gives grows reads octets answers
+given gives grows reads octets last [] run e = run ∙ e
+given gives grows reads octets last (Ok v ∷ answers) run e = (run.0, run.1.0, run.1.1, given gives grows reads run.0 last answers run.2 e)
+given gives grows reads octets last (Err r ∷ answers) run e = (run.1.0, run.1.1, none_behind gives grows reads run.0 last answers run.1.2 run.2)
 
-pub ends : {V E : Type 0} (gives : Error → E → Type 0) (reads : List ℕ → V → List ℕ → Type 0) (rest : List ℕ) (answer : Option (Result V (Refusal E))) → Steps gives reads [] answer rest → (answer ≡ None) × (rest ≡ [])
-ends gives reads rest None step = (refl, step.1)
-ends gives reads rest (Some (Ok v)) step = absurd (omega (arith, step.1))
-ends gives reads rest (Some (Err r)) step = absurd (step.0 refl)
+pub ends : {V E : Type 0} (gives : Error → E → Type 0) (grows : Type 0) (reads : List ℕ → V → List ℕ → Type 0) (rest : List ℕ) (answer : Option (Result V (Refusal E))) → Steps gives grows reads [] answer rest → (answer ≡ None) × (rest ≡ [])
+ends gives grows reads rest None step = (refl, step.1)
+ends gives grows reads rest (Some (Ok v)) step = absurd (omega (arith, step.1))
+ends gives grows reads rest (Some (Err r)) step = absurd (step.0 refl)
 
 -- a refusal is want of memory, where a value is there
-memory_alone : {E : Type 0} (gives : Error → E → Type 0) (r : Refusal E) (none : Type 0) {V : Type 0} (answers : List (Result V (Refusal E))) → Refuses gives r none → (none → ⊥) → ValuesOr gives (Err r ∷ answers)
-memory_alone gives (refusals.Incomplete n) none answers h some = some h
-memory_alone gives (refusals.Error e) none answers h some = some h.0
-memory_alone gives (refusals.Failure e) none answers h some = h
+memory_alone : {E : Type 0} (gives : Error → E → Type 0) (grows : Type 0) (r : Refusal E) (none : Type 0) {V : Type 0} (answers : List (Result V (Refusal E))) → Refuses gives grows r none → (none → ⊥) → ValuesOr gives (Err r ∷ answers)
+memory_alone gives grows (refusals.Incomplete n) none answers h some = absurd h
+memory_alone gives grows (refusals.Error e) none answers h some = some h.0
+memory_alone gives grows (refusals.Failure e) none answers h some = h.0
 
-pub values : {V E : Type 0} (gives : Error → E → Type 0) (reads : List ℕ → V → List ℕ → Type 0) → OneRest reads → (octets : List ℕ) (vs : List V) (answers : List (Result V (Refusal E))) →
-    AllRead reads octets vs → Given gives reads octets answers → ValuesOr gives answers
-values gives reads once octets vs [] all run = tt
-values gives reads once octets [] (Ok v ∷ answers) all run =
+pub values : {V E : Type 0} (gives : Error → E → Type 0) (grows : Type 0) (reads : List ℕ → V → List ℕ → Type 0) → OneRest reads → (octets : List ℕ) (vs : List V) (answers : List (Result V (Refusal E))) →
+    AllRead reads octets vs → Given gives grows reads octets answers → ValuesOr gives answers
+values gives grows reads once octets vs [] all run = tt
+values gives grows reads once octets [] (Ok v ∷ answers) all run =
     absurd (omega (arith, (let P : List ℕ → Type 0 = λ z. length run.0 < length z in let q : P [] = subst P all run.2 in q)))
-values {V} gives reads once octets (w ∷ vs) (Ok v ∷ answers) all run =
+values {V} gives grows reads once octets (w ∷ vs) (Ok v ∷ answers) all run =
     let P : List ℕ → Type 0 = λ z. AllRead reads z vs in
-    values gives reads once run.0 vs answers (subst P (once octets w v all.0 run.0 all.1 run.1) all.3) run.3
-values gives reads once octets [] (Err r ∷ answers) all run = absurd (run.0 all)
-values gives reads once octets (w ∷ vs) (Err r ∷ answers) all run = memory_alone gives r (NoneTakes reads octets) answers run.1 (λ none. none w all.0 all.1 all.2)
+    values gives grows reads once run.0 vs answers (subst P (once octets w v all.0 run.0 all.1 run.1) all.3) run.3
+values gives grows reads once octets [] (Err r ∷ answers) all run = absurd (run.0 all)
+values gives grows reads once octets (w ∷ vs) (Err r ∷ answers) all run = memory_alone gives grows r (NoneTakes reads octets) answers run.1 (λ none. none w all.0 all.1 all.2)

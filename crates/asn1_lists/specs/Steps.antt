@@ -12,27 +12,27 @@ use Rattle.asn1_traits.specs.Lists.{AllRead}
 abbrev pub NoneTakes : {V : Type 0} → (List ℕ → V → List ℕ → Type 0) → List ℕ → Type 0
 NoneTakes {V} reads octets = (v : V) (rest : List ℕ) → reads octets v rest → length rest < length octets → ⊥
 
--- what one call gives: the value that begins the octets that are left, and these are left behind it; or nothing, where no
+-- `grows`: reading a value may want memory. What one call gives: the value that begins the octets that are left, and these are left behind it; or nothing, where no
 -- octet is left; or a refusal, where none begins them, and then nothing is left
-abbrev pub Steps : {V E : Type 0} → (Error → E → Type 0) → (List ℕ → V → List ℕ → Type 0) → List ℕ → Option (Result V (Refusal E)) → List ℕ → Type 0
-Steps gives reads octets None rest = (octets ≡ []) × (rest ≡ [])
-Steps gives reads octets (Some (Ok v)) rest = reads octets v rest × (length rest < length octets)
-Steps gives reads octets (Some (Err r)) rest = (octets ≢ []) × Refuses gives r (NoneTakes reads octets) × (rest ≡ [])
+abbrev pub Steps : {V E : Type 0} → (Error → E → Type 0) → Type 0 → (List ℕ → V → List ℕ → Type 0) → List ℕ → Option (Result V (Refusal E)) → List ℕ → Type 0
+Steps gives grows reads octets None rest = (octets ≡ []) × (rest ≡ [])
+Steps gives grows reads octets (Some (Ok v)) rest = reads octets v rest × (length rest < length octets)
+Steps gives grows reads octets (Some (Err r)) rest = (octets ≢ []) × Refuses gives grows r (NoneTakes reads octets) × (rest ≡ [])
 
 -- what the calls to the end give: the values of the octets, one after the other, to their end, or a refusal where none begins
 -- those that are left; nothing comes behind a refusal
-abbrev pub Given : {V E : Type 0} → (Error → E → Type 0) → (List ℕ → V → List ℕ → Type 0) → List ℕ → List (Result V (Refusal E)) → Type 0
-Given gives reads octets [] = octets ≡ []
-Given gives reads octets (Ok v ∷ answers) = (rest : List ℕ) × reads octets v rest × (length rest < length octets) × Given gives reads rest answers
-Given gives reads octets (Err r ∷ answers) = (octets ≢ []) × Refuses gives r (NoneTakes reads octets) × (answers ≡ [])
+abbrev pub Given : {V E : Type 0} → (Error → E → Type 0) → Type 0 → (List ℕ → V → List ℕ → Type 0) → List ℕ → List (Result V (Refusal E)) → Type 0
+Given gives grows reads octets [] = octets ≡ []
+Given gives grows reads octets (Ok v ∷ answers) = (rest : List ℕ) × reads octets v rest × (length rest < length octets) × Given gives grows reads rest answers
+Given gives grows reads octets (Err r ∷ answers) = (octets ≢ []) × Refuses gives grows r (NoneTakes reads octets) × (answers ≡ [])
 
 -- the calls to the first that gives nothing, and that one
-abbrev pub GivesToEnd : {V E : Type 0} → (Error → E → Type 0) → (List ℕ → V → List ℕ → Type 0) → Type 0
-GivesToEnd {V} {E} gives reads = (octets rest : List ℕ) (answers : List (Result V (Refusal E))) → YieldsThen (Steps gives reads) octets answers None rest → Given gives reads octets answers
+abbrev pub GivesToEnd : {V E : Type 0} → (Error → E → Type 0) → Type 0 → (List ℕ → V → List ℕ → Type 0) → Type 0
+GivesToEnd {V} {E} gives grows reads = (octets rest : List ℕ) (answers : List (Result V (Refusal E))) → YieldsThen (Steps gives grows reads) octets answers None rest → Given gives grows reads octets answers
 
 -- nothing left is nothing given
-abbrev pub EndsForGood : {V E : Type 0} → (Error → E → Type 0) → (List ℕ → V → List ℕ → Type 0) → Type 0
-EndsForGood {V} {E} gives reads = (rest : List ℕ) (answer : Option (Result V (Refusal E))) → Steps gives reads [] answer rest → (answer ≡ None) × (rest ≡ [])
+abbrev pub EndsForGood : {V E : Type 0} → (Error → E → Type 0) → Type 0 → (List ℕ → V → List ℕ → Type 0) → Type 0
+EndsForGood {V} {E} gives grows reads = (rest : List ℕ) (answer : Option (Result V (Refusal E))) → Steps gives grows reads [] answer rest → (answer ≡ None) × (rest ≡ [])
 
 -- these values, or those before one at which memory ran out
 abbrev pub ValuesOr : {V E : Type 0} → (Error → E → Type 0) → List (Result V (Refusal E)) → Type 0
@@ -43,5 +43,5 @@ ValuesOr gives (Err (refusals.Error e) ∷ answers) = ⊥
 ValuesOr gives (Err (refusals.Failure e) ∷ answers) = gives errors.OutOfMemory e
 
 -- octets that are values and nothing else are given as values alone
-abbrev pub GivesValues : {V E : Type 0} → (Error → E → Type 0) → (List ℕ → V → List ℕ → Type 0) → Type 0
-GivesValues {V} {E} gives reads = (octets : List ℕ) (vs : List V) (answers : List (Result V (Refusal E))) → AllRead reads octets vs → Given gives reads octets answers → ValuesOr gives answers
+abbrev pub GivesValues : {V E : Type 0} → (Error → E → Type 0) → Type 0 → (List ℕ → V → List ℕ → Type 0) → Type 0
+GivesValues {V} {E} gives grows reads = (octets : List ℕ) (vs : List V) (answers : List (Result V (Refusal E))) → AllRead reads octets vs → Given gives grows reads octets answers → ValuesOr gives answers

@@ -14,7 +14,8 @@ use std::marker::{Model, PhantomData};
 /// `DerParser`.
 ///
 /// It gives `Ok` items and then ends, or one `Err` and then ends for good. A value that takes no octet is refused
-/// (`NomError(Many0)`), and so are octets where `T` is refused.
+/// (`NomError(Many0)`), and so are octets where `T` is refused: octets that are missing are an error too, since the content
+/// is whole.
 #[derive(Drop)]
 pub struct SequenceIterator<'a, T, P, E> {
     alloc: Global,
@@ -47,7 +48,7 @@ impl<'a, E: From<Error>, T: FromDer<'a, E> + DerMeaning + Drop> Iterator
     for SequenceIterator<'a, T, DerParser, E> {
     type Item = Result<T, Err<E>>;
 
-    ghost next_gives = { Steps E.from_gives T.der_reads };
+    ghost next_gives = { Steps E.from_gives T.der_grows T.der_reads };
 
     ghost remaining = { λ octets. at_most (length octets) };
 
@@ -65,7 +66,7 @@ impl<'a, E: From<Error>, T: FromDer<'a, E> + DerMeaning + Drop> Iterator
                 self.content = rest;
                 Some(Ok(item))
             }
-            Err(e) => Some(Err(e)),
+            Err(e) => Some(Err(Err::within(e))),
         }
     }
 }
@@ -74,7 +75,7 @@ impl<'a, E: From<Error>, T: FromBer<'a, E> + BerMeaning + Drop> Iterator
     for SequenceIterator<'a, T, BerParser, E> {
     type Item = Result<T, Err<E>>;
 
-    ghost next_gives = { Steps E.from_gives T.ber_reads };
+    ghost next_gives = { Steps E.from_gives T.ber_grows T.ber_reads };
 
     ghost remaining = { λ octets. at_most (length octets) };
 
@@ -92,7 +93,7 @@ impl<'a, E: From<Error>, T: FromBer<'a, E> + BerMeaning + Drop> Iterator
                 self.content = after;
                 Some(Ok(item))
             }
-            Err(e) => Some(Err(e)),
+            Err(e) => Some(Err(Err::within(e))),
         }
     }
 }

@@ -9,16 +9,16 @@ use asn1_traits::{BerMeaning, DerMeaning, ToDer};
 /// What a `SequenceIterator` by DER's rules gives from its first call to its end: `Ok` items and then nothing, or `Ok` items
 /// and one `Err`; and then nothing for good. Octets that are values to their end give `Ok` items alone, want of memory aside.
 pub fn calls_to_the_end<E: From<Error>, T: DerMeaning>()
-    ensures given { GivesToEnd E.from_gives T.der_reads }
-    ensures ends { EndsForGood E.from_gives T.der_reads }
-    ensures values { GivesValues E.from_gives T.der_reads }
+    ensures given { GivesToEnd E.from_gives T.der_grows T.der_reads }
+    ensures ends { EndsForGood E.from_gives T.der_grows T.der_reads }
+    ensures values { GivesValues E.from_gives T.der_grows T.der_reads }
 {}
 
 /// The same by BER's rules.
 pub fn ber_calls_to_the_end<E: From<Error>, T: BerMeaning>()
-    ensures given { GivesToEnd E.from_gives T.ber_reads }
-    ensures ends { EndsForGood E.from_gives T.ber_reads }
-    ensures values { GivesValues E.from_gives T.ber_reads }
+    ensures given { GivesToEnd E.from_gives T.ber_grows T.ber_reads }
+    ensures ends { EndsForGood E.from_gives T.ber_grows T.ber_reads }
+    ensures values { GivesValues E.from_gives T.ber_grows T.ber_reads }
 {}
 
 /// Equal sets are written as equal octets (X.690, 11.6): two `SetOf` have the same element where their values are the same in

@@ -121,6 +121,8 @@ impl<T> Tagged for SequenceOf<T> {
 
 impl<T: BerMeaning> AnyMeaning for SequenceOf<T> {
     ghost means = { ContainerMeans 16 T.ber_reads };
+
+    ghost reading_grows = { Unit {0} };
 }
 
 impl<'a, E: From<Error>, T: FromBer<'a, E> + BerMeaning + Drop> FromAny<'a, E> for SequenceOf<T> {
@@ -137,6 +139,8 @@ impl<'a, E: From<Error>, T: FromBer<'a, E> + BerMeaning + Drop> FromAny<'a, E> f
 
 impl<T: DerMeaning> DerAnyMeaning for SequenceOf<T> {
     ghost der_means = { ContainerMeans 16 T.der_reads };
+
+    ghost der_reading_grows = { Unit {0} };
 }
 
 impl<'a, E: From<Error>, T: FromDer<'a, E> + DerMeaning + Drop> FromDerAny<'a, E>

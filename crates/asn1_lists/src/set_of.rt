@@ -125,6 +125,8 @@ impl<T> Tagged for SetOf<T> {
 
 impl<T: BerMeaning> AnyMeaning for SetOf<T> {
     ghost means = { ContainerMeans 17 T.ber_reads };
+
+    ghost reading_grows = { Unit {0} };
 }
 
 impl<'a, E: From<Error>, T: FromBer<'a, E> + BerMeaning + Drop> FromAny<'a, E> for SetOf<T> {
@@ -141,6 +143,8 @@ impl<'a, E: From<Error>, T: FromBer<'a, E> + BerMeaning + Drop> FromAny<'a, E> f
 
 impl<T: DerMeaning> DerAnyMeaning for SetOf<T> {
     ghost der_means = { ContainerMeans 17 T.der_reads };
+
+    ghost der_reading_grows = { Unit {0} };
 }
 
 impl<'a, E: From<Error>, T: FromDer<'a, E> + DerMeaning + Drop> FromDerAny<'a, E> for SetOf<T> {
