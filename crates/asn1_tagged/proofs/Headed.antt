@@ -2,8 +2,7 @@
 use Rattle.std.proofs.Common.{◌≡◌, ◌↔◌, ◌-◌, ◌∙◌, refl, ap, subst, ℕ, Option, Some, None, List, ◌++◌, append_assoc}
 use Rattle.asn1_core.specs.Elements.{Element, head_of_element}
 use Rattle.asn1_any.specs.DerElements.{BeginsWithElement}
-use Rattle.asn1_any.specs.BerElements.{BerElement, BeginsWithBerElement}
-use Rattle.asn1_any.specs.Reading.{element_of_ber}
+use Rattle.asn1_any.specs.BerElements.{BerElement, definite_element, BeginsWithBerElement}
 use Rattle.asn1_any.specs.declared.read.TheConstants.{MAX_RECURSION}
 use Rattle.asn1_traits.specs.Elements.{ReadsElement, ReadsBerElement}
 use Rattle.asn1_traits.specs.Options.{BeginsWithTag, BeginsWithBerTag, OptionReads}
@@ -37,12 +36,12 @@ opt_as Begins tag reads h octets (Some v) rest = ((λ p. p.1), (λ p. (h octets 
 opt_as Begins tag reads h octets None rest = ((λ p. p), (λ p. p))
 
 -- where each element that means a value has the tag number
-pub der_opt_as : {V : Type 0} (tag : ℕ) (means : Element → V → Type 0) → ((e : Element) (v : V) → means e v → e.tag ≡ tag) →
+pub der_opt_as : {V : Type 0} (tag : ℕ) (means : BerElement → V → Type 0) → ((e : BerElement) (v : V) → means e v → e.head.tag ≡ tag) →
     (octets : List ℕ) (v : Option V) (rest : List ℕ) → OptionReads BeginsWithTag tag (ReadsElement means) octets v rest ↔ OptTaggedReads BeginsWithTag tag (ReadsElement means) octets v rest
 der_opt_as tag means has = opt_as BeginsWithTag tag (ReadsElement means) (λ octets v rest p.
-    subst (λ (n : ℕ). BeginsWithTag octets n) (has p.element v p.meant) (der_headed octets rest p.element p.begins))
+    subst (λ (n : ℕ). BeginsWithTag octets n) (has (definite_element p.element) v p.meant) (der_headed octets rest p.element p.begins))
 
-pub ber_opt_as : {V : Type 0} (tag : ℕ) (means : Element → V → Type 0) → ((e : Element) (v : V) → means e v → e.tag ≡ tag) →
+pub ber_opt_as : {V : Type 0} (tag : ℕ) (means : BerElement → V → Type 0) → ((e : BerElement) (v : V) → means e v → e.head.tag ≡ tag) →
     (octets : List ℕ) (v : Option V) (rest : List ℕ) → OptionReads BeginsWithBerTag tag (ReadsBerElement means) octets v rest ↔ OptTaggedReads BeginsWithBerTag tag (ReadsBerElement means) octets v rest
 ber_opt_as tag means has = opt_as BeginsWithBerTag tag (ReadsBerElement means) (λ octets v rest p.
-    subst (λ (n : ℕ). BeginsWithBerTag octets n) (has (element_of_ber p.element) v p.meant) (ber_headed octets rest p.element p.begins))
+    subst (λ (n : ℕ). BeginsWithBerTag octets n) (has p.element v p.meant) (ber_headed octets rest p.element p.begins))

@@ -3,11 +3,13 @@ use Rattle.std.proofs.Common.{◌≡◌, ◌≢◌, ◌-◌, ◌∙◌, inl, ref
 use Rattle.asn1_core.specs.Answers.{TakesNoMemory}
 use Rattle.asn1_core.specs.Conversions.{RefusesWith, RefusesFor, Converts}
 use Rattle.asn1_core.specs.Elements.{Element}
+use Rattle.asn1_core.specs.Missing.{IsMissing}
 use Rattle.asn1_core.specs.Views.{class_number}
 use Rattle.asn1_core.specs.declared.class.Class.{Class}
 use Rattle.asn1_core.specs.declared.class.Class.TheVariants.{Universal, Application, ContextSpecific, Private}
 use Rattle.asn1_core.specs.declared.error.Error.{Error}
 use Rattle.asn1_core.specs.declared.error.Error.TheVariants as errors
+use Rattle.asn1_core.specs.declared.error.Needed.{Needed}
 use Rattle.asn1_core.specs.declared.outcome.Err.{Err as Refusal}
 use Rattle.asn1_core.specs.declared.outcome.Err.TheVariants as refusals
 use Rattle.asn1_any.specs.DerElements.{BeginsWithElement}
@@ -37,21 +39,22 @@ same_class Private Application e = cc
 same_class Private ContextSpecific e = cc
 same_class Private Private e = refl
 
-refused_with : {E : Type 0} (gives : Error → E → Type 0) (x : Error) (r : Refusal E) → x ≢ errors.OutOfMemory → RefusesWith gives x r → IsRefusal gives r
-refused_with gives x (refusals.Incomplete n) ne h = tt
-refused_with gives x (refusals.Error e) ne h = inl (x, ne, h)
-refused_with gives x (refusals.Failure e) ne h = absurd h
+refused_with : {E : Type 0} (gives : Error → E → Type 0) (Lacks : Needed → Type 0) (x : Error) (r : Refusal E) → x ≢ errors.OutOfMemory → RefusesWith gives x r → ((n : Needed) → Lacks n → ⊥) → IsRefusal gives Lacks r
+refused_with gives Lacks x (refusals.Incomplete n) ne h whole = absurd h
+refused_with gives Lacks x (refusals.Error e) ne h whole = (inl (x, ne, h), whole)
+refused_with gives Lacks x (refusals.Failure e) ne h whole = absurd h
 
--- an error that isn't want of memory, converted
-pub refused_from : {E : Type 0} (gives : Error → E → Type 0) (x : Error) (r : Refusal E) → x ≢ errors.OutOfMemory → RefusesFor gives x r → IsRefusal gives r
-refused_from gives errors.OutOfMemory r ne h = absurd (ne refl)
-refused_from gives x r ne h = refused_with gives x r ne h
+-- an error that isn't want of memory, converted, where no octet is missing
+pub refused_from : {E : Type 0} (gives : Error → E → Type 0) (Lacks : Needed → Type 0) (x : Error) (r : Refusal E) → x ≢ errors.OutOfMemory → RefusesFor gives x r → ((n : Needed) → Lacks n → ⊥) → IsRefusal gives Lacks r
+refused_from gives Lacks errors.OutOfMemory r ne h whole = absurd (ne refl)
+refused_from gives Lacks x r ne h whole = refused_with gives Lacks x r ne h whole
 
 -- a refusal of a reader that takes no memory, its error converted
-pub refused_by : {E : Type 0} (gives : Error → E → Type 0) (given : Refusal Error) (r : Refusal E) → Converts gives given r → TakesNoMemory given → IsRefusal gives r
-refused_by gives (refusals.Incomplete n) r h t = let P : Refusal _ → Type 0 = λ z. IsRefusal gives z in subst P (sym h) tt
-refused_by gives (refusals.Error e) r h t = refused_with gives e r t h
-refused_by gives (refusals.Failure e) r h t = absurd t
+pub refused_by : {E : Type 0} (gives : Error → E → Type 0) (Lacks : Needed → Type 0) (given : Refusal Error) (r : Refusal E) → Converts gives given r → TakesNoMemory given →
+    ((n : Needed) → given ≡ refusals.Incomplete n → Lacks n) → ((n : Needed) → Lacks n → given ≡ refusals.Incomplete n) → IsRefusal gives Lacks r
+refused_by gives Lacks (refusals.Incomplete n) r h t cut only = let P : Refusal _ → Type 0 = λ z. IsRefusal gives Lacks z in subst P (sym h) (cut n refl)
+refused_by gives Lacks (refusals.Error e) r h t cut only = refused_with gives Lacks e r t h (λ n is. let bad = only n is in cc)
+refused_by gives Lacks (refusals.Failure e) r h t cut only = absurd t
 
 -- the next element has another class
 unfit : (Begins : Element → List ℕ → Type 0) (octets : List ℕ) (class tag : ℕ) (e : Element) → octets ≢ [] → ((f : Element) (s : List ℕ) → Begins f s → f ≡ e) → e.tag ≡ tag → e.class ≢ class → IsUnfit Begins class tag octets
@@ -74,3 +77,7 @@ ber_unfit octets rest class tag e some begins p q =
 -- no element is next
 pub none_unfit : (Begins : Element → List ℕ → Type 0) (octets : List ℕ) (class tag : ℕ) → octets ≢ [] → ((f : Element) (s : List ℕ) → Begins f s → ⊥) → IsUnfit Begins class tag octets
 none_unfit Begins octets class tag some none = record { some = some; only = λ f s b. absurd (none f s b) }
+
+-- the octets that a refusal tells as missing
+pub told_missing : (Has : List ℕ → Type 0) (octets : List ℕ) (given : Refusal Error) (n : Needed) → given ≡ refusals.Incomplete n → IsMissing Has octets given → IsMissing Has octets (refusals.Incomplete n)
+told_missing Has octets given n is missing = let P : Refusal Error → Type 0 = λ z. IsMissing Has octets z in subst P is missing

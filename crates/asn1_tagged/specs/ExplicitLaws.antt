@@ -3,6 +3,7 @@ use Rattle.std.proofs.Common.{arith, ◌≡◌, refl, sym, ap, subst, ℕ, ◌^�
 use Rattle.std.proofs.lemmas.List.{append-nil}
 use Rattle.asn1_core.specs.Strict.{strict_header}
 use Rattle.asn1_core.specs.Elements.{Element, head_of_element, IsElement}
+use Rattle.asn1_any.specs.BerElements.{BerElement}
 use Rattle.asn1_any.proofs.DerLaws.{strict_begins}
 use Rattle.asn1_traits.specs.Elements.{ReadsElement}
 use Rattle.asn1_traits.specs.Writes.{written, IsLong, IsOneElement, HasTag}
@@ -46,7 +47,7 @@ explicit_back {V} {X} class tag formed element reads inner put put_inner back x 
     let read : reads (written o) found.0 [] = subst Reads (append-nil (written o)) found.1 in
     let Inner : V → Type 0 = λ z. reads (written o) z [] in
     let is : IsExplicit class tag e = record { tagged = record { class_is = refl; tag_is = refl }; constructed = refl } in
-    let Means : Element → X → Type 0 = λ z y. ExplicitMeans class tag reads z (inner y) in
+    let Means : BerElement → X → Type 0 = λ z y. ExplicitMeans class tag reads z (inner y) in
     let whole : ReadsElement Means (written (Some e) ++ rest) (put x found.0) rest =
     record {
       element = e;
@@ -65,7 +66,7 @@ explicit_same {V} {X} class tag formed element reads inner same x w rest r f sho
     let o = element (inner x) in
     let e = wrapped class tag o in
     let brief = wrapped_short class tag o f.class_is short in
-    let Means : Element → X → Type 0 = λ z y. ExplicitMeans class tag reads z (inner y) in
+    let Means : BerElement → X → Type 0 = λ z y. ExplicitMeans class tag reads z (inner y) in
     let Whole : Option Element → Type 0 = λ z. ReadsElement Means (written z ++ rest) w r in
     let again : ReadsElement Means (written (Some e) ++ rest) w r = subst Whole (wraps class tag o f.class_is) read in
     let is : again.element ≡ e = same_element e again.element rest r (wrapped_range class tag o f.class_is f.tag_is brief) again.begins in

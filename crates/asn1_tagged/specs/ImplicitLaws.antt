@@ -1,6 +1,7 @@
 -- That a value under a tag in place of its own is lawful where the value is: what is written is read back.
 use Rattle.std.proofs.Common.{arith, ◌≡◌, ◌∙◌, refl, sym, ap, subst, ℕ, ◌<◌, true, List, [], ◌++◌, Option, Some, None, nat_lt, lt-ltb}
 use Rattle.asn1_core.specs.Elements.{Element, element_octets, IsElement}
+use Rattle.asn1_any.specs.BerElements.{BerElement, definite_element}
 use Rattle.asn1_any.proofs.DerLaws.{strict_begins}
 use Rattle.asn1_traits.specs.Elements.{ReadsElement}
 use Rattle.asn1_traits.specs.Writes.{written, IsLong, IsOneElement, HasTag}
@@ -38,8 +39,8 @@ pub implicit_tag : (class tag own_class own : ℕ) (form : Type 0) (o : Option E
 implicit_tag class tag own_class own form o f = let P : Option Element → Type 0 = λ z. HasTag tag z in subst P (sym (moved class tag own_class own form o f)) refl
 
 -- octets of an element that begins nothing else
-alone : {V : Type 0} (means : Element → V → Type 0) (e : Element) (v : V) (rest : List ℕ) → IsElement e → ReadsElement means (element_octets e ++ rest) v [] → means e v
-alone means e v rest in_range read = let P : Element → Type 0 = λ z. means z v in subst P (same_element e read.element rest [] in_range read.begins) read.meant
+alone : {V : Type 0} (means : BerElement → V → Type 0) (e : Element) (v : V) (rest : List ℕ) → IsElement e → ReadsElement means (element_octets e ++ rest) v [] → means (definite_element e) v
+alone means e v rest in_range read = let P : Element → Type 0 = λ z. means (definite_element z) v in subst P (same_element e read.element rest [] in_range read.begins) read.meant
 
 moved_short : (class tag own_class own : ℕ) (form : Type 0) (o : Option Element) (f : IsImplicitForm class tag own_class own form o) → (IsLong (written (implicit_element class tag o)) → ⊥) →
     IsLong (written (Some (retagged class tag (own_of class tag own_class own form o f).element))) → ⊥
@@ -60,7 +61,7 @@ moved_range class tag own_class own form o f short =
     short_element (retagged class tag (own_of class tag own_class own form o f).element) f.class_is f.tag_is (moved_short class tag own_class own form o f short)
 
 -- read back before any rest; `put` puts another value under the tag
-pub implicit_back : {V X : Type 0} (class tag own_class own : ℕ) (formed : V → Type 0) (element : V → Option Element) (means : Element → V → Type 0) (inner : X → V) (put : X → V → X) →
+pub implicit_back : {V X : Type 0} (class tag own_class own : ℕ) (formed : V → Type 0) (element : V → Option Element) (means : BerElement → V → Type 0) (inner : X → V) (put : X → V → X) →
     ((x : X) (v : V) → inner (put x v) ≡ v) → OneEach formed element → BackEach formed element (ReadsElement means) →
     (x : X) (rest : List ℕ) → IsImplicitForm class tag own_class own (formed (inner x)) (element (inner x)) → (IsLong (written (implicit_element class tag (element (inner x)))) → ⊥) →
     (w : X) × ReadsElement (λ e y. ImplicitMeans class tag own_class own means e (inner y)) (written (implicit_element class tag (element (inner x))) ++ rest) w rest
@@ -71,12 +72,12 @@ implicit_back {V} {X} class tag own_class own formed element means inner put put
     let other = retagged class tag e in
     let again = back (inner x) [] f.inner f.short in
     let Reads : Option Element → Type 0 = λ z. ReadsElement means (written z ++ []) again.0 [] in
-    let meant : means e again.0 = alone means e again.0 [] (own_range class tag own_class own (formed (inner x)) o f (one (inner x) f.inner)) (subst Reads found.is again.1) in
-    let Back : Element → Type 0 = λ z. means z again.0 in
-    let back_meant : means (retagged own_class own other) again.0 = subst Back (sym (back_again class tag own_class own e found.class_is found.tag_is)) meant in
-    let Inner : V → Type 0 = λ z. means (retagged own_class own other) z in
+    let meant : means (definite_element e) again.0 = alone means e again.0 [] (own_range class tag own_class own (formed (inner x)) o f (one (inner x) f.inner)) (subst Reads found.is again.1) in
+    let Back : Element → Type 0 = λ z. means (definite_element z) again.0 in
+    let back_meant : means (definite_element (retagged own_class own other)) again.0 = subst Back (sym (back_again class tag own_class own e found.class_is found.tag_is)) meant in
+    let Inner : V → Type 0 = λ z. means (definite_element (retagged own_class own other)) z in
     let is : IsTagged class tag other = record { class_is = refl; tag_is = refl } in
-    let Means : Element → X → Type 0 = λ z y. ImplicitMeans class tag own_class own means z (inner y) in
+    let Means : BerElement → X → Type 0 = λ z y. ImplicitMeans class tag own_class own means z (inner y) in
     let whole : ReadsElement Means (written (Some other) ++ rest) (put x again.0) rest =
     record {
       element = other;
@@ -87,7 +88,7 @@ implicit_back {V} {X} class tag own_class own formed element means inner put put
     (put x again.0, subst Whole (sym (moved class tag own_class own (formed (inner x)) o f)) whole)
 
 -- whatever is read back is written the same
-pub implicit_same : {V X : Type 0} (class tag own_class own : ℕ) (formed : V → Type 0) (element : V → Option Element) (means : Element → V → Type 0) (inner : X → V) →
+pub implicit_same : {V X : Type 0} (class tag own_class own : ℕ) (formed : V → Type 0) (element : V → Option Element) (means : BerElement → V → Type 0) (inner : X → V) →
     OneEach formed element → SameEach formed element (ReadsElement means) →
     (x w : X) (rest r : List ℕ) → IsImplicitForm class tag own_class own (formed (inner x)) (element (inner x)) → (IsLong (written (implicit_element class tag (element (inner x)))) → ⊥) →
     ReadsElement (λ e y. ImplicitMeans class tag own_class own means e (inner y)) (written (implicit_element class tag (element (inner x))) ++ rest) w r →
@@ -97,14 +98,14 @@ implicit_same {V} {X} class tag own_class own formed element means inner one sam
     let found = own_of class tag own_class own (formed (inner x)) o f in
     let e = found.element in
     let other = retagged class tag e in
-    let Means : Element → X → Type 0 = λ z y. ImplicitMeans class tag own_class own means z (inner y) in
+    let Means : BerElement → X → Type 0 = λ z y. ImplicitMeans class tag own_class own means z (inner y) in
     let Whole : Option Element → Type 0 = λ z. ReadsElement Means (written z ++ rest) w r in
     let again : ReadsElement Means (written (Some other) ++ rest) w r = subst Whole (moved class tag own_class own (formed (inner x)) o f) read in
     let is : again.element ≡ other = same_element other again.element rest r (moved_range class tag own_class own (formed (inner x)) o f short) again.begins in
-    let Other : Element → Type 0 = λ z. means (retagged own_class own z) (inner w) in
-    let meant : means (retagged own_class own other) (inner w) = subst Other is again.meant.meant in
-    let Own : Element → Type 0 = λ z. means z (inner w) in
-    let own_meant : means e (inner w) = subst Own (back_again class tag own_class own e found.class_is found.tag_is) meant in
+    let Other : Element → Type 0 = λ z. means (definite_element (retagged own_class own z)) (inner w) in
+    let meant : means (definite_element (retagged own_class own other)) (inner w) = subst Other is again.meant.meant in
+    let Own : Element → Type 0 = λ z. means (definite_element z) (inner w) in
+    let own_meant : means (definite_element e) (inner w) = subst Own (back_again class tag own_class own e found.class_is found.tag_is) meant in
     let own_read : ReadsElement means (written (Some e) ++ []) (inner w) [] = record { element = e; begins = strict_begins e [] (own_range class tag own_class own (formed (inner x)) o f (one (inner x) f.inner)); meant = own_meant } in
     let Reads : Option Element → Type 0 = λ z. ReadsElement means (written z ++ []) (inner w) [] in
     ap (implicit_element class tag) (same (inner x) (inner w) [] [] f.inner f.short (subst Reads (sym found.is) own_read))

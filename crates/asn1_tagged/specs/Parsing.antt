@@ -7,13 +7,16 @@ use Rattle.asn1_core.specs.declared.tag.Tag.{Tag}
 use Rattle.asn1_core.specs.declared.length.Length.TheVariants.{Definite}
 use Rattle.asn1_core.specs.declared.header.Header.{Header}
 use Rattle.asn1_core.specs.declared.error.Error.{Error}
+use Rattle.asn1_core.specs.declared.error.Needed.{Needed}
+use Rattle.asn1_core.specs.Missing.{IsMissing}
 use Rattle.asn1_core.specs.declared.outcome.Err.{Err as Refusal}
 use Rattle.asn1_core.specs.declared.outcome.Err.TheVariants as refusals
-use Rattle.asn1_any.specs.DerElements.{BeginsWithElement}
-use Rattle.asn1_any.specs.BerElements.{BerElement, BeginsWithBerElement}
+use Rattle.asn1_any.specs.DerElements.{BeginsWithElement, HasElement}
+use Rattle.asn1_any.specs.BerElements.{BerElement, BeginsWithBerElement, HasBerElement}
 use Rattle.asn1_any.specs.Reading.{element_of, element_of_ber}
 use Rattle.asn1_any.specs.declared.read.TheConstants.{MAX_RECURSION}
 use Rattle.asn1_traits.specs.Reads.{IsNoMemory}
+use Rattle.asn1_traits.specs.Elements.{EndsWithinElement, EndsWithinBerElement}
 
 -- an element of definite length with this header and this content begins the octets, and the rest comes after it
 pub record DerHeaded (octets : List ℕ) (header : Header) (content rest : List ℕ) : Type 0 where
@@ -39,15 +42,24 @@ pub record IsUnfit (Begins : Element → List ℕ → Type 0) (class tag : ℕ) 
   pub some : octets ≢ []
   pub only : (e : Element) (rest : List ℕ) → Begins e rest → (e.tag ≡ tag) × (e.class ≢ class)
 
--- a refusal, not for want of memory
-abbrev pub IsRefusal : {E : Type 0} → (Error → E → Type 0) → Refusal E → Type 0
-IsRefusal gives (refusals.Incomplete n) = Unit {0}
-IsRefusal gives (refusals.Error e) = IsNoMemory gives e
-IsRefusal gives (refusals.Failure e) = ⊥
+-- the octets end within an element, so many octets are missing, and with fewer of them more none begins them
+pub record LacksElement (octets : List ℕ) (n : Needed) : Type 0 where
+  pub ends : EndsWithinElement octets n
+  pub missing : IsMissing HasElement octets (refusals.Incomplete n)
 
-abbrev pub IsRefused : {A E : Type 0} → (Error → E → Type 0) → Result A (Refusal E) → Type 0
-IsRefused gives (Ok x) = ⊥
-IsRefused gives (Err r) = IsRefusal gives r
+pub record LacksBerElement (octets : List ℕ) (n : Needed) : Type 0 where
+  pub ends : EndsWithinBerElement octets n
+  pub missing : IsMissing (HasBerElement (MAX_RECURSION - 1)) octets (refusals.Incomplete n)
+
+-- a refusal, not for want of memory: it tells that octets are missing where, and only where, they are (`Lacks`)
+abbrev pub IsRefusal : {E : Type 0} → (Error → E → Type 0) → (Needed → Type 0) → Refusal E → Type 0
+IsRefusal gives Lacks (refusals.Incomplete n) = Lacks n
+IsRefusal gives Lacks (refusals.Error e) = IsNoMemory gives e × ((n : Needed) → Lacks n → ⊥)
+IsRefusal gives Lacks (refusals.Failure e) = ⊥
+
+abbrev pub IsRefused : {A E : Type 0} → (Error → E → Type 0) → (Needed → Type 0) → Result A (Refusal E) → Type 0
+IsRefused gives Lacks (Ok x) = ⊥
+IsRefused gives Lacks (Err r) = IsRefusal gives Lacks r
 
 -- the closure's value before the octets behind the element, or its refusal; `at` are the octets of a window
 abbrev pub HandsOn : {V E I : Type 0} → (I → List ℕ) → List ℕ → Result (I × V) (Refusal E) → Result (I × Option V) (Refusal E) → Type 0
@@ -75,12 +87,12 @@ pub record Absent {V E I : Type 0} (at : I → List ℕ) (Begins : Element → L
   pub answer : IsOkAnd r (λ x. (at x.0 ≡ octets) × (x.1 ≡ None))
 
 -- nothing was handed to the closure: the octets are refused
-pub record Refused {A E : Type 0} (gives : Error → E → Type 0) (Begins : Element → List ℕ → Type 0) (class : Class) (tag : Tag) (octets : List ℕ) (r : Result A (Refusal E)) : Type 0 where
+pub record Refused {A E : Type 0} (gives : Error → E → Type 0) (Lacks : Needed → Type 0) (Begins : Element → List ℕ → Type 0) (class : Class) (tag : Tag) (octets : List ℕ) (r : Result A (Refusal E)) : Type 0 where
   pub unfit : IsUnfit Begins (class_number class) tag.0 octets
-  pub answer : IsRefused gives r
+  pub answer : IsRefused gives Lacks r
 
 -- one of the three
-abbrev pub Parsed : {V E I : Type 0} → (Error → E → Type 0) → (I → List ℕ) → (Header → List ℕ → List ℕ → Type 0) → (Element → List ℕ → Type 0) →
+abbrev pub Parsed : {V E I : Type 0} → (Error → E → Type 0) → (Needed → Type 0) → (I → List ℕ) → (Header → List ℕ → List ℕ → Type 0) → (Element → List ℕ → Type 0) →
     (Header → I → Result (I × V) (Refusal E) → Type 0) → Class → Tag → List ℕ → Result (I × Option V) (Refusal E) → Type 0
-Parsed gives at Headed Begins post class tag octets r =
-    Handed at Headed post class tag r ⊎ (Absent at Begins tag octets r ⊎ Refused gives Begins class tag octets r)
+Parsed gives Lacks at Headed Begins post class tag octets r =
+    Handed at Headed post class tag r ⊎ (Absent at Begins tag octets r ⊎ Refused gives Lacks Begins class tag octets r)

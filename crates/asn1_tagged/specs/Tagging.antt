@@ -1,6 +1,8 @@
 -- Elements under a tag of a chosen class and number (X.690, 8.14).
 use Rattle.std.specs.Prelude.{◌≡◌, ◌<◌, ◌^◌, ℕ, nat_lt, if◌then◌else◌, true, Option, Some, None, option_map, List}
 use Rattle.asn1_core.specs.Elements.{Element}
+use Rattle.asn1_any.specs.BerElements.{BerElement}
+use Rattle.asn1_any.specs.Reading.{element_of_ber}
 use Rattle.asn1_traits.specs.Writes.{Kind, kind_of_element, IsLong, written}
 
 -- an element of this class and tag number
@@ -14,8 +16,8 @@ pub record IsExplicit (class tag : ℕ) (e : Element) : Type 0 where
   pub constructed : e.constructed ≡ true
 
 -- explicit: the content begins with a value; octets after it are not looked at
-pub record ExplicitMeans {V : Type 0} (class tag : ℕ) (reads : List ℕ → V → List ℕ → Type 0) (e : Element) (v : V) : Type 0 where
-  pub explicit : IsExplicit class tag e
+pub record ExplicitMeans {V : Type 0} (class tag : ℕ) (reads : List ℕ → V → List ℕ → Type 0) (e : BerElement) (v : V) : Type 0 where
+  pub explicit : IsExplicit class tag (element_of_ber e)
   pub rest : List ℕ
   pub begins : reads e.content v rest
 
@@ -23,10 +25,14 @@ pub record ExplicitMeans {V : Type 0} (class tag : ℕ) (reads : List ℕ → V 
 abbrev pub retagged : ℕ → ℕ → Element → Element
 retagged class tag e = record { class = class; constructed = e.constructed; tag = tag; content = e.content }
 
+-- the same, its header's length as it is
+abbrev pub ber_retagged : ℕ → ℕ → BerElement → BerElement
+ber_retagged class tag e = record { head = record { class = class; constructed = e.head.constructed; tag = tag; size = e.head.size }; content = e.content }
+
 -- implicit: under the own class and tag number of the value's type the element would mean the value
-pub record ImplicitMeans {V : Type 0} (class tag own_class own : ℕ) (means : Element → V → Type 0) (e : Element) (v : V) : Type 0 where
-  pub tagged : IsTagged class tag e
-  pub meant : means (retagged own_class own e) v
+pub record ImplicitMeans {V : Type 0} (class tag own_class own : ℕ) (means : BerElement → V → Type 0) (e : BerElement) (v : V) : Type 0 where
+  pub tagged : IsTagged class tag (element_of_ber e)
+  pub meant : means (ber_retagged own_class own e) v
 
 -- numbers above 3 are no class, and nothing is written under one (X.690, 8.1.2.2)
 abbrev pub explicit_element : ℕ → ℕ → Option Element → Option Element

@@ -18,6 +18,8 @@ use std::alloc::Global;
 impl<T: BerMeaning, E, const CLASS: u8, const TAG: u32> AnyMeaning
     for TaggedValue<T, E, Explicit, CLASS, TAG> {
     ghost means = { λ e v. ExplicitMeans CLASS TAG T.ber_reads e v.inner };
+
+    ghost reading_grows = { T.ber_grows };
 }
 
 impl<'a, E: From<Error>, T: FromBer<'a, E> + BerMeaning, const CLASS: u8, const TAG: u32> FromAny<
@@ -28,7 +30,7 @@ impl<'a, E: From<Error>, T: FromBer<'a, E> + BerMeaning, const CLASS: u8, const 
         match check_explicit(&any, CLASS, TAG) {
             Ok(()) => match T::from_ber(alloc, any.content) {
                 Ok((_, inner)) => Ok(TaggedValue::explicit(inner)),
-                Err(e) => Err(e),
+                Err(e) => Err(Err::within(e)),
             },
             Err(e) => Err(Err::from(e)),
         }
@@ -38,6 +40,8 @@ impl<'a, E: From<Error>, T: FromBer<'a, E> + BerMeaning, const CLASS: u8, const 
 impl<T: DerMeaning, E, const CLASS: u8, const TAG: u32> DerAnyMeaning
     for TaggedValue<T, E, Explicit, CLASS, TAG> {
     ghost der_means = { λ e v. ExplicitMeans CLASS TAG T.der_reads e v.inner };
+
+    ghost der_reading_grows = { T.der_grows };
 }
 
 impl<
@@ -51,7 +55,7 @@ impl<
         match check_explicit(&any, CLASS, TAG) {
             Ok(()) => match T::from_der(alloc, any.content) {
                 Ok((_, inner)) => Ok(TaggedValue::explicit(inner)),
-                Err(e) => Err(e),
+                Err(e) => Err(Err::within(e)),
             },
             Err(e) => Err(Err::from(e)),
         }

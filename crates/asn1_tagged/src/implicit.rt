@@ -2,9 +2,9 @@
 
 ghost use Rattle.std.specs.Prelude.{◌≡◌, ◌↔◌, IsTrue, option_map};
 ghost use Rattle.asn1_core.specs.Views.{class_number};
-ghost use Rattle.asn1_any.specs.Views.{any_of};
+ghost use Rattle.asn1_any.specs.Views.{ber_any_of};
 ghost use Rattle.asn1_traits.specs.Writes.{kind_of};
-ghost use Rattle.asn1_tagged.specs.Tagging.{ImplicitMeans, retagged, implicit_element, IsOf, IsImplicitForm};
+ghost use Rattle.asn1_tagged.specs.Tagging.{ImplicitMeans, ber_retagged, implicit_element, IsOf, IsImplicitForm};
 
 use crate::check::check_tagged;
 use crate::value::{Implicit, TaggedValue};
@@ -14,9 +14,9 @@ use asn1_device::Sink;
 use asn1_traits::{AnyMeaning, DerAnyMeaning, DerKind, FromAny, FromDerAny, Tagged, ToDer};
 use std::alloc::Global;
 
-// The element under this class and tag number, its constructed bit and content as they are.
+// The element under this class and tag number, its constructed bit, length and content as they are.
 fn retag<'a>(any: Any<'a>, class: Class, tag: Tag) -> Any<'a>
-    ensures { any_of result ≡ retagged (class_number class) tag.0 (any_of any.entry) }
+    ensures { ber_any_of result ≡ ber_retagged (class_number class) tag.0 (ber_any_of any.entry) }
 {
     Any::new(any.header.with_class(class).with_tag(tag), any.content)
 }
@@ -24,6 +24,8 @@ fn retag<'a>(any: Any<'a>, class: Class, tag: Tag) -> Any<'a>
 impl<T: AnyMeaning + Tagged, E, const CLASS: u8, const TAG: u32> AnyMeaning
     for TaggedValue<T, E, Implicit, CLASS, TAG> {
     ghost means = { λ e v. ImplicitMeans CLASS TAG T.own_class_number T.tag_number T.means e v.inner };
+
+    ghost reading_grows = { T.reading_grows };
 }
 
 impl<
@@ -47,6 +49,8 @@ impl<
 impl<T: DerAnyMeaning + Tagged, E, const CLASS: u8, const TAG: u32> DerAnyMeaning
     for TaggedValue<T, E, Implicit, CLASS, TAG> {
     ghost der_means = { λ e v. ImplicitMeans CLASS TAG T.own_class_number T.tag_number T.der_means e v.inner };
+
+    ghost der_reading_grows = { T.der_reading_grows };
 }
 
 impl<

@@ -2,7 +2,7 @@
 
 ghost use Rattle.std.specs.Prelude.{◌≡◌};
 ghost use Rattle.asn1_any.specs.DerElements.{BeginsWithElement};
-ghost use Rattle.asn1_tagged.specs.Parsing.{DerHeaded, BerHeaded, BerBegins, Parsed};
+ghost use Rattle.asn1_tagged.specs.Parsing.{DerHeaded, BerHeaded, BerBegins, LacksElement, LacksBerElement, Parsed};
 ghost use Rattle.asn1_tagged.specs.Parsers.{IsContextParser};
 
 use asn1_any::Any;
@@ -33,14 +33,14 @@ impl OptTaggedParser {
     /// absent the answer is none, and all octets are left.
     ///
     /// Refusals: those of `Any::from_ber`; `UnexpectedClass` where the tag number is the wanted one and the class isn't;
-    /// those of `f`.
+    /// those of `f`, as they are.
     pub fn parse_ber<'a, T, E: From<Error>, F: FnOnce(Header, &'a [u8]) -> IResult<&'a [u8], T, E>>(
         &self,
         bytes: &'a [u8],
         f: F,
     ) -> IResult<&'a [u8], Option<T>, E>
         requires { F.IsAlwaysCallable f }
-        ensures { Parsed E.from_gives (λ i. i.now) (BerHeaded bytes.now) (BerBegins bytes.now) (F.post f) self.now.class self.now.tag bytes.now result }
+        ensures { Parsed E.from_gives (LacksBerElement bytes.now) (λ i. i.now) (BerHeaded bytes.now) (BerBegins bytes.now) (F.post f) self.now.class self.now.tag bytes.now result }
     {
         if bytes.is_empty() {
             return Ok((bytes, None));
@@ -67,14 +67,14 @@ impl OptTaggedParser {
     /// absent the answer is none, and all octets are left.
     ///
     /// Refusals: those of `Any::from_der`; `UnexpectedClass` where the tag number is the wanted one and the class isn't;
-    /// those of `f`.
+    /// those of `f`, as they are.
     pub fn parse_der<'a, T, E: From<Error>, F: FnOnce(Header, &'a [u8]) -> IResult<&'a [u8], T, E>>(
         &self,
         bytes: &'a [u8],
         f: F,
     ) -> IResult<&'a [u8], Option<T>, E>
         requires { F.IsAlwaysCallable f }
-        ensures { Parsed E.from_gives (λ i. i.now) (DerHeaded bytes.now) (BeginsWithElement bytes.now) (F.post f) self.now.class self.now.tag bytes.now result }
+        ensures { Parsed E.from_gives (LacksElement bytes.now) (λ i. i.now) (DerHeaded bytes.now) (BeginsWithElement bytes.now) (F.post f) self.now.class self.now.tag bytes.now result }
     {
         if bytes.is_empty() {
             return Ok((bytes, None));

@@ -67,10 +67,10 @@ lacks_none reads octets needed.Unknown h = absurd h
 lacks_none {V} reads octets (needed.Size n) h = let P : List ℕ → Type 0 = λ z. NoneReads reads z in subst P (append-nil octets) (h.1 [] h.0)
 
 -- a part's refusal is one of the whole
-pub part_refused : {V E : Type 0} (gives : Error → E → Type 0) (grows : Type 0) (Cut : List ℕ → Needed → Type 0) (reads : List ℕ → V → List ℕ → Type 0) (octets : List ℕ) (given r : Refusal E) (none : Type 0) →
-    RefusesAt gives grows Cut reads octets given → TellsWhole gives given r → (NoneReads reads octets → none) → Refuses gives (Unit {0}) r none
-part_refused gives grows Cut reads octets (refusals.Incomplete n) r none h w f =
-    let P : Refusal _ → Type 0 = λ z. Refuses gives (Unit {0}) z none in
+pub part_refused : {V E : Type 0} (gives : Error → E → Type 0) (grows more : Type 0) (Cut : List ℕ → Needed → Type 0) (reads : List ℕ → V → List ℕ → Type 0) (octets : List ℕ) (given r : Refusal E) (none : Type 0) → (grows → more) →
+    RefusesAt gives grows Cut reads octets given → TellsWhole gives given r → (NoneReads reads octets → none) → Refuses gives more r none
+part_refused gives grows more Cut reads octets (refusals.Incomplete n) r none g h w f =
+    let P : Refusal _ → Type 0 = λ z. Refuses gives more z none in
     not_memory gives (errors.Incomplete n) r P (λ e. cc) w (λ e ne. (f (lacks_none reads octets n h.1), ne))
-part_refused gives grows Cut reads octets (refusals.Error e) r none h w f = let P : Refusal _ → Type 0 = λ z. Refuses gives (Unit {0}) z none in subst P (sym w) (f h.0, h.1)
-part_refused gives grows Cut reads octets (refusals.Failure e) r none h w f = let P : Refusal _ → Type 0 = λ z. Refuses gives (Unit {0}) z none in subst P (sym w) (h.0, tt)
+part_refused gives grows more Cut reads octets (refusals.Error e) r none g h w f = let P : Refusal _ → Type 0 = λ z. Refuses gives more z none in subst P (sym w) (f h.0, h.1)
+part_refused gives grows more Cut reads octets (refusals.Failure e) r none g h w f = let P : Refusal _ → Type 0 = λ z. Refuses gives more z none in subst P (sym w) (h.0, g h.1)

@@ -22,7 +22,7 @@ pub returns-in-Err : goal.returns-in-Err
 returns-in-Err g c =
     let some = not_empty c.loop-rest.rest.now (search rules) in
     let reads = g.T.DerMeaning.der_reads in
-    part_refused g.E.From.from_gives g.T.DerMeaning.der_grows g.T.DerMeaning.der_cut reads c.loop-rest.rest.now c.in-Err.e c.within.result _ c.in-Err.ensures c.within.ensures
+    part_refused g.E.From.from_gives g.T.DerMeaning.der_grows (Unit {0}) g.T.DerMeaning.der_cut reads c.loop-rest.rest.now c.in-Err.e c.within.result _ (λ h. tt) c.in-Err.ensures c.within.ensures
     (λ none. none_left reads c.args.octets.now c.loop-rest.rest.now c.loop-rest.items.items c.loop-rest.invariant some none)
 
 pub returns : goal.returns

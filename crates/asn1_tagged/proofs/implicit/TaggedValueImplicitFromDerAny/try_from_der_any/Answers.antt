@@ -2,4 +2,4 @@ use Rattle.asn1_traits.proofs.Outcomes.{refused_for}
 use Rattle.asn1_tagged.proofs.implicit.TaggedValueImplicitFromDerAny.try_from_der_any.Goals as goal
 
 pub returns-in-Err : goal.returns-in-Err
-returns-in-Err g c = refused_for g.E.From.from_gives c.in-Err.e c.from.result _ c.from.ensures (λ _ v m. c.in-Err.ensures.1 m.tagged)
+returns-in-Err g c = refused_for g.E.From.from_gives g.T.DerAnyMeaning.der_reading_grows c.in-Err.e c.from.result _ c.from.ensures (λ e. absurd (c.in-Err.ensures.0 e)) (λ _ v m. c.in-Err.ensures.1 m.tagged)
