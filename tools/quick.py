@@ -7,9 +7,9 @@ import sys
 
 import repo
 
-MOST_EDITS = 8
-# Crates whose named wrong bodies need more places than that.
-WITH_TWELVE = ()
+MOST_EDITS, MOST_OF_SMALL, SMALL = 8, 6, 30
+# Crates whose named wrong bodies need more places, at most 12.
+MOST_OF = {"cert_framing": 8, "cert_search": 8}
 MOST_LINES = 800
 OF_FUNCTION = ("Invariants.antt", "Answers.antt", "Proof.antt")
 BESIDE_SRC = ("args", "stdin", "stdout", "status")
@@ -57,10 +57,17 @@ def edits_apply():
                     yield f"crates/{crate}/{folder}/{edit} can't be applied: {why}"
 
 
+def functions(crate):
+    """How many functions a crate has beside its tests."""
+    sources = [it for it in FILES if it.startswith(f"crates/{crate}/src/") and not re.search(r"/tests?\b", it)]
+    return sum(len(re.findall(r"(?m)^\s*(?:pub(?:\(\w+\))? )?(?:const )?fn ", repo.read(it))) for it in sources)
+
+
 def few_edits():
     """The gate tries few edits of a crate."""
     for crate in CRATES:
-        count, most = len(repo.edits(crate, "must-fail")), 12 if crate in WITH_TWELVE else MOST_EDITS
+        count = len(repo.edits(crate, "must-fail"))
+        most = MOST_OF.get(crate) or (MOST_OF_SMALL if functions(crate) < SMALL else MOST_EDITS)
         if count > most:
             yield f"crates/{crate}/must-fail has {count} edits, and at most {most} are kept there: move others to crates/{crate}/wrong"
         for edit in {*repo.edits(crate, "must-fail")} & {*repo.edits(crate, "wrong")}:

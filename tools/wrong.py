@@ -21,6 +21,8 @@ REFUSED = "refused, as it must be"
 # The most memory that a check of a crate is likely to take.
 A_CHECK = 3 << 30
 PRINTING = threading.Lock()
+RUNNING = set()
+STOPPED = threading.Event()
 
 
 def say(text):
@@ -53,10 +55,22 @@ def copy_of(room, crates, libraries):
                 subprocess.run(["cp", "-r", "-p", "--reflink=auto", source, os.path.join(to, name)], check=True)
 
 
-def ran(words, folder):
-    """What a command says, and its status."""
-    it = subprocess.run(words, cwd=folder, stdin=subprocess.DEVNULL, stdout=subprocess.PIPE, stderr=subprocess.STDOUT, text=True, errors="replace")
-    return it.returncode, it.stdout
+def stop(number, _):
+    """Ends what runs, so that the copy is removed."""
+    STOPPED.set()
+    for it in [*RUNNING]:
+        it.terminate()
+    sys.exit(128 + number)
+
+
+def ran(words, folder, scratch=None):
+    """A command's status, and what it says."""
+    environment = {**os.environ, "TMPDIR": scratch} if scratch else None
+    it = subprocess.Popen(words, cwd=folder, env=environment, stdin=subprocess.DEVNULL, stdout=subprocess.PIPE, stderr=subprocess.STDOUT, text=True, errors="replace")
+    RUNNING.add(it)
+    text = it.communicate()[0]
+    RUNNING.discard(it)
+    return it.returncode, text
 
 
 def unproved(top, libraries):
@@ -68,10 +82,10 @@ def unproved(top, libraries):
     return None
 
 
-def tried(room, crate):
+def tried(room, scratch, crate):
     """Tries a crate's edits, and gives how many passed and failed."""
     edits = repo.edits(crate, "wrong")
-    status, text = ran(["rt", "must-fail", crate], room)
+    status, text = (130, "stopped") if STOPPED.is_set() else ran(["rt", "must-fail", crate], room, scratch)
     found = dict(TRIED.findall(text))
     passed = [it for it in edits if found.get(it, "").startswith(REFUSED)]
     for it in edits:
@@ -98,7 +112,10 @@ def main(names):
     libraries = repo.below([low for it in crates for low in listed[it]], listed)
     count = sum(len(repo.edits(it, "wrong")) for it in crates)
     passed = failed = 0
-    with tempfile.TemporaryDirectory(prefix="wrong-") as room:
+    with tempfile.TemporaryDirectory(prefix="wrong-") as above:
+        room, scratch = os.path.join(above, "copy"), os.path.join(above, "scratch")
+        os.mkdir(room)
+        os.mkdir(scratch)
         why = unproved(repo.TOP, libraries)
         if not why:
             copy_of(room, crates, libraries)
@@ -112,13 +129,13 @@ def main(names):
         crates.sort(key=lambda it: -len(repo.edits(it, "wrong")))
         say(f"{count} edits of {len(crates)} crates, {lanes()} crates at a time")
         with ThreadPoolExecutor(lanes()) as pool:
-            for well, badly in pool.map(lambda it: tried(room, it), crates):
+            for well, badly in pool.map(lambda it: tried(room, scratch, it), crates):
                 passed, failed = passed + well, failed + badly
     print(f"{passed} passed, {failed} failed")
     return 1 if failed else 0
 
 
 if __name__ == "__main__":
-    # so that the copy is removed where the run is told to stop
-    signal.signal(signal.SIGTERM, lambda *_: sys.exit(143))
+    signal.signal(signal.SIGTERM, stop)
+    signal.signal(signal.SIGINT, stop)
     sys.exit(main(sys.argv[1:]))
