@@ -1,35 +1,46 @@
-"""What the benchmarks of readers share: a bundle, a program built by `rt`, and medians of its time beside sha256sum's."""
+"""What the benches share: programs built by `rt`, a bundle, and medians of a program's time beside a loop that touches each octet once."""
 import os
+import shutil
 import statistics
 import subprocess
 import sys
 import tempfile
 import time
 
+TOP = os.path.dirname(os.path.dirname(os.path.abspath(__file__)))
+sys.path.insert(0, os.path.join(TOP, "tools"))
+import repo
+
 COPIES = 100_000
 RUNS = 5
-TOP = os.path.dirname(os.path.dirname(os.path.abspath(__file__)))
 
 
-def timed(words):
-    """Runs the words with their output thrown away; gives seconds, and peak resident octets."""
+def timed(words, out=subprocess.DEVNULL):
+    """Runs the words with their output to a file; gives seconds, and peak resident octets."""
     start = time.perf_counter()
-    with open(os.devnull, "wb") as nothing:
-        child = subprocess.Popen(words, stdout=nothing)
-        _, status, usage = os.wait4(child.pid, 0)
+    child = subprocess.Popen(words, stdin=subprocess.DEVNULL, stdout=out)
+    _, status, usage = os.wait4(child.pid, 0)
     seconds = time.perf_counter() - start
     if status != 0:
-        sys.exit(f"{words[0]} ended with status {status}")
+        sys.exit(f"{words[0]} failed, with wait status {status}")
     return seconds, usage.ru_maxrss * 1024
 
 
 def built(crate):
-    """The path of a crate's program, built where it isn't there."""
-    folder = os.path.join(TOP, "crates", crate)
-    program = os.path.join(folder, "out", crate)
-    if not os.path.exists(program):
-        # builds, and then runs with no words, whose status says nothing here
-        subprocess.run(["rt", "run"], cwd=folder, stdout=subprocess.DEVNULL, stderr=subprocess.DEVNULL)
+    """The path of a crate's program, as its sources and all below it are now; ends the bench where it can't be built, with what was said."""
+    program, said = repo.built(crate)
+    if not program:
+        sys.exit(f"{said}\n{crate} wasn't built, so nothing was timed")
+    return program
+
+
+def yardstick(room):
+    """The path of the loop's program."""
+    compiler = next((it for it in ("cc", "gcc", "clang") if shutil.which(it)), None)
+    if not compiler:
+        sys.exit("the yardstick is a loop in C: put cc, gcc or clang on the path")
+    program = os.path.join(room, "touch")
+    subprocess.run([compiler, "-O2", "-o", program, os.path.join(TOP, "bench", "touch.c")], check=True)
     return program
 
 
@@ -47,22 +58,22 @@ def write_bundle(room):
 def run(name, words, expect, times, memory_times=None):
     """Times the words and a bundle's path behind them, and prints medians.
 
-    `expect` judges what they print. Ends with status 1 past `times` times sha256sum, or `memory_times` times the file's size.
+    `expect` judges what they print. Ends with status 1 past `times` times the yardstick, or `memory_times` times the file's size.
     """
     with tempfile.TemporaryDirectory() as room:
-        bundle = write_bundle(room)
+        bundle, loop = write_bundle(room), yardstick(room)
         size = os.path.getsize(bundle)
         printed = subprocess.run(words + [bundle], check=True, capture_output=True, text=True).stdout
         if not expect(printed, size):
             sys.exit(f"{name} printed something else: {printed[-200:]}")
-        runs, sums = [], []
+        runs, loops = [], []
         for _ in range(RUNS):
-            sums.append(timed(["sha256sum", bundle])[0])
+            loops.append(timed([loop, bundle])[0])
             runs.append(timed(words + [bundle]))
-    seconds, digest = statistics.median(it[0] for it in runs), statistics.median(sums)
+    seconds, touched = statistics.median(it[0] for it in runs), statistics.median(loops)
     memory = statistics.median(it[1] for it in runs)
     print(f"bundle: {COPIES} items, {size / 1e6:.1f} MB")
     print(f"{name}: {seconds:.3f} s, {COPIES / seconds:.0f} items/s, {size / 1e6 / seconds:.0f} MB/s, peak {memory / 1e6:.0f} MB, {memory / size:.2f} times the file")
-    print(f"sha256sum: {digest:.3f} s, {size / 1e6 / digest:.0f} MB/s")
-    print(f"ratio to sha256sum: {seconds / digest:.2f}")
-    sys.exit(0 if seconds <= times * digest and (memory_times is None or memory <= memory_times * size) else 1)
+    print(f"yardstick: {touched:.3f} s, {size / 1e6 / touched:.0f} MB/s")
+    print(f"ratio to the yardstick: {seconds / touched:.2f}, at most {times}")
+    sys.exit(0 if seconds <= times * touched and (memory_times is None or memory <= memory_times * size) else 1)

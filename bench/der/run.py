@@ -1,7 +1,8 @@
 #!/usr/bin/env python3
-"""Times `parse_der` over each item of a bundle of 100,000 certificates (a sample, repeated) against `sha256sum` of the same file.
+"""Times `parse_der` over each item of a bundle of 100,000 certificates (a sample, repeated) against the yardstick on the
+same file (`bench/touch.c`).
 
-Prints medians of five, of whole processes that read the file: items/s, MB/s, and the time as a ratio to sha256sum.
+Prints medians of five, of whole processes that read the file: items/s, MB/s, and the time as a ratio to the yardstick.
 To reach: a ratio of at most 3. Exit status 1 where it is missed.
 """
 import os

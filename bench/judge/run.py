@@ -13,39 +13,35 @@ counts as one. Exit status 1 where that is missed.
 import os
 import re
 import statistics
-import subprocess
 import sys
+import tempfile
+
+sys.path.insert(0, os.path.join(os.path.dirname(os.path.abspath(__file__)), os.pardir))
+import timing
 
 KINDS = [("layered", 100_000), ("equal", 20_000), ("chain", 5_000)]
 LINEAR = ("layered", "equal")
-RUNS = 5
-TOP = os.path.dirname(os.path.dirname(os.path.dirname(os.path.abspath(__file__))))
-CRATE = os.path.join(TOP, "crates", "judge_bench")
-PROGRAM = os.path.join(CRATE, "out", "judge_bench")
 
 
-def measured(kind, count):
+def measured(program, kind, count):
     """Runs one graph; gives what was found, milliseconds of the search and of the check, and peak resident octets."""
-    child = subprocess.Popen([PROGRAM, "timed", kind, str(count)], stdout=subprocess.PIPE, text=True)
-    text = child.stdout.read()
-    _, status, usage = os.wait4(child.pid, 0)
-    if status != 0:
-        sys.exit(f"{kind} {count} ended with status {status}")
-    said, times = text.splitlines()
+    with tempfile.TemporaryFile("w+") as out:
+        _, memory = timing.timed([program, "timed", kind, str(count)], out)
+        out.seek(0)
+        said, times = out.read().splitlines()
     if not said.endswith("check true"):
         sys.exit(f"the check says no: {said}")
     found, check = (int(it) / 1000 for it in re.findall(r"(\d+) us", times))
-    return said, found, check, usage.ru_maxrss * 1024
+    return said, found, check, memory
 
 
 def main():
-    if not os.path.exists(PROGRAM):
-        subprocess.run(["rt", "run"], cwd=CRATE, check=True, stdin=subprocess.DEVNULL)
+    program = timing.built("judge_bench")
     missed = False
     for kind, start in KINDS:
         first = None
         for count in (start, 2 * start, 4 * start):
-            runs = [measured(kind, count) for _ in range(RUNS)]
+            runs = [measured(program, kind, count) for _ in range(timing.RUNS)]
             found, check, memory = (statistics.median(it[i] for it in runs) for i in (1, 2, 3))
             print(f"{runs[0][0]}; find {found:.1f} ms, check {check:.1f} ms, peak {memory / 1e6:.0f} MB", flush=True)
             now = (max(found, 1), max(check, 1), memory)

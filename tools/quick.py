@@ -1,0 +1,204 @@
+#!/usr/bin/env python3
+"""A look over the repository that proves nothing and takes seconds: prints a line for each thing amiss, and then how many checks passed and failed."""
+import os
+import re
+import subprocess
+import sys
+
+import repo
+
+MOST_EDITS, MOST_OF_SMALL, SMALL = 8, 6, 30
+# Crates whose named wrong bodies need more places, at most 12.
+MOST_OF = {"cert_framing": 8, "cert_search": 8}
+MOST_LINES = 800
+OF_FUNCTION = ("Invariants.antt", "Answers.antt", "Proof.antt")
+BESIDE_SRC = ("args", "stdin", "stdout", "status")
+LABEL = re.compile(r"(?:^|[^\w/.-])((?:[DTLW]\d{1,2}|R\d{1,2}(?:\.\d+)?|0[1-4], ?\d|document 0[1-4]))(?:\W|$)")
+# What stands in quotes in code: octets and words of a test, and no label.
+QUOTED = re.compile(r"""b?'[^'\n]{1,4}'|"(?:[^"\\\n]|\\.)*\"""")
+MACHINE = re.compile(r"""(?:^|[\s"'`(=:])(?:/(?:opt|work|farm|home|root|tmp|Users)/\w|\.\./shared)""")
+NAMED_FILE = re.compile(r"`([\w.+-]*(?:/[\w.+-]*)+|[\w.+-]+\.(?:md|py|sh|rt|antt|edit|der|txt|frame))`")
+LINK = re.compile(r"\]\(([^)\s#]+)[^)]*\)")
+
+
+def files():
+    """Each file of the repository but for what checks leave behind, by its path from the top."""
+    found = []
+    for at, folders, names in os.walk(repo.TOP):
+        folders[:] = sorted(it for it in folders if it not in (".git", "out", "__pycache__"))
+        found += [os.path.relpath(os.path.join(at, it), repo.TOP) for it in sorted(names)]
+    return found
+
+
+FILES = files()
+OF_RATTLE = [it for it in FILES if it.endswith((".rt", ".antt"))]
+SCRIPTS = [it for it in FILES if it.endswith((".py", ".sh")) or it in ("test", "certpath", ".ci/run")]
+TEXTS = [it for it in FILES if it.endswith((".md", ".edit")) or it == "crates.txt"]
+DOCS = [it for it in FILES if it.endswith(".md")]
+CRATES = repo.crates()
+
+
+def layout():
+    """Each file is laid out as `rt fmt` does it."""
+    page = subprocess.run(["rt", "doc"], capture_output=True, text=True, stdin=subprocess.DEVNULL).stdout.strip()
+    words = [os.path.join(os.path.dirname(page), "bin", "rattle"), "fmt", "--check", *OF_RATTLE]
+    ran = subprocess.run(words, cwd=repo.TOP, stdin=subprocess.DEVNULL, stdout=subprocess.DEVNULL, stderr=subprocess.PIPE, text=True)
+    lines = ran.stderr.splitlines() or [f"rattle fmt ended with status {ran.returncode}"]
+    return [f"{it}: run rt fmt in the crate's folder" if it.endswith(" is not in the layout") else it for it in lines] if ran.returncode else []
+
+
+def edits_apply():
+    """Each edit can be applied to its crate."""
+    for crate in CRATES:
+        for folder in repo.FOLDERS:
+            for edit in repo.edits(crate, folder):
+                why = repo.amiss(crate, f"{folder}/{edit}")
+                if why:
+                    yield f"crates/{crate}/{folder}/{edit} can't be applied: {why}"
+
+
+def functions(crate):
+    """How many functions a crate has beside its tests."""
+    sources = [it for it in FILES if it.startswith(f"crates/{crate}/src/") and not re.search(r"/tests?\b", it)]
+    return sum(len(re.findall(r"(?m)^\s*(?:pub(?:\(\w+\))? )?(?:const )?fn ", repo.read(it))) for it in sources)
+
+
+def few_edits():
+    """The gate tries few edits of a crate."""
+    for crate in CRATES:
+        count = len(repo.edits(crate, "must-fail"))
+        most = MOST_OF.get(crate) or (MOST_OF_SMALL if functions(crate) < SMALL else MOST_EDITS)
+        if count > most:
+            yield f"crates/{crate}/must-fail has {count} edits, and at most {most} are kept there: move others to crates/{crate}/wrong"
+        for edit in {*repo.edits(crate, "must-fail")} & {*repo.edits(crate, "wrong")}:
+            yield f"crates/{crate}: {edit} stands in must-fail/ and in wrong/"
+
+
+def modules(crate):
+    """The .rt files of a crate that its root reaches by `mod`."""
+    inside = f"crates/{crate}/src/"
+    found = [inside + it for it in ("lib.rt", "main.rt") if inside + it in FILES]
+    for path in found:
+        folder = path[:-len(os.path.basename(path))] if path.endswith(("/lib.rt", "/main.rt", "/mod.rt")) else path[:-len(".rt")] + "/"
+        for name in re.findall(r"(?m)^[^/\n]*\bmod (\w+)\s*;", repo.read(path)):
+            found += [it for it in (f"{folder}{name}.rt", f"{folder}{name}/mod.rt") if it in FILES and it not in found]
+    return found
+
+
+def is_joined(word, words):
+    """Whether a word is one of the words, or several of them one behind the other, as a folder of a trait's impl is named."""
+    return word in words or any(word[:at] in words and is_joined(word[at:], words) for at in range(1, len(word)))
+
+
+def is_read(path, reached, words):
+    """Whether a file below crates/NAME/ is one that the crate's check or its run reads."""
+    _, crate, part, *inner = path.split("/")
+    name = inner[-1] if inner else part
+    if part in repo.FOLDERS:
+        return len(inner) == 1 and name.endswith((".edit", ".md"))
+    if part == "src":
+        return path in reached
+    if part in ("specs", "proofs"):
+        if part == "proofs" and name in OF_FUNCTION:
+            return len(inner) > 1 and all(is_joined(it.lstrip("+"), words) for it in inner[:-1])
+        above = f"crates/{crate}/{'/'.join([part, *inner[:-1]])}"
+        lists = [f"{above}/Lib.antt", f"{above}.antt"]
+        listed = "\n".join(repo.read(it) for it in lists if it in FILES)
+        return path == lists[0] or bool(re.search(rf"(?m)^(?:pub )?mod {re.escape(name[:-len('.antt')])}\s*$", listed))
+    return not inner and part in BESIDE_SRC or part == "data" and not name.endswith((".rt", ".antt"))
+
+
+def all_read():
+    """Each file of a crate is read by its check or its run."""
+    for crate in CRATES:
+        reached = modules(crate)
+        sources = [it for it in FILES if it.startswith(f"crates/{crate}/src/")]
+        words = {*re.findall(r"\w+", "\n".join([*sources, *map(repo.read, reached)]))}
+        for path in FILES:
+            if path.startswith(f"crates/{crate}/") and not is_read(path, reached, words):
+                yield f"{path}: nothing reads it"
+    for path in OF_RATTLE:
+        if not path.startswith("crates/"):
+            yield f"{path}: it stands outside the crates, so nothing reads it"
+
+
+def no_labels():
+    """Rules, laws and wrong bodies have plain names, and no paper's numbers."""
+    for path in [*OF_RATTLE, *TEXTS, *SCRIPTS]:
+        for number, line in enumerate(repo.read(path).split("\n"), 1):
+            found = LABEL.search(line if path.endswith(".md") else QUOTED.sub("", line))
+            if found:
+                yield f"{path}:{number}: {found[1]} looks like the label of a paper: {line.strip()[:100]}"
+    for path in FILES:
+        if re.search(r"(?:^|[/_])[DTLWR]\d{1,2}(?:[_.]|$)", path):
+            yield f"{path}: its name looks like the label of a paper"
+
+
+def no_machine():
+    """No file names a path of one machine."""
+    for path in [*OF_RATTLE, *TEXTS, *SCRIPTS]:
+        for number, line in enumerate(repo.read(path).split("\n"), 1):
+            if MACHINE.search(line):
+                yield f"{path}:{number}: a path of a machine: {line.strip()[:100]}"
+
+
+def docs_name_files():
+    """Links of the docs lead somewhere, and the files that they name are there."""
+    tails = {""}
+    for path in FILES:
+        parts = path.split("/")
+        for end in range(1, len(parts) + 1):
+            for start in range(end):
+                tail = "/".join(parts[start:end])
+                tails |= {tail, os.path.splitext(tail)[0]}
+    for path in DOCS:
+        for number, line in enumerate(repo.read(path).split("\n"), 1):
+            for to in LINK.findall(line):
+                if "://" not in to and not os.path.exists(os.path.join(repo.TOP, os.path.dirname(path), to)):
+                    yield f"{path}:{number}: the link {to} leads nowhere"
+            for name in NAMED_FILE.findall(line):
+                is_pattern = re.search(r"\b(?:NAME|PATH|FILE|WORD)\b", name) or name.startswith(("/", "out/", "../"))
+                if not is_pattern and os.path.normpath(name) not in tails:
+                    yield f"{path}:{number}: there is no file {name}"
+
+
+def crates_listed():
+    """crates.txt and the folders name the same crates, and README.md tells of each."""
+    folders, told = {*os.listdir(os.path.join(repo.TOP, "crates"))}, repo.read("README.md")
+    for name in sorted({*CRATES} - folders):
+        yield f"crates.txt: there is no folder crates/{name}"
+    for name in sorted(folders - {*CRATES}):
+        yield f"crates/{name}: crates.txt has no line for it"
+    for name in CRATES:
+        if f"`{name}`" not in told:
+            yield f"README.md: it tells nothing of the crate {name}"
+
+
+def no_handles():
+    """HANDLES allows none."""
+    if repo.read("HANDLES") != "Handles allowed: none.\n":
+        yield "HANDLES: it is the one line 'Handles allowed: none.'"
+
+
+def short_files():
+    """Sources are short."""
+    for path in OF_RATTLE:
+        count = repo.read(path).count("\n")
+        if count > MOST_LINES:
+            yield f"{path}: {count} lines, and at most {MOST_LINES} are kept in one file"
+
+
+def main():
+    checks = (layout, edits_apply, few_edits, all_read, no_labels, no_machine, docs_name_files, crates_listed, no_handles, short_files)
+    failed = 0
+    for check in checks:
+        found = [*check()]
+        failed += bool(found)
+        for line in found:
+            print(f"quick: {line}")
+    print(f"{len(checks) - failed} passed, {failed} failed")
+    return 1 if failed else 0
+
+
+if __name__ == "__main__":
+    sys.exit(main())

@@ -1,0 +1,82 @@
+"""What the scripts share: the crates as crates.txt lists them, programs that `rt` builds, and edits with the texts that they make."""
+import os
+import re
+import subprocess
+
+TOP = os.path.dirname(os.path.dirname(os.path.abspath(__file__)))
+FOLDERS = ("must-fail", "wrong")
+
+
+def read(path):
+    """The text of a file, by its path from the top of the repository."""
+    with open(os.path.join(TOP, path), encoding="utf-8") as file:
+        return file.read()
+
+
+def crates():
+    """The crates of crates.txt, each with the crates of the repository that its line lists."""
+    listed = {}
+    for line in read("crates.txt").splitlines():
+        name, _, uses = line.partition("#")[0].partition(":")
+        if name.split():
+            listed[name.split()[0]] = uses.split()
+    return {name: [it for it in uses if it in listed] for name, uses in listed.items()}
+
+
+def below(names, listed):
+    """The named crates and all that they stand on, lowest first."""
+    found = []
+
+    def take(name):
+        for it in listed[name]:
+            take(it)
+        if name not in found:
+            found.append(name)
+
+    for name in names:
+        take(name)
+    return found
+
+
+def built(crate, words=()):
+    """Has `rt` prove and build a crate's program, unless nothing has changed since it did, and run it on the words.
+
+    Gives the program's path, or none where it wasn't built, and what was said.
+    """
+    folder = os.path.join(TOP, "crates", crate)
+    ran = subprocess.run(["rt", "run", "--", *words], cwd=folder, stdin=subprocess.DEVNULL, stdout=subprocess.DEVNULL,
+                         stderr=subprocess.PIPE, text=True, errors="replace")
+    # (the status is the program's own once it runs)
+    is_built = re.search(rf"(?m)^rt: running out/{crate};", ran.stderr)
+    return os.path.join(folder, "out", crate) if is_built else None, ran.stderr
+
+
+def edits(crate, folder):
+    """The names of a crate's edits in must-fail/ or in wrong/."""
+    at = os.path.join(TOP, "crates", crate, folder)
+    return sorted(it for it in os.listdir(at) if it.endswith(".edit")) if os.path.isdir(at) else []
+
+
+def amiss(crate, edit):
+    """Why an edit can't be applied to the crate, or none. Each `old:` text stands once in what the pairs before it left."""
+    texts, path, old, pairs = {}, None, None, 0
+    for line in read(f"crates/{crate}/{edit}").split("\n"):
+        if line.startswith("file: "):
+            path = line[len("file: "):].strip()
+            if not re.match(r"(src|specs|proofs)/", path) or os.path.normpath(path) != path:
+                return f"{path} is no file below src/, specs/ or proofs/"
+        elif line.startswith("old: "):
+            old = line[len("old: "):]
+        elif line.startswith("new:"):
+            if not path or not old:
+                return "a `new:` stands before any `file:` or `old:`"
+            if path not in texts:
+                if not os.path.isfile(os.path.join(TOP, "crates", crate, path)):
+                    return f"there is no file {path}"
+                texts[path] = read(f"crates/{crate}/{path}")
+            count = texts[path].count(old)
+            if count != 1:
+                return f"its `old:` text stands {count} times in {path}: {old.strip()}"
+            texts[path] = texts[path].replace(old, re.sub(r"\A ", "", line[len("new:"):]))
+            old, pairs = None, pairs + 1
+    return None if pairs else "it has no pair of `old:` and `new:`"
