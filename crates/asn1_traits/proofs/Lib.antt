@@ -6,3 +6,4 @@ pub mod Absent
 pub mod Sequences
 pub mod Wholes
 pub mod Rounds
+pub mod Functions

@@ -7,6 +7,8 @@ pub mod Booleans
 pub mod BooleanLaws
 pub mod Integers
 pub mod IntegerLaws
+pub mod IntegerReading
+pub mod IntegerFits
 pub mod Wholes
 pub mod Options
 pub mod OptionLaws

@@ -1,9 +1,10 @@
 //! Machine integers (X.690, 8.3).
 
-ghost use Rattle.std.specs.Prelude.{◌≡◌, ◌-◌, if◌then◌else◌, ◌↔◌, ◌^◌, ◌<◌, ◌≤◌, ℤ, IsTrue, SomeIff, length};
+ghost use Rattle.std.specs.Prelude.{◌≡◌, ◌-◌, if◌then◌else◌, ◌↔◌, ◌^◌, ◌<◌, ◌≤◌, Bool, ℤ, List, ℕ, Some, IsTrue, IsOk, SomeIff, length};
 ghost use Rattle.std.specs.Int.Digits.{digits_of, number_from_digits};
 ghost use Rattle.asn1_traits.specs.Integers.{turned, unsigned_octets, IsShortest, with_sign_bit, integer_octets, size_of};
-ghost use Rattle.asn1_traits.specs.Leaves.{ChecksContent};
+ghost use Rattle.asn1_traits.specs.Leaves.{ChecksContent, ReadsContent};
+ghost use Rattle.asn1_traits.specs.IntegerReading.{integer_at, is_shortest, GivesInteger};
 ghost use Rattle.asn1_traits.specs.IntegerLaws.{IntegerMeans, integer_fits, integer_same};
 ghost use Rattle.asn1_traits.specs.Wholes.{whole_of, ReadsWhole, FitsWhole};
 
@@ -31,6 +32,9 @@ pub trait DerInteger: Tagged + Sized {
     /// The number is one of the type.
     ghost in_range: { ℤ → Type 0 };
 
+    /// The same as a test.
+    ghost fits: { ℤ → Bool };
+
     /// The value as a whole number.
     fn to_whole(&self) -> Whole
         ensures number { whole_of result ≡ number self.now }
@@ -45,6 +49,9 @@ pub trait DerInteger: Tagged + Sized {
 
     /// Numbers in range take at most 128 bits.
     ghost small: { (z : ℤ) → in_range z → size_of z < 2 ^ 128 };
+
+    /// The test finds the numbers in range, and no others.
+    ghost fitting: { (z : ℤ) → IsTrue (fits z) ↔ in_range z };
 }
 
 impl<T: DerInteger> DerLeaf for T {
@@ -81,7 +88,10 @@ impl<T: DerInteger> DerLeaf for T {
 }
 
 impl<'a, T: DerInteger> FromLeaf<'a> for T {
-    fn from_content(_alloc: Global, octets: &'a [u8]) -> Result<T, Error> {
+    fn from_content(_alloc: Global, octets: &'a [u8]) -> Result<T, Error>
+        ensures reads { ReadsContent ⊥ (IntegerMeans T.number T.in_range) octets.now result }
+        ensures exact { GivesInteger T.number result (integer_at T.fits octets.now) }
+    {
         T::from_whole(read_whole(octets)?)
     }
 }
@@ -89,7 +99,8 @@ impl<'a, T: DerInteger> FromLeaf<'a> for T {
 /// That the octets are shortest two's complement (X.690, 8.3.1 and 8.3.2): else `IntegerEmpty`, `IntegerLeadingZeroes` or
 /// `IntegerLeadingFF`, each as `DerConstraintFailed`.
 pub fn check_shortest(octets: &[u8]) -> Result<(), Error>
-    ensures { ChecksContent IsShortest octets.now result }
+    ensures checks { ChecksContent IsShortest octets.now result }
+    ensures exact { IsOk result ↔ IsTrue (is_shortest octets.now) }
 {
     match octets {
         [] => Err(Error::DerConstraintFailed(DerConstraint::IntegerEmpty)),
@@ -102,6 +113,12 @@ pub fn check_shortest(octets: &[u8]) -> Result<(), Error>
         _ => Ok(()),
     }
 }
+
+/// The functions that readers of machine integers answer find what a content means and DER allows, and nothing else.
+pub fn integer_functions<T: DerInteger>()
+    ensures means { (content : List ℕ) (v : T) → (integer_at T.fits content ≡ Some (T.number v)) ↔ IntegerMeans T.number T.in_range content v }
+    ensures allowed { (content : List ℕ) → IsTrue (is_shortest content) ↔ IsShortest content }
+{}
 
 // The number of a content: `InvalidLength` of none, `IntegerTooLarge` past 128 bits.
 fn read_whole(octets: &[u8]) -> Result<Whole, Error>

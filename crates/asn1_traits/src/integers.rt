@@ -4,6 +4,8 @@ ghost use Rattle.std.specs.Prelude.{◌≡◌, pos};
 ghost use Rattle.std.proofs.Common.{lit<, lit≤};
 ghost use Rattle.asn1_traits.specs.Integers.{IsUnsigned, IsSigned};
 ghost use Rattle.asn1_traits.specs.IntegerLaws.{unsigned_small, signed_small};
+ghost use Rattle.asn1_traits.specs.IntegerReading.{is_unsigned, is_signed};
+ghost use Rattle.asn1_traits.specs.IntegerFits.{unsigned_fitting, signed_fitting};
 
 use crate::integer::{DerInteger, Whole};
 use crate::read::Tagged;
@@ -28,9 +30,13 @@ impl DerInteger for u8 {
 
     ghost in_range = { IsUnsigned 8 };
 
+    ghost fits = { is_unsigned 8 };
+
     ghost low = { lit< tt };
 
     ghost small = { unsigned_small 8 (lit≤ tt) };
+
+    ghost fitting = { unsigned_fitting 8 };
 
     fn to_whole(&self) -> Whole {
         Whole {
@@ -69,9 +75,13 @@ impl DerInteger for u16 {
 
     ghost in_range = { IsUnsigned 16 };
 
+    ghost fits = { is_unsigned 16 };
+
     ghost low = { lit< tt };
 
     ghost small = { unsigned_small 16 (lit≤ tt) };
+
+    ghost fitting = { unsigned_fitting 16 };
 
     fn to_whole(&self) -> Whole {
         Whole {
@@ -110,9 +120,13 @@ impl DerInteger for u32 {
 
     ghost in_range = { IsUnsigned 32 };
 
+    ghost fits = { is_unsigned 32 };
+
     ghost low = { lit< tt };
 
     ghost small = { unsigned_small 32 (lit≤ tt) };
+
+    ghost fitting = { unsigned_fitting 32 };
 
     fn to_whole(&self) -> Whole {
         Whole {
@@ -151,9 +165,13 @@ impl DerInteger for u64 {
 
     ghost in_range = { IsUnsigned 64 };
 
+    ghost fits = { is_unsigned 64 };
+
     ghost low = { lit< tt };
 
     ghost small = { unsigned_small 64 (lit≤ tt) };
+
+    ghost fitting = { unsigned_fitting 64 };
 
     fn to_whole(&self) -> Whole {
         Whole {
@@ -192,9 +210,13 @@ impl DerInteger for u128 {
 
     ghost in_range = { IsUnsigned 128 };
 
+    ghost fits = { is_unsigned 128 };
+
     ghost low = { lit< tt };
 
     ghost small = { unsigned_small 128 (lit≤ tt) };
+
+    ghost fitting = { unsigned_fitting 128 };
 
     fn to_whole(&self) -> Whole {
         Whole {
@@ -230,9 +252,13 @@ impl DerInteger for i8 {
 
     ghost in_range = { IsSigned 8 };
 
+    ghost fits = { is_signed 8 };
+
     ghost low = { lit< tt };
 
     ghost small = { signed_small 8 (lit≤ tt) };
+
+    ghost fitting = { signed_fitting 8 };
 
     fn to_whole(&self) -> Whole {
         if *self < 0 {
@@ -275,9 +301,13 @@ impl DerInteger for i16 {
 
     ghost in_range = { IsSigned 16 };
 
+    ghost fits = { is_signed 16 };
+
     ghost low = { lit< tt };
 
     ghost small = { signed_small 16 (lit≤ tt) };
+
+    ghost fitting = { signed_fitting 16 };
 
     fn to_whole(&self) -> Whole {
         if *self < 0 {
@@ -320,9 +350,13 @@ impl DerInteger for i32 {
 
     ghost in_range = { IsSigned 32 };
 
+    ghost fits = { is_signed 32 };
+
     ghost low = { lit< tt };
 
     ghost small = { signed_small 32 (lit≤ tt) };
+
+    ghost fitting = { signed_fitting 32 };
 
     fn to_whole(&self) -> Whole {
         if *self < 0 {
@@ -365,9 +399,13 @@ impl DerInteger for i64 {
 
     ghost in_range = { IsSigned 64 };
 
+    ghost fits = { is_signed 64 };
+
     ghost low = { lit< tt };
 
     ghost small = { signed_small 64 (lit≤ tt) };
+
+    ghost fitting = { signed_fitting 64 };
 
     fn to_whole(&self) -> Whole {
         if *self < 0 {
@@ -410,9 +448,13 @@ impl DerInteger for i128 {
 
     ghost in_range = { IsSigned 128 };
 
+    ghost fits = { is_signed 128 };
+
     ghost low = { lit< tt };
 
     ghost small = { signed_small 128 (lit≤ tt) };
+
+    ghost fitting = { signed_fitting 128 };
 
     fn to_whole(&self) -> Whole {
         if *self < 0 {

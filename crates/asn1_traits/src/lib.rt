@@ -25,7 +25,7 @@ mod write;
 mod written;
 
 pub use crate::ber_items::read_ber_items;
-pub use crate::integer::{DerInteger, Whole, check_shortest};
+pub use crate::integer::{DerInteger, Whole, check_shortest, integer_functions};
 pub use crate::items::read_items;
 pub use crate::laws::{DerElement, TaggedElement};
 pub use crate::leaf::{DerLeaf, FromLeaf};
