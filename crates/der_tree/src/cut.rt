@@ -23,7 +23,7 @@ pub(crate) struct Cut<'a> {
 
 /// The strict element at the front, of at most `MAX_OBJECT_SIZE` content octets. One header is tried.
 pub(crate) fn cut_of<'a>(i: &'a [u8], count: &mut HeaderCount) -> BerResult<'a, Cut<'a>>
-    requires { attempts count.old + 1 < 2 ^ 64 }
+    requires { attempts count.old + 1 < 2 ^ 128 }
     ensures count { attempts count.new ≡ attempts count.old + 1 }
     ensures within { IfOk result (λ p. length p.1.content.now < length i.now) }
     ensures found { IfOk result (λ p. IsCut p.1.raw.now (element_under p.1.header p.1.content.now)

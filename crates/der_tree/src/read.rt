@@ -66,7 +66,7 @@ pub fn parse_der_recursive_counted<'a>(
     levels: usize,
     count: &mut HeaderCount,
 ) -> BerResult<'a>
-    requires { attempts count.old + length i.now < 2 ^ 64 }
+    requires { attempts count.old + length i.now < 2 ^ 128 }
     ensures found { IfOk result (λ p. IsObject levels (view p.1) × (i.now ≡ octets (view p.1) ++ p.0.now)) }
     ensures none { IfErr result (λ e. Refuses e (BeginsWithObject levels i.now → ⊥)) }
     ensures missing { IfErr result (IsMissing (BeginsWithObject levels) i.now) }
@@ -97,7 +97,7 @@ pub(crate) fn content_of<'a>(
     levels: usize,
     count: &mut HeaderCount,
 ) -> Result<BerObjectContent<'a>, Refusal<Error>>
-    requires { attempts count.old + length content.now < 2 ^ 64 }
+    requires { attempts count.old + length content.now < 2 ^ 128 }
     ensures each { IfOk result (λ c. attempts count.new ≡ attempts count.old + part_count (content_view c)) }
     ensures at_most { attempts count.new ≤ attempts count.old + length content.now }
     ensures found { IfOk result (λ c. IsContent levels (element_under header content.now) (content_view c)) }
@@ -125,7 +125,7 @@ fn objects_of<'a>(
     levels: usize,
     count: &mut HeaderCount,
 ) -> Result<Vec<BerObject<'a>>, Refusal<Error>>
-    requires { attempts count.old + length content.now < 2 ^ 64 }
+    requires { attempts count.old + length content.now < 2 ^ 128 }
     ensures each { IfOk result (λ v. attempts count.new ≡ attempts count.old + all_count (views v.items)) }
     ensures at_most { attempts count.new ≤ attempts count.old + length content.now }
     ensures found { IfOk result (λ v. AreObjects levels (views v.items) × (content.now ≡ all_octets (views v.items))) }
