@@ -6,3 +6,4 @@ pub mod Strict
 pub mod Higher
 pub mod OneTree
 pub mod Fronts
+pub mod Told

@@ -2,3 +2,4 @@ pub mod Time
 pub mod TimeReading
 pub mod Table
 pub mod Object
+pub mod Lengths

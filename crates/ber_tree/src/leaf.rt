@@ -1,8 +1,9 @@
 //! What an element without parts holds.
 
-ghost use Rattle.std.specs.Prelude.{◌≡◌, ◌≢◌, ◌↔◌, ◌∷◌, false, IsTrue, IfOk, IfErr, MatchOption};
+ghost use Rattle.std.specs.Prelude.{◌≡◌, ◌≢◌, ◌↔◌, ◌∷◌, false, IsTrue, IfOk, IfErr, IfSome, MatchOption};
 ghost use Rattle.std.specs.Int.Digits.{number_from_digits};
-ghost use Rattle.asn1_core.specs.Views.{class_number};
+ghost use Rattle.asn1_core.specs.Views.{class_number, length_of};
+ghost use Rattle.der_tree.specs.Lengths.{HoldsOne};
 ghost use Rattle.der_tree.specs.Tree.{Content};
 ghost use Rattle.der_tree.specs.View.{element_under, content_view};
 ghost use Rattle.ber_tree.specs.Table.{HoldsWiderLeaf, HoldsBerLeaf, is_wide_bit_string, IsWideEnumerated};
@@ -17,6 +18,7 @@ pub(crate) fn leaf_of<'a>(header: Header, content: &'a [u8]) -> Result<BerObject
     ensures found { IfOk result (λ c. HoldsBerLeaf (element_under header content.now) (content_view c)) }
     ensures none { IfErr result (λ e. (e ≢ Error.OutOfMemory)
         × ((c : Content) → HoldsBerLeaf (element_under header content.now) c → ⊥)) }
+    ensures lengths { IfOk result (λ c. HoldsOne (length_of header) c (content_view c)) }
 {
     if !is_universal(header) {
         return Ok(BerObjectContent::Unknown(Any { header, content }));
@@ -41,8 +43,9 @@ fn is_universal(header: Header) -> bool
 /// The forms that BER allows beside those of DER.
 fn wider_of<'a>(header: Header, content: &'a [u8]) -> Option<BerObjectContent<'a>>
     requires { class_number header.class ≡ 0 }
-    ensures { MatchOption result ((c : Content) → HoldsWiderLeaf (element_under header content.now) c → ⊥)
+    ensures wider { MatchOption result ((c : Content) → HoldsWiderLeaf (element_under header content.now) c → ⊥)
         (λ c. HoldsWiderLeaf (element_under header content.now) (content_view c)) }
+    ensures lengths { IfSome result (λ c. HoldsOne (length_of header) c (content_view c)) }
 {
     if header.is_constructed() {
         return None;

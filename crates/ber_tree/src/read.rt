@@ -2,9 +2,12 @@
 
 ghost use Rattle.std.specs.Prelude.{◌≡◌, ◌↔◌, ◌-◌, ◌<◌, ◌≤◌, ℕ, List, [], ◌∷◌, ◌++◌, IfOk, IfErr, IfSome, MatchOption, MatchResult, IsTrue};
 ghost use Rattle.asn1_core.specs.Missing.{IsMissing};
-ghost use Rattle.asn1_core.specs.Views.{ber_head_of};
+ghost use Rattle.asn1_core.specs.Views.{ber_head_of, length_of};
 ghost use Rattle.asn1_any.specs.BerElements.{HasBerElement};
-ghost use Rattle.der_tree.specs.Outcome.{Refuses, WantsMemory, IsNotCut, within_of};
+ghost use Rattle.asn1_any.specs.Reading.{ber_levels_at};
+ghost use Rattle.ber_tree.specs.Lengths.{TellsAsRead, HoldsAsRead, ber_length};
+ghost use Rattle.der_tree.specs.Lengths.{lengths_told, lengths_of_all, all_lengths};
+ghost use Rattle.der_tree.specs.Outcome.{Refuses, ReadsFront, WantsMemory, IsNotCut, within_of};
 ghost use Rattle.der_tree.specs.Table.{IsConstructed};
 ghost use Rattle.der_tree.specs.Tree.{Tree, Trees, Content, octets, all_octets};
 ghost use Rattle.der_tree.specs.View.{element_under, view, content_view, views};
@@ -24,6 +27,8 @@ pub fn parse_ber<'a>(alloc: Global, i: &'a [u8]) -> BerResult<'a>
     ensures found { IfOk result (λ p. IsBerTree 50 (view p.1) × (i.now ≡ octets (view p.1) ++ p.0.now)) }
     ensures none { IfErr result (λ e. Refuses e (BeginsWithBerTree 50 i.now → ⊥)) }
     ensures missing { IfErr result (IsMissing (BeginsWithBerTree 50) i.now) }
+    ensures front { ReadsFront (ber_levels_at 50 i.now) result }
+    ensures lengths { IfOk result (λ p. TellsAsRead p.1) }
     ensures only { (t : Tree) (r : List ℕ) → IsBerTree 50 t → i.now ≡ octets t ++ r
         → MatchResult result (λ p. (view p.1 ≡ t) × (p.0.now ≡ r)) WantsMemory }
 {
@@ -35,12 +40,14 @@ pub fn parse_ber<'a>(alloc: Global, i: &'a [u8]) -> BerResult<'a>
 /// those within a raw element of the indefinite form too. Answers the octets after the object, and its tree, whose windows
 /// lie in `i`. Octets 00 00 by themselves are read as `EndOfContent`.
 ///
-/// Refusals: `Incomplete` where the octets end before the object does, `Failure` of `OutOfMemory` where memory ran out,
-/// and else an error: no object of so many levels begins the octets.
+/// Refusals, in their order: those of `Any::from_ber_recursive`, an element of too many levels or one that the octets cut
+/// among them; and where the element is whole `Failure` of `OutOfMemory`, or an error: it is no object of so many levels.
 pub fn parse_ber_recursive<'a>(alloc: Global, i: &'a [u8], levels: usize) -> BerResult<'a>
     ensures found { IfOk result (λ p. IsBerTree levels (view p.1) × (i.now ≡ octets (view p.1) ++ p.0.now)) }
     ensures none { IfErr result (λ e. Refuses e (BeginsWithBerTree levels i.now → ⊥)) }
     ensures missing { IfErr result (IsMissing (BeginsWithBerTree levels) i.now) }
+    ensures front { ReadsFront (ber_levels_at levels i.now) result }
+    ensures lengths { IfOk result (λ p. TellsAsRead p.1) }
     ensures only { (t : Tree) (r : List ℕ) → IsBerTree levels t → i.now ≡ octets t ++ r
         → MatchResult result (λ p. (view p.1 ≡ t) × (p.0.now ≡ r)) WantsMemory }
 {
@@ -55,8 +62,9 @@ pub fn parse_ber_recursive<'a>(alloc: Global, i: &'a [u8], levels: usize) -> Ber
 
 /// End-of-contents octets at the front (X.690, 8.1.5).
 fn end_of_content(i: &[u8]) -> Option<(&[u8], BerObject<'_>)>
-    ensures { MatchOption result ((r : List ℕ) → i.now ≡ octets end_tree ++ r → ⊥)
+    ensures end { MatchOption result ((r : List ℕ) → i.now ≡ octets end_tree ++ r → ⊥)
         (λ p. (view p.1 ≡ end_tree) × (i.now ≡ octets end_tree ++ p.0.now)) }
+    ensures lengths { IfSome result (λ p. lengths_told p.1 ≡ Length.Definite 0 ∷ []) }
 {
     match i {
         [0, 0, rest @ ..] => {
@@ -77,6 +85,8 @@ fn object_of<'a>(alloc: Global, i: &'a [u8], levels: usize) -> BerResult<'a>
     ensures found { IfOk result (λ p. IsBerObject levels (view p.1) × (i.now ≡ octets (view p.1) ++ p.0.now)) }
     ensures none { IfErr result (λ e. Refuses e (BeginsWithBerObject levels i.now → ⊥)) }
     ensures missing { IfErr result (IsMissing (λ s. (0 < levels) × HasBerElement (levels - 1) s) i.now) }
+    ensures front { ReadsFront (ber_levels_at levels i.now) result }
+    ensures lengths { IfOk result (λ p. TellsAsRead p.1) }
 {
     let (after, any) = Any::from_ber_recursive(i, levels)?;
     if !is_small(any.header) {
@@ -107,6 +117,7 @@ fn content_of<'a>(
     ensures found { IfOk result (λ c. IsBerContent levels (element_under header content.now) (content_view c)) }
     ensures none { IfErr result (λ e. Refuses e ((c : Content) → IsBerContent levels (element_under header content.now) c → ⊥)) }
     ensures whole { IfErr result IsNotCut }
+    ensures lengths { IfOk result (λ c. HoldsAsRead (length_of header) c (content_view c)) }
 {
     if is_constructed(header, 16) {
         return Ok(BerObjectContent::Sequence(objects_of(alloc, content, levels)?));
@@ -130,6 +141,7 @@ fn objects_of<'a>(
     ensures found { IfOk result (λ v. AreBerObjects levels (views v.items) × (content.now ≡ all_octets (views v.items))) }
     ensures none { IfErr result (λ e. Refuses e ((ts : Trees) → AreBerObjects levels ts → content.now ≡ all_octets ts → ⊥)) }
     ensures whole { IfErr result IsNotCut }
+    ensures lengths { IfOk result (λ v. lengths_of_all v.items ≡ all_lengths ber_length (views v.items)) }
 {
     let mut rest = content;
     let mut objects = Vec::new(alloc);

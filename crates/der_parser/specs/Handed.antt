@@ -1,5 +1,5 @@
 -- A closure that is handed the content of an element.
-use Rattle.std.specs.Prelude.{◌≡◌, ◌≢◌, ◌⊎◌, ℕ, List, ◌++◌, Result, Ok, Err}
+use Rattle.std.specs.Prelude.{◌≡◌, ◌≢◌, ◌⊎◌, ℕ, List, ◌∷◌, ◌++◌, length, Result, Ok, Err}
 use Rattle.std.specs.Borrow.{Bor}
 use Rattle.asn1_core.specs.declared.error.Error.{Error}
 use Rattle.asn1_core.specs.declared.error.Error.TheVariants as errors
@@ -8,9 +8,11 @@ use Rattle.asn1_core.specs.declared.outcome.Err.{Err as Refusal}
 use Rattle.asn1_core.specs.declared.outcome.Err.TheVariants as refusals
 use Rattle.asn1_core.specs.Elements.{Element, head_of_element}
 use Rattle.asn1_core.specs.Missing.{IsMissing}
-use Rattle.asn1_core.specs.Views.{head_of}
+use Rattle.asn1_core.specs.Views.{head_of, length_of}
+use Rattle.asn1_core.specs.declared.length.Length.TheVariants.{Definite}
 use Rattle.der_tree.specs.declared.object.BerObject.{BerObject}
 use Rattle.der_tree.specs.declared.object.BerObjectContent.{BerObjectContent}
+use Rattle.der_tree.specs.Lengths.{lengths_told, lengths_within}
 use Rattle.der_tree.specs.Tree.{node}
 use Rattle.der_tree.specs.View.{view, content_view}
 use Rattle.der_parser.specs.Refusals.{tagged_at}
@@ -25,6 +27,7 @@ pub record Handed (n : ℕ) (Called : List ℕ → Bor (List ℕ) → Header →
   pub whole : octets ≡ front ++ rest
   pub header : Header
   pub head : head_of header ≡ head_of_element element
+  pub told : length_of header ≡ Definite (length element.content)
   pub content : Bor (List ℕ)
   pub held : content.now ≡ element.content
   pub called : Called front content header
@@ -40,9 +43,9 @@ abbrev pub HandsOver : {O E : Type 0} → (Error → E → Type 0) → ℕ → (
 HandsOver gives n post octets (Ok p) = Handed n (λ front content header. (left : Bor (List ℕ)) × post content header (Ok (left, p.1))) octets p.0.now
 HandsOver gives n post octets (Err e) = ((rest : List ℕ) × Handed n (λ front content header. post content header (Err e)) octets rest) ⊎ Unwanted gives n octets e
 
--- the same, of a closure that reads an object's content: the object has the element's header and octets
+-- the same, of a closure that reads an object's content: the object has the element's header, the length that it tells too, and its octets
 abbrev pub HandsObject : {E : Type 0} → (Error → E → Type 0) → ℕ → (Bor (List ℕ) → Header → Result (Bor (List ℕ) × BerObjectContent) (Refusal E) → Type 0) → List ℕ → Result (Bor (List ℕ) × BerObject) (Refusal E) → Type 0
 HandsObject gives n post octets (Ok p) =
     Handed n (λ front content header. (left : Bor (List ℕ)) × (held : BerObjectContent) × post content header (Ok (left, held))
-    × (view p.1 ≡ node (head_of header) front (content_view held))) octets p.0.now
+    × (view p.1 ≡ node (head_of header) front (content_view held)) × (lengths_told p.1 ≡ length_of header ∷ lengths_within held)) octets p.0.now
 HandsObject gives n post octets (Err e) = ((rest : List ℕ) × Handed n (λ front content header. post content header (Err e)) octets rest) ⊎ Unwanted gives n octets e

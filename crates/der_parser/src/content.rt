@@ -1,9 +1,10 @@
 //! The content behind a header.
 
-ghost use Rattle.std.specs.Prelude.{◌≡◌, ◌<◌, ◌≤◌, ◌-◌, ℕ, length, IfErr, IsErrAnd};
+ghost use Rattle.std.specs.Prelude.{◌≡◌, ◌<◌, ◌≤◌, ◌-◌, ℕ, length, IfOk, IfErr, IsErrAnd};
 ghost use Rattle.asn1_core.specs.Views.{length_of};
 ghost use Rattle.der_parser.specs.Outcome.{ReadsOrWants};
 ghost use Rattle.der_parser.specs.Typed.{ReadsContent};
+ghost use Rattle.der_tree.specs.Lengths.{HoldsDefinite};
 ghost use Rattle.der_tree.specs.Outcome.{IsNotCut};
 ghost use Rattle.der_tree.specs.View.{content_view};
 
@@ -23,6 +24,7 @@ pub fn parse_der_content<'a>(
     header: Header,
     levels: usize,
 ) -> BerResult<'a, BerObjectContent<'a>>
+    ensures lengths { IfOk result (λ p. HoldsDefinite (length_of header) p.1 (content_view p.1)) }
     ensures read { ReadsOrWants content_view (ReadsContent levels tag.0 header) i.now result }
 
     // which refusal

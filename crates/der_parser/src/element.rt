@@ -1,10 +1,10 @@
 //! An element found by its tag number.
 
-ghost use Rattle.std.specs.Prelude.{◌≡◌, ℕ, List, ◌++◌, IfOk, IfErr, IsOkAnd};
+ghost use Rattle.std.specs.Prelude.{◌≡◌, ℕ, List, ◌++◌, length, IfOk, IfErr, IsOkAnd};
 ghost use Rattle.asn1_core.specs.Answers.{Gives, TakesNoMemory};
 ghost use Rattle.asn1_core.specs.Elements.{Element, head_of_element};
 ghost use Rattle.asn1_core.specs.Missing.{IsMissing};
-ghost use Rattle.asn1_core.specs.Views.{head_of};
+ghost use Rattle.asn1_core.specs.Views.{head_of, length_of};
 ghost use Rattle.der_parser.specs.Refusals.{tagged_at};
 ghost use Rattle.der_parser.specs.Tagged.{IsTagged, HasTagged};
 ghost use Rattle.der_tree.specs.View.{element_under};
@@ -27,6 +27,7 @@ pub(crate) fn element_of_tag(i: &[u8], tag: Tag) -> BerResult<'_, Tagged<'_>>
         × (i.now ≡ p.1.raw.now ++ p.0.now)) }
     ensures only { (e : Element) (s r : List ℕ) → IsTagged tag.0 s e → i.now ≡ s ++ r
         → IsOkAnd result (λ p. (element_under p.1.header p.1.content.now ≡ e) × (p.1.raw.now ≡ s) × (p.0.now ≡ r)) }
+    ensures definite { IfOk result (λ p. length_of p.1.header ≡ Length.Definite (length p.1.content.now)) }
     ensures missing { IfErr result (IsMissing (HasTagged tag.0) i.now) }
     ensures memory { IfErr result TakesNoMemory }
     ensures exact { Gives (λ p. (element_under p.1.header p.1.content.now, p.0.now)) result (tagged_at tag.0 i.now) }

@@ -1,9 +1,10 @@
 //! Headers alone.
 
-ghost use Rattle.std.specs.Prelude.{◌≡◌, ℕ, List, ◌++◌, IfOk, IfErr, IsOkAnd};
-ghost use Rattle.asn1_core.specs.Answers.{TakesNoMemory};
+ghost use Rattle.std.specs.Prelude.{◌≡◌, ◌+◌, ◌≤◌, ℕ, List, ◌++◌, length, IfOk, IfErr, IsOkAnd};
+ghost use Rattle.asn1_core.specs.Answers.{Gives, TakesNoMemory};
 ghost use Rattle.asn1_core.specs.Lenient.{SpellsHeader, BerHead, IsBerHead, SpellsBerHeader};
 ghost use Rattle.asn1_core.specs.Missing.{HasHeader, HasBerHeader, IsMissing};
+ghost use Rattle.asn1_core.specs.Reading.{ber_header_at, header_at};
 ghost use Rattle.asn1_core.specs.Strict.{Head, IsHead};
 ghost use Rattle.asn1_core.specs.Views.{IsDefinite, head_of, ber_head_of, length_of};
 
@@ -17,8 +18,10 @@ pub fn ber_read_element_header(i: &[u8]) -> BerResult<'_, Header>
         × ((octets : List ℕ) × SpellsBerHeader octets (ber_head_of r.1) × (i.now ≡ octets ++ r.0.now))) }
     ensures only { (octets rest : List ℕ) (h : BerHead) → IsBerHead h → SpellsBerHeader octets h
         → i.now ≡ octets ++ rest → IsOkAnd result (λ r. (ber_head_of r.1 ≡ h) × (r.0.now ≡ rest)) }
+    ensures shorter { IfOk result (λ r. length r.0.now + 2 ≤ length i.now) }
     ensures missing { IfErr result (IsMissing HasBerHeader i.now) }
     ensures memory { IfErr result TakesNoMemory }
+    ensures exact { Gives (λ r. (ber_head_of r.1, r.0.now)) result (ber_header_at i.now) }
 {
     Header::from_ber(i)
 }
@@ -31,8 +34,10 @@ pub fn der_read_element_header(i: &[u8]) -> BerResult<'_, Header>
     ensures definite { IfOk result (λ r. IsDefinite (length_of r.1)) }
     ensures only { (octets rest : List ℕ) (h : Head) → IsHead h → SpellsHeader octets h
         → i.now ≡ octets ++ rest → IsOkAnd result (λ r. (head_of r.1 ≡ h) × (r.0.now ≡ rest)) }
+    ensures shorter { IfOk result (λ r. length r.0.now + 2 ≤ length i.now) }
     ensures missing { IfErr result (IsMissing HasHeader i.now) }
     ensures memory { IfErr result TakesNoMemory }
+    ensures exact { Gives (λ r. (head_of r.1, r.0.now)) result (header_at i.now) }
 {
     Header::from_der(i)
 }

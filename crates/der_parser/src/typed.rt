@@ -4,12 +4,13 @@
 //! Refusals, in this order: those of `Header::from_der`; `UnexpectedTag`; `Incomplete` with the number of content octets that
 //! are missing; those of `leaf_under`, or of `content_under` for sequences and sets.
 
-ghost use Rattle.std.specs.Prelude.{◌≡◌, ◌≢◌, ◌^◌, ℕ, List, Err, IfOk, IfErr, IsErrAnd};
+ghost use Rattle.std.specs.Prelude.{◌≡◌, ◌≢◌, ◌^◌, ℕ, List, [], Err, IfOk, IfErr, IsErrAnd};
 ghost use Rattle.der_parser.specs.Outcome.{Reads, ReadsOrWants};
-ghost use Rattle.der_parser.specs.Refusals.{tagged_at, refusal_of, ber_boolean_error, RefusesParts};
-ghost use Rattle.der_tree.specs.Outcome.{leaf_error};
+ghost use Rattle.der_parser.specs.Refusals.{tagged_at, ReadsWhole, ber_boolean_error};
+ghost use Rattle.der_tree.specs.Outcome.{ReadsFront, leaf_error};
 ghost use Rattle.der_parser.specs.Typed.{HoldsBerBoolean, ReadsTagged, ReadsDer, ReadsNumber};
 ghost use Rattle.der_tree.specs.Access.{number_of, below, content_in};
+ghost use Rattle.der_tree.specs.Lengths.{TellsDefinite, lengths_within};
 ghost use Rattle.der_tree.specs.Tree.{Tree, Content};
 ghost use Rattle.der_tree.specs.View.{element_under, view, content_view};
 
@@ -25,7 +26,8 @@ fn leaf_of_tag(i: &[u8], tag: Tag) -> BerResult<'_>
     requires sequence { tag.0 ≢ 16 }
     requires set { tag.0 ≢ 17 }
     ensures read { Reads view (ReadsDer tag.0) i.now result }
-    ensures refused { IfErr result (λ e. e ≡ refusal_of leaf_error (tagged_at tag.0 i.now)) }
+    ensures refused { ReadsWhole leaf_error (tagged_at tag.0 i.now) result }
+    ensures lengths { IfOk result (λ p. TellsDefinite p.1) }
 {
     let (rest, element) = element_of_tag(i, tag)?;
     match leaf_under(element.header, element.content) {
@@ -37,7 +39,8 @@ fn leaf_of_tag(i: &[u8], tag: Tag) -> BerResult<'_>
 /// An element of this tag number, its parts read too.
 fn object_of_tag<'a>(alloc: Global, i: &'a [u8], tag: Tag) -> BerResult<'a>
     ensures read { ReadsOrWants view (ReadsDer tag.0) i.now result }
-    ensures refused { IfErr result (RefusesParts (tagged_at tag.0 i.now)) }
+    ensures front { ReadsFront (tagged_at tag.0 i.now) result }
+    ensures lengths { IfOk result (λ p. TellsDefinite p.1) }
 {
     let (rest, element) = element_of_tag(i, tag)?;
     let content = content_under(alloc, element.header, element.content, MAX_RECURSION - 1)?;
@@ -50,6 +53,7 @@ fn ber_boolean<'a>(header: Header, content: &'a [u8]) -> Result<BerObjectContent
     ensures none { IfErr result (λ e. (e ≢ Error.OutOfMemory)
         × ((c : Content) → HoldsBerBoolean (element_under header content.now) c → ⊥)) }
     ensures refused { IfErr result (λ e. e ≡ ber_boolean_error (element_under header content.now)) }
+    ensures lengths { IfOk result (λ c. lengths_within c ≡ []) }
 {
     if header.is_constructed() {
         return Err(Error::ConstructUnexpected);
@@ -63,7 +67,8 @@ fn ber_boolean<'a>(header: Header, content: &'a [u8]) -> Result<BerObjectContent
 /// A BOOLEAN of BER: one octet, 00 for false and any other for true (X.690, 8.2).
 pub fn parse_ber_bool(i: &[u8]) -> BerResult<'_>
     ensures read { Reads view (ReadsTagged 1 HoldsBerBoolean) i.now result }
-    ensures refused { IfErr result (λ e. e ≡ refusal_of ber_boolean_error (tagged_at 1 i.now)) }
+    ensures refused { ReadsWhole ber_boolean_error (tagged_at 1 i.now) result }
+    ensures lengths { IfOk result (λ p. TellsDefinite p.1) }
 {
     let (rest, element) = element_of_tag(i, Tag::Boolean)?;
     match ber_boolean(element.header, element.content) {
@@ -75,7 +80,8 @@ pub fn parse_ber_bool(i: &[u8]) -> BerResult<'_>
 /// A BOOLEAN: one octet, 00 or ff (X.690, 8.2 and 11.1).
 pub fn parse_der_bool(i: &[u8]) -> BerResult<'_>
     ensures read { Reads view (ReadsDer 1) i.now result }
-    ensures refused { IfErr result (λ e. e ≡ refusal_of leaf_error (tagged_at 1 i.now)) }
+    ensures refused { ReadsWhole leaf_error (tagged_at 1 i.now) result }
+    ensures lengths { IfOk result (λ p. TellsDefinite p.1) }
 {
     leaf_of_tag(i, Tag::Boolean)
 }
@@ -83,7 +89,8 @@ pub fn parse_der_bool(i: &[u8]) -> BerResult<'_>
 /// An INTEGER in the fewest octets (X.690, 8.3).
 pub fn parse_der_integer(i: &[u8]) -> BerResult<'_>
     ensures read { Reads view (ReadsDer 2) i.now result }
-    ensures refused { IfErr result (λ e. e ≡ refusal_of leaf_error (tagged_at 2 i.now)) }
+    ensures refused { ReadsWhole leaf_error (tagged_at 2 i.now) result }
+    ensures lengths { IfOk result (λ p. TellsDefinite p.1) }
 {
     leaf_of_tag(i, Tag::Integer)
 }
@@ -91,6 +98,7 @@ pub fn parse_der_integer(i: &[u8]) -> BerResult<'_>
 /// An INTEGER below 2^32, as a number: `IntegerNegative` below 0, `IntegerTooLarge` above.
 pub fn parse_der_u32(i: &[u8]) -> BerResult<'_, u32>
     ensures read { Reads (λ v. v) (ReadsNumber (2 ^ 32)) i.now result }
+    ensures front { ReadsFront (tagged_at 2 i.now) result }
     ensures refused { (t : Tree) (rest : List ℕ) (e : Error) → ReadsDer 2 i.now t rest
         → below (2 ^ 32) (number_of (content_in t)) ≡ Err e → IsErrAnd result (λ r. r ≡ Refusal.Error e) }
 {
@@ -104,7 +112,8 @@ pub fn parse_der_u32(i: &[u8]) -> BerResult<'_, u32>
 /// An ENUMERATED that isn't negative and below 2^64, in the fewest octets (X.690, 8.4).
 pub fn parse_der_enum(i: &[u8]) -> BerResult<'_>
     ensures read { Reads view (ReadsDer 10) i.now result }
-    ensures refused { IfErr result (λ e. e ≡ refusal_of leaf_error (tagged_at 10 i.now)) }
+    ensures refused { ReadsWhole leaf_error (tagged_at 10 i.now) result }
+    ensures lengths { IfOk result (λ p. TellsDefinite p.1) }
 {
     leaf_of_tag(i, Tag::Enumerated)
 }
@@ -112,7 +121,8 @@ pub fn parse_der_enum(i: &[u8]) -> BerResult<'_>
 /// A BIT STRING whose unused bits are 0 (X.690, 8.6 and 11.2).
 pub fn parse_der_bitstring(i: &[u8]) -> BerResult<'_>
     ensures read { Reads view (ReadsDer 3) i.now result }
-    ensures refused { IfErr result (λ e. e ≡ refusal_of leaf_error (tagged_at 3 i.now)) }
+    ensures refused { ReadsWhole leaf_error (tagged_at 3 i.now) result }
+    ensures lengths { IfOk result (λ p. TellsDefinite p.1) }
 {
     leaf_of_tag(i, Tag::BitString)
 }
@@ -120,7 +130,8 @@ pub fn parse_der_bitstring(i: &[u8]) -> BerResult<'_>
 /// An OCTET STRING (X.690, 8.7).
 pub fn parse_der_octetstring(i: &[u8]) -> BerResult<'_>
     ensures read { Reads view (ReadsDer 4) i.now result }
-    ensures refused { IfErr result (λ e. e ≡ refusal_of leaf_error (tagged_at 4 i.now)) }
+    ensures refused { ReadsWhole leaf_error (tagged_at 4 i.now) result }
+    ensures lengths { IfOk result (λ p. TellsDefinite p.1) }
 {
     leaf_of_tag(i, Tag::OctetString)
 }
@@ -128,7 +139,8 @@ pub fn parse_der_octetstring(i: &[u8]) -> BerResult<'_>
 /// A NULL: no content (X.690, 8.8).
 pub fn parse_der_null(i: &[u8]) -> BerResult<'_>
     ensures read { Reads view (ReadsDer 5) i.now result }
-    ensures refused { IfErr result (λ e. e ≡ refusal_of leaf_error (tagged_at 5 i.now)) }
+    ensures refused { ReadsWhole leaf_error (tagged_at 5 i.now) result }
+    ensures lengths { IfOk result (λ p. TellsDefinite p.1) }
 {
     leaf_of_tag(i, Tag::Null)
 }
@@ -136,7 +148,8 @@ pub fn parse_der_null(i: &[u8]) -> BerResult<'_>
 /// An OBJECT IDENTIFIER (X.690, 8.19).
 pub fn parse_der_oid(i: &[u8]) -> BerResult<'_>
     ensures read { Reads view (ReadsDer 6) i.now result }
-    ensures refused { IfErr result (λ e. e ≡ refusal_of leaf_error (tagged_at 6 i.now)) }
+    ensures refused { ReadsWhole leaf_error (tagged_at 6 i.now) result }
+    ensures lengths { IfOk result (λ p. TellsDefinite p.1) }
 {
     leaf_of_tag(i, Tag::Oid)
 }
@@ -144,7 +157,8 @@ pub fn parse_der_oid(i: &[u8]) -> BerResult<'_>
 /// A SEQUENCE of objects of at most 49 levels (X.690, 8.9).
 pub fn parse_der_sequence<'a>(alloc: Global, i: &'a [u8]) -> BerResult<'a>
     ensures read { ReadsOrWants view (ReadsDer 16) i.now result }
-    ensures refused { IfErr result (RefusesParts (tagged_at 16 i.now)) }
+    ensures front { ReadsFront (tagged_at 16 i.now) result }
+    ensures lengths { IfOk result (λ p. TellsDefinite p.1) }
 {
     object_of_tag(alloc, i, Tag::Sequence)
 }
@@ -152,7 +166,8 @@ pub fn parse_der_sequence<'a>(alloc: Global, i: &'a [u8]) -> BerResult<'a>
 /// A SET of objects of at most 49 levels, in any order (X.690, 8.11).
 pub fn parse_der_set<'a>(alloc: Global, i: &'a [u8]) -> BerResult<'a>
     ensures read { ReadsOrWants view (ReadsDer 17) i.now result }
-    ensures refused { IfErr result (RefusesParts (tagged_at 17 i.now)) }
+    ensures front { ReadsFront (tagged_at 17 i.now) result }
+    ensures lengths { IfOk result (λ p. TellsDefinite p.1) }
 {
     object_of_tag(alloc, i, Tag::Set)
 }
@@ -160,7 +175,8 @@ pub fn parse_der_set<'a>(alloc: Global, i: &'a [u8]) -> BerResult<'a>
 /// A UTF8String (X.690, 8.23.10).
 pub fn parse_der_utf8string(i: &[u8]) -> BerResult<'_>
     ensures read { Reads view (ReadsDer 12) i.now result }
-    ensures refused { IfErr result (λ e. e ≡ refusal_of leaf_error (tagged_at 12 i.now)) }
+    ensures refused { ReadsWhole leaf_error (tagged_at 12 i.now) result }
+    ensures lengths { IfOk result (λ p. TellsDefinite p.1) }
 {
     leaf_of_tag(i, Tag::Utf8String)
 }
@@ -168,7 +184,8 @@ pub fn parse_der_utf8string(i: &[u8]) -> BerResult<'_>
 /// A PrintableString: letters, digits, space and ' ( ) + , - . / : = ? (X.680, 41.4).
 pub fn parse_der_printablestring(i: &[u8]) -> BerResult<'_>
     ensures read { Reads view (ReadsDer 19) i.now result }
-    ensures refused { IfErr result (λ e. e ≡ refusal_of leaf_error (tagged_at 19 i.now)) }
+    ensures refused { ReadsWhole leaf_error (tagged_at 19 i.now) result }
+    ensures lengths { IfOk result (λ p. TellsDefinite p.1) }
 {
     leaf_of_tag(i, Tag::PrintableString)
 }
@@ -176,7 +193,8 @@ pub fn parse_der_printablestring(i: &[u8]) -> BerResult<'_>
 /// An IA5String: octets below 80.
 pub fn parse_der_ia5string(i: &[u8]) -> BerResult<'_>
     ensures read { Reads view (ReadsDer 22) i.now result }
-    ensures refused { IfErr result (λ e. e ≡ refusal_of leaf_error (tagged_at 22 i.now)) }
+    ensures refused { ReadsWhole leaf_error (tagged_at 22 i.now) result }
+    ensures lengths { IfOk result (λ p. TellsDefinite p.1) }
 {
     leaf_of_tag(i, Tag::Ia5String)
 }
@@ -184,7 +202,8 @@ pub fn parse_der_ia5string(i: &[u8]) -> BerResult<'_>
 /// A UniversalString: any octets.
 pub fn parse_der_universalstring(i: &[u8]) -> BerResult<'_>
     ensures read { Reads view (ReadsDer 28) i.now result }
-    ensures refused { IfErr result (λ e. e ≡ refusal_of leaf_error (tagged_at 28 i.now)) }
+    ensures refused { ReadsWhole leaf_error (tagged_at 28 i.now) result }
+    ensures lengths { IfOk result (λ p. TellsDefinite p.1) }
 {
     leaf_of_tag(i, Tag::UniversalString)
 }
@@ -192,7 +211,8 @@ pub fn parse_der_universalstring(i: &[u8]) -> BerResult<'_>
 /// A BMPString: any octets.
 pub fn parse_der_bmpstring(i: &[u8]) -> BerResult<'_>
     ensures read { Reads view (ReadsDer 30) i.now result }
-    ensures refused { IfErr result (λ e. e ≡ refusal_of leaf_error (tagged_at 30 i.now)) }
+    ensures refused { ReadsWhole leaf_error (tagged_at 30 i.now) result }
+    ensures lengths { IfOk result (λ p. TellsDefinite p.1) }
 {
     leaf_of_tag(i, Tag::BmpString)
 }
@@ -200,7 +220,8 @@ pub fn parse_der_bmpstring(i: &[u8]) -> BerResult<'_>
 /// A T61String, also called TeletexString: any octets.
 pub fn parse_der_t61string(i: &[u8]) -> BerResult<'_>
     ensures read { Reads view (ReadsDer 20) i.now result }
-    ensures refused { IfErr result (λ e. e ≡ refusal_of leaf_error (tagged_at 20 i.now)) }
+    ensures refused { ReadsWhole leaf_error (tagged_at 20 i.now) result }
+    ensures lengths { IfOk result (λ p. TellsDefinite p.1) }
 {
     leaf_of_tag(i, Tag::T61String)
 }
@@ -208,7 +229,8 @@ pub fn parse_der_t61string(i: &[u8]) -> BerResult<'_>
 /// A UTCTime: YYMMDDHHMMSSZ, a real date and time (X.690, 11.8).
 pub fn parse_der_utctime(i: &[u8]) -> BerResult<'_>
     ensures read { Reads view (ReadsDer 23) i.now result }
-    ensures refused { IfErr result (λ e. e ≡ refusal_of leaf_error (tagged_at 23 i.now)) }
+    ensures refused { ReadsWhole leaf_error (tagged_at 23 i.now) result }
+    ensures lengths { IfOk result (λ p. TellsDefinite p.1) }
 {
     leaf_of_tag(i, Tag::UtcTime)
 }
@@ -216,7 +238,8 @@ pub fn parse_der_utctime(i: &[u8]) -> BerResult<'_>
 /// A GeneralizedTime: YYYYMMDDHHMMSSZ, a real date and time, or with a fraction of the second (X.690, 11.7).
 pub fn parse_der_generalizedtime(i: &[u8]) -> BerResult<'_>
     ensures read { Reads view (ReadsDer 24) i.now result }
-    ensures refused { IfErr result (λ e. e ≡ refusal_of leaf_error (tagged_at 24 i.now)) }
+    ensures refused { ReadsWhole leaf_error (tagged_at 24 i.now) result }
+    ensures lengths { IfOk result (λ p. TellsDefinite p.1) }
 {
     leaf_of_tag(i, Tag::GeneralizedTime)
 }

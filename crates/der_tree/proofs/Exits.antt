@@ -1,13 +1,13 @@
 -- What the exits by `?` refuse.
 use Rattle.std.proofs.Common.{◌≡◌, sym, ap, subst, ℕ, List, ◌++◌, Result, Ok, Err, IfErr}
 use Rattle.std.specs.Result.{IsErrAnd}
-use Rattle.asn1_core.specs.Answers.{TakesNoMemory}
+use Rattle.asn1_core.specs.Answers.{Answer, TakesNoMemory}
 use Rattle.asn1_core.specs.Missing.{IsMissing}
 use Rattle.asn1_core.specs.declared.error.Error.{Error}
 use Rattle.asn1_core.specs.declared.error.Needed.TheVariants as needed
 use Rattle.asn1_core.specs.declared.outcome.Err.{Err as Refusal}
 use Rattle.asn1_core.specs.declared.outcome.Err.TheVariants as refusals
-use Rattle.der_tree.specs.Outcome.{Refuses, WantsMemory, within_of}
+use Rattle.der_tree.specs.Outcome.{Refuses, ReadsFront, IsNotCut, WantsMemory, within_of}
 
 pub weaker : (e : Refusal Error) (P Q : Type 0) → (P → Q) → Refuses e P → Refuses e Q
 weaker (refusals.Incomplete n) P Q f p = f p
@@ -36,6 +36,14 @@ missing_weaker (refusals.Incomplete needed.Unknown) i P Q f p = p
 missing_weaker (refusals.Incomplete (needed.Size n)) i P Q f p = (p.0, λ more few q. p.1 more few (f (i ++ more) q))
 missing_weaker (refusals.Error e) i P Q f p = tt
 missing_weaker (refusals.Failure e) i P Q f p = tt
+
+-- what is read of an element that isn't there, and of one that is whole
+
+pub front_refused : {A X : Type 0} (read : Answer A) (r : Result X (Refusal Error)) (e : Refusal Error) → read ≡ Err e → IsErrAnd r (λ x. x ≡ e) → ReadsFront read r
+front_refused read r e is p = subst (λ a. ReadsFront a r) (sym is) p
+
+pub front_whole : {A X : Type 0} (read : Answer A) (p : A × List ℕ) (r : Result X (Refusal Error)) → read ≡ Ok p → IfErr r IsNotCut → ReadsFront read r
+front_whole read p r is whole = subst (λ a. ReadsFront a r) (sym is) whole
 
 -- where a value is there, only want of memory refuses
 pub only_memory : (e : Refusal Error) (P : Type 0) → Refuses e (P → ⊥) → P → WantsMemory e

@@ -10,3 +10,4 @@ pub mod Reading
 pub mod Encoded
 pub mod OneTree
 pub mod Fronts
+pub mod Told

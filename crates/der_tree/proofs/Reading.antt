@@ -1,10 +1,14 @@
 -- What the steps of the strict reader keep.
-use Rattle.std.proofs.Common.{◌≡◌, ◌∙◌, sym, ap, subst, ℕ, ◌-◌, ◌<◌, List, [], ◌∷◌, ◌++◌, append_assoc, ◌+◌, ◌≤◌, length, arith, length-append}
+use Rattle.std.proofs.Common.{◌≡◌, ◌∙◌, sym, ap, subst, ℕ, ◌-◌, ◌<◌, List, [], ◌∷◌, ◌++◌, append_assoc, ◌+◌, ◌≤◌, length, arith, length-append, refl, Err}
 use Rattle.std.proofs.lemmas.List.{append-nil}
 use Rattle.asn1_core.specs.Elements.{Element, head_of_element}
+use Rattle.asn1_core.specs.Reading.{identity_at, strict_at}
 use Rattle.asn1_core.specs.Views.{head_of}
+use Rattle.asn1_core.specs.declared.error.Needed.TheVariants as needed
+use Rattle.asn1_core.specs.declared.outcome.Err.TheVariants as refusals
 use Rattle.der_tree.specs.declared.object.BerObject.{BerObject}
 use Rattle.der_tree.specs.Object.{IsCut, HasCut}
+use Rattle.der_tree.specs.Outcome.{cut_at}
 use Rattle.der_tree.specs.Tree.{Tree, node, Content, leaf, sequence, set, Trees, none, more, octets, all_octets, element_count, part_count, all_count}
 use Rattle.der_tree.specs.Shape.{IsObject, IsContent, AreObjects, BeginsWithObject}
 use Rattle.der_tree.specs.Access.{content_in}
@@ -64,3 +68,9 @@ mutual
 -- no object begins where there are no octets
 pub nothing_begins : (k : ℕ) (i : List ℕ) → length i ≡ 0 → BeginsWithObject k i → ⊥
 nothing_begins k i empty p = omega (arith, empty, ap length p.3, length-append (octets p.0) p.1, object_long k p.0 p.2)
+
+-- nor does an element
+pub nothing_cut : (i : List ℕ) → length i ≡ 0 → cut_at i ≡ Err (refusals.Incomplete (needed.Size 1))
+unfolding strict_at identity_at
+nothing_cut [] empty = refl
+nothing_cut (x ∷ s) empty = absurd (omega arith)

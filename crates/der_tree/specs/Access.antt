@@ -2,11 +2,11 @@
 use Rattle.std.specs.Prelude.{◌≡◌, ℕ, ◌-◌, ◌==◌, nat_lt, List, length, drop, Bool, true, false, Option, Some, None, Result, Ok, Err, if◌then◌else◌}
 use Rattle.std.specs.Int.Digits.{number_from_digits}
 use Rattle.asn1_core.specs.declared.error.Error.{Error}
-use Rattle.asn1_core.specs.declared.error.Error.TheVariants.{BerTypeError, IntegerNegative, IntegerTooLarge}
+use Rattle.asn1_core.specs.declared.error.Error.TheVariants.{BerTypeError, BerValueError, IntegerNegative, IntegerTooLarge}
 use Rattle.asn1_core.specs.Elements.{Element}
 use Rattle.asn1_unsigned.specs.declared.unsigned.UnsignedBytes.{UnsignedBytes}
 use Rattle.asn1_unsigned.specs.Numbers as numbers
-use Rattle.der_tree.specs.Table.{Kind, integer, utf8_string, numeric_string, printable_string, ia5_string, visible_string, tag_of, is_negative}
+use Rattle.der_tree.specs.Table.{Kind, integer, utf8_string, numeric_string, printable_string, ia5_string, visible_string, tag_of, is_negative, is_shortest}
 use Rattle.der_tree.specs.Tree.{boolean, bit_string, oid, enumerated, plain, raw, Tree, node, Content, leaf, sequence, set, Trees, none, more}
 
 abbrev pub content_in : Tree → Content
@@ -70,6 +70,10 @@ number_of _ = Err BerTypeError
 abbrev pub unsigned_of : Content → Result ℕ Error
 unsigned_of (leaf (plain integer s)) = if is_negative s then Err IntegerNegative else Ok (number_from_digits 256 s)
 unsigned_of _ = Err BerTypeError
+
+-- the number of an INTEGER's content octets
+abbrev pub integer_at : List ℕ → Result ℕ Error
+integer_at s = if is_shortest s then if is_negative s then Err IntegerNegative else Ok (number_from_digits 256 s) else Err BerValueError
 
 -- that number is answered, or the same error
 abbrev pub TellsUnsigned : Result UnsignedBytes Error → Result ℕ Error → Type 0

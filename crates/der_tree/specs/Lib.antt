@@ -9,3 +9,4 @@ pub mod Outcome
 pub mod Charset
 pub mod TimeReading
 pub mod Encode
+pub mod Lengths

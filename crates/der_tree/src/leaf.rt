@@ -1,7 +1,8 @@
 //! What an element without parts holds, one line of the table after the other.
 
 ghost use Rattle.std.specs.Prelude.{◌≡◌, ◌≢◌, ◌↔◌, IsTrue, IfOk, IfErr, true, false};
-ghost use Rattle.asn1_core.specs.Views.{class_number};
+ghost use Rattle.asn1_core.specs.Views.{class_number, length_of};
+ghost use Rattle.der_tree.specs.Lengths.{HoldsOne};
 ghost use Rattle.der_tree.specs.Table.{is_listed};
 ghost use Rattle.der_tree.specs.Tree.{Content};
 ghost use Rattle.der_tree.specs.Outcome.{leaf_error};
@@ -22,6 +23,7 @@ pub(crate) fn leaf_of<'a>(header: Header, content: &'a [u8]) -> Result<BerObject
     ensures none { IfErr result (λ e. (e ≢ Error.OutOfMemory)
         × ((c : Content) → HoldsLeaf (element_under header content.now) c → ⊥)) }
     ensures refused { IfErr result (λ e. e ≡ leaf_error (element_under header content.now)) }
+    ensures lengths { IfOk result (λ c. HoldsOne (length_of header) c (content_view c)) }
 {
     if !is_universal(header) || !has_line(header.tag().0) {
         return Ok(BerObjectContent::Unknown(Any { header, content }));
@@ -58,6 +60,7 @@ fn listed_of<'a>(header: Header, content: &'a [u8]) -> Result<BerObjectContent<'
     ensures none { IfErr result (λ e. (e ≢ Error.OutOfMemory)
         × ((c : Content) → HoldsLeaf (element_under header content.now) c → ⊥)) }
     ensures refused { IfErr result (λ e. e ≡ leaf_error (element_under header content.now)) }
+    ensures lengths { IfOk result (λ c. HoldsOne (length_of header) c (content_view c)) }
 {
     match header.tag().0 {
         1 => match content {

@@ -21,12 +21,13 @@ pub use crate::laws::{
     levels_and_trees, more_levels, one_content, one_tree, shape_of_element, shape_of_first,
     shape_of_oid, shape_of_plain, shape_of_sequence, shape_of_set, written_again,
 };
+pub use crate::numbers::{is_negative_integer, is_shortest_integer, number_of, u32_of};
 pub use crate::object::{
     BerError, BerObject, BerObjectContent, BerResult, DerObject, DerObjectContent, MAX_OBJECT_SIZE,
     MAX_RECURSION,
 };
 pub use crate::parts::{end_of, first_of};
 pub use crate::read::{parse_der, parse_der_recursive, parse_der_recursive_counted};
-pub use crate::strings::bits_of;
+pub use crate::strings::{bits_of, text_of};
 pub use crate::times::{Clock, generalized_of, utc_of};
 pub use crate::under::{content_under, leaf_under, object_with};

@@ -1,14 +1,16 @@
 //! The strict reader of objects.
 
-ghost use Rattle.std.specs.Prelude.{◌≡◌, ◌↔◌, ◌+◌, ◌<◌, ◌≤◌, ◌^◌, ℕ, List, ◌++◌, length, IfOk, IfErr, MatchResult, IsTrue};
+ghost use Rattle.std.specs.Prelude.{◌≡◌, ◌↔◌, ◌+◌, ◌<◌, ◌≤◌, ◌^◌, ℕ, List, ◌++◌, length, IfOk, IfErr, IsErrAnd, MatchResult, IsTrue};
 ghost use Rattle.asn1_core.specs.Counts.{attempts};
 ghost use Rattle.asn1_core.specs.Missing.{IsMissing};
+ghost use Rattle.asn1_core.specs.Views.{length_of};
+ghost use Rattle.der_tree.specs.Lengths.{TellsDefinite, HoldsDefinite, lengths_of_all, all_lengths, definite_length};
 ghost use Rattle.der_tree.specs.Object.{IsDerObject};
 ghost use Rattle.der_tree.specs.Table.{IsConstructed};
 ghost use Rattle.der_tree.specs.Tree.{Trees, Content, octets, all_octets, element_count, part_count, all_count};
 ghost use Rattle.der_tree.specs.Shape.{IsObject, IsContent, AreObjects, BeginsWithObject};
 ghost use Rattle.der_tree.specs.View.{element_under, view, content_view, views};
-ghost use Rattle.der_tree.specs.Outcome.{Refuses, WantsMemory, IsNotCut, within_of};
+ghost use Rattle.der_tree.specs.Outcome.{Refuses, ReadsFront, WantsMemory, IsNotCut, cut_at, within_of};
 
 use crate::cut::cut_of;
 use crate::leaf::leaf_of;
@@ -21,6 +23,8 @@ pub fn parse_der<'a>(alloc: Global, i: &'a [u8]) -> BerResult<'a>
     ensures found { IfOk result (λ p. IsObject 50 (view p.1) × (i.now ≡ octets (view p.1) ++ p.0.now)) }
     ensures none { IfErr result (λ e. Refuses e (BeginsWithObject 50 i.now → ⊥)) }
     ensures missing { IfErr result (IsMissing (BeginsWithObject 50) i.now) }
+    ensures front { ReadsFront (cut_at i.now) result }
+    ensures lengths { IfOk result (λ p. TellsDefinite p.1) }
 
     // the same in the words of octets alone
     ensures object { IfOk result (λ p. IsDerObject 50 (octets (view p.1))) }
@@ -33,12 +37,16 @@ pub fn parse_der<'a>(alloc: Global, i: &'a [u8]) -> BerResult<'a>
 /// Reads one DER object of at most so many levels from the front of the octets (X.690, 8, 10 and 11). Each element takes
 /// one level. Answers the octets after the object, and its tree, whose windows lie in `i`.
 ///
-/// Refusals: `Incomplete` where the octets end before the object does, `Failure` of `OutOfMemory` where memory ran out,
-/// and else an error: no object of so many levels begins the octets.
+/// Refusals, in their order: `BerMaxDepth` at no level; those of `Header::strict`; `InvalidLength` of more than
+/// `MAX_OBJECT_SIZE` content octets; `Incomplete` with the number of those that are missing; and where the element is whole
+/// `Failure` of `OutOfMemory`, or an error: it is no object of so many levels.
 pub fn parse_der_recursive<'a>(alloc: Global, i: &'a [u8], levels: usize) -> BerResult<'a>
     ensures found { IfOk result (λ p. IsObject levels (view p.1) × (i.now ≡ octets (view p.1) ++ p.0.now)) }
     ensures none { IfErr result (λ e. Refuses e (BeginsWithObject levels i.now → ⊥)) }
     ensures missing { IfErr result (IsMissing (BeginsWithObject levels) i.now) }
+    ensures no_level { levels ≡ 0 → IsErrAnd result (λ e. e ≡ Refusal.Error Error.BerMaxDepth) }
+    ensures front { 0 < levels → ReadsFront (cut_at i.now) result }
+    ensures lengths { IfOk result (λ p. TellsDefinite p.1) }
 
     // the same in the words of octets alone
     ensures object { IfOk result (λ p. IsDerObject levels (octets (view p.1))) }
@@ -58,10 +66,13 @@ pub fn parse_der_recursive_counted<'a>(
     levels: usize,
     count: &mut HeaderCount,
 ) -> BerResult<'a>
-    requires { attempts count.old + length i.now < 2 ^ 64 }
+    requires { attempts count.old + length i.now < 2 ^ 128 }
     ensures found { IfOk result (λ p. IsObject levels (view p.1) × (i.now ≡ octets (view p.1) ++ p.0.now)) }
     ensures none { IfErr result (λ e. Refuses e (BeginsWithObject levels i.now → ⊥)) }
     ensures missing { IfErr result (IsMissing (BeginsWithObject levels) i.now) }
+    ensures no_level { levels ≡ 0 → IsErrAnd result (λ e. e ≡ Refusal.Error Error.BerMaxDepth) }
+    ensures front { 0 < levels → ReadsFront (cut_at i.now) result }
+    ensures lengths { IfOk result (λ p. TellsDefinite p.1) }
     ensures each { IfOk result (λ p. attempts count.new ≡ attempts count.old + element_count (view p.1)) }
     ensures at_most { attempts count.new ≤ attempts count.old + length i.now }
 {
@@ -86,12 +97,13 @@ pub(crate) fn content_of<'a>(
     levels: usize,
     count: &mut HeaderCount,
 ) -> Result<BerObjectContent<'a>, Refusal<Error>>
-    requires { attempts count.old + length content.now < 2 ^ 64 }
+    requires { attempts count.old + length content.now < 2 ^ 128 }
     ensures each { IfOk result (λ c. attempts count.new ≡ attempts count.old + part_count (content_view c)) }
     ensures at_most { attempts count.new ≤ attempts count.old + length content.now }
     ensures found { IfOk result (λ c. IsContent levels (element_under header content.now) (content_view c)) }
     ensures none { IfErr result (λ e. Refuses e ((c : Content) → IsContent levels (element_under header content.now) c → ⊥)) }
     ensures whole { IfErr result IsNotCut }
+    ensures lengths { IfOk result (λ c. HoldsDefinite (length_of header) c (content_view c)) }
 {
     if is_constructed(header, 16) {
         return Ok(BerObjectContent::Sequence(objects_of(alloc, content, levels, count)?));
@@ -113,12 +125,13 @@ fn objects_of<'a>(
     levels: usize,
     count: &mut HeaderCount,
 ) -> Result<Vec<BerObject<'a>>, Refusal<Error>>
-    requires { attempts count.old + length content.now < 2 ^ 64 }
+    requires { attempts count.old + length content.now < 2 ^ 128 }
     ensures each { IfOk result (λ v. attempts count.new ≡ attempts count.old + all_count (views v.items)) }
     ensures at_most { attempts count.new ≤ attempts count.old + length content.now }
     ensures found { IfOk result (λ v. AreObjects levels (views v.items) × (content.now ≡ all_octets (views v.items))) }
     ensures none { IfErr result (λ e. Refuses e ((ts : Trees) → AreObjects levels ts → content.now ≡ all_octets ts → ⊥)) }
     ensures whole { IfErr result IsNotCut }
+    ensures lengths { IfOk result (λ v. lengths_of_all v.items ≡ all_lengths definite_length (views v.items)) }
 {
     let mut rest = content;
     let mut objects = Vec::new(alloc);

@@ -29,7 +29,7 @@ fn has_unused_zero(unused: u8, octets: &[u8]) -> bool
 }
 
 /// The octets as UTF-8 text.
-pub(crate) fn text_of<'a>(content: &'a [u8]) -> Option<&'a str>
+pub fn text_of<'a>(content: &'a [u8]) -> Option<&'a str>
     ensures { MatchOption result (IsUtf8 content.now → ⊥) (λ t. (t.now ≡ content.now) × IsUtf8 content.now) }
 {
     str::from_utf8(content).ok()

@@ -1,7 +1,8 @@
 //! What an element holds by its tag number alone, and objects made of their parts.
 
-ghost use Rattle.std.specs.Prelude.{◌≡◌, ◌≢◌, IfOk, IfErr};
-ghost use Rattle.asn1_core.specs.Views.{head_of};
+ghost use Rattle.std.specs.Prelude.{◌≡◌, ◌≢◌, ◌∷◌, IfOk, IfErr};
+ghost use Rattle.asn1_core.specs.Views.{head_of, length_of};
+ghost use Rattle.der_tree.specs.Lengths.{HoldsDefinite, HoldsOne, lengths_told, lengths_within};
 ghost use Rattle.der_tree.specs.Outcome.{Refuses, IsNotCut, leaf_error};
 ghost use Rattle.der_tree.specs.Shape.{HoldsLeaf, IsContent};
 ghost use Rattle.der_tree.specs.Tree.{Content, node};
@@ -14,7 +15,7 @@ use asn1_core::{Class, Err as Refusal, Error, Header, HeaderCount};
 use std::alloc::Global;
 
 /// What the content holds by the table's line of the header's tag number, whatever the header's class: a SEQUENCE's and a
-/// SET's parts are objects of at most so many levels. The length that the header tells isn't looked at.
+/// SET's parts are objects of at most so many levels. The length that the header tells isn't looked at; a raw element keeps it.
 ///
 /// Refusals: `Failure` of `OutOfMemory` where memory ran out, and else an error: the line doesn't allow the content or the
 /// constructed bit.
@@ -28,6 +29,7 @@ pub fn content_under<'a>(
     ensures none { IfErr result (λ e. Refuses e ((c : Content)
         → IsContent levels (as_universal (element_under header content.now)) c → ⊥)) }
     ensures whole { IfErr result IsNotCut }
+    ensures lengths { IfOk result (λ c. HoldsDefinite (length_of header) c (content_view c)) }
 {
     let mut count = HeaderCount::new();
     content_of(
@@ -49,6 +51,7 @@ pub fn leaf_under<'a>(header: Header, content: &'a [u8]) -> Result<BerObjectCont
     ensures none { IfErr result (λ e. (e ≢ Error.OutOfMemory)
         × ((c : Content) → HoldsLeaf (as_universal (element_under header content.now)) c → ⊥)) }
     ensures refused { IfErr result (λ e. e ≡ leaf_error (element_under header content.now)) }
+    ensures lengths { IfOk result (λ c. HoldsOne (length_of header) c (content_view c)) }
 {
     leaf_of(header.with_class(Class::Universal), content)
 }
@@ -59,7 +62,8 @@ pub fn object_with<'a>(
     content: BerObjectContent<'a>,
     raw: &'a [u8],
 ) -> BerObject<'a>
-    ensures { view result ≡ node (head_of header) raw.entry.now (content_view content.entry) }
+    ensures tree { view result ≡ node (head_of header) raw.entry.now (content_view content.entry) }
+    ensures lengths { lengths_told result ≡ length_of header ∷ lengths_within content.entry }
 {
     BerObject::new(header, content, raw)
 }

@@ -7,4 +7,4 @@ pub returns-in-None-clause-none : goal.returns-in-None-clause-none
 returns-in-None-clause-none c =
     let e = element_under c.args.header c.args.content.now in
     let class = c.is_universal.ensures.0 c.if-not-is_universal.false in
-    IfErr-weaker c.leaf_under.result _ _ (λ x none. (none.0, λ d p. no_leaf_by e d (λ q. none.1 d (leaf_universal e d class q)) (λ q. c.in-None.ensures d q) p)) c.leaf_under.ensures.none
+    IfErr-weaker c.leaf_under.result _ _ (λ x none. (none.0, λ d p. no_leaf_by e d (λ q. none.1 d (leaf_universal e d class q)) (λ q. c.in-None.ensures.wider d q) p)) c.leaf_under.ensures.none

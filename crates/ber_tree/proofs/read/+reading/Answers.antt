@@ -1,11 +1,17 @@
-use Rattle.std.proofs.Common.{◌∙◌, sym, ap, refl, ◌<◌, ◌++◌, length, arith, append_assoc, length-append}
+use Rattle.std.proofs.Common.{◌∙◌, sym, ap, refl, ◌-◌, ◌<◌, ◌++◌, length, arith, append_assoc, length-append}
 use Rattle.std.proofs.lemmas.Grind.{common_steps}
+use Rattle.asn1_core.specs.Views.{length_of}
+use Rattle.asn1_any.specs.Reading.{ber_levels_at}
 use Rattle.asn1_any.specs.Views.{ber_any_of}
+use Rattle.der_tree.specs.Outcome.{IsNotCut}
 use Rattle.der_tree.specs.Tree.{octets, all_octets}
 use Rattle.der_tree.specs.Table.{IsConstructed}
 use Rattle.der_tree.specs.View.{element_under, view, content_view, views}
 use Rattle.der_tree.proofs.Views.{at_sequence, at_set}
-use Rattle.der_tree.proofs.Exits.{weaker, passed_on, within_refuses, refused}
+use Rattle.der_tree.proofs.Exits.{weaker, passed_on, within_refuses, refused, front_refused, front_whole}
+use Rattle.der_tree.proofs.Told.{held_sequence, held_set, told_made, all_push}
+use Rattle.ber_tree.specs.Lengths.{ber_length}
+use Rattle.ber_tree.proofs.Told.{held_leaf, read_told}
 use Rattle.ber_tree.specs.Object.{IsBerContent, AreBerObjects}
 use Rattle.ber_tree.proofs.Leaves.{no_ber_sequence, no_ber_set, ber_leaf_content, ber_content_leaf}
 use Rattle.ber_tree.proofs.Objects.{object_long, object_element, objects_step, objects_first}
@@ -38,6 +44,18 @@ unfolding IsBerContent
 content_of-returns-then-is_constructed-2-clause-found t c =
     rw at_set ((c.is_constructed-2.ensures c.args.content.now).0 c.if-is_constructed-2.true, c.in_ok-objects_of-2.ensures.found.1, c.in_ok-objects_of-2.ensures.found.0)
 
+pub content_of-returns-then-is_constructed-clause-lengths :
+    goal.content_of-returns-then-is_constructed-clause-lengths
+content_of-returns-then-is_constructed-clause-lengths t c = held_sequence ber_length (length_of c.args.header) c.in_ok-objects_of.field-0 c.in_ok-objects_of.ensures.lengths
+
+pub content_of-returns-then-is_constructed-2-clause-lengths :
+    goal.content_of-returns-then-is_constructed-2-clause-lengths
+content_of-returns-then-is_constructed-2-clause-lengths t c = held_set ber_length (length_of c.args.header) c.in_ok-objects_of-2.field-0 c.in_ok-objects_of-2.ensures.lengths
+
+pub content_of-returns-in-Ok-clause-lengths : goal.content_of-returns-in-Ok-clause-lengths
+content_of-returns-in-Ok-clause-lengths t c =
+    held_leaf ber_length (length_of c.args.header) (element_under c.args.header c.args.content.now) c.in-Ok.leaf (content_view c.in-Ok.leaf) c.in-Ok.ensures.found c.in-Ok.ensures.lengths
+
 pub content_of-returns-in-Ok-clause-found : goal.content_of-returns-in-Ok-clause-found
 content_of-returns-in-Ok-clause-found t c =
     ber_leaf_content c.args.levels (element_under c.args.header c.args.content.now) (content_view c.in-Ok.leaf) c.in-Ok.ensures.found
@@ -53,7 +71,7 @@ content_of-returns-in-Err-clause-none t c =
 
 pub objects_of-loop-rest-init : goal.objects_of-loop-rest-init
 unfolding AreBerObjects
-objects_of-loop-rest-init t c = rw c.new-objects.ensures.items (record { objects = tt; so_far = refl; others = λ ts p e. (ts, p, e) })
+objects_of-loop-rest-init t c = rw c.new-objects.ensures.items (record { objects = tt; lengths = refl; so_far = refl; others = λ ts p e. (ts, p, e) })
 
 pub objects_of-returns-in-Err-clause-none : goal.objects_of-returns-in-Err-clause-none
 objects_of-returns-in-Err-clause-none t c =
@@ -77,6 +95,7 @@ objects_of-loop-rest-preserved t c =
     let after = c.in-Ok.read.0.now in
     rw c.in_ok-push.ensures.items (record {
       objects = objects_push c.args.levels before last c.loop-rest.invariant.objects found.0;
+      lengths = all_push ber_length before last c.loop-rest.invariant.lengths c.in-Ok.ensures.lengths;
       so_far = c.loop-rest.invariant.so_far ∙ ap (λ z. all_octets (views before) ++ z) found.1 ∙ sym (append_assoc (all_octets (views before)) (octets (view last)) after) ∙ ap (λ z. z ++ after) (sym (views_push before last));
       others = λ ts p e.
           let us = c.loop-rest.invariant.others ts p e in
@@ -102,7 +121,7 @@ object_of-returns-clause-found t c =
     let found = c.in_ok-after.ensures.found in
     let e = ber_any_of c.in_ok-after.any in
     object_read c.args.levels c.args.i.now c.in_ok-after.after.now c.split_at.result.0.now (view c.object_with.result) c.in_ok-after.any.header e (content_view c.in_ok-content.content)
-    found.0 found.1 refl c.split_at.ensures.front c.object_with.ensures (c.is_small.ensures.0 (grind (arith, common_steps))) c.in_ok-content.ensures.found
+    found.0 found.1 refl c.split_at.ensures.front c.object_with.ensures.tree (c.is_small.ensures.0 (grind (arith, common_steps))) c.in_ok-content.ensures.found
 
 pub object_of-returns-then-not-is_small-clause-none :
     goal.object_of-returns-then-not-is_small-clause-none
@@ -114,3 +133,24 @@ object_of-returns-then-not-is_small-clause-none t c = (
       cc,
   λ e. cc,
 )
+
+pub object_of-returns-clause-lengths : goal.object_of-returns-clause-lengths
+object_of-returns-clause-lengths t c =
+    let h = c.in_ok-after.any.header in
+    let same = read_told h (c.args.levels - 1) c.args.i.now c.in_ok-after.after.now c.split_at.result.0.now (ber_any_of c.in_ok-after.any) c.in_ok-after.ensures.found.1 refl c.split_at.ensures.front in
+    told_made ber_length c.object_with.result h c.split_at.result.0.now (content_view c.in_ok-content.content) c.in_ok-content.content c.object_with.ensures.lengths c.object_with.ensures.tree same c.in_ok-content.ensures.lengths
+
+pub object_of-returns-clause-front : goal.object_of-returns-clause-front
+object_of-returns-clause-front t c = front_whole (ber_levels_at c.args.levels c.args.i.now) _ _ c.in_ok-after.ensures.exact tt
+
+pub object_of-returns-then-not-is_small-clause-front : goal.object_of-returns-then-not-is_small-clause-front
+object_of-returns-then-not-is_small-clause-front t c = front_whole (ber_levels_at c.args.levels c.args.i.now) _ _ c.in_ok-after.ensures.exact tt
+
+pub object_of-returns-in_err-after-clause-front : goal.object_of-returns-in_err-after-clause-front
+object_of-returns-in_err-after-clause-front t c =
+    front_refused (ber_levels_at c.args.levels c.args.i.now) c.from_residual.result c.in_err-after.field-0.0 c.in_err-after.ensures.exact c.from_residual.ensures.1
+
+pub object_of-returns-in_err-content-clause-front : goal.object_of-returns-in_err-content-clause-front
+object_of-returns-in_err-content-clause-front t c =
+    front_whole (ber_levels_at c.args.levels c.args.i.now) _ _ c.in_ok-after.ensures.exact
+    (passed_on c.from_residual-in_err-content.result c.in_err-content.field-0.0 IsNotCut c.from_residual-in_err-content.ensures.1 c.in_err-content.ensures.whole)

@@ -1,6 +1,8 @@
 use Rattle.std.proofs.Common.{◌≡◌, ◌+◌, ◌*◌, ◌++◌, length}
 use Rattle.der_tree.specs.Tree.{Trees, all_octets}
+use Rattle.der_tree.specs.Lengths.{lengths_of_all, all_lengths}
 use Rattle.der_tree.specs.View.{views}
+use Rattle.ber_tree.specs.Lengths.{ber_length}
 use Rattle.ber_tree.specs.Object.{AreBerObjects}
 use Rattle.ber_tree.proofs.read.+reading.Given as goal
 
@@ -17,6 +19,7 @@ decreases-object_of l = 3 * l.levels
 abbrev pub invariant-objects_of-loop-rest : goal.invariant-objects_of-loop-rest
 invariant-objects_of-loop-rest l = record {
   objects : AreBerObjects l.levels (views l.objects.items);
+  lengths : lengths_of_all l.objects.items ≡ all_lengths ber_length (views l.objects.items);
   so_far : l.content ≡ all_octets (views l.objects.items) ++ l.rest;
   others : (ts : Trees) → AreBerObjects l.levels ts → l.content ≡ all_octets ts → (us : Trees) × AreBerObjects l.levels us × (l.rest ≡ all_octets us);
 }

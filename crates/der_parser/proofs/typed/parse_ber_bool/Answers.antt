@@ -15,7 +15,7 @@ returns-in-Ok-clause-read c =
     let found = c.in_ok-rest.element in
     let e = element_under found.header found.content.now in
     reads_made 1 HoldsBerBoolean c.args.i.now found.raw.now c.in_ok-rest.rest.now (head_of found.header) e (content_view c.in-Ok.content) (view c.object_with.result) c.in_ok-rest.ensures.found
-    c.in-Ok.ensures.found c.object_with.ensures
+    c.in-Ok.ensures.found c.object_with.ensures.tree
 
 pub returns-in-Err-clause-read : goal.returns-in-Err-clause-read
 returns-in-Err-clause-read c =

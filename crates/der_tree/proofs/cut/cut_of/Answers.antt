@@ -5,9 +5,6 @@ use Rattle.der_tree.proofs.Cuts.{cut_front, cut_size, cut_missing, cut_read, cut
 use Rattle.der_tree.proofs.Exits.{passed_on, missing_weaker}
 use Rattle.der_tree.specs.Object.{HasCut}
 use Rattle.asn1_core.specs.Missing.{HasStrictHeader}
-use Rattle.asn1_core.specs.Answers.{TakesNoMemory}
-use Rattle.asn1_core.proofs.Numbers.{octets_below}
-use Rattle.asn1_core.proofs.Refusals.{strict_no_memory, strict_header_missing}
 use Rattle.der_tree.proofs.cut.cut_of.Goals as goal
 
 -- no strict header begins the octets, so no element does
@@ -42,16 +39,8 @@ returns-clause-only c = λ e s r p f.
 
 pub returns-in_err-rest-clause-missing : goal.returns-in_err-rest-clause-missing
 returns-in_err-rest-clause-missing c =
-    let octets = c.args.i.now in
-    let below = octets_below octets (λ k. omega (arith, c.type_inv.i k)) in
     passed_on c.from_residual.result c.in_err-rest.field-0.0 _ c.from_residual.ensures.1
-    (missing_weaker c.in_err-rest.field-0.0 octets HasStrictHeader HasCut cut_header (strict_header_missing octets c.in_err-rest.field-0.0 below c.in_err-rest.ensures.exact))
-
-pub returns-in_err-rest-clause-memory : goal.returns-in_err-rest-clause-memory
-returns-in_err-rest-clause-memory c =
-    let octets = c.args.i.now in
-    let below = octets_below octets (λ k. omega (arith, c.type_inv.i k)) in
-    passed_on c.from_residual.result c.in_err-rest.field-0.0 TakesNoMemory c.from_residual.ensures.1 (strict_no_memory octets c.in_err-rest.field-0.0 below c.in_err-rest.ensures.exact)
+    (missing_weaker c.in_err-rest.field-0.0 c.args.i.now HasStrictHeader HasCut cut_header c.in_err-rest.ensures.missing)
 
 pub returns-clause-within : goal.returns-clause-within
 returns-clause-within c = let read = returns-clause-found c in cut_within c.args.i.now _ c.split_at.result.1.now _ read.0 read.2

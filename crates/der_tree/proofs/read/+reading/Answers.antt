@@ -4,13 +4,16 @@ use Rattle.der_tree.specs.Tree.{octets, all_octets}
 use Rattle.der_tree.specs.Table.{IsConstructed}
 use Rattle.der_tree.specs.Shape.{IsContent, AreObjects, BeginsWithObject}
 use Rattle.asn1_core.specs.Elements.{head_of_element}
-use Rattle.asn1_core.specs.Views.{head_of}
+use Rattle.asn1_core.specs.Views.{head_of, length_of}
+use Rattle.der_tree.specs.Lengths.{lengths_within, lengths_held, definite_length}
+use Rattle.der_tree.proofs.Told.{in_object, held_sequence, held_set, held_leaf, definite_told, told_made, all_push}
 use Rattle.der_tree.specs.Object.{IsCut, HasCut}
 use Rattle.der_tree.specs.View.{element_under, view, content_view, views}
-use Rattle.der_tree.proofs.Views.{at_sequence, at_set}
-use Rattle.der_tree.proofs.Exits.{weaker, passed_on, within_refuses, refused, missing_weaker}
+use Rattle.der_tree.specs.Outcome.{IsNotCut, cut_at}
+use Rattle.der_tree.proofs.Views.{at_sequence, at_set, at_object}
+use Rattle.der_tree.proofs.Exits.{weaker, passed_on, within_refuses, refused, missing_weaker, front_refused, front_whole}
 use Rattle.der_tree.proofs.Objects.{no_sequence, no_set, leaf_content, content_leaf, object_parts, object_long, objects_step, objects_first}
-use Rattle.der_tree.proofs.Reading.{object_cut, object_content, object_read, views_push, objects_push, counts_push, count_bound, nothing_begins}
+use Rattle.der_tree.proofs.Reading.{object_cut, object_content, object_read, views_push, objects_push, counts_push, count_bound, nothing_begins, nothing_cut}
 use Rattle.der_tree.proofs.read.+reading.Goals as goal
 
 pub content_of-returns-in_err-objects_of-clause-none :
@@ -39,6 +42,18 @@ unfolding IsContent
 content_of-returns-then-is_constructed-2-clause-found t c =
     rw at_set ((c.is_constructed-2.ensures c.args.content.now).0 c.if-is_constructed-2.true, c.in_ok-objects_of-2.ensures.found.1, c.in_ok-objects_of-2.ensures.found.0)
 
+pub content_of-returns-then-is_constructed-clause-lengths :
+    goal.content_of-returns-then-is_constructed-clause-lengths
+content_of-returns-then-is_constructed-clause-lengths t c = held_sequence definite_length (length_of c.args.header) c.in_ok-objects_of.field-0 c.in_ok-objects_of.ensures.lengths
+
+pub content_of-returns-then-is_constructed-2-clause-lengths :
+    goal.content_of-returns-then-is_constructed-2-clause-lengths
+content_of-returns-then-is_constructed-2-clause-lengths t c = held_set definite_length (length_of c.args.header) c.in_ok-objects_of-2.field-0 c.in_ok-objects_of-2.ensures.lengths
+
+pub content_of-returns-in-Ok-clause-lengths : goal.content_of-returns-in-Ok-clause-lengths
+content_of-returns-in-Ok-clause-lengths t c =
+    held_leaf definite_length (length_of c.args.header) (element_under c.args.header c.args.content.now) c.in-Ok.leaf (content_view c.in-Ok.leaf) c.in-Ok.ensures.found c.in-Ok.ensures.lengths
+
 pub content_of-returns-in-Ok-clause-found : goal.content_of-returns-in-Ok-clause-found
 content_of-returns-in-Ok-clause-found t c =
     leaf_content c.args.levels (element_under c.args.header c.args.content.now) (content_view c.in-Ok.leaf) c.in-Ok.ensures.found
@@ -54,7 +69,7 @@ content_of-returns-in-Err-clause-none t c =
 
 pub objects_of-loop-rest-init : goal.objects_of-loop-rest-init
 unfolding AreObjects
-objects_of-loop-rest-init t c = rw c.new-objects.ensures.items (record { objects = tt; each = omega arith; at_most = omega arith; so_far = refl; others = λ ts p e. (ts, p, e) })
+objects_of-loop-rest-init t c = rw c.new-objects.ensures.items (record { objects = tt; lengths = refl; each = omega arith; at_most = omega arith; so_far = refl; others = λ ts p e. (ts, p, e) })
 
 pub objects_of-returns-in-Err-clause-none : goal.objects_of-returns-in-Err-clause-none
 objects_of-returns-in-Err-clause-none t c =
@@ -78,6 +93,7 @@ objects_of-loop-rest-preserved t c =
     let after = c.in-Ok.read.0.now in
     rw c.in_ok-push.ensures.items (record {
       objects = objects_push c.args.levels before last c.loop-rest.invariant.objects found.0;
+      lengths = all_push definite_length before last c.loop-rest.invariant.lengths c.in-Ok.ensures.lengths;
       each = omega (arith, c.loop-rest.invariant.each, c.in-Ok.ensures.each, counts_push before last);
       at_most = omega (arith, c.loop-rest.invariant.at_most, c.in-Ok.ensures.each, count_bound (view last) c.args.levels found.0, ap length found.1, length-append (octets (view last)) after);
       so_far = c.loop-rest.invariant.so_far ∙ ap (λ z. all_octets (views before) ++ z) found.1 ∙ sym (append_assoc (all_octets (views before)) (octets (view last)) after) ∙ ap (λ z. z ++ after) (sym (views_push before last));
@@ -135,3 +151,32 @@ parse_der_recursive_counted-returns-then-is_empty-clause-missing t c =
       omega arith,
       λ more few. nothing_begins c.args.levels (c.args.i.now ++ more) (omega (arith, empty, length-append c.args.i.now more)),
     )
+
+pub parse_der_recursive_counted-returns-clause-lengths : goal.parse_der_recursive_counted-returns-clause-lengths
+parse_der_recursive_counted-returns-clause-lengths t c =
+    let o = c.new-object.result in
+    let definite = ap length_of c.new-object.ensures.header ∙ c.in_ok-after.ensures.definite in
+    let held = ap lengths_within c.new-object.ensures.content ∙ c.in_ok-content.ensures.lengths
+    ∙ ap (λ h. lengths_held definite_length (length_of h) (content_view c.in_ok-content.content)) (sym c.new-object.ensures.header)
+    ∙ ap (λ z. lengths_held definite_length (length_of o.header) (content_view z)) (sym c.new-object.ensures.content) in
+    told_made definite_length o o.header o.raw.now (content_view o.content) o.content (in_object o) (at_object o) (definite_told o.header o.raw.now _ definite) held
+
+pub parse_der_recursive_counted-returns-clause-front : goal.parse_der_recursive_counted-returns-clause-front
+parse_der_recursive_counted-returns-clause-front t c = λ level. front_whole (cut_at c.args.i.now) _ _ c.in_ok-after.ensures.exact tt
+
+pub parse_der_recursive_counted-returns-in_err-after-clause-front :
+    goal.parse_der_recursive_counted-returns-in_err-after-clause-front
+parse_der_recursive_counted-returns-in_err-after-clause-front t c = λ level.
+    front_refused (cut_at c.args.i.now) c.from_residual.result c.in_err-after.field-0.0 c.in_err-after.ensures.exact c.from_residual.ensures.1
+
+pub parse_der_recursive_counted-returns-in_err-content-clause-front :
+    goal.parse_der_recursive_counted-returns-in_err-content-clause-front
+parse_der_recursive_counted-returns-in_err-content-clause-front t c = λ level.
+    front_whole (cut_at c.args.i.now) _ _ c.in_ok-after.ensures.exact
+    (passed_on c.from_residual-in_err-content.result c.in_err-content.field-0.0 IsNotCut c.from_residual-in_err-content.ensures.1 c.in_err-content.ensures.whole)
+
+pub parse_der_recursive_counted-returns-then-is_empty-clause-front :
+    goal.parse_der_recursive_counted-returns-then-is_empty-clause-front
+parse_der_recursive_counted-returns-then-is_empty-clause-front t c = λ level.
+    let empty : length c.args.i.now ≡ 0 = grind (arith, common_steps) in
+    front_refused (cut_at c.args.i.now) _ _ (nothing_cut c.args.i.now empty) refl
