@@ -36,7 +36,7 @@ impl GeneralizedTime {
     /// to three digits, the last not 0, or nothing; then Z, an offset +hhmm or -hhmm, or no zone. Each field is in range
     /// (X.680, 46.3). Seconds that aren't told are 0. Whether the month has the day isn't asked. `InvalidValue` of other octets.
     pub fn from_bytes(octets: &[u8]) -> Result<GeneralizedTime, Error>
-        ensures value { ReadsContent (λ content v. GeneralizedMeans content v.0) octets.now result }
+        ensures value { ReadsContent ⊥ (λ content v. GeneralizedMeans content v.0) octets.now result }
         ensures refused { IfErr result (IsInvalidValue 24) }
         ensures exact { GivesTime (λ v. v.0) 24 result (generalized_time_at octets.now) }
     {
@@ -116,7 +116,7 @@ impl DerLeaf for GeneralizedTime {
 
 impl<'a> FromLeaf<'a> for GeneralizedTime {
     fn from_content(_alloc: Global, octets: &'a [u8]) -> Result<GeneralizedTime, Error>
-        ensures value { ReadsContent (λ content v. GeneralizedMeans content v.0) octets.now result }
+        ensures value { ReadsContent ⊥ (λ content v. GeneralizedMeans content v.0) octets.now result }
         ensures refused { IfErr result (IsInvalidValue 24) }
         ensures exact { GivesTime (λ v. v.0) 24 result (generalized_time_at octets.now) }
     {

@@ -33,7 +33,7 @@ impl UtcTime {
     /// The UTCTime of content octets: YYMMDDHHMM, SS or none, and Z or an offset +hhmm or -hhmm, each field in range
     /// (X.680, 47.3). Seconds that aren't told are 0. Whether the month has the day isn't asked. `InvalidValue` of other octets.
     pub fn from_bytes(octets: &[u8]) -> Result<UtcTime, Error>
-        ensures value { ReadsContent (λ content v. UtcMeans content v.0) octets.now result }
+        ensures value { ReadsContent ⊥ (λ content v. UtcMeans content v.0) octets.now result }
         ensures refused { IfErr result (IsInvalidValue 23) }
         ensures exact { GivesTime (λ v. v.0) 23 result (utc_time_at octets.now) }
     {
@@ -101,7 +101,7 @@ impl DerLeaf for UtcTime {
 
 impl<'a> FromLeaf<'a> for UtcTime {
     fn from_content(_alloc: Global, octets: &'a [u8]) -> Result<UtcTime, Error>
-        ensures value { ReadsContent (λ content v. UtcMeans content v.0) octets.now result }
+        ensures value { ReadsContent ⊥ (λ content v. UtcMeans content v.0) octets.now result }
         ensures refused { IfErr result (IsInvalidValue 23) }
         ensures exact { GivesTime (λ v. v.0) 23 result (utc_time_at octets.now) }
     {
