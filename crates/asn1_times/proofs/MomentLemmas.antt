@@ -1,10 +1,14 @@
 -- Moments of dates and times.
-use Rattle.std.proofs.Common.{◌≡◌, ◌∙◌, sym, ap, refl, subst, arith, ℕ, ◌*◌, ℤ, pos, ◌-ℤ◌, ◌*ℤ◌, Result, Ok, Err}
+use Rattle.std.proofs.Common.{◌≡◌, ◌∙◌, sym, ap, refl, subst, arith, ℕ, ◌<◌, ◌≤ℤ◌, ◌*◌, ℤ, pos, ◌-ℤ◌, ◌*ℤ◌, Result, Ok, Err, None}
 use Rattle.std.proofs.lemmas.Int.{ints}
-use Rattle.jiff.specs.Words.{civil_nanos}
+use Rattle.std.proofs.lemmas.Bool.Decides.{nat_tests}
+use Rattle.jiff.specs.Words.{civil_nanos, IsCivilNanos}
+use Rattle.jiff_core.proofs.DateTimeLemmas.{civil_nanos_range}
 use Rattle.jiff_core.specs.declared.civil.datetime.DateTime.{DateTime}
 use Rattle.asn1_core.specs.declared.error.Error.{Error}
-use Rattle.asn1_times.specs.Moments.{thousandths, local_nanos, HasClock, HasSameFields, IsMomentOf, GivesMoment, GivesShifted, IsClockOffset, IsClockZone, offset_minutes, zone_minutes}
+use Rattle.asn1_times.specs.Moments.{thousandths, local_nanos, HasClock, HasSameFields, IsMomentOf, GivesMoment, GivesShifted, IsClockOffset, IsClockZone, offset_minutes, zone_minutes, full_year}
+use Rattle.asn1_times.specs.Readers.{universal_nanos, moment_at, GivesNanos}
+use Rattle.asn1_times.specs.ReaderLaws.{moment_is, moment_none}
 use Rattle.asn1_times.specs.declared.datetime.ASN1DateTime.{ASN1DateTime}
 use Rattle.asn1_times.specs.declared.datetime.ASN1TimeZone.{ASN1TimeZone}
 use Rattle.asn1_times.specs.declared.datetime.ASN1TimeZone.TheVariants as zones
@@ -28,6 +32,10 @@ moment_local year t r p =
 abbrev shifted_nanos : ℤ → ASN1TimeZone → ℤ
 shifted_nanos n z = n -ℤ zone_minutes z *ℤ pos 60_000_000_000
 
+same_nanos : (year : ℕ) (t : ASN1DateTime) (local : DateTime) (h m : ℤ) → HasSameFields year t local → t.tz ≡ zones.Offset h m →
+    universal_nanos year t ≡ civil_nanos local -ℤ offset_minutes h m *ℤ pos 60_000_000_000
+same_nanos year t local h m fields zone = ap (shifted_nanos (local_nanos year t)) zone ∙ ap (λ n. shifted_nanos n (zones.Offset h m)) (sym (moment_local year t local fields))
+
 -- the offset taken off
 pub moment_shifted : (year : ℕ) (t : ASN1DateTime) (local : DateTime) (h m : ℤ) (res : Result DateTime Error) → HasClock year t → HasSameFields year t local →
     t.tz ≡ zones.Offset h m → GivesShifted (IsClockOffset h m) (civil_nanos local -ℤ offset_minutes h m *ℤ pos 60_000_000_000) res → GivesMoment year t res
@@ -38,10 +46,25 @@ moment_shifted year t local h m (Ok r) clock fields zone g = record {
 }
 moment_shifted year t local h m (Err e) clock fields zone g = (
   g.0,
-  λ r p.
-      g.1 (subst IsClockZone zone p.zone) r
-      (p.moment ∙ ap (shifted_nanos (local_nanos year t)) zone ∙ ap (λ n. shifted_nanos n (zones.Offset h m)) (sym (moment_local year t local fields))),
+  λ r p. g.1 (subst IsClockZone zone p.zone) (subst IsCivilNanos (p.moment ∙ same_nanos year t local h m fields zone) (civil_nanos_range r)),
 )
+
+-- the function of the moment gives the same
+pub exact_shifted : (year : ℕ) (t : ASN1DateTime) (local : DateTime) (h m : ℤ) (res : Result DateTime Error) → HasClock year t → HasSameFields year t local →
+    t.tz ≡ zones.Offset h m → GivesShifted (IsClockOffset h m) (civil_nanos local -ℤ offset_minutes h m *ℤ pos 60_000_000_000) res → GivesNanos res (moment_at year t)
+exact_shifted year t local h m (Ok r) clock fields zone g = (moment_is year t r).1 (moment_shifted year t local h m (Ok r) clock fields zone g)
+exact_shifted year t local h m (Err e) clock fields zone g =
+    (moment_none year t (λ _ range is. g.1 (subst IsClockZone zone range) (subst IsCivilNanos (same_nanos year t local h m fields zone) is)), g.0)
+
+-- no clock shows a year past 9999
+pub late_year : (year : ℕ) (t : ASN1DateTime) → 9999 < year → moment_at (full_year year) t ≡ None
+late_year year t late = moment_none (full_year year) t (λ clock _ _. absurd (late_clock (full_year year) (full_year_late year late) clock.date.0.1))
+  where
+    full_year_late : (y : ℕ) → 9999 < y → 9999 < full_year y
+    full_year_late y p = grind (arith, nat_tests)
+
+    late_clock : (y : ℕ) → 9999 < y → pos y ≤ℤ pos 9999 → ⊥
+    late_clock y p q = omega (arith, ints)
 
 no_shift : (n : ℤ) → n ≡ n -ℤ pos 0 *ℤ pos 60_000_000_000
 no_shift n = omega (arith, ints)

@@ -7,3 +7,5 @@ pub mod ReadingLaws
 pub mod UtcLaws
 pub mod GeneralizedLaws
 pub mod Moments
+pub mod Readers
+pub mod ReaderLaws

@@ -1,6 +1,6 @@
 -- The moment in universal time that a date and time stands for.
 use Rattle.std.specs.Prelude.{◌≡◌, ◌+◌, ◌*◌, ◌<◌, ℕ, zero, suc, ℤ, pos, negsuc, neg_ℤ, unsigned_abs, nat_le, if◌then◌else◌, ◌+ℤ◌, ◌-ℤ◌, ◌*ℤ◌, Option, Some, None, Result, Ok, Err}
-use Rattle.jiff.specs.Words.{IsDate, IsTime, IsYmd, IsHms, civil_nanos}
+use Rattle.jiff.specs.Words.{IsDate, IsTime, IsYmd, IsHms, IsCivilNanos, civil_nanos}
 use Rattle.jiff_core.specs.Calendar.{days_from_civil}
 use Rattle.jiff_core.specs.declared.civil.datetime.DateTime.{DateTime}
 use Rattle.asn1_core.specs.declared.error.Error.{Error}
@@ -69,10 +69,10 @@ abbrev pub GivesMoment : ℕ → ASN1DateTime → Result DateTime Error → Type
 GivesMoment year t (Ok r) = IsMomentOf year t r
 GivesMoment year t (Err e) = (e ≡ errors.InvalidDateTime) × ((r : DateTime) → IsMomentOf year t r → ⊥)
 
--- the date and time of these nanoseconds, or that there is none, or the offset isn't in range
+-- the date and time of these nanoseconds, or that the calendar has none, or the offset isn't in range
 abbrev pub GivesShifted : Type 0 → ℤ → Result DateTime Error → Type 0
 GivesShifted InRange nanos (Ok r) = InRange × (civil_nanos r ≡ nanos)
-GivesShifted InRange nanos (Err e) = (e ≡ errors.InvalidDateTime) × (InRange → (r : DateTime) → civil_nanos r ≡ nanos → ⊥)
+GivesShifted InRange nanos (Err e) = (e ≡ errors.InvalidDateTime) × (InRange → IsCivilNanos nanos → ⊥)
 
 -- YY from 50 on is 19YY, else 20YY (RFC 5280, 4.1.2.5.1)
 abbrev pub full_year : ℕ → ℕ

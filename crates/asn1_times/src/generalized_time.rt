@@ -2,10 +2,11 @@
 
 ghost use Rattle.std.specs.Prelude.{◌≡◌, ◌↔◌, ◌≤◌, IsTrue, IfErr, length};
 ghost use Rattle.std.proofs.Common.{lit<};
-ghost use Rattle.asn1_traits.specs.Leaves.{ReadsContent};
+ghost use Rattle.asn1_traits.specs.Leaves.{ReadsContent, ChecksContent};
 ghost use Rattle.asn1_times.specs.Fields.{IsFraction};
 ghost use Rattle.asn1_times.specs.GeneralizedTimes.{HasFields, IsGeneralizedTime, HasSecondsAndZ, GeneralizedMeans, generalized_octets};
 ghost use Rattle.asn1_times.specs.Refused.{IsInvalidValue};
+ghost use Rattle.asn1_times.specs.Readers.{generalized_time_at, der_check, GivesTime};
 ghost use Rattle.asn1_times.specs.GeneralizedLaws.{generalized_fits, generalized_same};
 
 use crate::datetime::{ASN1DateTime, ASN1TimeZone};
@@ -35,8 +36,9 @@ impl GeneralizedTime {
     /// to three digits, the last not 0, or nothing; then Z, an offset +hhmm or -hhmm, or no zone. Each field is in range
     /// (X.680, 46.3). Seconds that aren't told are 0. Whether the month has the day isn't asked. `InvalidValue` of other octets.
     pub fn from_bytes(octets: &[u8]) -> Result<GeneralizedTime, Error>
-        ensures value { ReadsContent (λ content v. GeneralizedMeans content v.0) octets.now result }
+        ensures value { ReadsContent ⊥ (λ content v. GeneralizedMeans content v.0) octets.now result }
         ensures refused { IfErr result (IsInvalidValue 24) }
+        ensures exact { GivesTime (λ v. v.0) 24 result (generalized_time_at octets.now) }
     {
         let Some(time) = generalized_of(octets) else {
             return Err(Error::InvalidValue {
@@ -83,7 +85,10 @@ impl DerLeaf for GeneralizedTime {
 
     ghost same = { λ v w form read. generalized_same v.0 w.0 form read };
 
-    fn check_content(octets: &[u8]) -> Result<(), Error> {
+    fn check_content(octets: &[u8]) -> Result<(), Error>
+        ensures allowed { ChecksContent HasSecondsAndZ octets.now result }
+        ensures exact { result ≡ der_check octets.now }
+    {
         match octets.split_last() {
             Some((end, front)) if *end == b'Z' => {
                 if front.len() >= 14 {
@@ -111,8 +116,9 @@ impl DerLeaf for GeneralizedTime {
 
 impl<'a> FromLeaf<'a> for GeneralizedTime {
     fn from_content(_alloc: Global, octets: &'a [u8]) -> Result<GeneralizedTime, Error>
-        ensures value { ReadsContent (λ content v. GeneralizedMeans content v.0) octets.now result }
+        ensures value { ReadsContent ⊥ (λ content v. GeneralizedMeans content v.0) octets.now result }
         ensures refused { IfErr result (IsInvalidValue 24) }
+        ensures exact { GivesTime (λ v. v.0) 24 result (generalized_time_at octets.now) }
     {
         GeneralizedTime::from_bytes(octets)
     }

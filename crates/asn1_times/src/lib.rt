@@ -14,6 +14,7 @@ mod writing;
 pub use crate::datetime::{ASN1DateTime, ASN1TimeZone};
 pub use crate::generalized_time::GeneralizedTime;
 pub use crate::laws::{
-    der_generalized_times, one_generalized_time, one_utc_time, utc_octets_differ,
+    der_generalized_times, generalized_time_functions, moment_function, one_generalized_time,
+    one_utc_time, utc_octets_differ, utc_time_function,
 };
 pub use crate::utc_time::UtcTime;

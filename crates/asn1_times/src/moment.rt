@@ -3,6 +3,7 @@
 ghost use Rattle.std.specs.Prelude.{◌≡◌, ◌↔◌, ◌≤◌, ◌<◌, IsTrue, IsSome, IfSome, IfOk, pos, ◌-ℤ◌, ◌*ℤ◌, ◌*◌, ◌+◌};
 ghost use Rattle.jiff.specs.Words.{IsWithin, civil_nanos};
 ghost use Rattle.asn1_times.specs.Moments.{offset_minutes, IsClockOffset, HasClock, HasSameFields, HasNoOffset, GivesMoment, GivesShifted, full_year};
+ghost use Rattle.asn1_times.specs.Readers.{moment_at, GivesNanos};
 
 use crate::datetime::{ASN1DateTime, ASN1TimeZone};
 use crate::generalized_time::GeneralizedTime;
@@ -16,6 +17,7 @@ impl ASN1DateTime {
     /// day, a field is out of range, or the moment is beyond the year 9999.
     pub fn to_datetime(&self) -> Result<DateTime, Error>
         ensures moment { GivesMoment self.now.year self.now result }
+        ensures exact { GivesNanos result (moment_at self.now.year self.now) }
         ensures fields { HasNoOffset self.now.tz → IfOk result (HasSameFields self.now.year self.now) }
     {
         moment_in(self.year, self)
@@ -27,6 +29,7 @@ impl UtcTime {
     /// `ASN1DateTime::to_datetime`.
     pub fn utc_datetime(&self) -> Result<DateTime, Error>
         ensures moment { GivesMoment self.now.0.year self.now.0 result }
+        ensures exact { GivesNanos result (moment_at self.now.0.year self.now.0) }
         ensures fields { HasNoOffset self.now.0.tz → IfOk result (HasSameFields self.now.0.year self.now.0) }
     {
         moment_in(self.0.year, &self.0)
@@ -36,6 +39,7 @@ impl UtcTime {
     /// of `ASN1DateTime::to_datetime`.
     pub fn utc_adjusted_datetime(&self) -> Result<DateTime, Error>
         ensures moment { GivesMoment (full_year self.now.0.year) self.now.0 result }
+        ensures exact { GivesNanos result (moment_at (full_year self.now.0.year) self.now.0) }
         ensures fields { HasNoOffset self.now.0.tz → IfOk result (HasSameFields (full_year self.now.0.year) self.now.0) }
     {
         if self.0.year > 9999 {
@@ -49,6 +53,7 @@ impl GeneralizedTime {
     /// The moment in universal time. Refusals as of `ASN1DateTime::to_datetime`.
     pub fn utc_datetime(&self) -> Result<DateTime, Error>
         ensures moment { GivesMoment self.now.0.year self.now.0 result }
+        ensures exact { GivesNanos result (moment_at self.now.0.year self.now.0) }
         ensures fields { HasNoOffset self.now.0.tz → IfOk result (HasSameFields self.now.0.year self.now.0) }
     {
         self.0.to_datetime()
@@ -66,6 +71,7 @@ fn full_year(year: u32) -> u32
 // The moment of the date and time in this year.
 fn moment_in(year: u32, time: &ASN1DateTime) -> Result<DateTime, Error>
     ensures moment { GivesMoment year time.now result }
+    ensures exact { GivesNanos result (moment_at year time.now) }
     ensures fields { HasNoOffset time.now.tz → IfOk result (HasSameFields year time.now) }
 {
     let Some(local) = local_in(year, time) else {

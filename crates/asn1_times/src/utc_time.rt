@@ -5,6 +5,7 @@ ghost use Rattle.std.proofs.Common.{lit<};
 ghost use Rattle.asn1_traits.specs.Leaves.{ReadsContent};
 ghost use Rattle.asn1_times.specs.UtcTimes.{IsUtcTime, UtcMeans, utc_octets};
 ghost use Rattle.asn1_times.specs.Refused.{IsInvalidValue};
+ghost use Rattle.asn1_times.specs.Readers.{utc_time_at, GivesTime};
 ghost use Rattle.asn1_times.specs.UtcLaws.{utc_means, utc_same};
 
 use crate::datetime::ASN1DateTime;
@@ -32,8 +33,9 @@ impl UtcTime {
     /// The UTCTime of content octets: YYMMDDHHMM, SS or none, and Z or an offset +hhmm or -hhmm, each field in range
     /// (X.680, 47.3). Seconds that aren't told are 0. Whether the month has the day isn't asked. `InvalidValue` of other octets.
     pub fn from_bytes(octets: &[u8]) -> Result<UtcTime, Error>
-        ensures value { ReadsContent (λ content v. UtcMeans content v.0) octets.now result }
+        ensures value { ReadsContent ⊥ (λ content v. UtcMeans content v.0) octets.now result }
         ensures refused { IfErr result (IsInvalidValue 23) }
+        ensures exact { GivesTime (λ v. v.0) 23 result (utc_time_at octets.now) }
     {
         let Some(time) = utc_of(octets) else {
             return Err(Error::InvalidValue {
@@ -99,8 +101,9 @@ impl DerLeaf for UtcTime {
 
 impl<'a> FromLeaf<'a> for UtcTime {
     fn from_content(_alloc: Global, octets: &'a [u8]) -> Result<UtcTime, Error>
-        ensures value { ReadsContent (λ content v. UtcMeans content v.0) octets.now result }
+        ensures value { ReadsContent ⊥ (λ content v. UtcMeans content v.0) octets.now result }
         ensures refused { IfErr result (IsInvalidValue 23) }
+        ensures exact { GivesTime (λ v. v.0) 23 result (utc_time_at octets.now) }
     {
         UtcTime::from_bytes(octets)
     }

@@ -40,7 +40,7 @@ too_large octets bits sign large =
     let T : Bool → Type 0 = λ b. IsTooLarge bits (signed_of b (number_from_digits 256 (unsigned_octets b octets))) in
     rw (twos_signed octets) (subst T (sym sign) large)
 
-size_of_signed : (b : Bool) (n : ℕ) → size_of (signed_of b n) ≡ n
+pub size_of_signed : (b : Bool) (n : ℕ) → size_of (signed_of b n) ≡ n
 size_of_signed true n = refl
 size_of_signed false n = refl
 

@@ -2,9 +2,10 @@
 
 ghost use Rattle.std.specs.Prelude.{◌≡◌, ◌↔◌, ◌-◌, ◌*◌, ◌∷◌, ◌<◌, IsTrue, length};
 ghost use Rattle.std.proofs.Common.{lit<};
-ghost use Rattle.asn1_traits.specs.Leaves.{ChecksContent};
+ghost use Rattle.asn1_traits.specs.Leaves.{ReadsContent, ChecksContent};
 ghost use Rattle.asn1_values.specs.Bits.{bit_at, BitsMean, AreUnusedZero, AreStrictBits, IsStrictBitContent, ReadsBits};
 ghost use Rattle.asn1_values.specs.BitLaws.{bits_fit, bits_same};
+ghost use Rattle.asn1_values.specs.Readers.{Gives, bits_at, check_bits};
 ghost use Rattle.asn1_core.specs.Views.{class_number};
 
 use asn1_core::{Class, DerConstraint, Error, SerializeError, SerializeResult, Tag};
@@ -94,9 +95,13 @@ impl<'b> DerLeaf for BitString<'b> {
     ghost same = { λ v w form. bits_same v.unused_bits w.unused_bits v.content.now w.content.now };
 
     fn check_content(octets: &[u8]) -> Result<(), Error>
-        ensures { ChecksContent IsStrictBitContent octets.now result }
+        ensures allowed { ChecksContent IsStrictBitContent octets.now result }
+        ensures exact { result ≡ check_bits octets.now }
     {
-        let bits = read_bits(octets)?;
+        let bits = match read_bits(octets) {
+            Ok(bits) => bits,
+            Err(e) => return Err(e),
+        };
         if are_unused_zero(bits.unused_bits, bits.content) {
             Ok(())
         } else {
@@ -134,7 +139,10 @@ impl<'b> DerLeaf for BitString<'b> {
 }
 
 impl<'b> FromLeaf<'b> for BitString<'b> {
-    fn from_content(_alloc: Global, octets: &'b [u8]) -> Result<BitString<'b>, Error> {
+    fn from_content(_alloc: Global, octets: &'b [u8]) -> Result<BitString<'b>, Error>
+        ensures value { ReadsContent ⊥ (λ content v. BitsMean content v.unused_bits v.content.now) octets.now result }
+        ensures exact { Gives (λ v. (v.unused_bits, v.content.now)) result (bits_at octets.now) }
+    {
         read_bits(octets)
     }
 }
@@ -142,7 +150,8 @@ impl<'b> FromLeaf<'b> for BitString<'b> {
 // The bits of a content (X.690, 8.6.2): `InvalidLength` where there is no octet, or none behind unused bits, and
 // `BerValueError` where more than 7 are unused.
 fn read_bits(octets: &[u8]) -> Result<BitString<'_>, Error>
-    ensures { ReadsBits octets.now result }
+    ensures read { ReadsBits octets.now result }
+    ensures exact { Gives (λ v. (v.unused_bits, v.content.now)) result (bits_at octets.now) }
 {
     let Some((unused, content)) = octets.split_first() else {
         return Err(Error::InvalidLength);

@@ -3,8 +3,12 @@
 ghost use Rattle.std.specs.Prelude.{◌≡◌, pos};
 ghost use Rattle.std.proofs.Common.{lit<, lit≤};
 ghost use Rattle.asn1_traits.specs.Integers.{IsUnsigned};
-ghost use Rattle.asn1_traits.specs.IntegerLaws.{unsigned_small};
+ghost use Rattle.asn1_traits.specs.IntegerLaws.{IntegerMeans, unsigned_small};
+ghost use Rattle.asn1_traits.specs.Leaves.{ReadsContent};
+ghost use Rattle.asn1_traits.specs.Wholes.{whole_of, FitsWhole};
+ghost use Rattle.asn1_values.specs.Readers.{Gives, enumerated_of, enumerated_at};
 
+use crate::whole::read_whole;
 use asn1_core::{Class, Error, Tag};
 use asn1_traits::{DerInteger, Tagged, Whole};
 
@@ -18,6 +22,18 @@ impl Enumerated {
         ensures { result.0 ≡ value }
     {
         Enumerated(value)
+    }
+
+    /// The value of content octets, by the rules of BER. `InvalidLength` where there is no octet, `IntegerTooLarge` where the
+    /// number passes 128 bits, or 32 bits without a sign, and `IntegerNegative` where it is negative.
+    pub fn from_bytes(octets: &[u8]) -> Result<Enumerated, Error>
+        ensures value { ReadsContent ⊥ (IntegerMeans (λ v. pos v.0) (IsUnsigned 32)) octets.now result }
+        ensures exact { Gives (λ v. v.0) result (enumerated_at octets.now) }
+    {
+        match read_whole(octets) {
+            Ok(whole) => Enumerated::from_whole(whole),
+            Err(e) => Err(e),
+        }
     }
 }
 
@@ -51,7 +67,10 @@ impl DerInteger for Enumerated {
         }
     }
 
-    fn from_whole(whole: Whole) -> Result<Enumerated, Error> {
+    fn from_whole(whole: Whole) -> Result<Enumerated, Error>
+        ensures number { FitsWhole (λ v. pos v.0) (IsUnsigned 32) (whole_of whole) result }
+        ensures exact { Gives (λ v. v.0) result (enumerated_of (whole_of whole)) }
+    {
         if whole.negative {
             return Err(Error::IntegerNegative);
         }

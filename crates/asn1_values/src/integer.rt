@@ -1,13 +1,14 @@
 //! `Integer` (X.690, 8.3).
 
-ghost use Rattle.std.specs.Prelude.{◌≡◌, ◌↔◌, IsTrue, IfOk, IfErr, false, pos};
+ghost use Rattle.std.specs.Prelude.{◌≡◌, ◌↔◌, IsTrue, IfOk, IfErr, is_ok, false, pos};
 ghost use Rattle.std.proofs.Common.{lit<};
 ghost use Rattle.asn1_any.specs.Views.{any_of};
 ghost use Rattle.asn1_traits.specs.Integers.{IsShortest, SpellsInteger, twos_complement};
-ghost use Rattle.asn1_traits.specs.Leaves.{ChecksContent};
+ghost use Rattle.asn1_traits.specs.Leaves.{ReadsContent, ChecksContent};
 ghost use Rattle.asn1_values.specs.Contents.{HoldsSome, shortest_fits};
 ghost use Rattle.asn1_unsigned.specs.Numbers.{number_of};
 ghost use Rattle.asn1_values.specs.Numbers.{IsNegative, RefusesNatural, RefusesUnsigned, RefusesSigned};
+ghost use Rattle.asn1_values.specs.Readers.{Gives, some_octets, is_shortest, natural_at, unsigned_at, signed_at};
 ghost use Rattle.asn1_core.specs.Views.{class_number};
 
 use crate::whole::{is_negative, read_unsigned, read_whole};
@@ -62,6 +63,7 @@ impl<'a> Integer<'a> {
     pub fn as_unsigned(&self) -> Result<UnsignedBytes<'a>, Error>
         ensures number { IfOk result (λ v. SpellsInteger self.now.content.now (pos (number_of v))) }
         ensures refused { IfErr result (λ e. RefusesNatural self.now.content.now e) }
+        ensures exact { Gives number_of result (natural_at self.now.content.now) }
     {
         if self.content.is_empty() {
             return Err(Error::InvalidLength);
@@ -77,6 +79,7 @@ impl<'a> Integer<'a> {
     pub fn as_u8(&self) -> Result<u8, Error>
         ensures number { IfOk result (λ n. SpellsInteger self.now.content.now (pos n)) }
         ensures refused { IfErr result (λ e. RefusesUnsigned 8 self.now.content.now e) }
+        ensures exact { result ≡ unsigned_at 8 self.now.content.now }
     {
         let number = match read_unsigned(self.content) {
             Ok(number) => number,
@@ -93,6 +96,7 @@ impl<'a> Integer<'a> {
     pub fn as_u16(&self) -> Result<u16, Error>
         ensures number { IfOk result (λ n. SpellsInteger self.now.content.now (pos n)) }
         ensures refused { IfErr result (λ e. RefusesUnsigned 16 self.now.content.now e) }
+        ensures exact { result ≡ unsigned_at 16 self.now.content.now }
     {
         let number = match read_unsigned(self.content) {
             Ok(number) => number,
@@ -109,6 +113,7 @@ impl<'a> Integer<'a> {
     pub fn as_u32(&self) -> Result<u32, Error>
         ensures number { IfOk result (λ n. SpellsInteger self.now.content.now (pos n)) }
         ensures refused { IfErr result (λ e. RefusesUnsigned 32 self.now.content.now e) }
+        ensures exact { result ≡ unsigned_at 32 self.now.content.now }
     {
         let number = match read_unsigned(self.content) {
             Ok(number) => number,
@@ -125,6 +130,7 @@ impl<'a> Integer<'a> {
     pub fn as_u64(&self) -> Result<u64, Error>
         ensures number { IfOk result (λ n. SpellsInteger self.now.content.now (pos n)) }
         ensures refused { IfErr result (λ e. RefusesUnsigned 64 self.now.content.now e) }
+        ensures exact { result ≡ unsigned_at 64 self.now.content.now }
     {
         let number = match read_unsigned(self.content) {
             Ok(number) => number,
@@ -141,6 +147,7 @@ impl<'a> Integer<'a> {
     pub fn as_u128(&self) -> Result<u128, Error>
         ensures number { IfOk result (λ n. SpellsInteger self.now.content.now (pos n)) }
         ensures refused { IfErr result (λ e. RefusesUnsigned 128 self.now.content.now e) }
+        ensures exact { result ≡ unsigned_at 128 self.now.content.now }
     {
         read_unsigned(self.content)
     }
@@ -149,6 +156,7 @@ impl<'a> Integer<'a> {
     pub fn as_i8(&self) -> Result<i8, Error>
         ensures number { IfOk result (λ z. SpellsInteger self.now.content.now z) }
         ensures refused { IfErr result (λ e. RefusesSigned 8 self.now.content.now e) }
+        ensures exact { result ≡ signed_at 8 self.now.content.now }
     {
         let whole = match read_whole(self.content) {
             Ok(whole) => whole,
@@ -164,6 +172,7 @@ impl<'a> Integer<'a> {
     pub fn as_i16(&self) -> Result<i16, Error>
         ensures number { IfOk result (λ z. SpellsInteger self.now.content.now z) }
         ensures refused { IfErr result (λ e. RefusesSigned 16 self.now.content.now e) }
+        ensures exact { result ≡ signed_at 16 self.now.content.now }
     {
         let whole = match read_whole(self.content) {
             Ok(whole) => whole,
@@ -179,6 +188,7 @@ impl<'a> Integer<'a> {
     pub fn as_i32(&self) -> Result<i32, Error>
         ensures number { IfOk result (λ z. SpellsInteger self.now.content.now z) }
         ensures refused { IfErr result (λ e. RefusesSigned 32 self.now.content.now e) }
+        ensures exact { result ≡ signed_at 32 self.now.content.now }
     {
         let whole = match read_whole(self.content) {
             Ok(whole) => whole,
@@ -194,6 +204,7 @@ impl<'a> Integer<'a> {
     pub fn as_i64(&self) -> Result<i64, Error>
         ensures number { IfOk result (λ z. SpellsInteger self.now.content.now z) }
         ensures refused { IfErr result (λ e. RefusesSigned 64 self.now.content.now e) }
+        ensures exact { result ≡ signed_at 64 self.now.content.now }
     {
         let whole = match read_whole(self.content) {
             Ok(whole) => whole,
@@ -209,6 +220,7 @@ impl<'a> Integer<'a> {
     pub fn as_i128(&self) -> Result<i128, Error>
         ensures number { IfOk result (λ z. SpellsInteger self.now.content.now z) }
         ensures refused { IfErr result (λ e. RefusesSigned 128 self.now.content.now e) }
+        ensures exact { result ≡ signed_at 128 self.now.content.now }
     {
         let whole = match read_whole(self.content) {
             Ok(whole) => whole,
@@ -255,7 +267,8 @@ impl<'b> DerLeaf for Integer<'b> {
     ghost same = { λ v w form read. read.1 };
 
     fn check_content(octets: &[u8]) -> Result<(), Error>
-        ensures { ChecksContent IsShortest octets.now result }
+        ensures allowed { ChecksContent IsShortest octets.now result }
+        ensures exact { is_ok result ≡ is_shortest octets.now }
     {
         check_shortest(octets)
     }
@@ -274,7 +287,10 @@ impl<'b> DerLeaf for Integer<'b> {
 }
 
 impl<'b> FromLeaf<'b> for Integer<'b> {
-    fn from_content(_alloc: Global, octets: &'b [u8]) -> Result<Integer<'b>, Error> {
+    fn from_content(_alloc: Global, octets: &'b [u8]) -> Result<Integer<'b>, Error>
+        ensures value { ReadsContent ⊥ (λ content v. HoldsSome content v.content.now) octets.now result }
+        ensures exact { Gives (λ v. v.content.now) result (some_octets octets.now) }
+    {
         if octets.is_empty() {
             Err(Error::InvalidLength)
         } else {

@@ -6,6 +6,7 @@ ghost use Rattle.std.specs.Int.Digits.{number_from_digits};
 ghost use Rattle.asn1_traits.specs.Integers.{unsigned_octets, SpellsInteger};
 ghost use Rattle.asn1_traits.specs.Wholes.{whole_of};
 ghost use Rattle.asn1_values.specs.Numbers.{first_bit, RefusesUnsigned, RefusesSigned};
+ghost use Rattle.asn1_values.specs.Readers.{Gives, unsigned_at, signed_at};
 
 use asn1_core::Error;
 use asn1_traits::Whole;
@@ -25,6 +26,7 @@ pub(crate) fn is_negative(octets: &[u8]) -> bool
 pub(crate) fn read_unsigned(octets: &[u8]) -> Result<u128, Error>
     ensures number { IfOk result (λ n. SpellsInteger octets.now (pos n)) }
     ensures refused { IfErr result (λ e. RefusesUnsigned 128 octets.now e) }
+    ensures exact { result ≡ unsigned_at 128 octets.now }
 {
     if octets.is_empty() {
         return Err(Error::InvalidLength);
@@ -42,6 +44,7 @@ pub(crate) fn read_unsigned(octets: &[u8]) -> Result<u128, Error>
 pub(crate) fn read_whole(octets: &[u8]) -> Result<Whole, Error>
     ensures number { IfOk result (λ w. SpellsInteger octets.now (whole_of w)) }
     ensures refused { IfErr result (λ e. RefusesSigned 129 octets.now e) }
+    ensures exact { Gives whole_of result (signed_at 129 octets.now) }
 {
     if octets.is_empty() {
         return Err(Error::InvalidLength);

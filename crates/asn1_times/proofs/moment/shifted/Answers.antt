@@ -2,7 +2,6 @@ use Rattle.std.proofs.Common.{rules, arith, ap, refl, FitsSigned, w8}
 use Rattle.std.proofs.lemmas.Int.{to_z-of_z}
 use Rattle.jiff.specs.Words.{civil_nanos}
 use Rattle.jiff_core.proofs.SignedLemmas.{signed_arith}
-use Rattle.jiff_core.proofs.DateTimeLemmas.{civil_nanos_range}
 use Rattle.asn1_times.proofs.moment.shifted.Goals as goal
 
 pub returns-in-Ok : goal.returns-in-Ok
@@ -21,9 +20,8 @@ returns-in-Err c =
     let fm : FitsSigned w8 c.args.minute = search rules in
     let value = simp to_z-of_z at c.offset_minutes.ensures.value in (
       refl,
-      λ range r e.
+      λ range is.
           let same = ap civil_nanos c.to_plain.ensures in
-          let near = civil_nanos_range r in
-          let ok = c.in-Err.ensures.succeeds.1 (omega (arith, signed_arith, near, e, same, c.from-minutes.ensures, value, c.offset_minutes.ensures.small)) in
+          let ok = c.in-Err.ensures.succeeds.1 (omega (arith, signed_arith, is, same, c.from-minutes.ensures, value, c.offset_minutes.ensures.small)) in
           cc,
     )
