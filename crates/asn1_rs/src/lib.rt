@@ -5,8 +5,6 @@
 #![tactic(auto)]
 
 mod any;
-#[cfg(test)]
-mod tests;
 
 pub use crate::any::AnyConversions;
 pub use asn1_any::Any;

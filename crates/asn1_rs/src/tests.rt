@@ -1,4 +1,0 @@
-//! Worked octets, across the crates that stand behind this one.
-
-mod conversions;
-mod rows;
