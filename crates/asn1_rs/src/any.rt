@@ -2,8 +2,8 @@
 
 ghost use Rattle.std.specs.Prelude.{◌≡◌, [], pos};
 ghost use Rattle.std.specs.Str.{IsUtf8};
-ghost use Rattle.asn1_core.specs.Elements.{Element};
-ghost use Rattle.asn1_any.specs.Views.{any_of};
+ghost use Rattle.asn1_any.specs.BerElements.{BerElement};
+ghost use Rattle.asn1_any.specs.Views.{ber_any_of};
 ghost use Rattle.asn1_lists.specs.Containers.{HoldsContent};
 ghost use Rattle.asn1_strings.specs.Charsets.{IsTextOf, is_printable, is_below_80};
 ghost use Rattle.asn1_strings.specs.Texts.{MeansTextOf};
@@ -28,10 +28,10 @@ use asn1_values::{BitString, Enumerated, Integer, Null, OctetString};
 use std::alloc::Global;
 
 /// What an element means as a value of each type, by BER's rules: each call answers what `try_from_any` of its type does,
-/// the value, `Error` where the element means none, or `Failure` where memory ran out.
+/// the value, or `Error` where the element means none. None of them takes memory, so none answers `Failure`.
 pub trait AnyConversions<'a>: Sized {
-    /// The element.
-    ghost element: { Self → Element };
+    /// The element, with the length that its header tells.
+    ghost element: { Self → BerElement };
 
     /// The value of a BOOLEAN (X.690, 8.2).
     fn as_bool(&self, alloc: Global) -> Result<bool, Err<Error>>
@@ -127,7 +127,7 @@ pub trait AnyConversions<'a>: Sized {
 }
 
 impl<'a> AnyConversions<'a> for Any<'a> {
-    ghost element = { any_of };
+    ghost element = { ber_any_of };
 
     fn as_bool(&self, alloc: Global) -> Result<bool, Err<Error>> {
         bool::try_from_any(alloc, *self)

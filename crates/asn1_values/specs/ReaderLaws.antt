@@ -11,7 +11,8 @@ use Rattle.asn1_traits.specs.Integers.{twos_complement, IsShortest, SpellsIntege
 use Rattle.asn1_values.specs.Bits.{BitsMean, AreBits, AreUnusedZero, IsStrictBitContent}
 use Rattle.asn1_values.specs.Contents.{HoldsSome}
 use Rattle.asn1_values.specs.Numbers.{IsNegative}
-use Rattle.asn1_values.specs.Readers.{◌>>=◌, bits_at, zero_unused, check_bits, some_octets, is_shortest, integer_at, not_negative, natural_at, unsigned_in, signed_in, unsigned_at, signed_at, enumerated_of, enumerated_at}
+use Rattle.asn1_traits.specs.IntegerReading.{is_shortest}
+use Rattle.asn1_values.specs.Readers.{◌>>=◌, bits_at, zero_unused, check_bits, some_octets, integer_at, not_negative, natural_at, unsigned_in, signed_in, unsigned_at, signed_at, enumerated_of, enumerated_at}
 
 -- both steps of a reader that answers a value
 two : {A B : Type 0} (r : Result A Error) (f : A → Result B Error) (y : B) → (r >>= f) ≡ Ok y → (x : A) × (r ≡ Ok x) × (f x ≡ Ok y)
@@ -108,7 +109,6 @@ high_told n = (λ e. ltb-false n 128 (not_true (nat_lt n 128) e), λ p. ap not (
     not_true false e = refl
 
 pub shortest_is : (content : List ℕ) → Decides (is_shortest content) (IsShortest content)
-unfolding is_shortest
 shortest_is [] = (λ e. cc, λ p. absurd p)
 shortest_is (x ∷ []) = (λ _. tt, λ _. refl)
 shortest_is (x ∷ y ∷ xs) =

@@ -40,12 +40,6 @@ unfoldable pub some_octets : List ℕ → Result (List ℕ) Error
 some_octets [] = Err errors.InvalidLength
 some_octets (octet ∷ octets) = Ok (octet ∷ octets)
 
--- whether DER takes a content as an integer
-unfoldable pub is_shortest : List ℕ → Bool
-is_shortest [] = false
-is_shortest (octet ∷ []) = true
-is_shortest (octet ∷ next ∷ octets) = not ((octet == 0) && nat_lt next 128) && not ((octet == 255) && not (nat_lt next 128))
-
 -- the number of a content, of any size
 unfoldable pub integer_at : List ℕ → Result ℤ Error
 integer_at content = some_octets content >>= λ octets. Ok (twos_complement octets)

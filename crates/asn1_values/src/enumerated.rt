@@ -4,6 +4,8 @@ ghost use Rattle.std.specs.Prelude.{◌≡◌, pos};
 ghost use Rattle.std.proofs.Common.{lit<, lit≤};
 ghost use Rattle.asn1_traits.specs.Integers.{IsUnsigned};
 ghost use Rattle.asn1_traits.specs.IntegerLaws.{IntegerMeans, unsigned_small};
+ghost use Rattle.asn1_traits.specs.IntegerReading.{is_unsigned};
+ghost use Rattle.asn1_traits.specs.IntegerFits.{unsigned_fitting};
 ghost use Rattle.asn1_traits.specs.Leaves.{ReadsContent};
 ghost use Rattle.asn1_traits.specs.Wholes.{whole_of, FitsWhole};
 ghost use Rattle.asn1_values.specs.Readers.{Gives, enumerated_of, enumerated_at};
@@ -56,9 +58,13 @@ impl DerInteger for Enumerated {
 
     ghost in_range = { IsUnsigned 32 };
 
+    ghost fits = { is_unsigned 32 };
+
     ghost low = { lit< tt };
 
     ghost small = { unsigned_small 32 (lit≤ tt) };
+
+    ghost fitting = { unsigned_fitting 32 };
 
     fn to_whole(&self) -> Whole {
         Whole {

@@ -1,6 +1,6 @@
 //! `Integer` (X.690, 8.3).
 
-ghost use Rattle.std.specs.Prelude.{◌≡◌, ◌↔◌, IsTrue, IfOk, IfErr, is_ok, false, pos};
+ghost use Rattle.std.specs.Prelude.{◌≡◌, ◌↔◌, IsTrue, IfOk, IfErr, is_ok, false, pos, length};
 ghost use Rattle.std.proofs.Common.{lit<};
 ghost use Rattle.asn1_any.specs.Views.{any_of};
 ghost use Rattle.asn1_traits.specs.Integers.{IsShortest, SpellsInteger, twos_complement};
@@ -8,8 +8,10 @@ ghost use Rattle.asn1_traits.specs.Leaves.{ReadsContent, ChecksContent};
 ghost use Rattle.asn1_values.specs.Contents.{HoldsSome, shortest_fits};
 ghost use Rattle.asn1_unsigned.specs.Numbers.{number_of};
 ghost use Rattle.asn1_values.specs.Numbers.{IsNegative, RefusesNatural, RefusesUnsigned, RefusesSigned};
-ghost use Rattle.asn1_values.specs.Readers.{Gives, some_octets, is_shortest, natural_at, unsigned_at, signed_at};
-ghost use Rattle.asn1_core.specs.Views.{class_number};
+ghost use Rattle.asn1_traits.specs.IntegerReading.{is_shortest};
+ghost use Rattle.asn1_values.specs.Readers.{Gives, some_octets, natural_at, unsigned_at, signed_at};
+ghost use Rattle.asn1_core.specs.Views.{class_number, length_of};
+ghost use Rattle.asn1_core.specs.declared.length.Length.TheVariants as lengths;
 
 use crate::whole::{is_negative, read_unsigned, read_whole};
 use asn1_any::Any;
@@ -46,6 +48,7 @@ impl<'a> Integer<'a> {
     /// The element of the integer.
     pub fn any(&self) -> Any<'a>
         ensures element { any_of result ≡ record { class = 0; constructed = false; tag = 2; content = self.now.content.now } }
+        ensures length { length_of result.header ≡ lengths.Definite (length self.now.content.now) }
         ensures window { result.content ≡ self.now.content }
     {
         Any::from_tag_and_data(Tag(2), self.content)

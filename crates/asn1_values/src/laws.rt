@@ -5,7 +5,8 @@ ghost use Rattle.asn1_traits.specs.Booleans.{BooleanMeans};
 ghost use Rattle.asn1_traits.specs.Integers.{IsShortest, IsSigned, SpellsInteger, integer_octets, twos_complement};
 ghost use Rattle.asn1_values.specs.Bits.{BitsMean, IsStrictBitContent};
 ghost use Rattle.asn1_values.specs.Contents.{HoldsSome};
-ghost use Rattle.asn1_values.specs.Readers.{bits_at, check_bits, some_octets, is_shortest, integer_at, natural_at, unsigned_at, signed_at, enumerated_at};
+ghost use Rattle.asn1_traits.specs.IntegerReading.{is_shortest};
+ghost use Rattle.asn1_values.specs.Readers.{bits_at, check_bits, some_octets, integer_at, natural_at, unsigned_at, signed_at, enumerated_at};
 
 /// A content of one octet means what `bool` reads of it.
 pub fn octet_means_bool()
