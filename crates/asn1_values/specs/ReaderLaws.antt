@@ -1,18 +1,15 @@
 -- That the functions of `Readers` find what contents mean, and nothing else.
-use Rattle.std.proofs.Common.{◌≡◌, ◌≢◌, ◌∙◌, ◌↔◌, sym, ap, refl, subst, arith, ◌<◌, ◌≤◌, ◌-◌, ◌^◌, ◌&&◌, ◌==◌, not, ℕ, ℤ, pos, negsuc, Bool, true, false, nat_lt, if◌then◌else◌, Result, Ok, Err, is_ok, List, [], ◌∷◌, length, Decides}
-use Rattle.std.proofs.lemmas.Bool.{lt-ltb, le-ltb, ltb-true, ltb-false, eqb-true, eq-eqb, ne_eqb, false_from_ne_true}
+use Rattle.std.proofs.Common.{◌≡◌, ◌≢◌, ◌∙◌, ◌↔◌, sym, ap, refl, subst, arith, ◌<◌, ◌≤◌, ◌-◌, ◌^◌, ◌==◌, not, ℕ, ℤ, pos, negsuc, Bool, true, false, nat_lt, if◌then◌else◌, Result, Ok, Err, List, [], ◌∷◌, length}
+use Rattle.std.proofs.lemmas.Bool.{lt-ltb, le-ltb, ltb-true, ltb-false, eqb-true, eq-eqb, ne_eqb}
 use Rattle.std.proofs.lemmas.List.{nil_from_length}
-use Rattle.std.proofs.lemmas.Bool.Decides.{Decides-and, Decides-not, Decides-ltb, Decides-eqb}
 use Rattle.asn1_core.specs.declared.error.Error.{Error}
 use Rattle.asn1_core.specs.declared.error.Error.TheVariants as errors
 use Rattle.asn1_core.specs.declared.error.DerConstraint.TheVariants as constraints
-use Rattle.asn1_traits.specs.Leaves.{ChecksContent}
-use Rattle.asn1_traits.specs.Integers.{twos_complement, IsShortest, SpellsInteger, size_of, IsSigned}
+use Rattle.asn1_traits.specs.Integers.{twos_complement, SpellsInteger, size_of, IsSigned}
 use Rattle.asn1_values.specs.Bits.{BitsMean, AreBits, AreUnusedZero, IsStrictBitContent}
 use Rattle.asn1_values.specs.Contents.{HoldsSome}
 use Rattle.asn1_values.specs.Numbers.{IsNegative}
-use Rattle.asn1_traits.specs.IntegerReading.{is_shortest}
-use Rattle.asn1_values.specs.Readers.{◌>>=◌, bits_at, zero_unused, check_bits, some_octets, integer_at, not_negative, natural_at, unsigned_in, signed_in, unsigned_at, signed_at, enumerated_of, enumerated_at}
+use Rattle.asn1_values.specs.Readers.{◌>>=◌, bits_at, zero_unused, check_bits, some_octets, number_at, not_negative, natural_at, unsigned_in, signed_in, unsigned_at, signed_at}
 
 -- both steps of a reader that answers a value
 two : {A B : Type 0} (r : Result A Error) (f : A → Result B Error) (y : B) → (r >>= f) ≡ Ok y → (x : A) × (r ≡ Ok x) × (f x ≡ Ok y)
@@ -101,33 +98,18 @@ some_only (x ∷ xs) held p = ap Ok (sym p.1)
 pub some_is : (content held : List ℕ) → (some_octets content ≡ Ok held) ↔ HoldsSome content held
 some_is content held = (some_found content held, some_only content held)
 
-high_told : (n : ℕ) → Decides (not (nat_lt n 128)) (128 ≤ n)
-high_told n = (λ e. ltb-false n 128 (not_true (nat_lt n 128) e), λ p. ap not (le-ltb n 128 p))
-  where
-    not_true : (b : Bool) → not b ≡ true → b ≡ false
-    not_true true e = cc
-    not_true false e = refl
-
-pub shortest_is : (content : List ℕ) → Decides (is_shortest content) (IsShortest content)
-shortest_is [] = (λ e. cc, λ p. absurd p)
-shortest_is (x ∷ []) = (λ _. tt, λ _. refl)
-shortest_is (x ∷ y ∷ xs) =
-    let zeroes = Decides-not ((x == 0) && nat_lt y 128) (Decides-and (x == 0) (nat_lt y 128) (Decides-eqb x 0) (Decides-ltb y 128)) in
-    let ones = Decides-not ((x == 255) && not (nat_lt y 128)) (Decides-and (x == 255) (not (nat_lt y 128)) (Decides-eqb x 255) (high_told y)) in
-    Decides-and (not ((x == 0) && nat_lt y 128)) (not ((x == 255) && not (nat_lt y 128))) zeroes ones
-
-integer_found : (content : List ℕ) (z : ℤ) → integer_at content ≡ Ok z → SpellsInteger content z
-unfolding integer_at
+integer_found : (content : List ℕ) (z : ℤ) → number_at content ≡ Ok z → SpellsInteger content z
+unfolding number_at
 integer_found content z e =
     let both = two (some_octets content) (λ octets. Ok (twos_complement octets)) z e in
     let held = some_found content both.0 both.1 in
     record { some = held.0; value = ap twos_complement (sym held.1) ∙ same_ok _ z both.2 }
 
-integer_only : (content : List ℕ) (z : ℤ) → SpellsInteger content z → integer_at content ≡ Ok z
-unfolding integer_at
+integer_only : (content : List ℕ) (z : ℤ) → SpellsInteger content z → number_at content ≡ Ok z
+unfolding number_at
 integer_only content z p = let read = some_only content content (p.some, refl) in rw read (ap Ok p.value)
 
-pub integer_is : (content : List ℕ) (z : ℤ) → (integer_at content ≡ Ok z) ↔ SpellsInteger content z
+pub integer_is : (content : List ℕ) (z : ℤ) → (number_at content ≡ Ok z) ↔ SpellsInteger content z
 integer_is content z = (integer_found content z, integer_only content z)
 
 natural_told : (z : ℤ) (n : ℕ) → not_negative z ≡ Ok n → z ≡ pos n
@@ -137,7 +119,7 @@ natural_told (negsuc m) n e = cc
 natural_found : (content : List ℕ) (n : ℕ) → natural_at content ≡ Ok n → SpellsInteger content (pos n)
 unfolding natural_at
 natural_found content n e =
-    let both = two (integer_at content) not_negative n e in
+    let both = two (number_at content) not_negative n e in
     subst (SpellsInteger content) (natural_told both.0 n both.2) (integer_found content both.0 both.1)
 
 natural_only : (content : List ℕ) (n : ℕ) → SpellsInteger content (pos n) → natural_at content ≡ Ok n
@@ -169,7 +151,7 @@ unsigned_is bits content n = (unsigned_found bits content n, λ p. unsigned_only
 pub signed_found : (bits : ℕ) (content : List ℕ) (z : ℤ) → signed_at bits content ≡ Ok z → SpellsInteger content z × IsSigned bits z
 unfolding signed_at
 signed_found bits content z e =
-    let both = two (integer_at content) (signed_in bits) z e in
+    let both = two (number_at content) (signed_in bits) z e in
     let test = if_ok (nat_lt (size_of both.0) (2 ^ (bits - 1))) both.0 z errors.IntegerTooLarge both.2 in
     let below = ltb-true (size_of both.0) (2 ^ (bits - 1)) test.0 in
     (integer_found content z (both.1 ∙ ap Ok test.1), subst (IsSigned bits) test.1 below)
@@ -184,33 +166,14 @@ signed_only bits content z p small =
 pub signed_is : (bits : ℕ) (content : List ℕ) (z : ℤ) → (signed_at bits content ≡ Ok z) ↔ (SpellsInteger content z × IsSigned bits z)
 signed_is bits content z = (signed_found bits content z, λ p. signed_only bits content z p.0 p.1)
 
-enumerated_found : (content : List ℕ) (n : ℕ) → enumerated_at content ≡ Ok n → SpellsInteger content (pos n) × (n < 2 ^ 32)
-unfolding enumerated_at
-enumerated_found content n e =
-    let both = two (signed_at 129 content) enumerated_of n e in
-    let last = two (not_negative both.0) (unsigned_in 32) n both.2 in
-    let test = if_ok (nat_lt last.0 (2 ^ 32)) last.0 n errors.IntegerTooLarge last.2 in
-    let value = natural_told both.0 n (last.1 ∙ ap Ok test.1) in
-    (subst (SpellsInteger content) value (signed_found 129 content both.0 both.1).0, subst (λ k. k < 2 ^ 32) test.1 (ltb-true last.0 (2 ^ 32) test.0))
-
-enumerated_only : (content : List ℕ) (n : ℕ) → SpellsInteger content (pos n) → n < 2 ^ 32 → enumerated_at content ≡ Ok n
-unfolding enumerated_at
-enumerated_only content n p small =
-    let read = signed_only 129 content (pos n) p (omega (arith, small)) in
-    let test = lt-ltb n (2 ^ 32) small in
-    rw (read, test) refl
-
-pub enumerated_is : (content : List ℕ) (n : ℕ) → (enumerated_at content ≡ Ok n) ↔ (SpellsInteger content (pos n) × (n < 2 ^ 32))
-enumerated_is content n = (enumerated_found content n, λ p. enumerated_only content n p.0 p.1)
-
 -- refusals
 
 pub natural_empty : natural_at [] ≡ Err errors.InvalidLength
-unfolding natural_at integer_at some_octets
+unfolding natural_at number_at some_octets
 natural_empty = refl
 
 pub signed_empty : (bits : ℕ) → signed_at bits [] ≡ Err errors.InvalidLength
-unfolding signed_at integer_at some_octets
+unfolding signed_at number_at some_octets
 signed_empty bits = refl
 
 pub natural_negative : (content : List ℕ) (n : ℕ) → SpellsInteger content (negsuc n) → natural_at content ≡ Err errors.IntegerNegative
@@ -259,7 +222,7 @@ fewer_large bits content n is large = sym (unsigned_large bits content n (natura
 
 pub narrower_refused : (bits : ℕ) (content : List ℕ) (e : Error) → 2 ^ (bits - 1) ≤ 2 ^ 128 → Err e ≡ signed_at 129 content → Err e ≡ signed_at bits content
 unfolding signed_at
-narrower_refused bits content e fewer is = by (integer_at content) is
+narrower_refused bits content e fewer is = by (number_at content) is
   where
     by : (r : Result ℤ Error) → Err e ≡ (r >>= signed_in 129) → Err e ≡ (r >>= signed_in bits)
     by (Err x) is = is
@@ -296,18 +259,6 @@ natural_below content some is = by (twos_complement content) refl is
     by : (z : ℤ) → twos_complement content ≡ z → IsNegative z → natural_at content ≡ Err errors.IntegerNegative
     by (pos n) e p = absurd p
     by (negsuc n) e p = natural_negative content n (record { some = some; value = e })
-
-pub shortest_told : (content : List ℕ) (r : Result (Unit {0}) Error) → ChecksContent IsShortest content r → is_ok r ≡ is_shortest content
-shortest_told content (Ok x) p = sym ((shortest_is content).1 p)
-shortest_told content (Err e) p = sym (false_from_ne_true (is_shortest content) (λ yes. p.1 ((shortest_is content).0 yes)))
-
-pub enumerated_read : (content : List ℕ) (z : ℤ) → signed_at 129 content ≡ Ok z → enumerated_of z ≡ enumerated_at content
-unfolding enumerated_at
-enumerated_read content z is = rw is refl
-
-pub enumerated_refused : (content : List ℕ) (e : Error) → signed_at 129 content ≡ Err e → enumerated_at content ≡ Err e
-unfolding enumerated_at
-enumerated_refused content e is = rw is refl
 
 pub bits_none : (content : List ℕ) → length content ≡ 0 → bits_at content ≡ Err errors.InvalidLength
 unfolding bits_at

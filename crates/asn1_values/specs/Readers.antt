@@ -1,6 +1,6 @@
 -- Functions that answer as the readers of values do. The meaning stands in `Bits`, `Contents` and in the integers of
 -- `asn1_traits`; laws tie each function to it.
-use Rattle.std.specs.Prelude.{◌≡◌, ℕ, ℤ, pos, negsuc, ◌-◌, ◌%◌, ◌^◌, nat_lt, ◌==◌, ◌&&◌, not, Bool, true, false, if◌then◌else◌, List, [], ◌∷◌, length, slice_index, Result, Ok, Err}
+use Rattle.std.specs.Prelude.{◌≡◌, ℕ, ℤ, pos, negsuc, ◌-◌, ◌%◌, ◌^◌, nat_lt, ◌==◌, if◌then◌else◌, List, [], ◌∷◌, length, slice_index, Result, Ok, Err}
 use Rattle.asn1_core.specs.declared.error.Error.{Error}
 use Rattle.asn1_core.specs.declared.error.Error.TheVariants as errors
 use Rattle.asn1_core.specs.declared.error.DerConstraint.TheVariants as constraints
@@ -41,8 +41,8 @@ some_octets [] = Err errors.InvalidLength
 some_octets (octet ∷ octets) = Ok (octet ∷ octets)
 
 -- the number of a content, of any size
-unfoldable pub integer_at : List ℕ → Result ℤ Error
-integer_at content = some_octets content >>= λ octets. Ok (twos_complement octets)
+unfoldable pub number_at : List ℕ → Result ℤ Error
+number_at content = some_octets content >>= λ octets. Ok (twos_complement octets)
 
 abbrev pub not_negative : ℤ → Result ℕ Error
 not_negative (pos n) = Ok n
@@ -50,7 +50,7 @@ not_negative (negsuc n) = Err errors.IntegerNegative
 
 -- the number of a content without a sign, of any size
 unfoldable pub natural_at : List ℕ → Result ℕ Error
-natural_at content = integer_at content >>= not_negative
+natural_at content = number_at content >>= not_negative
 
 -- of so many bits
 abbrev pub unsigned_in : ℕ → ℕ → Result ℕ Error
@@ -65,12 +65,8 @@ unsigned_at bits content = natural_at content >>= unsigned_in bits
 
 -- the number of a content, of so many bits with its sign
 unfoldable pub signed_at : ℕ → List ℕ → Result ℤ Error
-signed_at bits content = integer_at content >>= signed_in bits
+signed_at bits content = number_at content >>= signed_in bits
 
 -- the number of an enumerated value: 32 bits without a sign
 abbrev pub enumerated_of : ℤ → Result ℕ Error
 enumerated_of z = not_negative z >>= unsigned_in 32
-
--- the number of an enumerated value's content; one past 128 bits is too large, whatever its sign
-unfoldable pub enumerated_at : List ℕ → Result ℕ Error
-enumerated_at content = signed_at 129 content >>= enumerated_of

@@ -1,14 +1,14 @@
 //! `Integer` (X.690, 8.3).
 
-ghost use Rattle.std.specs.Prelude.{◌≡◌, ◌↔◌, IsTrue, IfOk, IfErr, is_ok, false, pos, length};
+ghost use Rattle.std.specs.Prelude.{◌≡◌, ◌↔◌, IsTrue, IfOk, IfErr, IsOk, false, pos, length};
 ghost use Rattle.std.proofs.Common.{lit<};
 ghost use Rattle.asn1_any.specs.Views.{any_of};
 ghost use Rattle.asn1_traits.specs.Integers.{IsShortest, SpellsInteger, twos_complement};
+ghost use Rattle.asn1_traits.specs.IntegerReading.{is_shortest};
 ghost use Rattle.asn1_traits.specs.Leaves.{ReadsContent, ChecksContent};
 ghost use Rattle.asn1_values.specs.Contents.{HoldsSome, shortest_fits};
 ghost use Rattle.asn1_unsigned.specs.Numbers.{number_of};
 ghost use Rattle.asn1_values.specs.Numbers.{IsNegative, RefusesNatural, RefusesUnsigned, RefusesSigned};
-ghost use Rattle.asn1_traits.specs.IntegerReading.{is_shortest};
 ghost use Rattle.asn1_values.specs.Readers.{Gives, some_octets, natural_at, unsigned_at, signed_at};
 ghost use Rattle.asn1_core.specs.Views.{class_number, length_of};
 ghost use Rattle.asn1_core.specs.declared.length.Length.TheVariants as lengths;
@@ -271,7 +271,7 @@ impl<'b> DerLeaf for Integer<'b> {
 
     fn check_content(octets: &[u8]) -> Result<(), Error>
         ensures allowed { ChecksContent IsShortest octets.now result }
-        ensures exact { is_ok result ≡ is_shortest octets.now }
+        ensures exact { IsOk result ↔ IsTrue (is_shortest octets.now) }
     {
         check_shortest(octets)
     }

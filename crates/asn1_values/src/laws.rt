@@ -5,8 +5,7 @@ ghost use Rattle.asn1_traits.specs.Booleans.{BooleanMeans};
 ghost use Rattle.asn1_traits.specs.Integers.{IsShortest, IsSigned, SpellsInteger, integer_octets, twos_complement};
 ghost use Rattle.asn1_values.specs.Bits.{BitsMean, IsStrictBitContent};
 ghost use Rattle.asn1_values.specs.Contents.{HoldsSome};
-ghost use Rattle.asn1_traits.specs.IntegerReading.{is_shortest};
-ghost use Rattle.asn1_values.specs.Readers.{bits_at, check_bits, some_octets, integer_at, natural_at, unsigned_at, signed_at, enumerated_at};
+ghost use Rattle.asn1_values.specs.Readers.{bits_at, check_bits, some_octets, number_at, natural_at, unsigned_at, signed_at};
 
 /// A content of one octet means what `bool` reads of it.
 pub fn octet_means_bool()
@@ -27,18 +26,11 @@ pub fn bit_functions()
     ensures der { (content : List ℕ) → (check_bits content ≡ Ok tt) ↔ IsStrictBitContent content }
 {}
 
-/// The functions of the reader of integers, of its check by DER and of the conversions find what a content means, and
-/// nothing else.
+/// The functions of the reader of integers and of the conversions find what a content means, and nothing else.
 pub fn integer_functions()
     ensures held { (content held : List ℕ) → (some_octets content ≡ Ok held) ↔ HoldsSome content held }
-    ensures der { (content : List ℕ) → IsTrue (is_shortest content) ↔ IsShortest content }
-    ensures whole { (content : List ℕ) (z : ℤ) → (integer_at content ≡ Ok z) ↔ SpellsInteger content z }
+    ensures whole { (content : List ℕ) (z : ℤ) → (number_at content ≡ Ok z) ↔ SpellsInteger content z }
     ensures natural { (content : List ℕ) (n : ℕ) → (natural_at content ≡ Ok n) ↔ SpellsInteger content (pos n) }
     ensures unsigned { (bits : ℕ) (content : List ℕ) (n : ℕ) → (unsigned_at bits content ≡ Ok n) ↔ (SpellsInteger content (pos n) × (n < 2 ^ bits)) }
     ensures signed { (bits : ℕ) (content : List ℕ) (z : ℤ) → (signed_at bits content ≡ Ok z) ↔ (SpellsInteger content z × IsSigned bits z) }
-{}
-
-/// The function of the reader of enumerated values finds what a content means, and nothing else.
-pub fn enumerated_function()
-    ensures { (content : List ℕ) (n : ℕ) → (enumerated_at content ≡ Ok n) ↔ (SpellsInteger content (pos n) × (n < 2 ^ 32)) }
 {}
