@@ -7,6 +7,7 @@ ghost use Rattle.asn1_traits.specs.Leaves.{ChecksContent, ReadsContent};
 ghost use Rattle.asn1_strings.specs.CharsetLaws.{text_is_utf8};
 ghost use Rattle.asn1_strings.specs.Charsets.{IsTextOf};
 ghost use Rattle.asn1_strings.specs.Texts.{MeansTextOf, TestsCharset};
+ghost use Rattle.asn1_strings.specs.Readers.{charset_at, text_at, Gives};
 ghost use Rattle.asn1_core.specs.Views.{class_number};
 
 use asn1_core::{Class, Error, SerializeResult, Tag};
@@ -21,12 +22,18 @@ pub trait TestValidCharset: Tagged {
     /// The octets are text of these characters.
     ghost is_text: { List ℕ → Type 0 };
 
+    /// The same as a test.
+    ghost passes: { List ℕ → Bool };
+
     /// That the octets are text of these characters; else `StringInvalidCharset`.
     fn test_valid_charset(octets: &[u8]) -> Result<(), Error>
         ensures { TestsCharset is_text octets.now result };
 
     /// The tag number is one.
     ghost low: { Self.tag_number < 2 ^ 32 };
+
+    /// The test finds text of these characters, and nothing else.
+    ghost telling: { (octets : List ℕ) → IsTrue (passes octets) ↔ is_text octets };
 
     /// Such octets are UTF-8.
     ghost utf8: { (octets : List ℕ) → is_text octets → IsUtf8 octets };
@@ -51,7 +58,11 @@ pub trait OctetCharset: Tagged {
 impl<T: OctetCharset> TestValidCharset for T {
     ghost is_text = { IsTextOf T.has_octet };
 
+    ghost passes = { list_all T.has_octet };
+
     ghost low = { T.low_tag };
+
+    ghost telling = { λ octets. (λ h. h, λ h. h) };
 
     ghost utf8 = { text_is_utf8 T.has_octet T.ascii };
 
@@ -124,7 +135,8 @@ impl<'a, C> AsStr for CharacterString<'a, C> {
 impl<'a, C: TestValidCharset> CharacterString<'a, C> {
     /// That the octets are text of the type's characters; else `StringInvalidCharset`.
     pub fn test_valid_charset(octets: &[u8]) -> Result<(), Error>
-        ensures { TestsCharset C.is_text octets.now result }
+        ensures test { TestsCharset C.is_text octets.now result }
+        ensures exact { result ≡ charset_at C.passes octets.now }
     {
         C::test_valid_charset(octets)
     }
@@ -184,10 +196,14 @@ impl<'b, C: TestValidCharset> DerLeaf for CharacterString<'b, C> {
 
 impl<'b, C: TestValidCharset> FromLeaf<'b> for CharacterString<'b, C> {
     fn from_content(_alloc: Global, octets: &'b [u8]) -> Result<CharacterString<'b, C>, Error>
-        ensures value { ReadsContent (MeansTextOf C.is_text (λ v. v.text.now)) octets.now result }
+        ensures value { ReadsContent ⊥ (MeansTextOf C.is_text (λ v. v.text.now)) octets.now result }
         ensures refused { IfErr result (λ e. e ≡ Error.StringInvalidCharset) }
+        ensures exact { Gives (λ v. v.text.now) result (text_at C.passes octets.now) }
     {
-        C::test_valid_charset(octets)?;
+        match Self::test_valid_charset(octets) {
+            Ok(()) => {}
+            Err(e) => return Err(e),
+        }
         match str::from_utf8(octets) {
             Ok(text) => Ok(CharacterString::new(text)),
             Err(_) => Err(Error::StringInvalidCharset),

@@ -4,6 +4,8 @@ ghost use Rattle.std.specs.Prelude.{◌≡◌, IsUtf8};
 ghost use Rattle.std.proofs.Common.{lit<};
 ghost use Rattle.asn1_strings.specs.Charsets.{is_numeric, is_printable, is_below_80, is_visible};
 ghost use Rattle.asn1_strings.specs.CharsetLaws.{numeric_below_80, printable_below_80, below_80, visible_below_80};
+ghost use Rattle.asn1_strings.specs.ReaderLaws.{utf8_told};
+ghost use Rattle.std.specs.Str.{is_utf8};
 
 use crate::character_string::{CharacterString, OctetCharset, TestValidCharset};
 use asn1_core::{Class, Error, Tag};
@@ -60,7 +62,11 @@ impl Tagged for Utf8 {
 impl TestValidCharset for Utf8 {
     ghost is_text = { IsUtf8 };
 
+    ghost passes = { is_utf8 };
+
     ghost low = { lit< tt };
+
+    ghost telling = { utf8_told };
 
     ghost utf8 = { λ _ text. text };
 

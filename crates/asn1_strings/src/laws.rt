@@ -1,11 +1,18 @@
 //! Laws of the string types.
 
-ghost use Rattle.std.specs.Prelude.{◌≡◌, ℕ, List, [], ◌∷◌, IsTrue, IsUtf8};
+ghost use Rattle.std.specs.Prelude.{◌≡◌, ◌↔◌, Ok, ℕ, List, [], ◌∷◌, IsTrue, IsUtf8};
 ghost use Rattle.std.specs.List.{flat_map};
 ghost use Rattle.std.specs.Str.{all_scalars, encode_utf8_all};
 ghost use Rattle.asn1_strings.specs.Wide.{utf16_octets, utf32_octets, wide_octets};
+ghost use Rattle.asn1_strings.specs.Readers.{text_at};
 
+use crate::character_string::TestValidCharset;
 use crate::wide::WideForm;
+
+/// The functions of the test of a character set and of the reader of strings find text of the type, and nothing else.
+pub fn text_function<C: TestValidCharset>()
+    ensures { (content text : List ℕ) → (text_at C.passes content ≡ Ok text) ↔ ((text ≡ content) × C.is_text content) }
+{}
 
 /// The octets of a text of these characters are the characters' octets, one after the other.
 pub fn octets_of_characters<F: WideForm>()

@@ -208,6 +208,8 @@ impl<F: WideForm> DerLeaf for WideString<F> {
 
     ghost content = { λ v. wide_octets F.char_octets (string_bytes v.text) };
 
+    ghost content_grows = { Unit {0} };
+
     ghost low = { F.low };
 
     ghost fits = { λ v _. (tt, refl) };
@@ -233,7 +235,7 @@ impl<F: WideForm> DerLeaf for WideString<F> {
 
 impl<'a, F: WideForm> FromLeaf<'a> for WideString<F> {
     fn from_content(alloc: Global, octets: &'a [u8]) -> Result<WideString<F>, Error>
-        ensures value { ReadsContent (MeansWide F.char_octets (λ v. string_bytes v.text)) octets.now result }
+        ensures value { ReadsContent (Unit {0}) (MeansWide F.char_octets (λ v. string_bytes v.text)) octets.now result }
         ensures refused { IfErr result (λ e. (e ≡ Error.OutOfMemory) ⊎ (e ≡ Error.StringInvalidCharset)) }
     {
         match read_text::<F>(alloc, octets) {

@@ -11,7 +11,7 @@ returns-in-Err g c =
     let more = wide_octets f (chars_rest c.next.new.self) in
     let step = next_char f (chars_rest c.loop-character.rest) (chars_rest c.next.new.self) c.in-Some.character c.loop-character.invariant.0 c.in-Some.ensures.steps.0 in
     let is = step ∙ ap (λ z. z ++ more) (sym (c.as_slice.ensures ∙ c.octets_of_char-octets.ensures)) in
-    record { ok = tt; err = sent_stops (wide_octets f c.args.text.now) (wide_octets f (chars_rest c.loop-character.rest)) c.as_slice.result.now more _ _ _ _ _ _ _ c.in-Err.e c.loop-character.invariant.1 is c.in-Err.ensures.err }
+    record { ok = tt; err = sent_stops (wide_octets f c.args.text.now) (wide_octets f (chars_rest c.loop-character.rest)) c.as_slice.result.now more _ _ _ _ _ _ _ c.in-Err.e c.loop-character.invariant.1 is c.in-Err.ensures.octets.err }
 
 pub returns-in-None : goal.returns-in-None
 returns-in-None g c =
@@ -21,7 +21,7 @@ returns-in-None g c =
     let is = step ∙ ap (λ z. z ++ more) (sym (c.as_slice.ensures ∙ c.octets_of_char-octets.ensures)) in
     record {
       ok = tt;
-      err = sent_too_long (wide_octets f c.args.text.now) (wide_octets f (chars_rest c.loop-character.rest)) c.as_slice.result.now more _ _ _ _ _ _ _ c.in-Ok.n c.loop-character.invariant.1 is c.in-Ok.ensures.ok (omega (arith, c.in-None.ensures));
+      err = sent_too_long (wide_octets f c.args.text.now) (wide_octets f (chars_rest c.loop-character.rest)) c.as_slice.result.now more _ _ _ _ _ _ _ c.in-Ok.n c.loop-character.invariant.1 is c.in-Ok.ensures.octets.ok (omega (arith, c.in-None.ensures));
     }
 
 pub loop-character-preserved : goal.loop-character-preserved
@@ -32,7 +32,7 @@ loop-character-preserved g c =
     let is = step ∙ ap (λ z. z ++ more) (sym (c.as_slice.ensures ∙ c.octets_of_char-octets.ensures)) in (
       IsUtf8-past_char (chars_rest c.loop-character.rest) (chars_rest c.next.new.self) c.in-Some.character c.loop-character.invariant.0 c.in-Some.ensures.steps.0,
       sent_more (wide_octets f c.args.text.now) (wide_octets f (chars_rest c.loop-character.rest)) c.as_slice.result.now more _ _ _ _ _ _ c.loop-character.total c.in-Ok.n c.in-Some-checked_add.n
-          c.loop-character.invariant.1 is c.in-Ok.ensures.ok c.in-Some-checked_add.ensures.1,
+          c.loop-character.invariant.1 is c.in-Ok.ensures.octets.ok c.in-Some-checked_add.ensures.1,
       tt,
       tt,
     )
