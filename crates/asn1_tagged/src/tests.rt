@@ -1,17 +1,14 @@
-//! Worked octets: what is read and written under tags, what is absent, and each refusal by its name.
-
-mod optional;
+//! Values under tags: their own calls, parsers with closures, want of memory and round trips. What octets are read as and
+//! written stands in the rows of `asn1_rows`.
 
 use crate::{
-    ApplicationExplicit, ApplicationImplicit, Explicit, Implicit, OptTaggedExplicit,
-    OptTaggedImplicit, OptTaggedParser, PrivateExplicit, PrivateImplicit, TaggedExplicit,
+    Explicit, Implicit, OptTaggedExplicit, OptTaggedImplicit, OptTaggedParser, TaggedExplicit,
     TaggedImplicit, TaggedValue, opt_explicit_by_ber, opt_explicit_by_der, opt_implicit_by_ber,
     opt_implicit_by_der,
 };
 use asn1_any::Any;
 use asn1_core::{
-    Class, DerConstraint, Err as Refusal, Error, Header, Length, Needed, SerializeError,
-    SerializeResult, Tag,
+    Class, Err as Refusal, Error, Header, Length, Needed, SerializeError, SerializeResult, Tag,
 };
 use asn1_device::{Sink, WriteSink};
 use asn1_traits::{
@@ -28,51 +25,9 @@ fn same<R: Abort, T: PartialEq + Debug + Drop>(rt: &R, got: T, want: T) {
     assert_eq!(rt; got, want);
 }
 
-// Octets and the value that they stand for: read to their end, and written again.
-fn both_ways<
-    'a,
-    R: Abort,
-    T: FromDer<'a, Error> + FromBer<'a, Error> + ToDer + PartialEq + Debug + Drop,
->(rt: &R, alloc: Global, octets: &'a [u8], value: T) -> Result<(), Fail> {
-    same(rt, value.in_der_form(), true);
-    same(rt, value.to_der_len(), Ok(octets.len()));
-    let written = value.to_der_vec(alloc)?;
-    same(rt, written.as_slice(), octets);
-    let (rest, read) = T::from_der(alloc, octets)?;
-    same(rt, rest.len(), 0);
-    assert!(rt; read == value);
-    let (rest, read) = T::from_ber(alloc, octets)?;
-    same(rt, rest.len(), 0);
-    assert!(rt; read == value);
-    Ok(())
-}
-
-// By DER's rules, how many octets are left, and the value.
-fn by_der<'a, E: From<Error>, T: FromDer<'a, E>>(
-    alloc: Global,
-    octets: &'a [u8],
-) -> Result<(usize, T), Refusal<E>> {
-    match T::from_der(alloc, octets) {
-        Ok((rest, value)) => Ok((rest.len(), value)),
-        Err(e) => Err(e),
-    }
-}
-
-fn by_ber<'a, E: From<Error>, T: FromBer<'a, E>>(
-    alloc: Global,
-    octets: &'a [u8],
-) -> Result<(usize, T), Refusal<E>> {
-    match T::from_ber(alloc, octets) {
-        Ok((rest, value)) => Ok((rest.len(), value)),
-        Err(e) => Err(e),
-    }
-}
-
 type Two = TaggedExplicit<u8, Error, 0>;
 
 type Short = TaggedImplicit<u8, Error, 0>;
-
-type Listed = TaggedImplicit<Vec<u8>, Error, 1>;
 
 fn two(n: u8) -> Two {
     TaggedExplicit::explicit(n)
@@ -87,264 +42,36 @@ fn wrong_class(expected: Option<Class>, actual: Class) -> Error {
 }
 
 #[test]
-fn explicit_values(rt: HostRuntime) -> Result<(), Fail> {
-    both_ways(&rt, rt.alloc(), &[0xa0, 3, 2, 1, 2], two(2))?;
-    same(
-        &rt,
-        two(2).to_der_vec(rt.alloc())?.as_slice(),
-        [0xa0, 3, 2, 1, 2].as_slice(),
-    );
+fn values_and_tags(rt: HostRuntime) -> Result<(), Fail> {
     same(&rt, two(2).der_constructed(), true);
     same(&rt, two(2).into_inner(), 2);
     same(&rt, *two(2).as_ref(), 2);
     same(&rt, two(2).class(), 2);
     same(&rt, two(2).tag(), Tag(0));
     same(&rt, Two::own_tag(), Tag(0));
-
-    // octets after the value are ignored, those after the element are left
-    same(
-        &rt,
-        by_der::<Error, Two>(rt.alloc(), &[0xa0, 4, 2, 1, 2, 0xff, 9]),
-        Ok((1, two(2))),
-    );
-    same(
-        &rt,
-        by_der::<Error, Two>(rt.alloc(), &[0x80, 3, 2, 1, 2]),
-        Err(Refusal::Error(Error::ConstructExpected)),
-    );
-    same(
-        &rt,
-        by_der::<Error, Two>(rt.alloc(), &[0x60, 3, 2, 1, 2]),
-        Err(Refusal::Error(wrong_class(Some(Class::ContextSpecific), Class::Application))),
-    );
-    same(
-        &rt,
-        by_der::<Error, Two>(rt.alloc(), &[0xa1, 3, 2, 1, 2]),
-        Err(Refusal::Error(Error::UnexpectedTag {
-            expected: Some(Tag(0)),
-            actual: Tag(1),
-        })),
-    );
-    same(
-        &rt,
-        by_der::<Error, Two>(rt.alloc(), &[0xa0, 3, 1, 1, 0]),
-        Err(Refusal::Error(Error::UnexpectedTag {
-            expected: Some(Tag(2)),
-            actual: Tag(1),
-        })),
-    );
-    same(
-        &rt,
-        by_der::<Error, Two>(rt.alloc(), &[0xa0, 0]),
-        Err(Refusal::Incomplete(Needed::Size(1))),
-    );
-    same(
-        &rt,
-        by_der::<Error, Two>(rt.alloc(), &[0xa0, 3, 2, 1]),
-        Err(Refusal::Incomplete(Needed::Size(1))),
-    );
-    same(
-        &rt,
-        by_der::<Error, Two>(rt.alloc(), &[]),
-        Err(Refusal::Incomplete(Needed::Size(1))),
-    );
-    Ok(())
-}
-
-#[test]
-fn explicit_values_by_ber(rt: HostRuntime) -> Result<(), Fail> {
-    let octets = [0xa0, 0x80, 2, 2, 0, 2, 0, 0, 9];
-    same(
-        &rt,
-        by_ber::<Error, Two>(rt.alloc(), &octets),
-        Ok((1, two(2))),
-    );
-    same(
-        &rt,
-        by_der::<Error, Two>(rt.alloc(), &octets),
-        Err(Refusal::Error(Error::DerConstraintFailed(DerConstraint::IndefiniteLength))),
-    );
-    same(
-        &rt,
-        by_der::<Error, Two>(rt.alloc(), &[0xa0, 4, 2, 2, 0, 2]),
-        Err(Refusal::Error(Error::DerConstraintFailed(DerConstraint::IntegerLeadingZeroes))),
-    );
-    same(
-        &rt,
-        by_ber::<Error, Two>(rt.alloc(), &[0xe0, 3, 2, 1, 2]),
-        Err(Refusal::Error(wrong_class(Some(Class::ContextSpecific), Class::Private))),
-    );
-    same(
-        &rt,
-        by_ber::<Error, Two>(rt.alloc(), &[0x80, 3, 2, 1, 2]),
-        Err(Refusal::Error(Error::ConstructExpected)),
-    );
-    Ok(())
-}
-
-#[test]
-fn other_classes(rt: HostRuntime) -> Result<(), Fail> {
-    let application: ApplicationExplicit<bool, Error, 30> = ApplicationExplicit::explicit(true);
-    both_ways(&rt, rt.alloc(), &[0x7e, 3, 1, 1, 0xff], application)?;
-    let private: PrivateExplicit<bool, Error, 31> = PrivateExplicit::explicit(false);
-    both_ways(&rt, rt.alloc(), &[0xff, 31, 3, 1, 1, 0], private)?;
-    let application: ApplicationImplicit<bool, Error, 31> = ApplicationImplicit::implicit(true);
-    both_ways(&rt, rt.alloc(), &[0x5f, 31, 1, 0xff], application)?;
-    let private: PrivateImplicit<bool, Error, 4_294_967_295> = PrivateImplicit::implicit(true);
-    both_ways(
-        &rt,
-        rt.alloc(),
-        &[0xdf, 0x8f, 0xff, 0xff, 0xff, 0x7f, 1, 0xff],
-        private,
-    )?;
-    let universal: TaggedValue<bool, Error, Explicit, 0, 5> = TaggedValue::explicit(true);
-    both_ways(&rt, rt.alloc(), &[0x25, 3, 1, 1, 0xff], universal)
-}
-
-// A class of number 4 is none.
-#[test]
-fn no_class(rt: HostRuntime) -> Result<(), Fail> {
-    let value: TaggedValue<u8, Error, Explicit, 4, 0> = TaggedValue::explicit(2);
-    same(&rt, value.in_der_form(), false);
-    same(&rt, value.to_der_len(), Ok(0));
-    same(&rt, value.der_constructed(), false);
-    match value.to_der_vec(rt.alloc()) {
-        Ok(_) => assert!(rt; false),
-        Err(e) => same(&rt, e, SerializeError::InvalidClass { class: 4 }),
-    }
-    same(
-        &rt,
-        by_der::<Error, TaggedValue<u8, Error, Explicit, 4, 0>>(rt.alloc(), &[0x20, 3, 2, 1, 2]),
-        Err(Refusal::Error(wrong_class(None, Class::Universal))),
-    );
-    let value: TaggedValue<u8, Error, Implicit, 4, 0> = TaggedValue::implicit(2);
-    same(&rt, value.in_der_form(), false);
-    same(&rt, value.to_der_len(), Ok(0));
-    match value.to_der_vec(rt.alloc()) {
-        Ok(_) => assert!(rt; false),
-        Err(e) => same(&rt, e, SerializeError::InvalidClass { class: 4 }),
-    }
-    same(
-        &rt,
-        by_ber::<Error, TaggedValue<u8, Error, Implicit, 4, 0>>(rt.alloc(), &[0, 1, 2]),
-        Err(Refusal::Error(wrong_class(None, Class::Universal))),
-    );
-    Ok(())
-}
-
-#[test]
-fn implicit_values(rt: HostRuntime) -> Result<(), Fail> {
-    both_ways(&rt, rt.alloc(), &[0x80, 1, 2], short(2))?;
     same(&rt, short(2).der_constructed(), false);
     same(&rt, short(2).into_inner(), 2);
-    same(
-        &rt,
-        by_der::<Error, Short>(rt.alloc(), &[0x80, 1, 2, 9]),
-        Ok((1, short(2))),
-    );
-    same(
-        &rt,
-        by_ber::<Error, Short>(rt.alloc(), &[0x80, 2, 0, 2]),
-        Ok((0, short(2))),
-    );
-    same(
-        &rt,
-        by_der::<Error, Short>(rt.alloc(), &[0x80, 2, 0, 2]),
-        Err(Refusal::Error(Error::DerConstraintFailed(DerConstraint::IntegerLeadingZeroes))),
-    );
-    same(
-        &rt,
-        by_der::<Error, Short>(rt.alloc(), &[0xa0, 1, 2]),
-        Err(Refusal::Error(Error::ConstructUnexpected)),
-    );
-    same(
-        &rt,
-        by_der::<Error, Short>(rt.alloc(), &[0x40, 1, 2]),
-        Err(Refusal::Error(wrong_class(Some(Class::ContextSpecific), Class::Application))),
-    );
-    same(
-        &rt,
-        by_ber::<Error, Short>(rt.alloc(), &[0x40, 1, 2]),
-        Err(Refusal::Error(wrong_class(Some(Class::ContextSpecific), Class::Application))),
-    );
-    same(
-        &rt,
-        by_der::<Error, Short>(rt.alloc(), &[0x81, 1, 2]),
-        Err(Refusal::Error(Error::UnexpectedTag {
-            expected: Some(Tag(0)),
-            actual: Tag(1),
-        })),
-    );
-    same(
-        &rt,
-        by_der::<Error, Short>(rt.alloc(), &[0x80, 1]),
-        Err(Refusal::Incomplete(Needed::Size(1))),
-    );
+    same(&rt, Short::own_class(), Class::ContextSpecific);
     Ok(())
 }
 
-#[test]
-fn implicit_lists_are_constructed(rt: HostRuntime) -> Result<(), Fail> {
-    let octets = [0xa1, 6, 2, 1, 1, 2, 1, 2];
-    let (left, value) = by_der::<Error, Listed>(rt.alloc(), &octets)?;
-    same(&rt, left, 0);
-    same(&rt, value.as_ref().as_slice(), [1, 2].as_slice());
-    same(&rt, value.der_constructed(), true);
-    same(&rt, value.in_der_form(), true);
-    same(
-        &rt,
-        value.to_der_vec(rt.alloc())?.as_slice(),
-        octets.as_slice(),
-    );
-    let (left, value) = by_ber::<Error, Listed>(rt.alloc(), &[0xa1, 0x80, 2, 1, 1, 0, 0, 7])?;
-    same(&rt, left, 1);
-    same(&rt, value.inner.as_slice(), [1].as_slice());
-    let refused = by_der::<Error, Listed>(rt.alloc(), &[0x81, 3, 2, 1, 1]);
-    assert!(rt; refused == Err(Refusal::Error(Error::ConstructExpected)));
-    let refused = by_ber::<Error, Listed>(rt.alloc(), &[0x81, 3, 2, 1, 1]);
-    assert!(rt; refused == Err(Refusal::Error(Error::ConstructExpected)));
-    Ok(())
+// A class of number 4 is none: nothing is written.
+fn refuses_class<R: Abort, T: ToDer + Drop>(rt: &R, alloc: Global, value: T) {
+    same(rt, value.in_der_form(), false);
+    same(rt, value.to_der_len(), Ok(0));
+    same(rt, value.der_constructed(), false);
+    match value.to_der_vec(alloc) {
+        Ok(_) => assert!(rt; false),
+        Err(e) => same(rt, e, SerializeError::InvalidClass { class: 4 }),
+    }
 }
 
 #[test]
-fn tags_within_tags(rt: HostRuntime) -> Result<(), Fail> {
-    let value: TaggedExplicit<TaggedExplicit<u8, Error, 1>, Error, 0> = TaggedExplicit::explicit(
-        TaggedExplicit::explicit(2),
-    );
-    both_ways(&rt, rt.alloc(), &[0xa0, 5, 0xa1, 3, 2, 1, 2], value)?;
-    let value: TaggedExplicit<TaggedImplicit<u8, Error, 1>, Error, 0> = TaggedExplicit::explicit(
-        TaggedImplicit::implicit(2),
-    );
-    both_ways(&rt, rt.alloc(), &[0xa0, 3, 0x81, 1, 2], value)?;
-    Ok(())
-}
-
-// A tag in place of one that stands behind or in place of another.
-#[test]
-fn implicit_tags_within_tags(rt: HostRuntime) -> Result<(), Fail> {
-    let value: TaggedImplicit<TaggedExplicit<u8, Error, 1>, Error, 0> = TaggedImplicit::implicit(
-        TaggedExplicit::explicit(2),
-    );
-    same(&rt, value.in_der_form(), true);
-    both_ways(&rt, rt.alloc(), &[0xa0, 3, 2, 1, 2], value)?;
-    let value: ApplicationImplicit<TaggedImplicit<u8, Error, 1>, Error, 0> = TaggedValue::implicit(
-        TaggedImplicit::implicit(2),
-    );
-    both_ways(&rt, rt.alloc(), &[0x40, 1, 2], value)?;
-    Ok(())
-}
-
-// Under the inner tag itself nothing is read.
-#[test]
-fn implicit_tags_replace_tags(rt: HostRuntime) -> Result<(), Fail> {
-    type Twice = TaggedImplicit<TaggedImplicit<u8, Error, 1>, Error, 0>;
-    same(
-        &rt,
-        by_der::<Error, Twice>(rt.alloc(), &[0x81, 1, 2]),
-        Err(Refusal::Error(Error::unexpected_tag(Some(Tag(0)), Tag(1)))),
-    );
-    same(&rt, Twice::own_class(), Class::ContextSpecific);
-    Ok(())
+fn no_class(rt: HostRuntime) {
+    let value: TaggedValue<u8, Error, Explicit, 4, 0> = TaggedValue::explicit(2);
+    refuses_class(&rt, rt.alloc(), value);
+    let value: TaggedValue<u8, Error, Implicit, 4, 0> = TaggedValue::implicit(2);
+    refuses_class(&rt, rt.alloc(), value);
 }
 
 #[test]
@@ -527,6 +254,8 @@ impl DerLeaf for Hungry {
 
     ghost content_allowed = { λ c. c ≡ [] };
 
+    ghost content_grows = { Unit {0} };
+
     ghost leaf_form = { λ _. Unit {0} };
 
     ghost content = { λ _. [] };
@@ -564,6 +293,27 @@ impl<'a> FromLeaf<'a> for Hungry {
     }
 }
 
+// The refusal by DER's rules, and by BER's.
+fn der_refusal<'a, E: From<Error>, T: FromDer<'a, E> + Drop>(
+    alloc: Global,
+    octets: &'a [u8],
+) -> Option<Refusal<E>> {
+    match T::from_der(alloc, octets) {
+        Ok(_) => None,
+        Err(e) => Some(e),
+    }
+}
+
+fn ber_refusal<'a, E: From<Error>, T: FromBer<'a, E> + Drop>(
+    alloc: Global,
+    octets: &'a [u8],
+) -> Option<Refusal<E>> {
+    match T::from_ber(alloc, octets) {
+        Ok(_) => None,
+        Err(e) => Some(e),
+    }
+}
+
 fn hungry_by_der(parser: &OptTaggedParser, alloc: Global, octets: &[u8]) -> Option<Refusal<Error>> {
     match parser.parse_der(octets, |_, content| Hungry::from_der(alloc, content)) {
         Ok(_) => None,
@@ -580,59 +330,29 @@ fn hungry_by_ber(parser: &OptTaggedParser, alloc: Global, octets: &[u8]) -> Opti
 
 #[test]
 fn want_of_memory_is_told(rt: HostRuntime) -> Result<(), Fail> {
-    let explicit = [0xa0, 2, 4, 0];
-    let implicit = [0x80, 0];
-    same(
-        &rt,
-        by_der::<Error, TaggedExplicit<Hungry, Error, 0>>(rt.alloc(), &explicit),
-        Err(Refusal::Failure(Error::OutOfMemory)),
-    );
-    same(
-        &rt,
-        by_ber::<Error, TaggedExplicit<Hungry, Error, 0>>(rt.alloc(), &explicit),
-        Err(Refusal::Failure(Error::OutOfMemory)),
-    );
-    same(
-        &rt,
-        by_der::<Error, TaggedImplicit<Hungry, Error, 0>>(rt.alloc(), &implicit),
-        Err(Refusal::Failure(Error::OutOfMemory)),
-    );
-    same(
-        &rt,
-        by_ber::<Error, TaggedImplicit<Hungry, Error, 0>>(rt.alloc(), &implicit),
-        Err(Refusal::Failure(Error::OutOfMemory)),
-    );
-    same(
-        &rt,
-        by_der::<Error, OptTaggedExplicit<Hungry, Error, 0>>(rt.alloc(), &explicit),
-        Err(Refusal::Failure(Error::OutOfMemory)),
-    );
-    same(
-        &rt,
-        by_ber::<Error, OptTaggedExplicit<Hungry, Error, 0>>(rt.alloc(), &explicit),
-        Err(Refusal::Failure(Error::OutOfMemory)),
-    );
-    same(
-        &rt,
-        by_der::<Error, OptTaggedImplicit<Hungry, Error, 0>>(rt.alloc(), &implicit),
-        Err(Refusal::Failure(Error::OutOfMemory)),
-    );
-    same(
-        &rt,
-        by_ber::<Error, OptTaggedImplicit<Hungry, Error, 0>>(rt.alloc(), &implicit),
-        Err(Refusal::Failure(Error::OutOfMemory)),
-    );
+    let alloc = rt.alloc();
+    let wanted = Some(Refusal::Failure(Error::OutOfMemory));
+    let octets = [0xa0, 2, 4, 0];
+    let came = der_refusal::<Error, TaggedExplicit<Hungry, Error, 0>>(alloc, &octets);
+    same(&rt, came, wanted);
+    let came = ber_refusal::<Error, TaggedExplicit<Hungry, Error, 0>>(alloc, &octets);
+    same(&rt, came, wanted);
+    let came = der_refusal::<Error, OptTaggedExplicit<Hungry, Error, 0>>(alloc, &octets);
+    same(&rt, came, wanted);
+    let came = ber_refusal::<Error, OptTaggedExplicit<Hungry, Error, 0>>(alloc, &octets);
+    same(&rt, came, wanted);
     let parser = OptTaggedParser::from(0);
-    same(
-        &rt,
-        hungry_by_der(&parser, rt.alloc(), &explicit),
-        Some(Refusal::Failure(Error::OutOfMemory)),
-    );
-    same(
-        &rt,
-        hungry_by_ber(&parser, rt.alloc(), &explicit),
-        Some(Refusal::Failure(Error::OutOfMemory)),
-    );
+    same(&rt, hungry_by_der(&parser, alloc, &octets), wanted);
+    same(&rt, hungry_by_ber(&parser, alloc, &octets), wanted);
+    let octets = [0x80, 0];
+    let came = der_refusal::<Error, TaggedImplicit<Hungry, Error, 0>>(alloc, &octets);
+    same(&rt, came, wanted);
+    let came = ber_refusal::<Error, TaggedImplicit<Hungry, Error, 0>>(alloc, &octets);
+    same(&rt, came, wanted);
+    let came = der_refusal::<Error, OptTaggedImplicit<Hungry, Error, 0>>(alloc, &octets);
+    same(&rt, came, wanted);
+    let came = ber_refusal::<Error, OptTaggedImplicit<Hungry, Error, 0>>(alloc, &octets);
+    same(&rt, came, wanted);
     Ok(())
 }
 
