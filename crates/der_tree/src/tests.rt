@@ -1,10 +1,11 @@
-//! One row for each line of the table on each side of its border, the levels, and each call once.
+//! Each call once, a sequence of thousands of parts, and devices. Rows of octets are those of the program `der_rows`.
 
 use crate::{
-    BerObjectContent, ber_encode_object, end_of, first_of, parse_der, parse_der_recursive,
-    parse_der_recursive_counted,
+    BerObjectContent, ber_encode_object, bits_of, end_of, first_of, is_negative_integer,
+    is_shortest_integer, number_of, parse_der, parse_der_recursive, parse_der_recursive_counted,
+    text_of, u32_of,
 };
-use asn1_core::{Err, Error, HeaderCount, Needed, SerializeError};
+use asn1_core::{Err, Error, HeaderCount, Length, Needed, SerializeError};
 use asn1_device::WriteSink;
 use std::alloc::Global;
 use std::fmt::Debug;
@@ -17,267 +18,82 @@ fn same<R: Abort, T: PartialEq + Debug + Drop>(rt: &R, got: T, want: T) {
     assert_eq!(rt; got, want);
 }
 
-fn is_taken(alloc: Global, octets: &[u8]) -> bool {
-    parse_der(alloc, octets).is_ok()
-}
-
-// An object is read whole, refused at each prefix, gives back an octet after it, and is written as it was read.
-fn takes(rt: &impl Abort, alloc: Global, octets: &[u8]) -> Result<(), Fail> {
-    let (rest, object) = parse_der(alloc, octets)?;
-    assert!(rt; rest.is_empty(), "{octets:?}");
-    same(rt, object.as_raw(), octets);
-    let written = object.to_vec(alloc)?;
-    same(rt, written.as_slice(), octets);
-    for end in 0..octets.len() {
-        assert!(rt; !is_taken(alloc, &octets[..end]), "{octets:?} to {end}");
-    }
-    let mut longer = octets.to_vec(alloc)?;
-    longer.push(0)?;
-    let (rest, _) = parse_der(alloc, longer.as_slice())?;
-    same(rt, rest, [0].as_slice());
-    Ok(())
-}
-
-#[test]
-fn numbers_and_bits_are_taken(rt: HostRuntime) -> Result<(), Fail> {
-    let rows: &[&[u8]] = &[
-        b"\x01\x01\x00",
-        b"\x01\x01\xff",
-        b"\x02\x01\x00",
-        b"\x02\x01\x80",
-        b"\x02\x02\x00\x80",
-        b"\x02\x02\xff\x7f",
-        b"\x03\x01\x00",
-        b"\x03\x02\x07\x80",
-        b"\x03\x02\x00\xff",
-        b"\x03\x03\x04\xff\xf0",
-        b"\x04\x00",
-        b"\x04\x01\xff",
-        b"\x05\x00",
-        b"\x06\x01\x2a",
-        b"\x06\x02\x81\x00",
-        b"\x06\x06\x2a\x81\x7a\x01\x10\x09",
-        b"\x0a\x01\x00",
-        b"\x0a\x01\x7f",
-        b"\x0a\x02\x00\x80",
-        b"\x0a\x09\x00\xff\xff\xff\xff\xff\xff\xff\xff",
-        b"\x0d\x01\x00",
-        b"\x0d\x02\x7f\x7f",
-    ];
-    for row in rows {
-        takes(&rt, rt.alloc(), row)?;
-    }
-    Ok(())
-}
-
-#[test]
-fn texts_and_times_are_taken(rt: HostRuntime) -> Result<(), Fail> {
-    let rows: &[&[u8]] = &[
-        b"\x07\x01\xff",
-        b"\x0c\x00",
-        b"\x0c\x02\xc3\xa9",
-        b"\x12\x030 9",
-        b"\x13\x08aZ09 '()",
-        b"\x13\x08+,-./:=?",
-        b"\x14\x01\xff",
-        b"\x15\x01\xff",
-        b"\x16\x02\x00\x7f",
-        b"\x17\x0d500101000000Z",
-        b"\x17\x0d491231235959Z",
-        b"\x17\x0d000229000000Z",
-        b"\x18\x0f00000229000000Z",
-        b"\x18\x0f99991231235959Z",
-        b"\x18\x1120240229235959.5Z",
-        b"\x18\x1220240229235959.05Z",
-        b"\x19\x01\xff",
-        b"\x1a\x02\x20\x7e",
-        b"\x1b\x01\xff",
-        b"\x1c\x01\xff",
-        b"\x1e\x01\xff",
-    ];
-    for row in rows {
-        takes(&rt, rt.alloc(), row)?;
-    }
-    Ok(())
-}
-
-#[test]
-fn containers_and_raw_elements_are_taken(rt: HostRuntime) -> Result<(), Fail> {
-    let rows: &[&[u8]] = &[
-        b"\x30\x00",
-        b"\x31\x00",
-        b"\x30\x06\x01\x01\xff\x02\x01\x00",
-        b"\x31\x06\x02\x01\x00\x01\x01\xff",
-        b"\x08\x01\xff",
-        b"\x29\x01\xff",
-        b"\x0e\x00",
-        b"\x1f\x1f\x00",
-        b"\x1f\x8f\xff\xff\xff\x7f\x00",
-        b"\x41\x00",
-        b"\x82\x01\xff",
-        b"\xa0\x01\xff",
-        b"\xdf\xa2\x22\x01\x00",
-        // a certificate whose extension writes the default out is an object all the same
-        b"\x30\x5a\x30\x4f\xa0\x03\x02\x01\x02\x02\x01\x01\x30\x04\x06\x02\x2a\x03\x30\x00\x30\x1e\x17\x0d250101000000Z\x17\x0d260101000000Z\x30\x00\x30\x09\x30\x04\x06\x02\x2a\x03\x03\x01\x00\xa3\x10\x30\x0e\x30\x0c\x06\x03\x55\x1d\x13\x01\x01\x00\x04\x02\x30\x00\x30\x04\x06\x02\x2a\x03\x03\x01\x00",
-    ];
-    for row in rows {
-        takes(&rt, rt.alloc(), row)?;
-    }
-    let mut long = [4, 0x81, 0x80].to_vec(rt.alloc())?;
-    for _ in 0..128 {
-        long.push(7)?;
-    }
-    takes(&rt, rt.alloc(), long.as_slice())
-}
-
-#[test]
-fn numbers_and_bits_are_refused(rt: HostRuntime) {
-    let rows: &[&[u8]] = &[
-        b"\x00\x00",
-        b"\x01\x00",
-        b"\x01\x01\x01",
-        b"\x01\x02\x00\x00",
-        b"\x21\x01\x00",
-        b"\x02\x00",
-        b"\x02\x02\x00\x7f",
-        b"\x02\x02\xff\x80",
-        b"\x22\x01\x00",
-        b"\x03\x00",
-        b"\x03\x01\x01",
-        b"\x03\x02\x08\x00",
-        b"\x03\x02\x01\x01",
-        b"\x03\x03\x04\xff\xf8",
-        b"\x23\x01\x00",
-        b"\x24\x00",
-        b"\x05\x01\x00",
-        b"\x25\x00",
-        b"\x06\x00",
-        b"\x06\x01\x80",
-        b"\x06\x02\x80\x01",
-        b"\x06\x03\x2a\x80\x01",
-        b"\x26\x01\x2a",
-        b"\x0a\x00",
-        b"\x0a\x01\x80",
-        b"\x0a\x02\x00\x01",
-        b"\x0a\x09\x01\x00\x00\x00\x00\x00\x00\x00\x00",
-        b"\x2a\x01\x00",
-        b"\x0d\x00",
-        b"\x0d\x01\x80",
-        b"\x2d\x01\x00",
-    ];
-    for row in rows {
-        assert!(rt; !is_taken(rt.alloc(), row), "{row:?}");
-    }
-}
-
-#[test]
-fn texts_and_times_are_refused(rt: HostRuntime) {
-    let rows: &[&[u8]] = &[
-        b"\x27\x00",
-        b"\x0c\x01\xff",
-        b"\x0c\x02\xc0\x80",
-        b"\x2c\x00",
-        b"\x12\x01a",
-        b"\x13\x01*",
-        b"\x13\x01@",
-        b"\x13\x01&",
-        b"\x34\x00",
-        b"\x16\x01\x80",
-        b"\x1a\x01\x1f",
-        b"\x1a\x01\x7f",
-        b"\x17\x0b2401010000Z",
-        b"\x17\x0d240230000000Z",
-        b"\x17\x0d230229000000Z",
-        b"\x17\x0d240001000000Z",
-        b"\x17\x0d241301000000Z",
-        b"\x17\x0d240100000000Z",
-        b"\x17\x0d240101240000Z",
-        b"\x17\x0d240101006000Z",
-        b"\x17\x0d240101000060Z",
-        b"\x17\x0d240101000000z",
-        b"\x17\x0d2401010000a0Z",
-        b"\x17\x11240101000000+0000",
-        b"\x17\x0f240101000000.5Z",
-        b"\x18\x0f20230229000000Z",
-        b"\x18\x0e20240101000000",
-        b"\x18\x1020240101000000.Z",
-        b"\x18\x1120240101000000.0Z",
-        b"\x18\x1220240101000000.10Z",
-        b"\x18\x1120240101000000,5Z",
-        b"\x18\x0d202401010000Z",
-        b"\x3e\x00",
-    ];
-    for row in rows {
-        assert!(rt; !is_taken(rt.alloc(), row), "{row:?}");
-    }
-}
-
-#[test]
-fn containers_and_headers_are_refused(rt: HostRuntime) {
-    let rows: &[&[u8]] = &[
-        b"\x10\x00",
-        b"\x11\x00",
-        b"\x30\x01\x00",
-        b"\x30\x02\x00\x00",
-        b"\x30\x03\x01\x01\x01",
-        b"\x30\x04\x02\x81\x01\x05",
-        b"\x30\x80\x00\x00",
-        b"\x04\x81\x01\x07",
-        b"\x04\x80",
-        b"\x04\xff",
-        b"\x1f\x1e\x00",
-        b"\x1f\x80\x1f\x00",
-        b"\x1f\x90\x80\x80\x80\x00\x00",
-    ];
-    for row in rows {
-        assert!(rt; !is_taken(rt.alloc(), row), "{row:?}");
-    }
-}
-
-fn refusal_of(alloc: Global, octets: &[u8]) -> Option<Err<Error>> {
-    match parse_der(alloc, octets) {
-        Ok(_) => None,
-        Err(refusal) => Some(refusal),
-    }
-}
-
-#[test]
-fn cut_octets_are_told_apart(rt: HostRuntime) {
-    let cut = Some(Err::Incomplete(Needed::Size(1)));
-    assert!(rt; refusal_of(rt.alloc(), b"") == cut);
-    assert!(rt; refusal_of(rt.alloc(), b"\x02") == cut);
-    assert!(rt; refusal_of(rt.alloc(), b"\x02\x02\x00") == cut);
-    // octets that are missing within a part can't come behind the whole
-    let within = Some(Err::Error(Error::Incomplete(Needed::Size(1))));
-    assert!(rt; refusal_of(rt.alloc(), b"\x30\x03\x02\x02\x00") == within);
-    let large = Some(Err::Error(Error::InvalidLength));
-    assert!(rt; refusal_of(rt.alloc(), b"\x04\x85\x01\x00\x00\x00\x00") == large);
-    let largest = Some(Err::Incomplete(Needed::Size(4_294_967_295)));
-    assert!(rt; refusal_of(rt.alloc(), b"\x04\x84\xff\xff\xff\xff") == largest);
-}
-
-// So many sequences, each the only part of the one before it.
-fn nested(alloc: Global, levels: u8) -> Result<Vec<u8>, Fail> {
-    let mut octets = Vec::new(alloc);
-    for level in 0..levels {
-        octets.push(0x30)?;
-        octets.push(u8::try_from(2 * u16::from(levels - 1 - level))?)?;
+// A sequence of so many numbers, one after the other.
+fn numbers(alloc: Global, count: u16) -> Result<Vec<u8>, Fail> {
+    let size = u32::from(count) * 4;
+    let mut octets = [0x30, 0x83].to_vec(alloc)?;
+    octets.extend_from_slice(&size.to_be_bytes()[1..])?;
+    for number in 0..count {
+        octets.extend_from_slice(&[0x02, 0x02, 0x01, (number % 256) as u8])?;
     }
     Ok(octets)
 }
 
 #[test]
-fn levels_are_counted(rt: HostRuntime) -> Result<(), Fail> {
+fn thousands_of_parts_are_read_and_written(rt: HostRuntime) -> Result<(), Fail> {
     let alloc = rt.alloc();
-    takes(&rt, alloc, nested(alloc, 50)?.as_slice())?;
-    let deeper = nested(alloc, 51)?;
-    assert!(rt; refusal_of(alloc, deeper.as_slice()) == Some(Err::Error(Error::BerMaxDepth)));
-    assert!(rt; parse_der_recursive(alloc, deeper.as_slice(), 51).is_ok());
-    let two = b"\x30\x02\x30\x00";
-    assert!(rt; parse_der_recursive(alloc, two, 2).is_ok());
-    assert!(rt; parse_der_recursive(alloc, two, 1).is_err());
-    assert!(rt; parse_der_recursive(alloc, b"\x30\x00", 0).is_err());
+    let octets = numbers(alloc, 20_000)?;
+    let mut count = HeaderCount::new();
+    let (rest, object) = parse_der_recursive_counted(alloc, octets.as_slice(), 2, &mut count)?;
+    assert!(rt; rest.is_empty());
+    same(&rt, count.get(), 20_001);
+    let parts = object.as_sequence()?;
+    same(&rt, parts.len(), 20_000);
+    let mut number = 0u32;
+    for part in parts {
+        same(&rt, part.as_u32()?, 256 + number % 256);
+        assert!(rt; part.header.length() == Length::Definite(2));
+        number = number.wrapping_add(1);
+    }
+    let written = object.to_vec(alloc)?;
+    same(&rt, written.as_slice(), octets.as_slice());
+    let mut sink = WriteSink::new(Vec::new(alloc));
+    assert!(rt; ber_encode_object(alloc, &mut sink, &object) == Ok(octets.len()));
+    same(&rt, sink.into_inner().as_slice(), octets.as_slice());
+    // the last part is cut
+    let short = &octets.as_slice()[..octets.len() - 1];
+    assert!(rt;
+        matches!(
+            parse_der(alloc, short),
+            Err(Err::Incomplete(Needed::Size(1)))
+        )
+    );
     Ok(())
+}
+
+#[test]
+fn objects_are_read_in_so_many_levels(rt: HostRuntime) -> Result<(), Fail> {
+    let alloc = rt.alloc();
+    let octets = b"\x30\x02\x30\x00\x05";
+    let (rest, object) = parse_der_recursive(alloc, octets, 2)?;
+    same(&rt, rest, [5].as_slice());
+    same(&rt, object.as_raw(), &octets[..4]);
+    let refused = parse_der_recursive(alloc, octets, 1);
+    assert!(rt; matches!(refused, Err(Err::Error(Error::BerMaxDepth))));
+    Ok(())
+}
+
+#[test]
+fn contents_alone_are_answered(rt: HostRuntime) {
+    same(&rt, u32_of(b"\x00\xff\xff\xff\xff"), Ok(u32::MAX));
+    same(
+        &rt,
+        u32_of(b"\x01\x00\x00\x00\x00"),
+        Err(Error::IntegerTooLarge),
+    );
+    same(
+        &rt,
+        u32_of(b"\x01\x00\x00\x00\x00\x00\x00\x00\x00"),
+        Err(Error::IntegerTooLarge),
+    );
+    same(&rt, u32_of(b"\x80"), Err(Error::IntegerNegative));
+    same(&rt, u32_of(b"\x00\x7f"), Err(Error::BerValueError));
+    same(&rt, u32_of(b""), Err(Error::BerValueError));
+    assert!(rt; is_shortest_integer(b"\x00\x80") && !is_shortest_integer(b"\xff\x80"));
+    assert!(rt; is_negative_integer(b"\x80") && !is_negative_integer(b"\x7f"));
+    assert!(rt; number_of(b"\x01\x02") == Some(258));
+    assert!(rt; text_of(b"\xc3\xa9") == Some("\u{e9}") && text_of(b"\xc3").is_none());
+    assert!(rt; bits_of(b"\x04\xf0").is_some() && bits_of(b"\x04\xf8").is_none());
 }
 
 #[test]
