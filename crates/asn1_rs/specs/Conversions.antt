@@ -1,6 +1,6 @@
 -- What a conversion of an element answers.
 use Rattle.std.specs.Prelude.{◌≡◌, ℕ, ℤ, pos, List, Result}
-use Rattle.asn1_core.specs.BerElements.{BerElement}
+use Rattle.asn1_any.specs.BerElements.{BerElement}
 use Rattle.asn1_core.specs.declared.error.Error.{Error}
 use Rattle.asn1_core.specs.declared.outcome.Err.{Err as Refusal}
 use Rattle.asn1_traits.specs.IntegerLaws.{IntegerMeans}
