@@ -1,6 +1,6 @@
 //! A content that was cut into its elements, read from its front.
 
-ghost use Rattle.std.specs.Prelude.{◌≡◌, ◌+◌, ◌*◌, ◌^◌, ◌<◌, ◌≤◌, ◌-◌, List, ℕ, length, IfOk, IfSome, option_map, Some, Ok};
+ghost use Rattle.std.specs.Prelude.{◌≡◌, ◌+◌, ◌*◌, ◌^◌, ◌<◌, ◌≤◌, ◌-◌, List, ℕ, length, IfOk, IfErr, IfSome, option_map, Some, Ok};
 ghost use Rattle.asn1_core.specs.Counts.{attempts};
 ghost use Rattle.asn1_any.specs.CutViews.{piece_of};
 ghost use Rattle.asn1_any.specs.Cutting.{Piece};
@@ -34,7 +34,7 @@ impl<'a> Model for Parts<'a> {
 }
 
 impl<'a> Parts<'a> {
-    /// All of a content.
+    /// All of a content, cut into its elements: a header is tried for each of them, and one at octets that none begins.
     pub fn cut(
         alloc: Global,
         content: &'a [u8],
@@ -54,7 +54,8 @@ impl<'a> Parts<'a> {
         })
     }
 
-    /// The element at the front.
+    /// The element at the front, and on behind it. Where none is there the refusal is an error, whatever the octets are, and
+    /// nothing is changed.
     #[tactic(auto, unfolding(crate::specs::Reading::piece_at))]
     pub fn next(&mut self) -> Result<Element<'a>, Refusal<X509Error>>
         ensures read { Gives (λ e. (piece_of e, self.new.octets)) result (piece_at self.old.octets) }
@@ -62,6 +63,7 @@ impl<'a> Parts<'a> {
         ensures shorter { IfOk result (λ e. length e.octets.now + length self.new.octets ≡ length self.old.octets) }
         ensures ends { length self.new.octets ≤ length self.old.octets }
         ensures content { IfOk result (λ e. length e.any.content.now + 2 ≤ length e.octets.now) }
+        ensures stays { IfErr result (λ _. self.new ≡ self.old) }
     {
         if self.at >= self.elements.len() {
             return Err(Refusal::Error(X509Error::Der(Error::InvalidLength)));
@@ -87,7 +89,7 @@ impl<'a> Parts<'a> {
         Some(self.elements[self.at])
     }
 
-    /// Behind the element at the front.
+    /// On behind the element that `first` told.
     pub fn advance(&mut self)
         requires { 0 < self.old.elements }
         ensures read { (e : Piece) → first_piece self.old.octets ≡ Some e → piece_at self.old.octets ≡ Ok (e, self.new.octets) }
