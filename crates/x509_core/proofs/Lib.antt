@@ -1,0 +1,5 @@
+pub mod Grammars
+pub mod Many
+pub mod Pieces
+pub mod Public
+pub mod Told

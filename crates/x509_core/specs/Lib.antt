@@ -1,0 +1,5 @@
+pub mod Answers
+pub mod Errors
+pub mod Grammar
+pub mod Parts
+pub mod Reading

@@ -1,0 +1,135 @@
+//! Single elements: the outermost one, a header alone, and what an element of a tag number holds.
+
+ghost use Rattle.std.specs.Prelude.{◌≡◌, ◌++◌, ◌+◌, ◌*◌, ◌^◌, ◌<◌, ◌≤◌, length, IfOk};
+ghost use Rattle.asn1_core.specs.Counts.{attempts};
+ghost use Rattle.asn1_core.specs.Views.{head_of, length_of, IsDefinite};
+ghost use Rattle.asn1_any.specs.CutViews.{piece_of};
+ghost use Rattle.asn1_any.specs.Views.{any_of};
+ghost use Rattle.x509_core.specs.Answers.{Gives, IsName, Named, Cuts, renamed};
+ghost use Rattle.x509_core.specs.Reading.{piece_at, front_header_at, content_in, oid_in};
+
+use crate::error::X509Error;
+use crate::parts::Parts;
+use asn1_any::{Any, Element};
+use asn1_core::{Err as Refusal, Error, Header, HeaderCount, Tag};
+use asn1_oid::Oid;
+use std::alloc::Global;
+
+/// The header that begins the octets, behind those after it.
+#[tactic(auto, unfolding(crate::specs::Reading::front_header_at))]
+pub fn front_header<'a>(
+    i: &'a [u8],
+    count: &mut HeaderCount,
+) -> Result<(&'a [u8], Header), Refusal<X509Error>>
+    requires { attempts count.old + 1 < 2 ^ 128 }
+    ensures read { Gives (λ r. (head_of r.1, r.0.now)) result (front_header_at i.now) }
+    ensures count { attempts count.new ≡ attempts count.old + 1 }
+    ensures shorter { IfOk result (λ r. length r.0.now + 2 ≤ length i.now) }
+    ensures definite { IfOk result (λ r. IsDefinite (length_of r.1)) }
+{
+    match Header::from_der_counted(i, count) {
+        Ok((after, header)) => Ok((after, header)),
+        Err(refusal) => Err(Refusal::convert(refusal)),
+    }
+}
+
+/// The element that begins the octets, behind those after it.
+#[tactic(auto, unfolding(crate::specs::Reading::piece_at))]
+pub fn front_element<'a>(
+    i: &'a [u8],
+    count: &mut HeaderCount,
+) -> Result<(&'a [u8], Element<'a>), Refusal<X509Error>>
+    requires { attempts count.old + 1 < 2 ^ 128 }
+    ensures read { Gives (λ r. (piece_of r.1, r.0.now)) result (piece_at i.now) }
+    ensures count { attempts count.new ≡ attempts count.old + 1 }
+    ensures shorter { IfOk result (λ r. length r.1.octets.now + length r.0.now ≡ length i.now) }
+    ensures content { IfOk result (λ r. length r.1.any.content.now + 2 ≤ length r.1.octets.now) }
+{
+    match Any::from_der_counted(i, count) {
+        Ok((rest, any)) => {
+            let (octets, _) = i.split_at(i.len() - rest.len());
+            Ok((rest, Element { octets, any }))
+        }
+        Err(refusal) => Err(Refusal::convert(refusal)),
+    }
+}
+
+/// The parts of an element of this tag number.
+pub fn parts_of<'a>(
+    alloc: Global,
+    tag: u32,
+    element: Element<'a>,
+    count: &mut HeaderCount,
+) -> Result<Parts<'a>, Refusal<X509Error>>
+    requires { attempts count.old + length element.any.content.now < 2 ^ 128 }
+    ensures read { Gives (λ p. p.octets) result (content_in tag (any_of element.entry.any)) }
+    ensures least { IfOk result (λ p. attempts count.old + p.elements ≤ attempts count.new) }
+    ensures grows { attempts count.old ≤ attempts count.new }
+    ensures most { attempts count.new ≤ attempts count.old + length element.entry.any.content.now }
+{
+    if element.any.tag().0 != tag {
+        return Err(Refusal::Error(X509Error::Der(Error::unexpected_tag(
+            Some(Tag(tag)),
+            element.any.tag(),
+        ))));
+    }
+    match Parts::cut(alloc, element.any.content, count) {
+        Ok(parts) => Ok(parts),
+        Err(e) => Err(Refusal::Failure(X509Error::from(e))),
+    }
+}
+
+/// The elements of a content.
+pub fn cut_all<'a>(
+    alloc: Global,
+    content: &'a [u8],
+    count: &mut HeaderCount,
+) -> Result<Parts<'a>, Refusal<X509Error>>
+    requires { attempts count.old + length content.now < 2 ^ 128 }
+    ensures octets { Cuts content.now result }
+    ensures least { IfOk result (λ p. attempts count.old + p.elements ≤ attempts count.new) }
+    ensures grows { attempts count.old ≤ attempts count.new }
+    ensures most { attempts count.new ≤ attempts count.old + length content.now }
+{
+    match Parts::cut(alloc, content, count) {
+        Ok(parts) => Ok(parts),
+        Err(e) => Err(Refusal::Failure(X509Error::from(e))),
+    }
+}
+
+/// The same refusal by this error, unless memory ran out.
+pub fn renamed(refusal: Refusal<X509Error>, name: X509Error) -> Refusal<X509Error>
+    requires { IsName name }
+    ensures { result ≡ renamed refusal name }
+{
+    match refusal {
+        Refusal::Failure(e) => Refusal::Failure(e),
+        _ => Refusal::Error(name),
+    }
+}
+
+/// An OBJECT IDENTIFIER.
+pub fn oid_of<'a>(element: Element<'a>) -> Result<Oid<'a>, Refusal<X509Error>>
+    ensures { Gives (λ o. o) result (oid_in (any_of element.entry.any)) }
+{
+    if element.any.tag().0 != 6 || element.any.header.is_constructed() {
+        return Err(Refusal::Error(X509Error::Der(Error::InvalidTag)));
+    }
+    Ok(Oid::new(element.any.content))
+}
+
+/// The same refusal by this error, unless memory ran out.
+pub fn named<T: Drop>(
+    answer: Result<T, Refusal<X509Error>>,
+    name: X509Error,
+) -> Result<T, Refusal<X509Error>>
+    requires { IsName name }
+    ensures { Named name answer result }
+{
+    match answer {
+        Ok(value) => Ok(value),
+        Err(Refusal::Failure(e)) => Err(Refusal::Failure(e)),
+        Err(Refusal::Incomplete(_)) => Err(Refusal::Error(name)),
+        Err(Refusal::Error(_)) => Err(Refusal::Error(name)),
+    }
+}

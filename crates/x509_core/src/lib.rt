@@ -1,0 +1,11 @@
+//! What the readers of certificates, revocation lists and requests stand on: why they refuse, a content that was cut into its
+//! elements, and single elements.
+#![tactic(auto)]
+
+mod elements;
+mod error;
+mod parts;
+
+pub use crate::elements::{cut_all, front_element, front_header, named, oid_of, parts_of, renamed};
+pub use crate::error::{X509Error, X509Result};
+pub use crate::parts::Parts;

@@ -1,0 +1,112 @@
+//! A content that was cut into its elements, read from its front.
+
+ghost use Rattle.std.specs.Prelude.{◌≡◌, ◌+◌, ◌*◌, ◌^◌, ◌<◌, ◌≤◌, ◌-◌, List, ℕ, length, IfOk, IfErr, IfSome, option_map, Some, Ok};
+ghost use Rattle.asn1_core.specs.Counts.{attempts};
+ghost use Rattle.asn1_any.specs.CutViews.{piece_of};
+ghost use Rattle.asn1_any.specs.Cutting.{Piece};
+ghost use Rattle.x509_core.specs.Answers.{Gives, Fails};
+ghost use Rattle.x509_core.specs.Reading.{piece_at, first_piece};
+ghost use Rattle.x509_core.specs.Parts.{Left};
+
+use crate::error::X509Error;
+use asn1_any::{Element, cut_elements_counted};
+use asn1_core::{Err as Refusal, Error, HeaderCount, OutOfMemory};
+use std::alloc::Global;
+use std::marker::Model;
+
+/// The octets that are left of a content, and the elements that stand in them.
+#[derive(Drop)]
+pub struct Parts<'a> {
+    left: &'a [u8],
+    elements: Vec<Element<'a>>,
+    at: usize,
+}
+
+impl<'a> Model for Parts<'a> {
+    ghost use Rattle.std.specs.Prelude.{◌-◌, length};
+    ghost use Rattle.x509_core.specs.Parts.{Left, IsCut};
+
+    ghost Value = { Left };
+
+    ghost view = { λ p. record { octets = p.left.now; elements = length p.elements.items - p.at } };
+
+    ghost invariant = { λ p. IsCut p.left.now p.elements.items p.at };
+}
+
+impl<'a> Parts<'a> {
+    /// All of a content, cut into its elements: a header is tried for each of them, and one at octets that none begins.
+    pub fn cut(
+        alloc: Global,
+        content: &'a [u8],
+        count: &mut HeaderCount,
+    ) -> Result<Parts<'a>, OutOfMemory>
+        requires { attempts count.old + length content.now < 2 ^ 128 }
+        ensures octets { IfOk result (λ p. p.octets ≡ content.now) }
+        ensures least { IfOk result (λ p. attempts count.old + p.elements ≤ attempts count.new) }
+        ensures grows { attempts count.old ≤ attempts count.new }
+        ensures most { attempts count.new ≤ attempts count.old + length content.now }
+    {
+        let cut = cut_elements_counted(alloc, content, count)?;
+        Ok(Parts {
+            left: content,
+            elements: cut.items,
+            at: 0,
+        })
+    }
+
+    /// The element at the front, and on behind it. Where none is there the refusal is an error, whatever the octets are, and
+    /// nothing is changed.
+    #[tactic(auto, unfolding(crate::specs::Reading::piece_at))]
+    pub fn next(&mut self) -> Result<Element<'a>, Refusal<X509Error>>
+        ensures read { Gives (λ e. (piece_of e, self.new.octets)) result (piece_at self.old.octets) }
+        ensures elements { IfOk result (λ _. self.old.elements ≡ self.new.elements + 1) }
+        ensures shorter { IfOk result (λ e. length e.octets.now + length self.new.octets ≡ length self.old.octets) }
+        ensures ends { length self.new.octets ≤ length self.old.octets }
+        ensures content { IfOk result (λ e. length e.any.content.now + 2 ≤ length e.octets.now) }
+        ensures stays { IfErr result (λ _. self.new ≡ self.old) }
+    {
+        if self.at >= self.elements.len() {
+            return Err(Refusal::Error(X509Error::Der(Error::InvalidLength)));
+        }
+        let element = self.elements[self.at];
+        let (_, left) = self.left.split_at(element.octets.len());
+        self.left = left;
+        self.at += 1;
+        Ok(element)
+    }
+
+    /// The element at the front, left where it is.
+    #[tactic(auto, unfolding(crate::specs::Reading::piece_at))]
+    pub fn first(&self) -> Option<Element<'a>>
+        ensures read { option_map piece_of result ≡ first_piece self.now.octets }
+        ensures shorter { IfSome result (λ e. length e.octets.now ≤ length self.now.octets) }
+        ensures content { IfSome result (λ e. length e.any.content.now + 2 ≤ length e.octets.now) }
+        ensures some { IfSome result (λ _. 0 < self.now.elements) }
+    {
+        if self.at >= self.elements.len() {
+            return None;
+        }
+        Some(self.elements[self.at])
+    }
+
+    /// On behind the element that `first` told.
+    pub fn advance(&mut self)
+        requires { 0 < self.old.elements }
+        ensures read { (e : Piece) → first_piece self.old.octets ≡ Some e → piece_at self.old.octets ≡ Ok (e, self.new.octets) }
+        ensures elements { self.old.elements ≡ self.new.elements + 1 }
+        ensures ends { length self.new.octets ≤ length self.old.octets }
+        ensures shorter { (e : Piece) → first_piece self.old.octets ≡ Some e → length e.octets + length self.new.octets ≡ length self.old.octets }
+    {
+        let element = self.elements[self.at];
+        let (_, left) = self.left.split_at(element.octets.len());
+        self.left = left;
+        self.at += 1;
+    }
+
+    /// The octets that are left.
+    pub fn left(&self) -> &'a [u8]
+        ensures { result.now ≡ self.now.octets }
+    {
+        self.left
+    }
+}
