@@ -200,9 +200,8 @@ impl<'b, C: TestValidCharset> FromLeaf<'b> for CharacterString<'b, C> {
         ensures refused { IfErr result (λ e. e ≡ Error.StringInvalidCharset) }
         ensures exact { Gives (λ v. v.text.now) result (text_at C.passes octets.now) }
     {
-        match Self::test_valid_charset(octets) {
-            Ok(()) => {}
-            Err(e) => return Err(e),
+        if let Err(e) = Self::test_valid_charset(octets) {
+            return Err(e);
         }
         match str::from_utf8(octets) {
             Ok(text) => Ok(CharacterString::new(text)),
