@@ -2,8 +2,15 @@
 ghost use Rattle.std.specs.Prelude.{◌≤◌, IfOk};
 
 use crate::{DeviceFault, ReadSource, Sink, Source, WriteSink, write_octets};
+use std::fmt::Debug;
 use std::io::{Error, ErrorKind, Read, Write};
+use std::process::Abort;
 use std::test::Fail;
+
+// What came is what was wanted.
+fn same<R: Abort, T: PartialEq + Debug + Drop>(rt: &R, got: T, want: T) {
+    assert_eq!(rt; got, want);
+}
 
 // What a fake device answers at one call.
 #[derive(Clone, Copy)]
@@ -82,11 +89,11 @@ fn reads_until_the_end(rt: HostRuntime) -> Result<(), Fail> {
     let octets = [1, 2, 3];
     let mut source = ReadSource::new(octets.as_slice());
     let mut buf = [0; 2];
-    assert_eq!(rt; source.read(&mut buf), Ok(2));
-    assert_eq!(rt; buf.as_slice(), [1, 2].as_slice());
-    assert_eq!(rt; source.read(&mut buf), Ok(1));
-    assert_eq!(rt; buf[0], 3);
-    assert_eq!(rt; source.read(&mut buf), Ok(0));
+    same(&rt, source.read(&mut buf), Ok(2));
+    same(&rt, buf.as_slice(), [1, 2].as_slice());
+    same(&rt, source.read(&mut buf), Ok(1));
+    same(&rt, buf[0], 3);
+    same(&rt, source.read(&mut buf), Ok(0));
     assert!(rt; source.into_inner().is_empty());
     Ok(())
 }
@@ -101,22 +108,22 @@ fn a_refused_read_is_told_and_an_interrupted_one_is_tried_again(rt: HostRuntime)
     ];
     let mut source = ReadSource::new(make_fake(&rt, &script, Answer::Moves(0)));
     let mut buf = [0; 4];
-    assert_eq!(rt; source.read(&mut buf), Ok(2));
-    assert_eq!(rt; source.read(&mut buf), Err(DeviceFault));
-    assert_eq!(rt; source.read(&mut buf), Ok(1));
-    assert_eq!(rt; source.read(&mut buf), Ok(0));
-    assert_eq!(rt; source.into_inner().given, 3);
+    same(&rt, source.read(&mut buf), Ok(2));
+    same(&rt, source.read(&mut buf), Err(DeviceFault));
+    same(&rt, source.read(&mut buf), Ok(1));
+    same(&rt, source.read(&mut buf), Ok(0));
+    same(&rt, source.into_inner().given, 3);
 }
 
 #[test]
 fn all_octets_are_written_in_any_pieces(rt: HostRuntime) {
     for step in 1..6 {
         let mut sink = WriteSink::new(make_fake(&rt, &[Answer::Interrupted], Answer::Moves(step)));
-        assert_eq!(rt; write_octets(&mut sink, b"octets"), Ok(()));
-        assert_eq!(rt; sink.flush(), Ok(()));
+        same(&rt, write_octets(&mut sink, b"octets"), Ok(()));
+        same(&rt, sink.flush(), Ok(()));
         let device = sink.into_inner();
-        assert_eq!(rt; device.taken.as_slice(), b"octets".as_slice());
-        assert_eq!(rt; device.flushes, 1);
+        same(&rt, device.taken.as_slice(), b"octets".as_slice());
+        same(&rt, device.flushes, 1);
     }
 }
 
@@ -126,10 +133,10 @@ fn a_failed_write_leaves_a_front(rt: HostRuntime) {
     for (at, _) in one.iter().enumerate() {
         for failed in [Answer::Refused, Answer::Moves(0)] {
             let mut sink = WriteSink::new(make_fake(&rt, &one[..at], failed));
-            assert_eq!(rt; write_octets(&mut sink, b"octets"), Err(DeviceFault));
+            same(&rt, write_octets(&mut sink, b"octets"), Err(DeviceFault));
             let device = sink.into_inner();
-            assert_eq!(rt; device.taken.as_slice(), &b"octets"[..at]);
-            assert_eq!(rt; device.flushes, 0);
+            same(&rt, device.taken.as_slice(), &b"octets"[..at]);
+            same(&rt, device.flushes, 0);
         }
     }
 }
@@ -137,6 +144,6 @@ fn a_failed_write_leaves_a_front(rt: HostRuntime) {
 #[test]
 fn a_failed_flush_is_told(rt: HostRuntime) {
     let mut sink = WriteSink::new(make_fake(&rt, &[], Answer::Refused));
-    assert_eq!(rt; sink.flush(), Err(DeviceFault));
-    assert_eq!(rt; sink.write(&[]), Err(DeviceFault));
+    same(&rt, sink.flush(), Err(DeviceFault));
+    same(&rt, sink.write(&[]), Err(DeviceFault));
 }

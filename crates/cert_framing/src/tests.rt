@@ -3,8 +3,14 @@ ghost use Rattle.std.specs.Prelude.{◌<◌};
 
 use super::*;
 use std::alloc::{AllocError, Global};
+use std::fmt::Debug;
 use std::process::Abort;
 use std::test::Fail;
+
+// What came is what was wanted.
+fn same<R: Abort, T: PartialEq + Debug + Drop>(rt: &R, got: T, want: T) {
+    assert_eq!(rt; got, want);
+}
 
 /// A certificate of version 1.
 const FIRST: [u8; 69] = [
@@ -89,11 +95,11 @@ fn framed(alloc: Global, limit: u32, stream: &[u8], size: usize) -> Result<Items
 }
 
 fn assert_items(rt: &impl Abort, found: &Items, items: &[&[u8]], end: End) {
-    assert_eq!(rt; found.end(), end);
-    assert_eq!(rt; found.len(), items.len());
-    assert_eq!(rt; found.is_empty(), items.is_empty());
+    same(rt, found.end(), end);
+    assert!(rt; found.len() == items.len());
+    same(rt, found.is_empty(), items.is_empty());
     for k in 0..items.len() {
-        assert_eq!(rt; found.get(k), items[k], "item {k}");
+        assert!(rt; found.get(k) == items[k], "item {k}");
     }
 }
 
@@ -115,6 +121,23 @@ fn frames_streams_in_pieces(rt: HostRuntime) -> Result<(), Fail> {
         for size in [1, 2, 3, 64] {
             assert_items(&rt, &framed(rt.alloc(), limit, &stream, size)?, items, end);
         }
+    }
+    Ok(())
+}
+
+/// Thousands of items of different lengths, in pieces that end anywhere.
+#[test]
+fn frames_thousands_of_items(rt: HostRuntime) -> Result<(), Fail> {
+    let mut stream = Vec::new(rt.alloc());
+    for _ in 0..1500 {
+        stream.extend_from_slice(&[0x30, 0x00, 0x30, 0x01, 0x05])?;
+    }
+    let items = framed(rt.alloc(), USUAL, &stream, 7)?;
+    same(&rt, items.end(), End::Clean);
+    assert!(rt; items.len() == 3000);
+    for k in 0..1500 {
+        same(&rt, items.get(2 * k), [0x30, 0x00].as_slice());
+        same(&rt, items.get(2 * k + 1), [0x30, 0x01, 0x05].as_slice());
     }
     Ok(())
 }
@@ -145,7 +168,7 @@ fn answers_failed_once_memory_was_refused(rt: HostRuntime) -> Result<(), Fail> {
                 } else {
                     BundleError::OutOfMemory
                 };
-                assert_eq!(rt; error, told);
+                same(&rt, error, told);
                 refused = true;
             }
         }
@@ -157,7 +180,7 @@ fn answers_failed_once_memory_was_refused(rt: HostRuntime) -> Result<(), Fail> {
         }
         Err(error) => {
             assert!(rt; refused);
-            assert_eq!(rt; error, BundleError::Failed);
+            same(&rt, error, BundleError::Failed);
         }
     }
     Ok(())
@@ -170,7 +193,7 @@ fn errors_print_their_names(rt: HostRuntime) -> Result<(), Fail> {
         (BundleError::Failed, "Failed"),
     ] {
         let text = format!(in rt.alloc(); "{error}")?;
-        assert_eq!(rt; text.as_str(), name);
+        same(&rt, text.as_str(), name);
     }
     Ok(())
 }

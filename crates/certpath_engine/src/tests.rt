@@ -8,7 +8,14 @@ use asn1_device::{ReadSource, WriteSink};
 use devices::{Full, Giver, Repeater, Taker};
 use rows::{ROWS, TWO_CERTIFICATES};
 use std::alloc::AllocError;
+use std::fmt::Debug;
+use std::process::Abort;
 use std::test::Fail;
+
+// What came is what was wanted.
+fn same<R: Abort, T: PartialEq + Debug + Drop>(rt: &R, got: T, want: T) {
+    assert_eq!(rt; got, want);
+}
 
 const NEVER: usize = usize::MAX;
 
@@ -64,15 +71,30 @@ fn streams_from_words_to_status(rt: HostRuntime) -> Result<(), Fail> {
             let line = format!(in rt.alloc(); "certpath frame FILE --limit {limit}")?;
             let giver = Giver::new(row.octets, step, NEVER);
             let done = run_on(&rt, line.as_str(), giver, taker(&rt))?;
-            assert_eq!(rt;
-                done.text.as_slice(),
-                row.text.as_bytes(),
+            assert!(rt;
+                done.text.as_slice() == row.text.as_bytes(),
                 "{name} by {step}"
             );
-            assert_eq!(rt; done.status, row.status, "{name} by {step}");
-            assert_eq!(rt; done.said.as_str(), "", "{name} by {step}");
+            assert!(rt; done.status == row.status, "{name} by {step}");
+            assert!(rt; done.said.as_str() == "", "{name} by {step}");
         }
     }
+    Ok(())
+}
+
+#[test]
+fn a_thousand_items(rt: HostRuntime) -> Result<(), Fail> {
+    let mut octets = Vec::new(rt.alloc());
+    let mut wanted = String::new(rt.alloc());
+    for k in 0..1000usize {
+        octets.extend_from_slice(&[0x30, 0x01, 0x05])?;
+        writeln!(wanted, "{k} {} 3", 3 * k)?;
+    }
+    wanted.push_str("end clean\n")?;
+    let giver = Giver::new(octets.as_slice(), 7, NEVER);
+    let done = run_on(&rt, "certpath frame FILE", giver, taker(&rt))?;
+    same(&rt, done.text.as_slice(), wanted.as_bytes());
+    same(&rt, done.status, 0);
     Ok(())
 }
 
@@ -101,7 +123,7 @@ fn words_that_ask_for_nothing(rt: HostRuntime) -> Result<(), Fail> {
     for (line, begins) in lines {
         let giver = Giver::new(TWO_CERTIFICATES, NEVER, NEVER);
         let done = run_on(&rt, line, giver, taker(&rt))?;
-        assert_eq!(rt; done.status, 2, "{line}");
+        assert!(rt; done.status == 2, "{line}");
         assert!(rt; done.said.as_str().starts_with(begins), "{line}");
         assert!(rt; done.said.as_str().ends_with('\n'), "{line}");
         assert!(rt; done.text.is_empty(), "{line}");
@@ -123,8 +145,8 @@ fn the_limit_is_read_or_the_default(rt: HostRuntime) -> Result<(), Fail> {
         let words = words_of(&rt, line)?;
         match read_words(rt.alloc(), words.as_slice()) {
             Ok(Command::Frame { file, limit }) => {
-                assert_eq!(rt; file, "FILE", "{line}");
-                assert_eq!(rt; limit, wanted, "{line}");
+                assert!(rt; file == "FILE", "{line}");
+                assert!(rt; limit == wanted, "{line}");
             }
             Err(fault) => panic!(rt; "{line}: {fault:?}"),
         }
@@ -139,11 +161,11 @@ fn a_read_that_fails(rt: HostRuntime) -> Result<(), Fail> {
         let giver = Giver::new(TWO_CERTIFICATES, 40, fails_at);
         let done = run_on(&rt, "certpath frame a/FILE", giver, taker(&rt))?;
         if fails_at < 5 {
-            assert_eq!(rt; done.status, 4, "at {fails_at}");
-            assert_eq!(rt; done.said.as_str(), "cannot read a/FILE\n", "at {fails_at}");
+            same(&rt, done.status, 4);
+            same(&rt, done.said.as_str(), "cannot read a/FILE\n");
             assert!(rt; done.text.is_empty(), "at {fails_at}");
         } else {
-            assert_eq!(rt; done.status, 0, "at {fails_at}");
+            same(&rt, done.status, 0);
         }
     }
     Ok(())
@@ -158,15 +180,13 @@ fn a_write_that_fails(rt: HostRuntime) -> Result<(), Fail> {
                 let giver = Giver::new(TWO_CERTIFICATES, NEVER, NEVER);
                 let taker = Taker::new(rt.alloc(), step, room, full);
                 let done = run_on(&rt, "certpath frame FILE", giver, taker)?;
-                assert_eq!(rt; done.status, 7, "{full:?} after {room} by {step}");
-                assert_eq!(rt;
-                    done.said.as_str(),
-                    "cannot write\n",
+                assert!(rt; done.status == 7, "{full:?} after {room} by {step}");
+                assert!(rt;
+                    done.said.as_str() == "cannot write\n",
                     "{full:?} after {room} by {step}"
                 );
-                assert_eq!(rt;
-                    done.text.as_slice(),
-                    &text[..room],
+                assert!(rt;
+                    done.text.as_slice() == &text[..room],
                     "{full:?} after {room} by {step}"
                 );
             }
@@ -188,10 +208,14 @@ fn the_flush(rt: HostRuntime) -> Result<(), Fail> {
         } else {
             Ok(End::Clean)
         };
-        assert_eq!(rt; answer, wanted);
+        same(&rt, answer, wanted);
         let device = sink.into_inner();
-        assert_eq!(rt; device.taken.as_slice(), b"0 0 2\nend clean\n".as_slice());
-        assert_eq!(rt; device.flushes, 1);
+        same(
+            &rt,
+            device.taken.as_slice(),
+            b"0 0 2\nend clean\n".as_slice(),
+        );
+        same(&rt, device.flushes, 1);
         assert!(rt; source.into_inner().widest <= 65536);
     }
     Ok(())
@@ -206,9 +230,9 @@ fn a_reader_without_an_end(rt: HostRuntime) -> Result<(), Fail> {
     ] {
         let mut source = ReadSource::new(Repeater { octet: 0x31, left });
         let mut sink = WriteSink::new(taker(&rt));
-        assert_eq!(rt; frame(rt.alloc(), &mut source, 0, &mut sink), wanted);
-        assert_eq!(rt; source.into_inner().left, 0);
-        assert_eq!(rt; sink.into_inner().taken.is_empty(), wanted.is_err());
+        same(&rt, frame(rt.alloc(), &mut source, 0, &mut sink), wanted);
+        same(&rt, source.into_inner().left, 0);
+        same(&rt, sink.into_inner().taken.is_empty(), wanted.is_err());
     }
     Ok(())
 }
@@ -250,13 +274,13 @@ fn statuses_and_texts(rt: HostRuntime) -> Result<(), Fail> {
     ];
     for (outcome, status, said) in rows {
         let exit = frame_status(outcome);
-        assert_eq!(rt; exit.status, status, "{said}");
+        assert!(rt; exit.status == status, "{said}");
         match &exit.message {
             Some(message) => {
                 let text = message.to_string(rt.alloc())?;
-                assert_eq!(rt; text.as_str(), said);
+                same(&rt, text.as_str(), said);
             }
-            None => assert_eq!(rt; "", said),
+            None => same(&rt, "", said),
         }
     }
     Ok(())
@@ -271,7 +295,7 @@ fn texts_of_errors(rt: HostRuntime) -> Result<(), Fail> {
         (FrameError::Write, "Write"),
     ] {
         let text = error.to_string(rt.alloc())?;
-        assert_eq!(rt; text.as_str(), name);
+        same(&rt, text.as_str(), name);
     }
     Ok(())
 }

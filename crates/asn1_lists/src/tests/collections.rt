@@ -48,6 +48,17 @@ fn sequences_of_values(rt: HostRuntime) -> Result<(), Fail> {
 }
 
 #[test]
+fn thousands_of_values(rt: HostRuntime) -> Result<(), Fail> {
+    let alloc = rt.alloc();
+    let mut values = SequenceOf::new(alloc);
+    for value in 0..3000u32 {
+        values.push(value)?;
+    }
+    let octets = values.to_der_vec(alloc)?;
+    written_again::<_, SequenceOf<u32>>(&rt, alloc, octets.as_slice(), 0, octets.as_slice())
+}
+
+#[test]
 fn refused_values(rt: HostRuntime) -> Result<(), Fail> {
     let alloc = rt.alloc();
     let not_boolean = Some(Refusal::Error(Error::DerConstraintFailed(
@@ -71,7 +82,7 @@ fn refused_values(rt: HostRuntime) -> Result<(), Fail> {
         not_boolean,
     );
     same(&rt, ber_refusal::<Error, SetOf<bool>>(alloc, &octets), None);
-    let cut = Some(Refusal::Incomplete(Needed::Size(1)));
+    let cut = Some(Refusal::Error(Error::Incomplete(Needed::Size(1))));
     same(
         &rt,
         der_refusal::<Error, SequenceOf<bool>>(alloc, &[0x30, 2, 1, 1]),

@@ -18,7 +18,8 @@ fn elements_until_one_is_cut(rt: HostRuntime) -> Result<(), Fail> {
     let Some(Err(refusal)) = items.next() else {
         return Err(Fail::new("a refusal"));
     };
-    same(&rt, refusal, Refusal::Incomplete(Needed::Size(1)));
+    let cut = Error::Incomplete(Needed::Size(1));
+    same(&rt, refusal, Refusal::Error(cut));
     assert!(rt; items.next().is_none());
     assert!(rt; items.next().is_none());
     Ok(())

@@ -80,7 +80,7 @@ fn more_than_twenty_values(rt: HostRuntime) -> Result<(), Fail> {
         values.push(99 - value)?;
     }
     let written = values.to_der_vec(rt.alloc())?;
-    assert_eq!(rt; written.len(), 122);
+    assert!(rt; written.len() == 122);
     same(
         &rt,
         &written.as_slice()[..5],
