@@ -3,7 +3,14 @@
 use crate::find_nodes;
 use cert_graph::{Entry, Node, Nodes, check_nodes};
 use std::alloc::Global;
+use std::fmt::Debug;
+use std::process::Abort;
 use std::test::Fail;
+
+// What came is what was wanted.
+fn same<R: Abort, T: PartialEq + Debug + Drop>(rt: &R, got: T, want: T) {
+    assert_eq!(rt; got, want);
+}
 
 // One item: what is judged of it, its group and the groups that it is linked to.
 #[derive(Clone, Copy)]
@@ -96,24 +103,16 @@ fn one_certificate(rt: HostRuntime) -> Result<(), Fail> {
     let unvouched = Item { links: &[], ..root };
     let none = "NoPath { table: Table { rows: [[No]] } }";
     let path = "Path { positions: [0], anchor: 0, table: Table { rows: [] } }";
-    assert_eq!(rt; answer(alloc, &[root], &[0], 0)?.as_str(), path);
-    assert_eq!(rt;
-        answer(alloc, &[late], &[0], 0)?.as_str(),
-        none,
-        "not at the moment"
-    );
-    assert_eq!(rt;
-        answer(alloc, &[unvouched], &[0], 0)?.as_str(),
-        none,
-        "no voucher"
-    );
-    assert_eq!(rt; answer(alloc, &[root], &[], 0)?.as_str(), none, "no anchor");
+    same(&rt, answer(alloc, &[root], &[0], 0)?.as_str(), path);
+    // not at the moment
+    same(&rt, answer(alloc, &[late], &[0], 0)?.as_str(), none);
+    // no voucher
+    same(&rt, answer(alloc, &[unvouched], &[0], 0)?.as_str(), none);
+    // no anchor
+    same(&rt, answer(alloc, &[root], &[], 0)?.as_str(), none);
     let last = "Path { positions: [299], anchor: 0, table: Table { rows: [] } }";
-    assert_eq!(rt;
-        answer(alloc, &[root; 300], &[0], 299)?.as_str(),
-        last,
-        "equal items"
-    );
+    // equal items
+    same(&rt, answer(alloc, &[root; 300], &[0], 299)?.as_str(), last);
     Ok(())
 }
 
@@ -131,11 +130,12 @@ fn no_target(rt: HostRuntime) -> Result<(), Fail> {
         group: 0,
         links: &[],
     };
-    assert_eq!(rt; answer(alloc, &[], &[], 0)?.as_str(), "NoTarget");
-    assert_eq!(rt; answer(alloc, &[other], &[], 0)?.as_str(), "NoTarget");
-    assert_eq!(rt;
+    same(&rt, answer(alloc, &[], &[], 0)?.as_str(), "NoTarget");
+    same(&rt, answer(alloc, &[other], &[], 0)?.as_str(), "NoTarget");
+    same(
+        &rt,
         answer(alloc, &[target(&[])], &[], usize::MAX)?.as_str(),
-        "NoTarget"
+        "NoTarget",
     );
     Ok(())
 }
@@ -145,24 +145,27 @@ fn target_is_not_counted(rt: HostRuntime) -> Result<(), Fail> {
     let alloc = rt.alloc();
     let limited = issuer(1, &[2], Some(0));
     let path = "Path { positions: [0, 1], anchor: 0, table: Table { rows: [[No, UpTo(0)]] } }";
-    assert_eq!(rt;
+    same(
+        &rt,
         answer(alloc, &[target(&[1]), limited], &[2], 0)?.as_str(),
-        path
+        path,
     );
     let unfit = Item {
         node: certificate(false, false, None),
         ..limited
     };
     let none = "NoPath { table: Table { rows: [[No, No]] } }";
-    assert_eq!(rt;
+    // no issuer
+    same(
+        &rt,
         answer(alloc, &[target(&[1]), unfit], &[2], 0)?.as_str(),
         none,
-        "no issuer"
     );
     let unlinked = "NoPath { table: Table { rows: [[No, UpTo(0)]] } }";
-    assert_eq!(rt;
+    same(
+        &rt,
         answer(alloc, &[target(&[3]), limited], &[2], 0)?.as_str(),
-        unlinked
+        unlinked,
     );
     Ok(())
 }
@@ -175,7 +178,7 @@ fn issuers_are_counted(rt: HostRuntime) -> Result<(), Fail> {
         issuer(2, &[3], Some(0)),
     ];
     let none = "NoPath { table: Table { rows: [[No, No, UpTo(0)]] } }";
-    assert_eq!(rt; answer(rt.alloc(), &items, &[3], 0)?.as_str(), none);
+    same(&rt, answer(rt.alloc(), &items, &[3], 0)?.as_str(), none);
     Ok(())
 }
 
@@ -187,7 +190,7 @@ fn self_issued_are_not_counted(rt: HostRuntime) -> Result<(), Fail> {
     let path = format!(in alloc;
         "Path {{ positions: [0, 1, 2], anchor: 0, table: Table {{ rows: [{rows}] }} }}"
     )?;
-    assert_eq!(rt; answer(alloc, &items, &[3], 0)?.as_str(), path.as_str());
+    same(&rt, answer(alloc, &items, &[3], 0)?.as_str(), path.as_str());
     Ok(())
 }
 
@@ -211,7 +214,7 @@ fn longer_way_counts_less(rt: HostRuntime) -> Result<(), Fail> {
     let path = format!(in alloc;
         "Path {{ positions: [0, 3, 4, 5, 6], anchor: 0, table: Table {{ rows: {rows} }} }}"
     )?;
-    assert_eq!(rt; answer(alloc, &items, &[6], 0)?.as_str(), path.as_str());
+    same(&rt, answer(alloc, &items, &[6], 0)?.as_str(), path.as_str());
     Ok(())
 }
 
@@ -259,7 +262,7 @@ fn smallest_positions(rt: HostRuntime) -> Result<(), Fail> {
     ];
     let path =
         "Path { positions: [0, 1], anchor: 0, table: Table { rows: [[No, UpTo(0), UpTo(0)]] } }";
-    assert_eq!(rt; answer(rt.alloc(), &items, &[2, 2], 0)?.as_str(), path);
+    same(&rt, answer(rt.alloc(), &items, &[2, 2], 0)?.as_str(), path);
     Ok(())
 }
 
@@ -268,10 +271,10 @@ fn loops(rt: HostRuntime) -> Result<(), Fail> {
     let alloc = rt.alloc();
     let two = [target(&[1]), issuer(1, &[2], None), issuer(2, &[1], None)];
     let none = "NoPath { table: Table { rows: [[No, No, No]] } }";
-    assert_eq!(rt; answer(alloc, &two, &[3], 0)?.as_str(), none);
+    same(&rt, answer(alloc, &two, &[3], 0)?.as_str(), none);
     let one = [target(&[1]), self_issued(1, &[1])];
     let none = "NoPath { table: Table { rows: [[No, No]] } }";
-    assert_eq!(rt; answer(alloc, &one, &[2], 0)?.as_str(), none);
+    same(&rt, answer(alloc, &one, &[2], 0)?.as_str(), none);
     let limit = Some(u32::MAX);
     let greatest = [
         target(&[]),
@@ -279,10 +282,7 @@ fn loops(rt: HostRuntime) -> Result<(), Fail> {
         issuer(1, &[1, 2], limit),
     ];
     let none = "NoPath { table: Table { rows: [[No, UpTo(4294967294), UpTo(4294967295)]] } }";
-    assert_eq!(rt;
-        answer(alloc, &greatest, &[2], 0)?.as_str(),
-        none,
-        "greatest limits"
-    );
+    // greatest limits
+    same(&rt, answer(alloc, &greatest, &[2], 0)?.as_str(), none);
     Ok(())
 }
