@@ -70,10 +70,28 @@ fn small(i: &[u8]) -> BerResult<'_, u8> {
     }
 }
 
+// The first small number of a sequence, of a set, and under tag number 2.
+fn in_sequence(i: &[u8]) -> BerResult<'_, u8> {
+    parse_der_sequence_defined_g(i, |content, _| small(content))
+}
+
+fn in_set(i: &[u8]) -> BerResult<'_, u8> {
+    parse_der_set_defined_g(i, |content, _| small(content))
+}
+
+fn in_tag(i: &[u8]) -> BerResult<'_, u8> {
+    parse_der_tagged_explicit_g(i, Tag(2), |content, _| small(content))
+}
+
+// The small numbers of a sequence.
+fn all_small(alloc: Global, i: &[u8]) -> BerResult<'_, Vec<u8>> {
+    parse_der_sequence_of_v(alloc, i, |item| small(item))
+}
+
 #[test]
 fn contents_are_handed_over(rt: HostRuntime) -> Result<(), Fail> {
     let two = b"\x30\x06\x02\x01\x01\x02\x01\x02";
-    assert!(rt; parse_der_sequence_defined_g(two, |i, _| small(i)) == Ok((b"".as_slice(), 1)));
+    assert!(rt; in_sequence(two) == Ok((b"".as_slice(), 1)));
     // the whole content, and the octets after the element
     let whole = parse_der_sequence_defined_g(
         b"\x30\x03\x01\x02\x03\x04",
@@ -86,41 +104,15 @@ fn contents_are_handed_over(rt: HostRuntime) -> Result<(), Fail> {
                 (b"\x01\x02\x03".as_slice(), Length::Definite(3))
             ))
     );
-    let failing = parse_der_sequence_defined_g(b"\x30\x03\x02\x01\x80", |i, _| small(i));
+    let failing = in_sequence(b"\x30\x03\x02\x01\x80");
     assert!(rt; is_refused(failing, Error::IntegerNegative));
-    assert!(rt;
-        is_refused(
-            parse_der_sequence_defined_g(b"\x31\x00", |i, _| small(i)),
-            other_tag(16, 17)
-        )
-    );
-    assert!(rt;
-        lacks(
-            parse_der_sequence_defined_g(b"\x30\x03\x02", |i, _| small(i)),
-            2
-        )
-    );
-    assert!(rt;
-        parse_der_set_defined_g(b"\x31\x03\x02\x01\x07", |i, _| small(i)) == Ok((b"".as_slice(), 7))
-    );
-    assert!(rt;
-        is_refused(
-            parse_der_set_defined_g(b"\x30\x00", |i, _| small(i)),
-            other_tag(17, 16)
-        )
-    );
-    let explicit = parse_der_tagged_explicit_g(
-        b"\xa2\x03\x02\x01\x07\x08",
-        Tag(2),
-        |i, _| small(i),
-    );
+    assert!(rt; is_refused(in_sequence(b"\x31\x00"), other_tag(16, 17)));
+    assert!(rt; lacks(in_sequence(b"\x30\x03\x02"), 2));
+    assert!(rt; in_set(b"\x31\x03\x02\x01\x07") == Ok((b"".as_slice(), 7)));
+    assert!(rt; is_refused(in_set(b"\x30\x00"), other_tag(17, 16)));
+    let explicit = in_tag(b"\xa2\x03\x02\x01\x07\x08");
     assert!(rt; explicit == Ok((b"\x08".as_slice(), 7)));
-    assert!(rt;
-        is_refused(
-            parse_der_tagged_explicit_g(b"\xa1\x00", Tag(2), |i, _| small(i)),
-            other_tag(2, 1)
-        )
-    );
+    assert!(rt; is_refused(in_tag(b"\xa1\x00"), other_tag(2, 1)));
     let implicit = parse_der_tagged_implicit_g(b"\x82\x02\x01\x02", Tag(2), |i, header, levels| {
         Ok((i, (i.len(), header.is_primitive(), levels)))
     });
@@ -210,22 +202,14 @@ fn contents_alone_are_read(rt: HostRuntime) -> Result<(), Fail> {
 
 #[test]
 fn items_are_read_to_the_end(rt: HostRuntime) -> Result<(), Fail> {
-    let (rest, items) = parse_der_sequence_of_v(
-        rt.alloc(),
-        b"\x30\x06\x02\x01\x01\x02\x01\x02\x09",
-        |i| small(i),
-    )?;
+    let (rest, items) = all_small(rt.alloc(), b"\x30\x06\x02\x01\x01\x02\x01\x02\x09")?;
     assert!(rt; items.as_slice() == [1, 2].as_slice());
     assert!(rt; rest == b"\x09".as_slice());
-    let (_, items) = parse_der_sequence_of_v(rt.alloc(), b"\x30\x00", |i| small(i))?;
+    let (_, items) = all_small(rt.alloc(), b"\x30\x00")?;
     assert!(rt; items.is_empty());
-    let refusing = parse_der_sequence_of_v(
-        rt.alloc(),
-        b"\x30\x06\x02\x01\x01\x02\x01\x80",
-        |i| small(i),
-    );
+    let refusing = all_small(rt.alloc(), b"\x30\x06\x02\x01\x01\x02\x01\x80");
     assert!(rt; is_refused(refusing, Error::IntegerNegative));
-    let cut = parse_der_sequence_of_v(rt.alloc(), b"\x30\x05\x02\x01\x01\x02\x01", |i| small(i));
+    let cut = all_small(rt.alloc(), b"\x30\x05\x02\x01\x01\x02\x01");
     assert!(rt; is_refused(cut, Error::Incomplete(Needed::Size(1))));
     let taking_none = parse_der_sequence_of_v(rt.alloc(), b"\x30\x01\x00", |i| Ok((i, ())));
     assert!(rt; is_refused(taking_none, Error::NomError(ErrorKind::Many0)));
@@ -233,17 +217,7 @@ fn items_are_read_to_the_end(rt: HostRuntime) -> Result<(), Fail> {
         Err::<(&[u8], ()), _>(Refusal::Failure(Error::OutOfMemory))
     });
     assert!(rt; refusal(failing) == Some(Refusal::Failure(Error::OutOfMemory)));
-    assert!(rt;
-        is_refused(
-            parse_der_sequence_of_v(rt.alloc(), b"\x31\x00", |i| small(i)),
-            other_tag(16, 17)
-        )
-    );
-    assert!(rt;
-        lacks(
-            parse_der_sequence_of_v(rt.alloc(), b"\x30\x01", |i| small(i)),
-            1
-        )
-    );
+    assert!(rt; is_refused(all_small(rt.alloc(), b"\x31\x00"), other_tag(16, 17)));
+    assert!(rt; lacks(all_small(rt.alloc(), b"\x30\x01"), 1));
     Ok(())
 }
