@@ -3,7 +3,7 @@
 mod moments;
 
 use crate::{ASN1DateTime, ASN1TimeZone, GeneralizedTime, UtcTime};
-use asn1_core::{DerConstraint, Err as Refusal, Error, Needed, Tag};
+use asn1_core::{Err as Refusal, Error, Needed};
 use asn1_traits::{FromBer, FromDer, ToDer};
 use std::alloc::Global;
 use std::fmt::Debug;
@@ -67,19 +67,35 @@ fn der_refusal<'a, E: From<Error>, T: FromDer<'a, E> + Drop>(
     }
 }
 
+// The fields of a time, one after the other.
+fn fields(alloc: Global, time: &ASN1DateTime) -> Result<String, Fail> {
+    let text = format!(in alloc;
+        "{} {} {} {} {} {} {:?} {:?}",
+        time.year,
+        time.month,
+        time.day,
+        time.hour,
+        time.minute,
+        time.second,
+        time.millisecond,
+        time.tz
+    )?;
+    Ok(text)
+}
+
 // The fields of a UTCTime's text.
-fn utc(text: &[u8]) -> Option<ASN1DateTime> {
-    match UtcTime::from_bytes(text) {
-        Ok(time) => Some(time.0),
-        Err(_) => None,
+fn utc(alloc: Global, text: &str) -> Result<String, Fail> {
+    match UtcTime::from_bytes(text.as_bytes()) {
+        Ok(time) => fields(alloc, &time.0),
+        Err(_) => Ok(String::from_str(alloc, "refused")?),
     }
 }
 
 // The fields of a GeneralizedTime's text, by BER.
-fn generalized(text: &[u8]) -> Option<ASN1DateTime> {
-    match GeneralizedTime::from_bytes(text) {
-        Ok(time) => Some(time.0),
-        Err(_) => None,
+fn generalized(alloc: Global, text: &str) -> Result<String, Fail> {
+    match GeneralizedTime::from_bytes(text.as_bytes()) {
+        Ok(time) => fields(alloc, &time.0),
+        Err(_) => Ok(String::from_str(alloc, "refused")?),
     }
 }
 
@@ -88,64 +104,82 @@ fn offset(hour: i8, minute: i8) -> ASN1TimeZone {
 }
 
 #[test]
-fn utc_times_both_ways(rt: HostRuntime) -> Result<(), Fail> {
-    let octets = element(rt.alloc(), 23, b"261122123059Z")?;
-    both_ways(&rt, rt.alloc(), octets.as_slice(), UtcTime::new(SHORT))?;
-    let octets = element(rt.alloc(), 23, b"000101000000Z")?;
-    let first = ASN1DateTime::new(0, 1, 1, 0, 0, 0, None, ASN1TimeZone::Z);
-    both_ways(&rt, rt.alloc(), octets.as_slice(), UtcTime::new(first))?;
-    let octets = element(rt.alloc(), 23, b"991231235959-2359")?;
-    let last = ASN1DateTime::new(99, 12, 31, 23, 59, 59, None, offset(-23, 59));
-    both_ways(&rt, rt.alloc(), octets.as_slice(), UtcTime::new(last))?;
-    let octets = element(rt.alloc(), 23, b"261122123059+0530")?;
-    let ahead = ASN1DateTime {
-        tz: offset(5, 30),
-        ..SHORT
-    };
-    both_ways(&rt, rt.alloc(), octets.as_slice(), UtcTime::new(ahead))?;
-    let octets = element(rt.alloc(), 23, b"261122123059-0030")?;
-    let behind = ASN1DateTime {
-        tz: offset(0, -30),
-        ..SHORT
-    };
-    both_ways(&rt, rt.alloc(), octets.as_slice(), UtcTime::new(behind))?;
-    let octets = element(rt.alloc(), 23, b"261122123059+0000")?;
-    let even = ASN1DateTime {
-        tz: offset(0, 0),
-        ..SHORT
-    };
-    both_ways(&rt, rt.alloc(), octets.as_slice(), UtcTime::new(even))
+fn texts_of_utc_times(rt: HostRuntime) -> Result<(), Fail> {
+    for (text, told) in [
+        ("000101000000Z", "0 1 1 0 0 0 None Z"),
+        (
+            "991231235959-2359",
+            "99 12 31 23 59 59 None Offset(-23, 59)",
+        ),
+        ("261122123059Z", "26 11 22 12 30 59 None Z"),
+        ("261122123059+0530", "26 11 22 12 30 59 None Offset(5, 30)"),
+        ("261122123059-0030", "26 11 22 12 30 59 None Offset(0, -30)"),
+        ("261122123059+0000", "26 11 22 12 30 59 None Offset(0, 0)"),
+        ("2611221230Z", "26 11 22 12 30 0 None Z"),
+        ("261122123000Z", "26 11 22 12 30 0 None Z"),
+        ("2611221230-0500", "26 11 22 12 30 0 None Offset(-5, 0)"),
+        ("261122123059-0530", "26 11 22 12 30 59 None Offset(-5, 30)"),
+        ("261122123059-0000", "26 11 22 12 30 59 None Offset(0, 0)"),
+        ("260122123059Z", "26 1 22 12 30 59 None Z"),
+        ("261222123059Z", "26 12 22 12 30 59 None Z"),
+        ("261101123059Z", "26 11 1 12 30 59 None Z"),
+        ("261131123059Z", "26 11 31 12 30 59 None Z"),
+        ("260230123059Z", "26 2 30 12 30 59 None Z"),
+        ("261122003059Z", "26 11 22 0 30 59 None Z"),
+        ("261122233059Z", "26 11 22 23 30 59 None Z"),
+        ("261122125959Z", "26 11 22 12 59 59 None Z"),
+        ("261122123059+2359", "26 11 22 12 30 59 None Offset(23, 59)"),
+        ("260022123059Z", "refused"),
+        ("261322123059Z", "refused"),
+        ("261100123059Z", "refused"),
+        ("261132123059Z", "refused"),
+        ("261122243059Z", "refused"),
+        ("261122126059Z", "refused"),
+        ("261122123060Z", "refused"),
+        ("261122123059+2400", "refused"),
+        ("261122123059-0060", "refused"),
+        ("", "refused"),
+        ("Z", "refused"),
+        ("26112212305", "refused"),
+        ("26112212305Z", "refused"),
+        ("2611221230", "refused"),
+        ("261122123059", "refused"),
+        ("261122123059z", "refused"),
+        ("261122123059ZZ", "refused"),
+        ("261122123059 Z", "refused"),
+        ("261122123059.5Z", "refused"),
+        ("2611221230590Z", "refused"),
+        ("261122123059+053", "refused"),
+        ("261122123059+05300", "refused"),
+        ("261122123059*0530", "refused"),
+        ("261122123059+05:30", "refused"),
+        ("26112212305/Z", "refused"),
+        ("26112212305:Z", "refused"),
+        ("+61122123059Z", "refused"),
+        ("20261122123059Z", "refused"),
+    ] {
+        let read = utc(rt.alloc(), text)?;
+        assert!(rt; read.as_str() == told, "{text} {read}");
+    }
+    Ok(())
 }
 
 #[test]
-fn other_texts_of_utc_times(rt: HostRuntime) -> Result<(), Fail> {
-    let minute = ASN1DateTime { second: 0, ..SHORT };
-    same(&rt, utc(b"2611221230Z"), Some(minute));
-    same(&rt, utc(b"261122123000Z"), Some(minute));
-    same(
-        &rt,
-        utc(b"2611221230-0500"),
-        Some(ASN1DateTime {
-            tz: offset(-5, 0),
-            ..minute
-        }),
-    );
-    same(
-        &rt,
-        utc(b"261122123059-0530"),
-        Some(ASN1DateTime {
-            tz: offset(-5, 30),
-            ..SHORT
-        }),
-    );
-    same(
-        &rt,
-        utc(b"261122123059-0000"),
-        Some(ASN1DateTime {
-            tz: offset(0, 0),
-            ..SHORT
-        }),
-    );
+fn utc_times_both_ways(rt: HostRuntime) -> Result<(), Fail> {
+    for text in [
+        "000101000000Z",
+        "991231235959-2359",
+        "261122123059Z",
+        "261122123059+0530",
+        "261122123059-0030",
+        "261122123059+0000",
+    ] {
+        let octets = element(rt.alloc(), 23, text.as_bytes())?;
+        match UtcTime::from_bytes(text.as_bytes()) {
+            Ok(time) => both_ways(&rt, rt.alloc(), octets.as_slice(), time)?,
+            Err(_) => panic!(rt; "refused"),
+        }
+    }
     let octets = element(rt.alloc(), 23, b"2611221230Z")?;
     let (rest, read) = <UtcTime as FromDer<'_, Error>>::from_der(rt.alloc(), octets.as_slice())?;
     same(&rt, rest.len(), 0);
@@ -159,132 +193,63 @@ fn other_texts_of_utc_times(rt: HostRuntime) -> Result<(), Fail> {
 }
 
 #[test]
-fn borders_of_utc_fields(rt: HostRuntime) -> Result<(), Fail> {
-    same(&rt, utc(b"260022123059Z"), None);
-    same(
-        &rt,
-        utc(b"260122123059Z"),
-        Some(ASN1DateTime { month: 1, ..SHORT }),
-    );
-    same(
-        &rt,
-        utc(b"261222123059Z"),
-        Some(ASN1DateTime { month: 12, ..SHORT }),
-    );
-    same(&rt, utc(b"261322123059Z"), None);
-    same(&rt, utc(b"261100123059Z"), None);
-    same(
-        &rt,
-        utc(b"261101123059Z"),
-        Some(ASN1DateTime { day: 1, ..SHORT }),
-    );
-    same(
-        &rt,
-        utc(b"261131123059Z"),
-        Some(ASN1DateTime { day: 31, ..SHORT }),
-    );
-    same(&rt, utc(b"261132123059Z"), None);
-    same(
-        &rt,
-        utc(b"260230123059Z"),
-        Some(ASN1DateTime {
-            month: 2,
-            day: 30,
-            ..SHORT
-        }),
-    );
-    same(
-        &rt,
-        utc(b"261122003059Z"),
-        Some(ASN1DateTime { hour: 0, ..SHORT }),
-    );
-    same(
-        &rt,
-        utc(b"261122233059Z"),
-        Some(ASN1DateTime { hour: 23, ..SHORT }),
-    );
-    same(&rt, utc(b"261122243059Z"), None);
-    same(
-        &rt,
-        utc(b"261122125959Z"),
-        Some(ASN1DateTime {
-            minute: 59,
-            ..SHORT
-        }),
-    );
-    same(&rt, utc(b"261122126059Z"), None);
-    same(&rt, utc(b"261122123060Z"), None);
-    same(
-        &rt,
-        utc(b"261122123059+2359"),
-        Some(ASN1DateTime {
-            tz: offset(23, 59),
-            ..SHORT
-        }),
-    );
-    same(&rt, utc(b"261122123059+2400"), None);
-    same(&rt, utc(b"261122123059-0060"), None);
-    Ok(())
-}
-
-#[test]
-fn refused_texts_of_utc_times(rt: HostRuntime) -> Result<(), Fail> {
-    same(&rt, utc(b""), None);
-    same(&rt, utc(b"Z"), None);
-    same(&rt, utc(b"26112212305"), None);
-    same(&rt, utc(b"26112212305Z"), None);
-    same(&rt, utc(b"2611221230"), None);
-    same(&rt, utc(b"261122123059"), None);
-    same(&rt, utc(b"261122123059z"), None);
-    same(&rt, utc(b"261122123059ZZ"), None);
-    same(&rt, utc(b"261122123059 Z"), None);
-    same(&rt, utc(b"261122123059.5Z"), None);
-    same(&rt, utc(b"2611221230590Z"), None);
-    same(&rt, utc(b"261122123059+053"), None);
-    same(&rt, utc(b"261122123059+05300"), None);
-    same(&rt, utc(b"261122123059*0530"), None);
-    same(&rt, utc(b"261122123059+05:30"), None);
-    same(&rt, utc(b"26112212305/Z"), None);
-    same(&rt, utc(b"26112212305:Z"), None);
-    same(&rt, utc(b"+61122123059Z"), None);
-    same(&rt, utc(b"20261122123059Z"), None);
-    let empty = Error::InvalidValue {
-        tag: Tag(23),
-        msg: "malformed time string",
-    };
-    same(
-        &rt,
-        der_refusal::<Error, UtcTime>(rt.alloc(), &[23, 0]),
-        Some(Refusal::Error(empty)),
-    );
-    let octets = element(rt.alloc(), 23, b"261322123059Z")?;
-    let month = Error::InvalidValue {
-        tag: Tag(23),
-        msg: "time components with invalid values",
-    };
-    same(
-        &rt,
-        der_refusal::<Error, UtcTime>(rt.alloc(), octets.as_slice()),
-        Some(Refusal::Error(month)),
-    );
-    same(
-        &rt,
-        der_refusal::<Error, UtcTime>(rt.alloc(), &[24, 0]),
-        Some(Refusal::Error(Error::UnexpectedTag {
-            expected: Some(Tag(23)),
-            actual: Tag(24),
-        })),
-    );
-    same(
-        &rt,
-        der_refusal::<Error, UtcTime>(rt.alloc(), &[0x37, 0]),
-        Some(Refusal::Error(Error::ConstructUnexpected)),
-    );
+fn refused_elements(rt: HostRuntime) -> Result<(), Fail> {
+    for (tag, text, told) in [
+        (
+            23,
+            "",
+            "Some(Error(InvalidValue { tag: Tag(23), msg: \"malformed time string\" }))",
+        ),
+        (
+            23,
+            "261322123059Z",
+            "Some(Error(InvalidValue { tag: Tag(23), msg: \"time components with invalid values\" }))",
+        ),
+        (
+            24,
+            "",
+            "Some(Error(UnexpectedTag { expected: Some(Tag(23)), actual: Tag(24) }))",
+        ),
+        (0x37, "", "Some(Error(ConstructUnexpected))"),
+    ] {
+        let octets = element(rt.alloc(), tag, text.as_bytes())?;
+        let refusal = der_refusal::<Error, UtcTime>(rt.alloc(), octets.as_slice());
+        let read = format!(in rt.alloc(); "{refusal:?}")?;
+        assert!(rt; read.as_str() == told, "{text} {read}");
+    }
     same(
         &rt,
         der_refusal::<Error, UtcTime>(rt.alloc(), &[23, 1]),
         Some(Refusal::Incomplete(Needed::Size(1))),
     );
+    for (text, told) in [
+        (
+            "202611221230Z",
+            "Some(Error(DerConstraintFailed(MissingSeconds)))",
+        ),
+        (
+            "20261122123059",
+            "Some(Error(DerConstraintFailed(MissingTimeZone)))",
+        ),
+        (
+            "20261122123059+0100",
+            "Some(Error(DerConstraintFailed(MissingTimeZone)))",
+        ),
+        ("", "Some(Error(DerConstraintFailed(MissingTimeZone)))"),
+        (
+            "20261322123059Z",
+            "Some(Error(InvalidValue { tag: Tag(24), msg: \"time components with invalid values\" }))",
+        ),
+        (
+            "20261122123059,5Z",
+            "Some(Error(InvalidValue { tag: Tag(24), msg: \"malformed time string\" }))",
+        ),
+    ] {
+        let octets = element(rt.alloc(), 24, text.as_bytes())?;
+        let refusal = der_refusal::<Error, GeneralizedTime>(rt.alloc(), octets.as_slice());
+        let read = format!(in rt.alloc(); "{refusal:?}")?;
+        assert!(rt; read.as_str() == told, "{text} {read}");
+    }
     Ok(())
 }
 
@@ -365,115 +330,73 @@ fn utc_times_out_of_form(rt: HostRuntime) -> Result<(), Fail> {
 }
 
 #[test]
-fn generalized_times_both_ways(rt: HostRuntime) -> Result<(), Fail> {
-    let octets = element(rt.alloc(), 24, b"20261122123059Z")?;
-    both_ways(
-        &rt,
-        rt.alloc(),
-        octets.as_slice(),
-        GeneralizedTime::new(NOON),
-    )?;
-    let octets = element(rt.alloc(), 24, b"00000101000000Z")?;
-    let first = ASN1DateTime::new(0, 1, 1, 0, 0, 0, None, ASN1TimeZone::Z);
-    both_ways(
-        &rt,
-        rt.alloc(),
-        octets.as_slice(),
-        GeneralizedTime::new(first),
-    )?;
-    let octets = element(rt.alloc(), 24, b"99991231235959.999Z")?;
-    let last = ASN1DateTime::new(9999, 12, 31, 23, 59, 59, Some(999), ASN1TimeZone::Z);
-    both_ways(
-        &rt,
-        rt.alloc(),
-        octets.as_slice(),
-        GeneralizedTime::new(last),
-    )?;
-    let octets = element(rt.alloc(), 24, b"20261122123059.5Z")?;
-    let half = ASN1DateTime {
-        millisecond: Some(500),
-        ..NOON
-    };
-    both_ways(
-        &rt,
-        rt.alloc(),
-        octets.as_slice(),
-        GeneralizedTime::new(half),
-    )?;
-    let octets = element(rt.alloc(), 24, b"20261122123059.05Z")?;
-    let twentieth = ASN1DateTime {
-        millisecond: Some(50),
-        ..NOON
-    };
-    both_ways(
-        &rt,
-        rt.alloc(),
-        octets.as_slice(),
-        GeneralizedTime::new(twentieth),
-    )?;
-    let octets = element(rt.alloc(), 24, b"20261122123059.001Z")?;
-    let least = ASN1DateTime {
-        millisecond: Some(1),
-        ..NOON
-    };
-    both_ways(
-        &rt,
-        rt.alloc(),
-        octets.as_slice(),
-        GeneralizedTime::new(least),
-    )?;
-    let octets = element(rt.alloc(), 24, b"20261122123059.12Z")?;
-    let hundredths = ASN1DateTime {
-        millisecond: Some(120),
-        ..NOON
-    };
-    both_ways(
-        &rt,
-        rt.alloc(),
-        octets.as_slice(),
-        GeneralizedTime::new(hundredths),
-    )
+fn texts_of_generalized_times(rt: HostRuntime) -> Result<(), Fail> {
+    for (text, told) in [
+        ("20261122123059Z", "2026 11 22 12 30 59 None Z"),
+        ("00000101000000Z", "0 1 1 0 0 0 None Z"),
+        ("99991231235959.999Z", "9999 12 31 23 59 59 Some(999) Z"),
+        ("20261122123059.5Z", "2026 11 22 12 30 59 Some(500) Z"),
+        ("20261122123059.05Z", "2026 11 22 12 30 59 Some(50) Z"),
+        ("20261122123059.001Z", "2026 11 22 12 30 59 Some(1) Z"),
+        ("20261122123059.12Z", "2026 11 22 12 30 59 Some(120) Z"),
+        ("202611221230Z", "2026 11 22 12 30 0 None Z"),
+        ("202611221230", "2026 11 22 12 30 0 None Undefined"),
+        ("202611221230+0100", "2026 11 22 12 30 0 None Offset(1, 0)"),
+        ("20261122123059", "2026 11 22 12 30 59 None Undefined"),
+        (
+            "20261122123059.25",
+            "2026 11 22 12 30 59 Some(250) Undefined",
+        ),
+        (
+            "20261122123059.25-0330",
+            "2026 11 22 12 30 59 Some(250) Offset(-3, 30)",
+        ),
+        ("20260230123059Z", "2026 2 30 12 30 59 None Z"),
+        ("", "refused"),
+        ("20261122123", "refused"),
+        ("20260022123059Z", "refused"),
+        ("20261322123059Z", "refused"),
+        ("20261100123059Z", "refused"),
+        ("20261132123059Z", "refused"),
+        ("20261122243059Z", "refused"),
+        ("20261122126059Z", "refused"),
+        ("20261122123060Z", "refused"),
+        ("20261122123059.Z", "refused"),
+        ("20261122123059.0Z", "refused"),
+        ("20261122123059.50Z", "refused"),
+        ("20261122123059.500Z", "refused"),
+        ("20261122123059.000Z", "refused"),
+        ("20261122123059.1234Z", "refused"),
+        ("20261122123059,5Z", "refused"),
+        ("202611221230.5Z", "refused"),
+        ("2026112212305Z", "refused"),
+        ("20261122123059ZZ", "refused"),
+        ("20261122123059+01", "refused"),
+        ("20261122123059+2400", "refused"),
+    ] {
+        let read = generalized(rt.alloc(), text)?;
+        assert!(rt; read.as_str() == told, "{text} {read}");
+    }
+    Ok(())
 }
 
 #[test]
-fn generalized_times_of_ber(rt: HostRuntime) -> Result<(), Fail> {
-    let minute = ASN1DateTime { second: 0, ..NOON };
-    let local = ASN1DateTime {
-        tz: ASN1TimeZone::Undefined,
-        ..NOON
-    };
-    same(&rt, generalized(b"202611221230Z"), Some(minute));
-    same(
-        &rt,
-        generalized(b"202611221230"),
-        Some(ASN1DateTime { second: 0, ..local }),
-    );
-    same(
-        &rt,
-        generalized(b"202611221230+0100"),
-        Some(ASN1DateTime {
-            tz: offset(1, 0),
-            ..minute
-        }),
-    );
-    same(&rt, generalized(b"20261122123059"), Some(local));
-    same(
-        &rt,
-        generalized(b"20261122123059.25"),
-        Some(ASN1DateTime {
-            millisecond: Some(250),
-            ..local
-        }),
-    );
-    same(
-        &rt,
-        generalized(b"20261122123059.25-0330"),
-        Some(ASN1DateTime {
-            millisecond: Some(250),
-            tz: offset(-3, 30),
-            ..NOON
-        }),
-    );
+fn generalized_times_both_ways(rt: HostRuntime) -> Result<(), Fail> {
+    for text in [
+        "20261122123059Z",
+        "00000101000000Z",
+        "99991231235959.999Z",
+        "20261122123059.5Z",
+        "20261122123059.05Z",
+        "20261122123059.001Z",
+        "20261122123059.12Z",
+    ] {
+        let octets = element(rt.alloc(), 24, text.as_bytes())?;
+        match GeneralizedTime::from_bytes(text.as_bytes()) {
+            Ok(time) => both_ways(&rt, rt.alloc(), octets.as_slice(), time)?,
+            Err(_) => panic!(rt; "refused"),
+        }
+    }
     let octets = element(rt.alloc(), 24, b"20261122123059-0330")?;
     let (rest, read) = <GeneralizedTime as FromBer<'_, Error>>::from_ber(
         rt.alloc(),
@@ -482,91 +405,6 @@ fn generalized_times_of_ber(rt: HostRuntime) -> Result<(), Fail> {
     same(&rt, rest.len(), 0);
     same(&rt, read.0.tz, offset(-3, 30));
     same(&rt, read.in_der_form(), false);
-    Ok(())
-}
-
-#[test]
-fn generalized_times_of_ber_alone(rt: HostRuntime) -> Result<(), Fail> {
-    let seconds = Some(Refusal::Error(Error::DerConstraintFailed(DerConstraint::MissingSeconds)));
-    let zone = Some(Refusal::Error(Error::DerConstraintFailed(DerConstraint::MissingTimeZone)));
-    let octets = element(rt.alloc(), 24, b"202611221230Z")?;
-    same(
-        &rt,
-        der_refusal::<Error, GeneralizedTime>(rt.alloc(), octets.as_slice()),
-        seconds,
-    );
-    let octets = element(rt.alloc(), 24, b"20261122123059")?;
-    same(
-        &rt,
-        der_refusal::<Error, GeneralizedTime>(rt.alloc(), octets.as_slice()),
-        zone,
-    );
-    let octets = element(rt.alloc(), 24, b"20261122123059+0100")?;
-    same(
-        &rt,
-        der_refusal::<Error, GeneralizedTime>(rt.alloc(), octets.as_slice()),
-        zone,
-    );
-    same(
-        &rt,
-        der_refusal::<Error, GeneralizedTime>(rt.alloc(), &[24, 0]),
-        zone,
-    );
-    let octets = element(rt.alloc(), 24, b"20261322123059Z")?;
-    let month = Error::InvalidValue {
-        tag: Tag(24),
-        msg: "time components with invalid values",
-    };
-    same(
-        &rt,
-        der_refusal::<Error, GeneralizedTime>(rt.alloc(), octets.as_slice()),
-        Some(Refusal::Error(month)),
-    );
-    let octets = element(rt.alloc(), 24, b"20261122123059,5Z")?;
-    let comma = Error::InvalidValue {
-        tag: Tag(24),
-        msg: "malformed time string",
-    };
-    same(
-        &rt,
-        der_refusal::<Error, GeneralizedTime>(rt.alloc(), octets.as_slice()),
-        Some(Refusal::Error(comma)),
-    );
-    Ok(())
-}
-
-#[test]
-fn refused_texts_of_generalized_times(rt: HostRuntime) -> Result<(), Fail> {
-    same(&rt, generalized(b""), None);
-    same(&rt, generalized(b"20261122123"), None);
-    same(&rt, generalized(b"20260022123059Z"), None);
-    same(&rt, generalized(b"20261322123059Z"), None);
-    same(&rt, generalized(b"20261100123059Z"), None);
-    same(&rt, generalized(b"20261132123059Z"), None);
-    same(&rt, generalized(b"20261122243059Z"), None);
-    same(&rt, generalized(b"20261122126059Z"), None);
-    same(&rt, generalized(b"20261122123060Z"), None);
-    same(
-        &rt,
-        generalized(b"20260230123059Z"),
-        Some(ASN1DateTime {
-            month: 2,
-            day: 30,
-            ..NOON
-        }),
-    );
-    same(&rt, generalized(b"20261122123059.Z"), None);
-    same(&rt, generalized(b"20261122123059.0Z"), None);
-    same(&rt, generalized(b"20261122123059.50Z"), None);
-    same(&rt, generalized(b"20261122123059.500Z"), None);
-    same(&rt, generalized(b"20261122123059.000Z"), None);
-    same(&rt, generalized(b"20261122123059.1234Z"), None);
-    same(&rt, generalized(b"20261122123059,5Z"), None);
-    same(&rt, generalized(b"202611221230.5Z"), None);
-    same(&rt, generalized(b"2026112212305Z"), None);
-    same(&rt, generalized(b"20261122123059ZZ"), None);
-    same(&rt, generalized(b"20261122123059+01"), None);
-    same(&rt, generalized(b"20261122123059+2400"), None);
     Ok(())
 }
 
