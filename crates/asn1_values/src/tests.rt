@@ -562,4 +562,6 @@ fn a_failed_write_leaves_a_front(rt: HostRuntime) -> Result<(), Fail> {
 fn laws_are_called() {
     laws::octet_means_bool();
     laws::one_spelling();
+    laws::bit_functions();
+    laws::integer_functions();
 }
