@@ -6,3 +6,4 @@ pub mod Answering
 pub mod Anything
 pub mod Offering
 pub mod Lowest
+pub mod Carried

@@ -1,3 +1,4 @@
 pub mod Exact
 pub mod Rows
 pub mod Found
+pub mod LawsOfTables

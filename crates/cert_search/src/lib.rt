@@ -6,6 +6,7 @@
 #![tactic(auto)]
 
 mod find;
+pub mod laws;
 mod least;
 mod offers;
 mod rounds;
