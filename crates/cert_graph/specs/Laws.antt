@@ -3,6 +3,10 @@ use Rattle.std.specs.Prelude.{◌≡◌, ℕ, List, ◌∷◌, ◌++◌, ◌↔�
 use Rattle.cert_graph.specs.Reach.{Takes}
 use Rattle.cert_graph.specs.Graph.{Graph}
 
+-- whatever is usable is a certificate
+abbrev pub UsableIsCertificate : Graph → Type 0
+UsableIsCertificate g = (v : ℕ) → g.Usable v → g.IsCertificate v
+
 -- every fit certificate is usable
 abbrev pub FitIsUsable : Graph → Type 0
 FitIsUsable g = (v : ℕ) → g.Fit v → g.Usable v

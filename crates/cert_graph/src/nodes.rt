@@ -19,6 +19,8 @@ pub struct Node {
     /// Its path length constraint, a number of certificates (RFC 5280, 4.2.1.9).
     pub limit: Option<u32>,
 
+    ghost usable_is_certificate: { IsTrue usable → IsTrue certificate },
+
     ghost fit_is_usable: { IsTrue fit → IsTrue usable },
 }
 
