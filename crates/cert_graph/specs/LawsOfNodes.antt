@@ -40,11 +40,11 @@ abbrev pub LawCarriedPaths : Type 0
 LawCarriedPaths = (f : ℕ → ℕ) (nodes other : Nodes) → Carries f (graph_of nodes) (graph_of other)
     → (target : ℕ) → ((ps : List ℕ) (a : ℕ) → IsValidPath (graph_of nodes) target ps a → IsValidPath (graph_of other) (f target) (map f ps) a) × LeadsAsWell nodes other target (f target)
 
--- Further items after the last: what was there stays, with its links.
+-- Further items after the last: what was there stays, with its links to fit issuers and to anchors.
 pub record HasFurther (nodes further : Nodes) : Type 0 where
   pub more : List Node
   pub items : further.items.items ≡ nodes.items.items ++ more
-  pub links : (v w : ℕ) → Links nodes v w → Links further v w
+  pub links : (v w : ℕ) → (graph_of nodes).Fit w → Links nodes v w → Links further v w
   pub anchored : (v a : ℕ) → LinksToAnchor nodes v a → LinksToAnchor further v a
 
 -- further certificates take no path away, and make no least path longer

@@ -1,4 +1,4 @@
-ghost use Rattle.std.specs.Prelude.{◌≡◌, length, map, All, IfOk};
+ghost use Rattle.std.specs.Prelude.{◌≡◌, ◌↔◌, ℕ, length, map, All, IfOk};
 ghost use Rattle.std.specs.List.Sorted.{IsStrictlyIncreasing};
 ghost use Rattle.cert_graph.specs.Laws.{Agrees};
 ghost use Rattle.cert_graph.specs.Nodes.{graph_of};
@@ -54,7 +54,8 @@ impl Nodes {
         anchors: &[Option<usize>],
         groups: usize,
     ) -> Result<Nodes, AllocError>
-        ensures { IfOk result (λ nodes. Agrees (graph_of nodes) (graph_by entries.now anchors.now groups)) }
+        ensures agrees { IfOk result (λ nodes. Agrees (graph_of nodes) (graph_by entries.now anchors.now groups)) }
+        ensures links { IfOk result (λ nodes. (v w : ℕ) → (graph_of nodes).Edge v w ↔ (graph_by entries.now anchors.now groups).Edge v w) }
     {
         let items = nodes_of(alloc, entries)?;
         let members = members_of(alloc, entries, groups)?;
