@@ -46,8 +46,8 @@ fn joined(
 }
 
 impl Nodes {
-    /// The nodes of entries and anchors, where there are so many groups: an entry and an anchor name their groups by
-    /// numbers from 0, and a number that is none of a group's leads nowhere. An anchor without a group is none.
+    /// The nodes of entries and anchors, where there are so many groups: an entry names the groups that it stands in
+    /// and those that it is linked to, and an anchor its group, by numbers from 0, and a number that is none of a group's leads nowhere. An anchor without a group is none.
     pub fn new(
         alloc: Global,
         entries: &[Entry],

@@ -25,7 +25,8 @@ pub struct Node {
 }
 
 /// All that have one name and key, and all that are linked to that name and key: a certificate is linked to each
-/// group whose name is its issuer and whose key vouches for it.
+/// group whose name is its issuer and whose key vouches for it. Where a link asks for a key identifier too, those of
+/// the name and key that have it are a group of their own, so a certificate may stand in several groups.
 ///
 /// A link leads from each of `issued` to each of `members` and `anchors`. The three lists are kept in place of these
 /// pairs, in strictly ascending order, so n equal self-issued certificates cost n places twice, and never n times n.
