@@ -1,4 +1,4 @@
-//! Graphs of three kinds and of any size, each with its target at position 0.
+//! Graphs of four kinds and of any size, each with its target at position 0.
 
 ghost use Rattle.std.specs.Prelude.{◌≡◌, ◌∷◌, [], length, IfOk, IsTrue};
 
@@ -72,10 +72,26 @@ pub fn equal(alloc: Global, count: usize) -> Result<Nodes, AllocError>
 pub fn chain(alloc: Global, count: usize) -> Result<Nodes, AllocError>
     ensures { IfOk result (λ nodes. length nodes.items.items ≡ count) }
 {
+    linked_from(alloc, count, 0)
+}
+
+/// A chain that the target does not reach.
+pub fn apart(alloc: Global, count: usize) -> Result<Nodes, AllocError>
+    ensures { IfOk result (λ nodes. length nodes.items.items ≡ count) }
+{
+    linked_from(alloc, count, 1)
+}
+
+// Certificates of which each from a position on is linked to the next, the last to an anchor.
+fn linked_from(alloc: Global, count: usize, first: usize) -> Result<Nodes, AllocError>
+    ensures { IfOk result (λ nodes. length nodes.items.items ≡ count) }
+{
     let mut entries = Vec::with_capacity(alloc, count)?;
     for position in 0..count {
         let mut links = Vec::with_capacity(alloc, 1)?;
-        links.push(position + 1)?;
+        if position >= first {
+            links.push(position + 1)?;
+        }
         entries.push(Entry {
             node: certificate(true, false, None),
             groups: one_of(alloc, position)?,
