@@ -1,14 +1,16 @@
 #!/usr/bin/env python3
-"""Times the search for a path and the check of its answer on three kinds of graphs, each at n, 2n and 4n.
+"""Times the search for a path and the check of its answer on four kinds of graphs, each at n, 2n and 4n.
 
 `layered`: certificates in groups of a hundred, each linked to three groups, with a path of ten; n is 100,000.
 `equal`: a target and equal self-issued certificates, each linked to all of them; n is 20,000.
 `chain`: a chain whose path and table name every certificate; n is 5,000. Its table alone grows with the square of n.
+`apart`: a chain that its target doesn't reach; n is 5,000. The search goes over as many rows as in `chain`, and keeps one.
 
 Prints medians of five: milliseconds of each call, and peak resident memory of the whole run with the making of the
 graph, at least that of this script (some 15 MB).
 To reach: from n to 4n at most 8 times the time and the memory in `layered` and `equal`, where less than a millisecond
-counts as one. Exit status 1 where that is missed.
+counts as one, and in `apart` at most 5.76 times the memory, which is 2.4 times at each doubling. Exit status 1 where
+that is missed.
 """
 import os
 import re
@@ -19,7 +21,7 @@ import tempfile
 sys.path.insert(0, os.path.join(os.path.dirname(os.path.abspath(__file__)), os.pardir))
 import timing
 
-KINDS = [("layered", 100_000), ("equal", 20_000), ("chain", 5_000)]
+KINDS = [("layered", 100_000), ("equal", 20_000), ("chain", 5_000), ("apart", 5_000)]
 LINEAR = ("layered", "equal")
 
 
@@ -48,7 +50,7 @@ def main():
             first = first or now
         growth = [b / a for a, b in zip(first, now)]
         print(f"{kind}, 4n to n: find {growth[0]:.1f}, check {growth[1]:.1f}, memory {growth[2]:.1f}", flush=True)
-        missed = missed or (kind in LINEAR and max(growth) > 8)
+        missed = missed or (kind in LINEAR and max(growth) > 8) or (kind == "apart" and growth[2] > 5.76)
     sys.exit(1 if missed else 0)
 
 

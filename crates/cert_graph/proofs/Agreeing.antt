@@ -18,7 +18,7 @@ agreed_carries g h e = record {
   fit = λ v. (e.fit v).0;
   self_issued = λ v f. e.self_issued v;
   limit = λ v c f t. subst (λ (r : Reach). Takes r c) (sym (e.limit v f)) t;
-  edge = λ v w. (e.edge v w).0;
+  edge = λ v w f. (e.edge v w f).0;
   anchored = λ v a. (e.anchored v a).0;
 }
 
@@ -30,7 +30,7 @@ agreed_back g h e = record {
   fit = λ v. ((e.fit v).1, (e.fit v).0);
   self_issued = λ v. sym (e.self_issued v);
   limit = λ v f. sym (e.limit v ((e.fit v).1 f));
-  edge = λ v w. ((e.edge v w).1, (e.edge v w).0);
+  edge = λ v w f. let x = e.edge v w ((e.fit w).1 f) in (x.1, x.0);
   anchored = λ v a. ((e.anchored v a).1, (e.anchored v a).0);
 }
 
@@ -50,7 +50,7 @@ anchored_same g h e row v k a fit edge = subst (λ (r : Reach). IsAtMost r (at_r
 pub successor_same : (g h : Graph) → Agrees g h → (r s : List Reach) → IsSuccessor g r s → IsSuccessor h r s
 successor_same g h e r s k v w fv fw edge =
     subst (λ (x : Reach). IsAtMost (lesser x (passed_by h v (at_row r w))) (at_row s v)) (sym (e.limit v ((e.fit v).1 fv)))
-    (subst (λ (b : Bool). IsAtMost (lesser (g.limit v) (cond b (at_row r w) (less_one (at_row r w)))) (at_row s v)) (sym (e.self_issued v)) (k v w ((e.fit v).1 fv) ((e.fit w).1 fw) ((e.edge v w).1 edge)))
+    (subst (λ (b : Bool). IsAtMost (lesser (g.limit v) (cond b (at_row r w) (less_one (at_row r w)))) (at_row s v)) (sym (e.self_issued v)) (k v w ((e.fit v).1 fv) ((e.fit w).1 fw) ((e.edge v w ((e.fit w).1 fw)).1 edge)))
 
 pub valid_same : (g h : Graph) → Agrees g h → FitIsUsable h → (target : ℕ) (ps : List ℕ) (a : ℕ) → IsValidPath g target ps a → IsValidPath h target ps a
 valid_same g h e fu target ps a v = subst (λ (qs : List ℕ). IsValidPath h target qs a) (map_same ps) (path_carried (λ x. x) g h (agreed_carries g h e) fu target ps a v)
@@ -64,8 +64,8 @@ adequate_same g h e fu target (Path ps a table) k = record {
   successors = λ i lt. successor_same g h e (row_of (rows_of table) i) (row_of (rows_of table) (i + 1)) (k.successors i lt);
   least_anchor = λ front v x b lt edge. k.least_anchor front v x b lt ((e.anchored v b).1 edge);
   not_alone = λ two b edge. k.not_alone two b ((e.anchored target b).1 edge);
-  not_shorter = λ i w x fit edge. k.not_shorter i w x ((e.fit w).1 fit) ((e.edge target w).1 edge);
-  not_smaller = λ front back v p w x lt fit edge takes. k.not_smaller front back v p w x lt ((e.fit w).1 fit) ((e.edge v w).1 edge)
+  not_shorter = λ i w x fit edge. k.not_shorter i w x ((e.fit w).1 fit) ((e.edge target w ((e.fit w).1 fit)).1 edge);
+  not_smaller = λ front back v p w x lt fit edge takes. k.not_smaller front back v p w x lt ((e.fit w).1 fit) ((e.edge v w ((e.fit w).1 fit)).1 edge)
       (subst (λ (n : ℕ). Takes (at_row (row_of (rows_of table) (length back)) w) n) (counted_same g h e (issuers_of (front ++ v ∷ []))) takes);
 }
 adequate_same g h e fu target (NoPath table) k = record {
@@ -77,7 +77,7 @@ adequate_same g h e fu target (NoPath table) k = record {
   fixed = successor_same g h e k.row k.row k.fixed;
   closed = elim k.closed [
     | inl unusable ↦ inl (λ u. unusable ((e.usable target).1 u))
-    | inr x ↦ inr (λ b edge. x.0 b ((e.anchored target b).1 edge), λ w fit edge. x.1 w ((e.fit w).1 fit) ((e.edge target w).1 edge))
+    | inr x ↦ inr (λ b edge. x.0 b ((e.anchored target b).1 edge), λ w fit edge. x.1 w ((e.fit w).1 fit) ((e.edge target w ((e.fit w).1 fit)).1 edge))
   ];
 }
 adequate_same g h e fu target NoTarget k = λ x. k ((e.certificate target).1 x)

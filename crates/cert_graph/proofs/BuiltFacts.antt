@@ -67,11 +67,35 @@ map_of_map f g (x ∷ xs) = ap (λ ys. g (f x) ∷ ys) (map_of_map f g xs)
 field_at : {X : Type 0} (f : Node → X) (d : X) (nodes : Nodes) (entries : List Entry) (v : ℕ) → nodes.items.items ≡ map (λ e. e.node) entries → get_or (map (λ e. f e.node) entries) v d ≡ get_or (map f nodes.items.items) v d
 field_at f d nodes entries v e = sym (ap (λ (xs : List Node). get_or (map f xs) v d) e ∙ ap (λ xs. get_or xs v d) (map_of_map (λ (x : Entry). x.node) f entries))
 
+pub built_links : (nodes : Nodes) (entries : List Entry) (anchors : List (Option ℕ)) (n : ℕ) (of_members of_issued : List (List ℕ))
+    → AreFilled (BelongsTo entries) n (length entries) of_members → AreFilled (LinkedTo entries) n (length entries) of_issued
+    → map (λ g. g.members.items) nodes.groups.items ≡ of_members → map (λ g. g.issued.items) nodes.groups.items ≡ of_issued
+    → (v w : ℕ) → (graph_of nodes).Edge v w ↔ (graph_by entries anchors n).Edge v w
+unfolding Links
+built_links nodes entries anchors n of_members of_issued hm hi em ei v w =
+    let groups = nodes.groups.items in
+    let count : length groups ≡ n = group_count (BelongsTo entries) n (length entries) (λ (g : Group). g.members.items) groups of_members hm em in (
+      λ l. let i = has_in (LinkedTo entries) n (length entries) (λ (g : Group). g.issued.items) groups of_issued l.0 l.1 hi ei l.2 l.3 v l.4.issued in
+          let m = has_in (BelongsTo entries) n (length entries) (λ (g : Group). g.members.items) groups of_members l.0 l.1 hm em l.2 l.3 w l.4.member in
+          (l.0, i.0, i.2, m.2),
+      λ x. let within : x.0 < length groups = subst (λ (m : ℕ). x.0 < m) (sym count) x.1 in
+          let g = element_at groups x.0 within in (
+            x.0,
+            g.0,
+            within,
+            g.1,
+            record {
+              issued = is_in (LinkedTo entries) n (length entries) (λ (y : Group). y.issued.items) groups of_issued x.0 g.0 hi ei within g.1 v x.2.0 x.2;
+              member = is_in (BelongsTo entries) n (length entries) (λ (y : Group). y.members.items) groups of_members x.0 g.0 hm em within g.1 w x.3.0 x.3;
+            },
+          ),
+    )
+
 pub built_agrees : (nodes : Nodes) (entries : List Entry) (anchors : List (Option ℕ)) (n : ℕ) (of_members of_anchors of_issued : List (List ℕ)) → nodes.items.items ≡ map (λ e. e.node) entries
     → AreFilled (BelongsTo entries) n (length entries) of_members → AreFilled (AnchorIn anchors) n (length anchors) of_anchors → AreFilled (LinkedTo entries) n (length entries) of_issued
     → map (λ g. g.members.items) nodes.groups.items ≡ of_members → map (λ g. g.anchors.items) nodes.groups.items ≡ of_anchors → map (λ g. g.issued.items) nodes.groups.items ≡ of_issued
     → Agrees (graph_of nodes) (graph_by entries anchors n)
-unfolding Links LinksToAnchor
+unfolding LinksToAnchor
 built_agrees nodes entries anchors n of_members of_anchors of_issued e hm ha hi em ea ei =
     let groups = nodes.groups.items in
     let count : length groups ≡ n = group_count (BelongsTo entries) n (length entries) (λ (g : Group). g.members.items) groups of_members hm em in
@@ -82,22 +106,7 @@ built_agrees nodes entries anchors n of_members of_anchors of_issued e hm ha hi 
       fit = λ v. node_at nodes entries v (λ x. x.fit ≡ true) e;
       self_issued = λ v. field_at (λ (x : Node). x.self_issued) false nodes entries v e;
       limit = λ v fit. field_at (λ (x : Node). reach_of x.limit) No nodes entries v e;
-      edge = λ v w. (
-        λ l. let i = has_in (LinkedTo entries) n (length entries) (λ (g : Group). g.issued.items) groups of_issued l.0 l.1 hi ei l.2 l.3 v l.4.issued in
-            let m = has_in (BelongsTo entries) n (length entries) (λ (g : Group). g.members.items) groups of_members l.0 l.1 hm em l.2 l.3 w l.4.member in
-            (l.0, i.0, i.2, m.2),
-        λ x. let within : x.0 < length groups = subst (λ (m : ℕ). x.0 < m) (sym count) x.1 in
-            let g = element_at groups x.0 within in (
-              x.0,
-              g.0,
-              within,
-              g.1,
-              record {
-                issued = is_in (LinkedTo entries) n (length entries) (λ (y : Group). y.issued.items) groups of_issued x.0 g.0 hi ei within g.1 v x.2.0 x.2;
-                member = is_in (BelongsTo entries) n (length entries) (λ (y : Group). y.members.items) groups of_members x.0 g.0 hm em within g.1 w x.3.0 x.3;
-              },
-            ),
-      );
+      edge = λ v w fit. built_links nodes entries anchors n of_members of_issued hm hi em ei v w;
       anchored = λ v a. (
         λ l. let i = has_in (LinkedTo entries) n (length entries) (λ (g : Group). g.issued.items) groups of_issued l.0 l.1 hi ei l.2 l.3 v l.4.issued in
             let m = has_in (AnchorIn anchors) n (length anchors) (λ (g : Group). g.anchors.items) groups of_anchors l.0 l.1 ha ea l.2 l.3 a l.4.anchor in

@@ -3,6 +3,7 @@ pub mod Tails
 pub mod True
 pub mod PathLaws
 pub mod Agreeing
+pub mod Unique
 pub mod NodeLaws
 pub mod Checks
 pub mod NodeFacts

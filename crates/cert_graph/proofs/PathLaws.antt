@@ -5,7 +5,7 @@ use Rattle.cert_graph.specs.Graph.{Graph, counted, AreNeighbours, EndsIn, IsVali
 use Rattle.cert_graph.specs.Laws.{FitIsUsable, NamesNoneTwice, Carries}
 use Rattle.cert_graph.proofs.ReachFacts.{fewer_taken}
 use Rattle.cert_graph.specs.Steps.{one_of, Tail, FromTarget}
-use Rattle.cert_graph.proofs.Tails.{tail_drop, fit_of_tail, linked_of_tail, anchored_of_tail, limits_of_tail}
+use Rattle.cert_graph.proofs.Tails.{tail_drop, tail_fit, fit_of_tail, linked_of_tail, anchored_of_tail, limits_of_tail}
 use Rattle.cert_graph.proofs.True.{from_valid, tail_at}
 
 -- a chain may be met at a lesser count
@@ -115,13 +115,13 @@ tail_carried f g h k c v [] a t = (k.fit v t.0, k.limit v c t.0 t.1, k.anchored 
 tail_carried f g h k c v (w ∷ ps) a t = (
   k.fit v t.0,
   k.limit v c t.0 t.1,
-  k.edge v w t.2,
+  k.edge v w (tail_fit g (c + one_of g v) w ps a t.3) t.2,
   subst (λ (b : Bool). Tail h (c + cond (not b) 1 0) (f w) (map f ps) a) (sym (k.self_issued v t.0)) (tail_carried f g h k (c + one_of g v) w ps a t.3),
 )
 
 pub from_carried : (f : ℕ → ℕ) (g h : Graph) → Carries f g h → (target : ℕ) (issuers : List ℕ) (a : ℕ) → FromTarget g target issuers a → FromTarget h (f target) (map f issuers) a
 from_carried f g h k target [] a t = (k.usable target t.0, k.anchored target a t.1)
-from_carried f g h k target (w ∷ ps) a t = (k.usable target t.0, k.edge target w t.1, tail_carried f g h k 0 w ps a t.2)
+from_carried f g h k target (w ∷ ps) a t = (k.usable target t.0, k.edge target w (tail_fit g 0 w ps a t.2) t.1, tail_carried f g h k 0 w ps a t.2)
 
 pub path_carried : (f : ℕ → ℕ) (g h : Graph) → Carries f g h → FitIsUsable h → (target : ℕ) (ps : List ℕ) (a : ℕ) → IsValidPath g target ps a → IsValidPath h (f target) (map f ps) a
 path_carried f g h k fu target ps a v =

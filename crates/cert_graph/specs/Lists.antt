@@ -1,8 +1,6 @@
 -- Lists of positions, one list for each group, filled in ascending order.
 use Rattle.std.specs.Prelude.{◌≡◌, ℕ, ◌-◌, ◌<◌, List, [], ◌∷◌, ◌++◌, length, All, Contains, slice_index, slice_index_or, slice_set, ◌⊎◌, ◌↔◌}
 use Rattle.std.specs.List.Sorted.{IsStrictlyIncreasing}
-use Rattle.cert_graph.specs.declared.entries.Entry.{Entry}
-use Rattle.cert_graph.specs.Entries.{LinkedTo}
 
 -- a list ends in a position
 abbrev pub HasLast : List ℕ → ℕ → Type 0
@@ -25,6 +23,6 @@ pub record AreFilled (R : ℕ → ℕ → Type 0) (number bound : ℕ) (lists : 
   pub count : length lists ≡ number
   pub each : (k : ℕ) → k < number → IsFill (λ v. R v k) bound (slice_index_or lists k [])
 
--- the links so far: those of the entries before v, and some of v's own
-abbrev pub LinkedSoFar : List Entry → ℕ → List ℕ → ℕ → ℕ → Type 0
-LinkedSoFar entries v links u k = ((u < v) × LinkedTo entries u k) ⊎ ((u ≡ v) × Contains links k)
+-- the groups named so far: by the entries before v, and some of those that v names
+abbrev pub NamedSoFar : (ℕ → ℕ → Type 0) → ℕ → List ℕ → ℕ → ℕ → Type 0
+NamedSoFar R v named u k = ((u < v) × R u k) ⊎ ((u ≡ v) × Contains named k)

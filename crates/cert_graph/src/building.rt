@@ -1,4 +1,4 @@
-ghost use Rattle.std.specs.Prelude.{◌≡◌, length, map, All, IfOk};
+ghost use Rattle.std.specs.Prelude.{◌≡◌, ◌↔◌, ℕ, length, map, All, IfOk};
 ghost use Rattle.std.specs.List.Sorted.{IsStrictlyIncreasing};
 ghost use Rattle.cert_graph.specs.Laws.{Agrees};
 ghost use Rattle.cert_graph.specs.Nodes.{graph_of};
@@ -46,15 +46,16 @@ fn joined(
 }
 
 impl Nodes {
-    /// The nodes of entries and anchors, where there are so many groups: an entry and an anchor name their groups by
-    /// numbers from 0, and a number that is none of a group's leads nowhere. An anchor without a group is none.
+    /// The nodes of entries and anchors, where there are so many groups: an entry names the groups that it stands in
+    /// and those that it is linked to, and an anchor its group, by numbers from 0, and a number that is none of a group's leads nowhere. An anchor without a group is none.
     pub fn new(
         alloc: Global,
         entries: &[Entry],
         anchors: &[Option<usize>],
         groups: usize,
     ) -> Result<Nodes, AllocError>
-        ensures { IfOk result (λ nodes. Agrees (graph_of nodes) (graph_by entries.now anchors.now groups)) }
+        ensures agrees { IfOk result (λ nodes. Agrees (graph_of nodes) (graph_by entries.now anchors.now groups)) }
+        ensures links { IfOk result (λ nodes. (v w : ℕ) → (graph_of nodes).Edge v w ↔ (graph_by entries.now anchors.now groups).Edge v w) }
     {
         let items = nodes_of(alloc, entries)?;
         let members = members_of(alloc, entries, groups)?;

@@ -5,8 +5,9 @@ use crate::Node;
 pub struct Entry {
     pub node: Node,
 
-    /// The group of its own subject and key; none where it is no certificate.
-    pub group: Option<usize>,
+    /// The groups that it stands in, any number of them: of its own subject and key, or of those among them that have
+    /// its key identifier; none where it is no certificate.
+    pub groups: Vec<usize>,
 
     /// The groups that it is linked to: those whose name is its issuer and whose key vouches for it.
     pub links: Vec<usize>,

@@ -16,8 +16,8 @@ pub fn members_of(
 {
     let mut lists = empty_lists(alloc, groups)?;
     for (position, entry) in entries.iter().enumerate() {
-        if let Some(group) = entry.group {
-            put(&mut lists, group, position)?;
+        for own in &entry.groups {
+            put(&mut lists, *own, position)?;
         }
     }
     Ok(lists)

@@ -1,10 +1,16 @@
 //! Laws of answers and paths, proved for all nodes.
 
-ghost use Rattle.cert_graph.specs.LawsOfNodes.{LawAdequateIsTrue, LawFirstNamesNoneTwice, LawCarriedPaths, LawFurtherNodes, LawReorderedNodes, LawAgreeingNodes};
+ghost use Rattle.cert_graph.specs.LawsOfNodes.{LawAdequateIsTrue, LawOneTrueAnswer, LawFirstNamesNoneTwice, LawCarriedPaths, LawFurtherNodes, LawReorderedNodes, LawAgreeingNodes};
 
 /// An adequate answer is true.
 pub fn law_adequate_is_true()
     ensures { LawAdequateIsTrue }
+{}
+
+/// No two true answers on a target say different things: they name the same path to the same anchor, or both that
+/// there is none, or both that the target is no certificate.
+pub fn law_one_true_answer()
+    ensures { LawOneTrueAnswer }
 {}
 
 /// The first valid path names no position twice.

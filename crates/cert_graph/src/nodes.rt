@@ -19,11 +19,14 @@ pub struct Node {
     /// Its path length constraint, a number of certificates (RFC 5280, 4.2.1.9).
     pub limit: Option<u32>,
 
+    ghost usable_is_certificate: { IsTrue usable → IsTrue certificate },
+
     ghost fit_is_usable: { IsTrue fit → IsTrue usable },
 }
 
 /// All that have one name and key, and all that are linked to that name and key: a certificate is linked to each
-/// group whose name is its issuer and whose key vouches for it.
+/// group whose name is its issuer and whose key vouches for it. Where a link asks for a key identifier too, those of
+/// the name and key that have it are a group of their own, so a certificate may stand in several groups.
 ///
 /// A link leads from each of `issued` to each of `members` and `anchors`. The three lists are kept in place of these
 /// pairs, in strictly ascending order, so n equal self-issued certificates cost n places twice, and never n times n.

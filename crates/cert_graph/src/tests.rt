@@ -45,6 +45,24 @@ const fn self_issued(group: usize, link: usize) -> Item {
     }
 }
 
+fn entry_of(alloc: Global, item: &Item, groups: &[usize]) -> Result<Entry, AllocError> {
+    let mut links = Vec::new(alloc);
+    if let Some(link) = item.link {
+        links.push(link)?;
+    }
+    Ok(Entry {
+        node: Node {
+            certificate: true,
+            usable: true,
+            fit: item.fit,
+            self_issued: item.self_issued,
+            limit: item.limit,
+        },
+        groups: Vec::from_slice(alloc, groups)?,
+        links,
+    })
+}
+
 fn nodes_of(
     alloc: Global,
     items: &[Item],
@@ -53,21 +71,7 @@ fn nodes_of(
 ) -> Result<Nodes, AllocError> {
     let mut entries = Vec::new(alloc);
     for item in items {
-        let mut links = Vec::new(alloc);
-        if let Some(link) = item.link {
-            links.push(link)?;
-        }
-        entries.push(Entry {
-            node: Node {
-                certificate: true,
-                usable: true,
-                fit: item.fit,
-                self_issued: item.self_issued,
-                limit: item.limit,
-            },
-            group: Some(item.group),
-            links,
-        })?;
+        entries.push(entry_of(alloc, item, &[item.group])?)?;
     }
     Nodes::new(alloc, &entries, anchors, groups)
 }
@@ -257,6 +261,23 @@ fn loops(rt: HostRuntime) -> Result<(), Fail> {
     let one = [target(Some(1)), self_issued(1, 1)];
     let nodes = nodes_of(alloc, &one, &[Some(2)], 3)?;
     assert!(rt; check_nodes(&nodes, 0, &none(alloc, &[&[No, No]])?));
+    Ok(())
+}
+
+// An issuer that stands in two groups, one of them named twice: whoever is linked to either has it.
+#[test]
+fn several_groups(rt: HostRuntime) -> Result<(), Fail> {
+    let alloc = rt.alloc();
+    let mut entries = Vec::new(alloc);
+    entries.push(entry_of(alloc, &target(Some(1)), &[])?)?;
+    entries.push(entry_of(alloc, &target(Some(2)), &[0])?)?;
+    entries.push(entry_of(alloc, &issuer(1, 3, None), &[1, 2, 1])?)?;
+    let nodes = Nodes::new(alloc, &entries, &[Some(3)], 4)?;
+    assert!(rt; nodes.links(0, 2) && nodes.links(1, 2) && !nodes.links(0, 1) && !nodes.links(2, 2));
+    for start in 0..2 {
+        let answer = path(alloc, &[start, 2], 0, &[&[No, No, Any]])?;
+        assert!(rt; check_nodes(&nodes, start, &answer));
+    }
     Ok(())
 }
 

@@ -5,4 +5,6 @@ pub mod Walking
 pub mod Answering
 pub mod Anything
 pub mod Offering
+pub mod Changing
 pub mod Lowest
+pub mod Carried

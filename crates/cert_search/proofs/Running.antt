@@ -9,6 +9,9 @@ use Rattle.cert_graph.specs.Graph.{Graph}
 use Rattle.cert_graph.specs.Adequate.{row_of}
 use Rattle.cert_search.specs.Exact.{HoldsExactly}
 use Rattle.cert_search.specs.Rows.{IsRun, Opens}
+use Rattle.cert_search.specs.declared.changes.Change.{Change}
+use Rattle.cert_search.specs.Changes.{changed, rows_by}
+use Rattle.cert_search.proofs.Changing.{items_by, last_by, rows_grow, length-rows}
 
 -- the rows so far, none of which opens the target
 pub record SoFar (g : Graph) (target : ℕ) (rows : List (List Reach)) : Type 0 where
@@ -52,12 +55,12 @@ run_ends g target rows row h whole e opens =
 abbrev pub items_of : List (Vec Reach Global) → List (List Reach)
 items_of rows = map (λ (r : Vec Reach Global). r.items) rows
 
-pub so_far_more : (g : Graph) (target : ℕ) (rows pushed : List (Vec Reach Global)) (row : Vec Reach Global) → pushed ≡ rows ++ row ∷ [] → SoFar g target (items_of rows) → length row.items ≡ g.items
-    → HoldsExactly g (length rows + 1) row.items → (Opens g target row.items → ⊥) → SoFar g target (items_of pushed)
-so_far_more g target rows pushed row e h whole exact closed =
-    let size : length (items_of rows) ≡ length rows = length-map rows (λ (r : Vec Reach Global). r.items) in
-    let same : items_of pushed ≡ items_of rows ++ row.items ∷ [] = ap items_of e ∙ map_push (λ (r : Vec Reach Global). r.items) rows row in
-    subst (SoFar g target) (sym same) (so_far_push g target (items_of rows) row.items h whole (subst (λ (n : ℕ). HoldsExactly g (n + 1) row.items) (sym size) exact) closed)
+-- one row more, told by its changes
+pub so_far_more : (g : Graph) (target : ℕ) (none : List Reach) (steps pushed : List (Vec Change Global)) (x : Vec Change Global) (last row : List Reach) → pushed ≡ steps ++ x ∷ [] → last ≡ last_by none (items_by steps) → changed last x.items ≡ row
+    → SoFar g target (rows_by none (items_by steps)) → length row ≡ g.items → HoldsExactly g (length steps + 1) row → (Opens g target row → ⊥) → SoFar g target (rows_by none (items_by pushed))
+so_far_more g target none steps pushed x last row push e made h whole exact closed =
+    subst (SoFar g target) (sym (rows_grow none steps pushed x last row push e made))
+    (so_far_push g target (rows_by none (items_by steps)) row h whole (subst (λ (n : ℕ). HoldsExactly g (n + 1) row) (sym (length-rows none steps)) exact) closed)
 
 pub run_more : (g : Graph) (target : ℕ) (rows pushed : List (Vec Reach Global)) (row : Vec Reach Global) → pushed ≡ rows ++ row ∷ [] → SoFar g target (items_of rows) → length row.items ≡ g.items
     → HoldsExactly g (length rows + 1) row.items → Opens g target row.items → IsRun g target (items_of pushed) × ((k : ℕ) × (k + 1 ≡ length pushed) × Opens g target (row_of (items_of pushed) k))

@@ -1,3 +1,5 @@
 pub mod Exact
 pub mod Rows
 pub mod Found
+pub mod Changes
+pub mod LawsOfTables

@@ -5,6 +5,7 @@ ghost use Rattle.cert_graph.specs.Nodes.{graph_of};
 ghost use Rattle.cert_search.specs.Rows.{StandsUnder};
 ghost use Rattle.cert_search.specs.Found.{IsFound};
 
+use crate::changes::{changes_between, rows_of};
 use crate::offers::{offers_of, raise};
 use cert_graph::{Nodes, Reach, reach_at};
 use std::alloc::{AllocError, Global};
@@ -39,24 +40,28 @@ fn opens(usable: bool, offers: &[Reach], target: usize) -> bool
 }
 
 /// Rows raised from none, up to the first that gives the target a path or is its own successor.
+///
+/// Of the rows before the last their changes alone are kept, until the target has a path.
 pub(crate) fn rows_to(alloc: Global, nodes: &Nodes, target: usize) -> Result<Found, AllocError>
     ensures { IfOk result (IsFound (graph_of nodes.now) target) }
 {
     let usable = nodes.is_usable(target);
-    let mut rows = Vec::new(alloc);
-    let none = vec![in alloc; Reach::No; nodes.items.len()]?;
-    let mut offers = offers_of(alloc, nodes, &none)?;
+    let mut steps = Vec::new(alloc);
+    let mut last = vec![in alloc; Reach::No; nodes.items.len()]?;
+    let mut offers = offers_of(alloc, nodes, &last)?;
     'round: loop {
         let row = raise(alloc, nodes, &offers)?;
         let next = offers_of(alloc, nodes, &row)?;
         if opens(usable, &next, target) {
+            let mut rows = rows_of(alloc, nodes.items.len(), &steps)?;
             rows.push(row)?;
             return Ok(Found::Opening(rows));
         }
         if stands(&next, &offers) {
             return Ok(Found::Standing(row));
         }
-        rows.push(row)?;
+        steps.push(changes_between(alloc, &last, &row)?)?;
+        last = row;
         offers = next;
     }
 }

@@ -66,7 +66,7 @@ fn answer(
     for item in items {
         entries.push(Entry {
             node: item.node,
-            group: Some(item.group),
+            groups: Vec::from_slice(alloc, &[item.group])?,
             links: Vec::from_slice(alloc, item.links)?,
         })?;
     }

@@ -1,6 +1,6 @@
-//! Graphs of three kinds and of any size, each with its target at position 0.
+//! Graphs of four kinds and of any size, each with its target at position 0.
 
-ghost use Rattle.std.specs.Prelude.{◌≡◌, length, IfOk, IsTrue};
+ghost use Rattle.std.specs.Prelude.{◌≡◌, ◌∷◌, [], length, IfOk, IsTrue};
 
 use cert_graph::{Entry, Node, Nodes};
 use std::alloc::{AllocError, Global};
@@ -38,7 +38,7 @@ pub fn layered(alloc: Global, count: usize) -> Result<Nodes, AllocError>
         }
         entries.push(Entry {
             node: certificate(true, false, limit),
-            group: Some(own),
+            groups: one_of(alloc, own)?,
             links,
         })?;
     }
@@ -53,13 +53,15 @@ pub fn equal(alloc: Global, count: usize) -> Result<Nodes, AllocError>
     for position in 0..count {
         let mut links = Vec::with_capacity(alloc, 2)?;
         links.push(0)?;
+        let mut groups = Vec::new(alloc);
         let is_target = position == 0;
         if !is_target {
             links.push(1)?;
+            groups.push(0)?;
         }
         entries.push(Entry {
             node: certificate(!is_target, !is_target, Some(0)),
-            group: if is_target { None } else { Some(0) },
+            groups,
             links,
         })?;
     }
@@ -70,17 +72,42 @@ pub fn equal(alloc: Global, count: usize) -> Result<Nodes, AllocError>
 pub fn chain(alloc: Global, count: usize) -> Result<Nodes, AllocError>
     ensures { IfOk result (λ nodes. length nodes.items.items ≡ count) }
 {
+    linked_from(alloc, count, 0)
+}
+
+/// A chain that the target does not reach.
+pub fn apart(alloc: Global, count: usize) -> Result<Nodes, AllocError>
+    ensures { IfOk result (λ nodes. length nodes.items.items ≡ count) }
+{
+    linked_from(alloc, count, 1)
+}
+
+// Certificates of which each from a position on is linked to the next, the last to an anchor.
+fn linked_from(alloc: Global, count: usize, first: usize) -> Result<Nodes, AllocError>
+    ensures { IfOk result (λ nodes. length nodes.items.items ≡ count) }
+{
     let mut entries = Vec::with_capacity(alloc, count)?;
     for position in 0..count {
         let mut links = Vec::with_capacity(alloc, 1)?;
-        links.push(position + 1)?;
+        if position >= first {
+            links.push(position + 1)?;
+        }
         entries.push(Entry {
             node: certificate(true, false, None),
-            group: Some(position),
+            groups: one_of(alloc, position)?,
             links,
         })?;
     }
     Nodes::new(alloc, &entries, &[Some(count)], count.saturating_add(1))
+}
+
+// One group alone.
+fn one_of(alloc: Global, group: usize) -> Result<Vec<usize>, AllocError>
+    ensures { IfOk result (λ groups. groups.items ≡ group ∷ []) }
+{
+    let mut groups = Vec::with_capacity(alloc, 1)?;
+    groups.push(group)?;
+    Ok(groups)
 }
 
 // A certificate that may stand in a path.

@@ -1,4 +1,4 @@
-//! Finds and checks paths in graphs of a size: words `layered N`, `equal N` or `chain N`, any number of them.
+//! Finds and checks paths in graphs of a size: words `layered N`, `equal N`, `chain N` or `apart N`, any number of them.
 //! After the word `timed` it also prints how long each call took.
 #![tactic(auto)]
 
@@ -71,6 +71,7 @@ fn graph_of_kind(rt: &impl AllocGlobal, kind: &str, count: usize) -> Result<Node
         "layered" => graphs::layered(rt.alloc(), count)?,
         "equal" => graphs::equal(rt.alloc(), count)?,
         "chain" => graphs::chain(rt.alloc(), count)?,
+        "apart" => graphs::apart(rt.alloc(), count)?,
         _ => bail!("no graph is named {kind}"),
     };
     Ok(nodes)

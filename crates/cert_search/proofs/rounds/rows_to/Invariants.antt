@@ -1,5 +1,8 @@
-use Rattle.std.proofs.Common.{◌≡◌, ◌+◌, ◌-◌, ◌*◌, length, map}
+use Rattle.std.proofs.Common.{◌≡◌, ◌+◌, ◌-◌, ◌*◌, length, replicate}
+use Rattle.cert_graph.specs.declared.reach.Reach.TheVariants.{No}
 use Rattle.cert_graph.specs.Nodes.{graph_of}
+use Rattle.cert_search.specs.Changes.{rows_by}
+use Rattle.cert_search.proofs.Changing.{items_by, last_by}
 use Rattle.cert_search.proofs.Exactness.{OffersExactly}
 use Rattle.cert_search.proofs.Ranking.{rank, bound_of}
 use Rattle.cert_search.proofs.Running.{SoFar}
@@ -8,8 +11,10 @@ use Rattle.cert_search.proofs.rounds.rows_to.Given as goal
 abbrev pub invariant-round : goal.invariant-round
 invariant-round l = record {
   whole : length l.offers.items ≡ length l.nodes.items.items;
-  exact : OffersExactly (graph_of l.nodes) (length l.rows.items) l.offers.items;
-  so_far : SoFar (graph_of l.nodes) l.target (map (λ r. r.items) l.rows.items);
+  size : length l.last.items ≡ length l.nodes.items.items;
+  last : l.last.items ≡ last_by (replicate (length l.nodes.items.items) No) (items_by l.steps.items);
+  exact : OffersExactly (graph_of l.nodes) (length l.steps.items) l.offers.items;
+  so_far : SoFar (graph_of l.nodes) l.target (rows_by (replicate (length l.nodes.items.items) No) (items_by l.steps.items));
 }
 
 abbrev pub decreases-round : goal.decreases-round

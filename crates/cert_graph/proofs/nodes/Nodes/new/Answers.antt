@@ -5,7 +5,7 @@ use Rattle.cert_graph.specs.declared.nodes.Group.{Group}
 use Rattle.cert_graph.specs.declared.entries.Entry.{Entry}
 use Rattle.cert_graph.specs.Entries.{BelongsTo, LinkedTo, AnchorIn}
 use Rattle.cert_graph.proofs.Joined.{vectors_ascend}
-use Rattle.cert_graph.proofs.BuiltFacts.{all_within, built_agrees}
+use Rattle.cert_graph.proofs.BuiltFacts.{all_within, built_links, built_agrees}
 use Rattle.cert_graph.proofs.nodes.Nodes.new.Goals as goal
 
 pub joined-requires-clause-members_ascend : goal.joined-requires-clause-members_ascend
@@ -31,8 +31,13 @@ invariant_of-result c =
           (map (λ (l : Vec ℕ Global). l.items) c.in_ok-issued.issued.items) c.in_ok-issued.ensures c.in_ok-groups.ensures.issued same;
     }
 
-pub returns : goal.returns
-returns c =
+pub returns-clause-agrees : goal.returns-clause-agrees
+returns-clause-agrees c =
     built_agrees _ c.args.entries.now c.args.anchors.now c.args.groups (map (λ (l : Vec ℕ Global). l.items) c.in_ok-members.members.items) (map (λ (l : Vec ℕ Global). l.items) c.in_ok-anchors.anchors.items)
     (map (λ (l : Vec ℕ Global). l.items) c.in_ok-issued.issued.items) c.in_ok-items.ensures c.in_ok-members.ensures c.in_ok-anchors.ensures c.in_ok-issued.ensures
     c.in_ok-groups.ensures.members c.in_ok-groups.ensures.anchors c.in_ok-groups.ensures.issued
+
+pub returns-clause-links : goal.returns-clause-links
+returns-clause-links c =
+    built_links _ c.args.entries.now c.args.anchors.now c.args.groups (map (λ (l : Vec ℕ Global). l.items) c.in_ok-members.members.items) (map (λ (l : Vec ℕ Global). l.items) c.in_ok-issued.issued.items)
+    c.in_ok-members.ensures c.in_ok-issued.ensures c.in_ok-groups.ensures.members c.in_ok-groups.ensures.issued

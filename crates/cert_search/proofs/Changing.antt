@@ -1,0 +1,122 @@
+-- Rows told by their changes, one change and one row after the other.
+use Rattle.std.proofs.Common.{◌≡◌, ℕ, suc, ◌+◌, ◌<◌, ◌≤◌, List, [], ◌∷◌, ◌++◌, length, take, drop, get_or, set, map, Vec, Global, arith, ap, sym, ◌∙◌, subst, refl, append_assoc}
+use Rattle.std.specs.Prelude.{◌↔◌}
+use Rattle.std.proofs.lemmas.List.{take_more, drop_more, length-map, length-set, set_past, map_push, length-take-le}
+use Rattle.cert_graph.specs.declared.reach.Reach.{Reach}
+use Rattle.cert_graph.specs.declared.reach.Reach.TheVariants.{No, UpTo, Any}
+use Rattle.cert_graph.specs.Reach.{IsAtMost}
+use Rattle.cert_search.specs.declared.changes.Change.{Change}
+use Rattle.cert_search.specs.Changes.{changed, rows_by}
+
+-- one change more
+pub changed_push : (row : List Reach) (xs : List Change) (x : Change) → changed row (xs ++ x ∷ []) ≡ set (changed row xs) x.position x.reach
+changed_push row [] x = refl
+changed_push row (y ∷ xs) x = changed_push (set row y.position y.reach) xs x
+
+pub length-changed : (row : List Reach) (xs : List Change) → length (changed row xs) ≡ length row
+length-changed row [] = refl
+length-changed row (x ∷ xs) = length-changed (set row x.position x.reach) xs ∙ length-set row x.position x.reach
+
+-- the last row of some
+abbrev pub last_by : List Reach → List (List Change) → List Reach
+last_by row [] = row
+last_by row (step ∷ steps) = last_by (changed row step) steps
+
+-- one row more
+pub rows_push : (row : List Reach) (steps : List (List Change)) (step : List Change) → rows_by row (steps ++ step ∷ []) ≡ rows_by row steps ++ changed (last_by row steps) step ∷ []
+rows_push row [] step = refl
+rows_push row (s ∷ steps) step = ap (λ rs. changed row s ∷ rs) (rows_push (changed row s) steps step)
+
+pub last_push : (row : List Reach) (steps : List (List Change)) (step : List Change) → last_by row (steps ++ step ∷ []) ≡ changed (last_by row steps) step
+last_push row [] step = refl
+last_push row (s ∷ steps) step = last_push (changed row s) steps step
+
+pub length-rows_by : (row : List Reach) (steps : List (List Change)) → length (rows_by row steps) ≡ length steps
+length-rows_by row [] = refl
+length-rows_by row (s ∷ steps) = ap (λ n. suc n) (length-rows_by (changed row s) steps)
+
+-- a row that is changed up to a position, the rest of the one before it behind
+set_front : (front rest : List Reach) (i : ℕ) (x y : Reach) → length front ≡ i → set (front ++ x ∷ rest) i y ≡ front ++ y ∷ rest
+set_front [] rest i x y e = subst (λ (n : ℕ). set (x ∷ rest) n y ≡ y ∷ rest) e refl
+set_front (f ∷ front) rest i x y e = subst (λ (n : ℕ). set (f ∷ front ++ x ∷ rest) n y ≡ f ∷ front ++ y ∷ rest) e (ap (λ zs. f ∷ zs) (set_front front rest (length front) x y refl))
+
+pub changed_more : (row now : List Reach) (xs : List Change) (i : ℕ) (d : Change) → i < length xs → now ≡ changed row (take i xs) → set now (get_or xs i d).position (get_or xs i d).reach ≡ changed row (take (i + 1) xs)
+changed_more row now xs i d within e =
+    ap (λ (rs : List Reach). set rs (get_or xs i d).position (get_or xs i d).reach) e ∙ sym (changed_push row (take i xs) (get_or xs i d)) ∙ sym (ap (λ (ys : List Change). changed row ys) (take_more xs i d within))
+
+pub unchanged_more : (row now : List Reach) (xs : List Change) (i : ℕ) (d : Change) → i < length xs → length now ≤ (get_or xs i d).position → now ≡ changed row (take i xs) → now ≡ changed row (take (i + 1) xs)
+unchanged_more row now xs i d within past e = sym (set_past now (get_or xs i d).position (get_or xs i d).reach past) ∙ changed_more row now xs i d within e
+
+-- one position more, where the two rows hold the same, and where they differ
+pub more_same : (last row : List Reach) (i : ℕ) → i < length row → length last ≡ length row → get_or row i No ≡ get_or last i No → take i row ++ drop i last ≡ take (i + 1) row ++ drop (i + 1) last
+more_same last row i within same e =
+    let there : i < length last = omega (arith, within, same) in
+    ap (λ zs. take i row ++ zs) (drop_more last i No there) ∙ ap (λ (x : Reach). take i row ++ x ∷ drop (i + 1) last) (sym e)
+    ∙ sym (append_assoc (take i row) (get_or row i No ∷ []) (drop (i + 1) last)) ∙ ap (λ zs. zs ++ drop (i + 1) last) (sym (take_more row i No within))
+
+pub more_changed : (last row : List Reach) (i : ℕ) (x : Reach) → i < length row → length last ≡ length row → x ≡ get_or row i No → set (take i row ++ drop i last) i x ≡ take (i + 1) row ++ drop (i + 1) last
+more_changed last row i x within same e =
+    let there : i < length last = omega (arith, within, same) in
+    ap (λ zs. set (take i row ++ zs) i x) (drop_more last i No there)
+    ∙ set_front (take i row) (drop (i + 1) last) i (get_or last i No) x (length-take-le i row (omega (arith, within)))
+    ∙ ap (λ (y : Reach). take i row ++ y ∷ drop (i + 1) last) e
+    ∙ sym (append_assoc (take i row) (get_or row i No ∷ []) (drop (i + 1) last)) ∙ ap (λ zs. zs ++ drop (i + 1) last) (sym (take_more row i No within))
+
+-- two reaches, each no further than the other, are one
+both_same : (r s : Reach) → IsAtMost r s → IsAtMost s r → r ≡ s
+both_same No No a b = refl
+both_same No (UpTo n) a b = absurd b
+both_same No Any a b = absurd b
+both_same (UpTo m) No a b = absurd a
+both_same (UpTo m) (UpTo n) a b = ap (λ k. UpTo k) (omega (arith, a, b))
+both_same (UpTo m) Any a b = absurd b
+both_same Any No a b = absurd a
+both_same Any (UpTo n) a b = absurd a
+both_same Any Any a b = refl
+
+itself : (r : Reach) → IsAtMost r r
+itself No = tt
+itself (UpTo n) = omega arith
+itself Any = tt
+
+pub same_both : (r s : Reach) → (r ≡ s) ↔ (IsAtMost r s × IsAtMost s r)
+same_both r s = (λ e. (subst (λ (x : Reach). IsAtMost r x) e (itself r), subst (λ (x : Reach). IsAtMost x r) e (itself r)), λ h. both_same r s h.0 h.1)
+
+-- the same of changes as the code keeps them
+abbrev pub items_by : List (Vec Change Global) → List (List Change)
+items_by steps = map (λ (s : Vec Change Global). s.items) steps
+
+items_more : (steps : List (Vec Change Global)) (i : ℕ) (x : Vec Change Global) → i < length steps → x ≡ get_or steps i x → items_by (take (i + 1) steps) ≡ items_by (take i steps) ++ x.items ∷ []
+items_more steps i x within is =
+    ap items_by (take_more steps i x within ∙ ap (λ (y : Vec Change Global). take i steps ++ y ∷ []) (sym is)) ∙ map_push (λ (s : Vec Change Global). s.items) (take i steps) x
+
+pub last_more : (none : List Reach) (steps : List (Vec Change Global)) (i : ℕ) (x : Vec Change Global) (row now : List Reach) → i < length steps → x ≡ get_or steps i x
+    → row ≡ last_by none (items_by (take i steps)) → now ≡ changed row x.items → now ≡ last_by none (items_by (take (i + 1) steps))
+last_more none steps i x row now within is e made =
+    made ∙ ap (λ (r : List Reach). changed r x.items) e ∙ sym (last_push none (items_by (take i steps)) x.items) ∙ sym (ap (λ (xs : List (List Change)). last_by none xs) (items_more steps i x within is))
+
+pub rows_more : (none : List Reach) (steps : List (Vec Change Global)) (i : ℕ) (x : Vec Change Global) (rows pushed : List (Vec Reach Global)) (new : Vec Reach Global) (row : List Reach) → i < length steps → x ≡ get_or steps i x
+    → map (λ (r : Vec Reach Global). r.items) rows ≡ rows_by none (items_by (take i steps)) → row ≡ last_by none (items_by (take i steps)) → pushed ≡ rows ++ new ∷ [] → new.items ≡ changed row x.items
+    → map (λ (r : Vec Reach Global). r.items) pushed ≡ rows_by none (items_by (take (i + 1) steps))
+rows_more none steps i x rows pushed new row within is h e push made =
+    ap (λ (rs : List (Vec Reach Global)). map (λ (r : Vec Reach Global). r.items) rs) push ∙ map_push (λ (r : Vec Reach Global). r.items) rows new
+    ∙ ap (λ (rs : List (List Reach)). rs ++ new.items ∷ []) h ∙ ap (λ (r : List Reach). rows_by none (items_by (take i steps)) ++ r ∷ []) (made ∙ ap (λ (r : List Reach). changed r x.items) e)
+    ∙ sym (rows_push none (items_by (take i steps)) x.items) ∙ sym (ap (λ (xs : List (List Change)). rows_by none xs) (items_more steps i x within is))
+
+-- the changes of one row more
+items_push : (steps pushed : List (Vec Change Global)) (x : Vec Change Global) → pushed ≡ steps ++ x ∷ [] → items_by pushed ≡ items_by steps ++ x.items ∷ []
+items_push steps pushed x e = ap items_by e ∙ map_push (λ (s : Vec Change Global). s.items) steps x
+
+pub last_grows : (none : List Reach) (steps pushed : List (Vec Change Global)) (x : Vec Change Global) (last row : List Reach) → pushed ≡ steps ++ x ∷ []
+    → last ≡ last_by none (items_by steps) → changed last x.items ≡ row → row ≡ last_by none (items_by pushed)
+last_grows none steps pushed x last row push e made =
+    sym made ∙ ap (λ (r : List Reach). changed r x.items) e ∙ sym (last_push none (items_by steps) x.items) ∙ sym (ap (λ (xs : List (List Change)). last_by none xs) (items_push steps pushed x push))
+
+pub rows_grow : (none : List Reach) (steps pushed : List (Vec Change Global)) (x : Vec Change Global) (last row : List Reach) → pushed ≡ steps ++ x ∷ []
+    → last ≡ last_by none (items_by steps) → changed last x.items ≡ row → rows_by none (items_by pushed) ≡ rows_by none (items_by steps) ++ row ∷ []
+rows_grow none steps pushed x last row push e made =
+    ap (λ (xs : List (List Change)). rows_by none xs) (items_push steps pushed x push) ∙ rows_push none (items_by steps) x.items
+    ∙ ap (λ (r : List Reach). rows_by none (items_by steps) ++ r ∷ []) (ap (λ (r : List Reach). changed r x.items) (sym e) ∙ made)
+
+pub length-rows : (none : List Reach) (steps : List (Vec Change Global)) → length (rows_by none (items_by steps)) ≡ length steps
+length-rows none steps = length-rows_by none (items_by steps) ∙ length-map steps (λ (s : Vec Change Global). s.items)
