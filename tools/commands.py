@@ -1,0 +1,111 @@
+#!/usr/bin/env python3
+"""Runs the built program `certpath` on a table of command lines, and tells of each whether its status and what it wrote are as wanted.
+
+What leads from the words to the files isn't seen by a contract of a library, so it is run: the limit, each status, each message, and what is written where.
+"""
+import os
+import subprocess
+import sys
+import tempfile
+
+import repo
+
+SECONDS = 60
+BUNDLE = os.path.join(repo.TOP, "samples", "bundle.der")
+LINES = repo.read("samples/bundle.frame").encode()
+LARGEST = 16_777_216
+# An element of 3 content octets, and the same behind it, cut in its content.
+THREE, CUT = bytes.fromhex("3003020105"), bytes.fromhex("30030201")
+
+
+class Some:
+    """Text that begins so and isn't only that: the words of `clap`."""
+
+    def __init__(self, front):
+        self.front = front
+
+    def __eq__(self, text):
+        return text.startswith(self.front) and len(text) > len(self.front) and text.endswith(b"\n")
+
+    def __repr__(self):
+        return f"{self.front!r} and more"
+
+
+def table(room):
+    """Rows of words, standard input, and what is wanted: status, standard output, standard error."""
+    def made(name, octets):
+        with open(os.path.join(room, name), "wb") as file:
+            file.write(octets)
+        return name
+
+    longest = bytes([0x30, 0x84]) + LARGEST.to_bytes(4, "big") + bytes(LARGEST)
+    above = bytes([0x30, 0x84]) + (LARGEST + 1).to_bytes(4, "big") + bytes(LARGEST + 1)
+    empty, three, cut, fault = made("empty", b""), made("three", THREE), made("cut", THREE + CUT), made("fault", THREE + b"\x00\x00")
+    pem = made("three.pem", b"-----BEGIN CERTIFICATE-----\nMAMCAQU=\n-----END CERTIFICATE-----\n")
+    os.mkdir(os.path.join(room, "folder"))
+    return [
+        (["frame", BUNDLE], b"", 0, LINES, b""),
+        (["frame", "--limit", "433", three], b"", 0, b"0 0 5\nend clean\n", b""),
+        (["frame", three, "--limit=3"], b"", 0, b"0 0 5\nend clean\n", b""),
+        (["frame", three, "--limit", "2"], b"", 1, b"end fault 0\n", b""),
+        (["frame", three, "--limit", "0003"], b"", 0, b"0 0 5\nend clean\n", b""),
+        (["frame", three, "--limit", "4294967295"], b"", 0, b"0 0 5\nend clean\n", b""),
+        (["frame", made("longest", longest)], b"", 0, b"0 0 %d\nend clean\n" % len(longest), b""),
+        (["frame", made("above", above)], b"", 1, b"end fault 0\n", b""),
+        (["frame", empty], b"", 0, b"end clean\n", b""),
+        (["frame", cut], b"", 1, b"0 0 5\nend cut 5\n", b""),
+        (["frame", fault], b"", 1, b"0 0 5\nend fault 5\n", b""),
+        (["frame", pem], b"", 1, b"end fault 0\n", b""),
+        (["frame", "/dev/stdin"], THREE + THREE, 0, b"0 0 5\n1 5 5\nend clean\n", b""),
+        (["frame", "none.der"], b"", 4, b"", b"cannot read none.der\n"),
+        (["frame", "folder"], b"", 4, b"", b"cannot read folder\n"),
+        (["frame", ""], b"", 4, b"", b"cannot read \n"),
+        (["frame", three, "--limit", "4294967296"], b"", 2, b"", b"bad number\n"),
+        (["frame", three, "--limit", "3x"], b"", 2, b"", b"bad number\n"),
+        (["frame", three, "--limit", ""], b"", 2, b"", b"bad number\n"),
+        (["frame", "none.der", "--limit", "+3"], b"", 2, b"", b"bad number\n"),
+        ([], b"", 2, b"", Some(b"")),
+        (["frame"], b"", 2, b"", Some(b"error: ")),
+        (["frame", three, three], b"", 2, b"", Some(b"error: ")),
+        (["frames", three], b"", 2, b"", Some(b"error: ")),
+        (["frame", three, "--limits", "3"], b"", 2, b"", Some(b"error: ")),
+        (["frame", three, "--limit", "3", "--limit", "3"], b"", 2, b"", Some(b"error: ")),
+        (["frame", b"\xff"], b"", 2, b"", b"error: a word is not UTF-8\n"),
+        (["--help"], b"", 2, b"", Some(b"Reads certificates")),
+        (["frame", "--help"], b"", 2, b"", Some(b"Tells where the items of a file lie")),
+    ]
+
+
+def ran(program, words, room, octets, output):
+    """A run's status, what it wrote to standard output where that is piped, and to standard error."""
+    it = subprocess.run([program, *words], cwd=room, input=octets, stdout=output, stderr=subprocess.PIPE, timeout=SECONDS)
+    return it.returncode, it.stdout, it.stderr
+
+
+def main():
+    program, said = repo.built("certpath_cli", ["frame", BUNDLE])
+    if not program:
+        print(f"{said}certpath wasn't built\n0 passed, 1 failed")
+        return 1
+    passed = failed = 0
+
+    def count(words, got, wanted):
+        nonlocal passed, failed
+        if got == wanted:
+            passed += 1
+        else:
+            failed += 1
+            print(f"certpath {words}: status, output and error are {got}, wanted are {wanted}")
+
+    with tempfile.TemporaryDirectory(prefix="commands-") as room:
+        for words, octets, *wanted in table(room):
+            count(words, ran(program, words, room, octets, subprocess.PIPE), tuple(wanted))
+        # a device that takes no octet
+        with open("/dev/full", "wb") as full:
+            count(["frame", "three", ">/dev/full"], ran(program, ["frame", "three"], room, b"", full), (7, None, b"cannot write\n"))
+    print(f"certpath: {passed} passed, {failed} failed of {passed + failed} command lines")
+    return 1 if failed else 0
+
+
+if __name__ == "__main__":
+    sys.exit(main())
