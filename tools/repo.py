@@ -1,6 +1,7 @@
 """What the scripts share: the crates as crates.txt lists them, programs that `rt` builds, and edits with the texts that they make."""
 import os
 import re
+import shutil
 import signal
 import subprocess
 import sys
@@ -73,6 +74,9 @@ def build(crate, words):
 
     Each crate is told in a line on standard error; what `rt` says goes to out/NAME.log, whose end is shown where a crate fails.
     """
+    if not shutil.which("rt"):
+        print(f"{crate}: rt, the toolchain that proves and builds it, is not on the path", file=sys.stderr)
+        return False
     steps, log = below([crate], crates()), os.path.join("out", f"{crate}.log")
     os.makedirs(os.path.join(TOP, "out"), exist_ok=True)
     with open(os.path.join(TOP, log), "w", encoding="utf-8") as out:
