@@ -5,6 +5,7 @@ import re
 import subprocess
 import sys
 
+import bundling
 import repo
 
 MOST_EDITS, MOST_OF_SMALL, SMALL = 8, 6, 30
@@ -32,7 +33,7 @@ def files():
 
 FILES = files()
 OF_RATTLE = [it for it in FILES if it.endswith((".rt", ".antt"))]
-SCRIPTS = [it for it in FILES if it.endswith((".py", ".sh")) or it in ("test", "certpath", ".ci/run")]
+SCRIPTS = [it for it in FILES if it.endswith((".py", ".sh")) or it in ("test", "certpath", "rows", "bundle", ".ci/run")]
 TEXTS = [it for it in FILES if it.endswith((".md", ".edit")) or it == "crates.txt"]
 DOCS = [it for it in FILES if it.endswith(".md")]
 CRATES = repo.crates()
@@ -188,8 +189,13 @@ def short_files():
             yield f"{path}: {count} lines, and at most {MOST_LINES} are kept in one file"
 
 
+def bundles():
+    """./bundle joins what PEM and DER files hold, and tells what it leaves out."""
+    yield from bundling.faults()
+
+
 def main():
-    checks = (layout, edits_apply, few_edits, all_read, no_labels, no_machine, docs_name_files, crates_listed, no_handles, short_files)
+    checks = (layout, edits_apply, few_edits, all_read, no_labels, no_machine, docs_name_files, crates_listed, no_handles, short_files, bundles)
     failed = 0
     for check in checks:
         found = [*check()]

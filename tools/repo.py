@@ -1,10 +1,15 @@
 """What the scripts share: the crates as crates.txt lists them, programs that `rt` builds, and edits with the texts that they make."""
 import os
 import re
+import shutil
+import signal
 import subprocess
+import sys
 
 TOP = os.path.dirname(os.path.dirname(os.path.abspath(__file__)))
 FOLDERS = ("must-fail", "wrong")
+# How many of the last lines that a failed build said are shown.
+SHOWN = 20
 
 
 def read(path):
@@ -49,6 +54,56 @@ def built(crate, words=()):
     # (the status is the program's own once it runs)
     is_built = re.search(rf"(?m)^rt: running out/{crate};", ran.stderr)
     return os.path.join(folder, "out", crate) if is_built else None, ran.stderr
+
+
+def is_older(program, crate):
+    """Whether a crate's program isn't there, or is older than a source of the crate or of one that it stands on."""
+    if not os.access(program, os.X_OK):
+        return True
+    made = os.stat(program).st_mtime
+    for name in below([crate], crates()):
+        for at, folders, names in os.walk(os.path.join(TOP, "crates", name)):
+            folders[:] = [it for it in folders if it != "out"]
+            if any(it.endswith((".rt", ".antt")) and os.stat(os.path.join(at, it)).st_mtime > made for it in names):
+                return True
+    return False
+
+
+def build(crate, words):
+    """Proves and builds a crate's program with all that it stands on, lowest first, and runs it on the words; tells whether it is there.
+
+    Each crate is told in a line on standard error; what `rt` says goes to out/NAME.log, whose end is shown where a crate fails.
+    """
+    if not shutil.which("rt"):
+        print(f"{crate}: rt, the toolchain that proves and builds it, is not on the path", file=sys.stderr)
+        return False
+    steps, log = below([crate], crates()), os.path.join("out", f"{crate}.log")
+    os.makedirs(os.path.join(TOP, "out"), exist_ok=True)
+    with open(os.path.join(TOP, log), "w", encoding="utf-8") as out:
+        for number, name in enumerate(steps, 1):
+            print(f"{crate}: proving and building {name}, {number} of {len(steps)}", file=sys.stderr, flush=True)
+            command = ["rt", "run", "--", *words] if name == crate else ["rt", "lib"]
+            status = subprocess.run(command, cwd=os.path.join(TOP, "crates", name), stdin=subprocess.DEVNULL, stdout=out, stderr=subprocess.STDOUT).returncode
+            if status:
+                break
+    if status:
+        with open(os.path.join(TOP, log), encoding="utf-8", errors="replace") as said:
+            sys.stderr.writelines(said.readlines()[-SHOWN:])
+        print(f"{crate}: {name} failed; {log} has all that was said", file=sys.stderr)
+    return not status
+
+
+def run(crate, words, first):
+    """Becomes a crate's program on the words. Where it isn't there or is older than its sources it is built before, and run once on the
+    first words, with which it ends well. Ends with status 70 where it can't be built."""
+    program = os.path.join(TOP, "crates", crate, "out", crate)
+    if is_older(program, crate):
+        if not build(crate, first):
+            sys.exit(70)
+        os.utime(program)
+    # Python lets no pipe that nobody reads end it, and what it becomes would inherit that
+    signal.signal(signal.SIGPIPE, signal.SIG_DFL)
+    os.execv(program, [program, *words])
 
 
 def edits(crate, folder):

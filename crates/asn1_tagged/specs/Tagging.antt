@@ -10,7 +10,7 @@ pub record IsTagged (class tag : ℕ) (e : Element) : Type 0 where
   pub class_is : e.class ≡ class
   pub tag_is : e.tag ≡ tag
 
--- such an element, constructed (X.690, 8.14.3)
+-- such an element, constructed (X.690, 8.14.2)
 pub record IsExplicit (class tag : ℕ) (e : Element) : Type 0 where
   pub tagged : IsTagged class tag e
   pub constructed : e.constructed ≡ true

@@ -18,6 +18,10 @@ use asn1_traits::{DerLeaf, FromLeaf, Tagged, write_all};
 use std::alloc::Global;
 
 /// A UTCTime: a date and time with the last two digits of its year, to the second or to the minute.
+///
+/// One with an offset is in DER form and is written with that offset, as `from_der` takes it, though X.690, 11.8.1 wants Z.
+/// For readers that hold to it, take the moment that `utc_adjusted_datetime` answers, and write its fields with
+/// `ASN1TimeZone::Z`, the year modulo 100.
 #[derive(Clone, Copy, Debug, PartialEq, Eq, PartialOrd, Ord)]
 pub struct UtcTime(pub ASN1DateTime);
 

@@ -10,7 +10,7 @@ use crate::element::element_of_tag;
 use asn1_core::{Err as Refusal, Error, Header, IResult, Tag};
 use der_tree::{BerObject, BerObjectContent, MAX_RECURSION, object_with};
 
-/// An element of this tag number around others: the closure reads its content (X.690, 8.14.3).
+/// An element of this tag number around others: the closure reads its content (X.690, 8.14.2).
 pub fn parse_der_tagged_explicit_g<
     'a,
     O,
@@ -29,7 +29,7 @@ pub fn parse_der_tagged_explicit_g<
     }
 }
 
-/// An element of this tag number in the place of another (X.690, 8.14.4): the closure reads its content, told its header and
+/// An element of this tag number in the place of another (X.690, 8.14.3): the closure reads its content, told its header and
 /// that `MAX_RECURSION` levels are allowed.
 pub fn parse_der_tagged_implicit_g<
     'a,
