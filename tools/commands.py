@@ -14,6 +14,8 @@ SECONDS = 60
 BUNDLE = os.path.join(repo.TOP, "samples", "bundle.der")
 LINES = repo.read("samples/bundle.frame").encode()
 LARGEST = 16_777_216
+# More items than one read holds.
+MANY = 20_000
 # An element of 3 content octets, and the same behind it, cut in its content.
 THREE, CUT = bytes.fromhex("3003020105"), bytes.fromhex("30030201")
 
@@ -38,6 +40,8 @@ def table(room):
             file.write(octets)
         return name
 
+    samples = [os.path.join(repo.TOP, "samples", f"{it}.der") for it in ("leaf", "intermediate", "root", "list")]
+    bundled = subprocess.run([os.path.join(repo.TOP, "bundle"), *samples], stdout=subprocess.PIPE, timeout=SECONDS).stdout
     longest = bytes([0x30, 0x84]) + LARGEST.to_bytes(4, "big") + bytes(LARGEST)
     above = bytes([0x30, 0x84]) + (LARGEST + 1).to_bytes(4, "big") + bytes(LARGEST + 1)
     empty, three, cut, fault = made("empty", b""), made("three", THREE), made("cut", THREE + CUT), made("fault", THREE + b"\x00\x00")
@@ -53,9 +57,11 @@ def table(room):
         (["frame", made("longest", longest)], b"", 0, b"0 0 %d\nend clean\n" % len(longest), b""),
         (["frame", made("above", above)], b"", 1, b"end fault 0\n", b""),
         (["frame", empty], b"", 0, b"end clean\n", b""),
+        (["frame", made("many", THREE * MANY)], b"", 0, b"".join(b"%d %d 5\n" % (k, 5 * k) for k in range(MANY)) + b"end clean\n", b""),
         (["frame", cut], b"", 1, b"0 0 5\nend cut 5\n", b""),
         (["frame", fault], b"", 1, b"0 0 5\nend fault 5\n", b""),
         (["frame", pem], b"", 1, b"end fault 0\n", b""),
+        (["frame", "/dev/stdin"], bundled, 0, LINES, b""),
         (["frame", "/dev/stdin"], THREE + THREE, 0, b"0 0 5\n1 5 5\nend clean\n", b""),
         (["frame", "none.der"], b"", 4, b"", b"cannot read none.der\n"),
         (["frame", "folder"], b"", 4, b"", b"cannot read folder\n"),
@@ -83,9 +89,9 @@ def ran(program, words, room, octets, output):
 
 
 def main():
-    program, said = repo.built("certpath_cli", ["frame", BUNDLE])
+    program = repo.ready("certpath_cli", ["frame", os.devnull])
     if not program:
-        print(f"{said}certpath wasn't built\n0 passed, 1 failed")
+        print("certpath: it wasn't built")
         return 1
     passed = failed = 0
 

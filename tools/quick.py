@@ -6,6 +6,7 @@ import subprocess
 import sys
 
 import bundling
+import items
 import repo
 
 MOST_EDITS, MOST_OF_SMALL, SMALL = 8, 6, 30
@@ -194,8 +195,15 @@ def bundles():
     yield from bundling.faults()
 
 
+def items_spelled():
+    """Each item of cert_rows is what the comment above it spells."""
+    text = repo.read(items.STDIN)
+    if items.written(text) != text:
+        yield f"{items.STDIN}: an item isn't what the comment above it spells: run tools/items.py"
+
+
 def main():
-    checks = (layout, edits_apply, few_edits, all_read, no_labels, no_machine, docs_name_files, crates_listed, no_handles, short_files, bundles)
+    checks = (layout, edits_apply, few_edits, all_read, no_labels, no_machine, docs_name_files, crates_listed, no_handles, short_files, items_spelled, bundles)
     failed = 0
     for check in checks:
         found = [*check()]

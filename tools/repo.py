@@ -93,14 +93,22 @@ def build(crate, words):
     return not status
 
 
-def run(crate, words, first):
-    """Becomes a crate's program on the words. Where it isn't there or is older than its sources it is built before, and run once on the
-    first words, with which it ends well. Ends with status 70 where it can't be built."""
+def ready(crate, first):
+    """The path of a crate's program, none where it can't be built. Where it isn't there or is older than its sources it is built before, and
+    run once on the first words, with which it ends well."""
     program = os.path.join(TOP, "crates", crate, "out", crate)
     if is_older(program, crate):
         if not build(crate, first):
-            sys.exit(70)
+            return None
         os.utime(program)
+    return program
+
+
+def run(crate, words, first):
+    """Becomes a crate's program on the words; ends with status 70 where it can't be built."""
+    program = ready(crate, first)
+    if not program:
+        sys.exit(70)
     # Python lets no pipe that nobody reads end it, and what it becomes would inherit that
     signal.signal(signal.SIGPIPE, signal.SIG_DFL)
     os.execv(program, [program, *words])

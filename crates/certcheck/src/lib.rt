@@ -8,14 +8,15 @@ mod extensions;
 mod list;
 mod names;
 mod parts;
-#[cfg(test)]
-mod tests;
 mod times;
 
 pub use crate::class::{ItemClass, read_tree};
 pub use asn1_core::OutOfMemory;
-pub use cert_framing::{Bundle, BundleError, End, Items};
+pub use cert_framing::{
+    Bundle, BundleError, End, Items, any_cutting, one_bundle, one_framing, one_item, one_stream,
+};
 pub use cert_model::fields::{
     AlgField, AnyField, AttrField, BitField, CertFields, EntryFields, ExtField, KeyField,
     ListFields, NameFields,
 };
+pub use cert_model::laws::{never_both, one_class, one_spelling, one_spelling_of_lists};
