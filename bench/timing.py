@@ -11,6 +11,7 @@ TOP = os.path.dirname(os.path.dirname(os.path.abspath(__file__)))
 sys.path.insert(0, os.path.join(TOP, "tools"))
 import repo
 
+SAMPLE = os.path.join(TOP, "samples", "leaf.der")
 COPIES = 100_000
 RUNS = 5
 
@@ -46,7 +47,7 @@ def yardstick(room):
 
 def write_bundle(room):
     """A file of `COPIES` copies of a sample certificate; gives its path."""
-    with open(os.path.join(TOP, "samples", "leaf.der"), "rb") as sample:
+    with open(SAMPLE, "rb") as sample:
         item = sample.read()
     bundle = os.path.join(room, "bundle.der")
     with open(bundle, "wb") as out:

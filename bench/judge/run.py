@@ -9,8 +9,9 @@
 Prints medians of five: milliseconds of each call, and peak resident memory of the whole run with the making of the
 graph, at least that of this script (some 15 MB).
 To reach: from n to 4n at most 8 times the time and the memory in `layered` and `equal`, where less than a millisecond
-counts as one, and in `apart` at most 5.76 times the memory, which is 2.4 times at each doubling. Exit status 1 where
-that is missed.
+counts as one, in `chain` at most 24 times the time and the memory (its rows are as many as its certificates, so 16 times
+is what there is to do), and in `apart` at most 5.76 times the memory, which is 2.4 times at each doubling. Exit status 1
+where that is missed.
 """
 import os
 import re
@@ -22,7 +23,7 @@ sys.path.insert(0, os.path.join(os.path.dirname(os.path.abspath(__file__)), os.p
 import timing
 
 KINDS = [("layered", 100_000), ("equal", 20_000), ("chain", 5_000), ("apart", 5_000)]
-LINEAR = ("layered", "equal")
+MOST = {"layered": 8, "equal": 8, "chain": 24}
 
 
 def measured(program, kind, count):
@@ -50,7 +51,7 @@ def main():
             first = first or now
         growth = [b / a for a, b in zip(first, now)]
         print(f"{kind}, 4n to n: find {growth[0]:.1f}, check {growth[1]:.1f}, memory {growth[2]:.1f}", flush=True)
-        missed = missed or (kind in LINEAR and max(growth) > 8) or (kind == "apart" and growth[2] > 5.76)
+        missed = missed or (kind in MOST and max(growth) > MOST[kind]) or (kind == "apart" and growth[2] > 5.76)
     sys.exit(1 if missed else 0)
 
 
