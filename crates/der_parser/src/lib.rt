@@ -28,6 +28,10 @@ pub use crate::typed::{
 };
 pub use ber_tree::{more_ber_levels, one_ber_tree, parse_ber, parse_ber_recursive, strict_is_ber};
 pub use der_tree::{
-    BerError, BerObject, BerObjectContent, BerResult, DerObject, DerObjectContent, MAX_OBJECT_SIZE,
-    MAX_RECURSION, ber_encode_object, parse_der, parse_der_recursive, parse_der_recursive_counted,
+    BerError, BerObject, BerObjectContent, BerResult, Clock, DerObject, DerObjectContent,
+    MAX_OBJECT_SIZE, MAX_RECURSION, ber_encode_object, bits_of, content_under, end_of, first_of,
+    generalized_of, is_negative_integer, is_shortest_integer, leaf_under, levels_and_trees,
+    more_levels, number_of, object_with, one_content, one_tree, parse_der, parse_der_recursive,
+    parse_der_recursive_counted, shape_of_element, shape_of_first, shape_of_oid, shape_of_plain,
+    shape_of_sequence, shape_of_set, text_of, u32_of, utc_of, written_again,
 };
