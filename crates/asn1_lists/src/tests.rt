@@ -1,14 +1,14 @@
-//! Worked octets: what is read and written at each border, and each refusal by its name.
+//! What rows of octets don't tell: values of values, closures, many values, round trips, writers that fail. What octets are
+//! read as and written stands in the rows of `asn1_rows`.
 
 mod collections;
 mod held;
 mod iterating;
 mod sets;
 
-use asn1_core::{Err as Refusal, Error};
-use asn1_traits::{
-    DerElement, FromBer, FromDer, TaggedElement, ToDer, read_back, read_back_optional,
-};
+use crate::{Sequence, SequenceOf, Set, SetOf};
+use asn1_core::Error;
+use asn1_traits::{FromDer, TaggedElement, read_back, read_back_optional};
 use std::alloc::Global;
 use std::fmt::Debug;
 use std::process::Abort;
@@ -19,80 +19,35 @@ fn same<R: Abort, T: PartialEq + Debug + Drop>(rt: &R, got: T, want: T) {
     assert_eq!(rt; got, want);
 }
 
-// Reads by DER's rules and writes again, through the bounds: these octets are written, and so many are left.
-fn written_again<'a, R: Abort, T: FromDer<'a, Error> + ToDer + Drop>(
+// Through the bounds of the laws alone: what is read back, written again, and taken for a present value; and that another
+// element is taken for an absent one.
+fn back_again<'a, R: Abort, T: FromDer<'a, Error> + TaggedElement + Drop>(
     rt: &R,
     alloc: Global,
     octets: &'a [u8],
-    left: usize,
-    want: &[u8],
-) -> Result<(), Fail> {
-    let (rest, value) = T::from_der(alloc, octets)?;
-    same(rt, rest.len(), left);
-    same(rt, value.in_der_form(), true);
-    same(rt, value.der_constructed(), true);
-    same(rt, value.to_der_len(), Ok(want.len()));
-    let written = value.to_der_vec(alloc)?;
-    same(rt, written.as_slice(), want);
-    Ok(())
-}
-
-// The same by BER's rules.
-fn ber_written_again<'a, R: Abort, T: FromBer<'a, Error> + ToDer + Drop>(
-    rt: &R,
-    alloc: Global,
-    octets: &'a [u8],
-    left: usize,
-    want: &[u8],
-) -> Result<(), Fail> {
-    let (rest, value) = T::from_ber(alloc, octets)?;
-    same(rt, rest.len(), left);
-    let written = value.to_der_vec(alloc)?;
-    same(rt, written.as_slice(), want);
-    Ok(())
-}
-
-// The round trips, through the bounds of lawful types.
-fn back_again<'a, R: Abort, T: FromDer<'a, Error> + DerElement + Drop>(
-    rt: &R,
-    alloc: Global,
-    octets: &'a [u8],
-    want: &[u8],
+    another: &'a [u8],
 ) -> Result<(), Fail> {
     let (rest, value) = read_back::<Error, T>(alloc, octets)?;
     same(rt, rest.len(), 0);
     let written = value.to_der_vec(alloc)?;
-    same(rt, written.as_slice(), want);
-    Ok(())
-}
-
-fn is_optional<'a, R: Abort, T: FromDer<'a, Error> + TaggedElement + Drop>(
-    rt: &R,
-    alloc: Global,
-    octets: &'a [u8],
-    present: bool,
-) -> Result<(), Fail> {
+    same(rt, written.as_slice(), octets);
     let (_, value) = read_back_optional::<Error, T>(alloc, octets)?;
-    same(rt, value.is_some(), present);
+    same(rt, value.is_some(), true);
+    let (_, value) = read_back_optional::<Error, T>(alloc, another)?;
+    same(rt, value.is_some(), false);
     Ok(())
 }
 
-fn der_refusal<'a, E: From<Error>, T: FromDer<'a, E> + Drop>(
-    alloc: Global,
-    octets: &'a [u8],
-) -> Option<Refusal<E>> {
-    match T::from_der(alloc, octets) {
-        Ok(_) => None,
-        Err(e) => Some(e),
-    }
+#[test]
+fn round_trips_of_contents(rt: HostRuntime) -> Result<(), Fail> {
+    back_again::<_, Sequence>(&rt, rt.alloc(), &[0x30, 1, 5], &[0x31, 0])?;
+    back_again::<_, Set>(&rt, rt.alloc(), &[0x31, 1, 5], &[0x30, 0])
 }
 
-fn ber_refusal<'a, E: From<Error>, T: FromBer<'a, E> + Drop>(
-    alloc: Global,
-    octets: &'a [u8],
-) -> Option<Refusal<E>> {
-    match T::from_ber(alloc, octets) {
-        Ok(_) => None,
-        Err(e) => Some(e),
-    }
+#[test]
+fn round_trips_of_values(rt: HostRuntime) -> Result<(), Fail> {
+    let octets = [0x30, 6, 2, 1, 9, 2, 1, 7];
+    back_again::<_, SequenceOf<u32>>(&rt, rt.alloc(), &octets, &[2, 1, 0])?;
+    let octets = [0x31, 13, 2, 1, 7, 2, 1, 9, 2, 1, 9, 2, 2, 1, 0];
+    back_again::<_, SetOf<u32>>(&rt, rt.alloc(), &octets, &[0x30, 0])
 }

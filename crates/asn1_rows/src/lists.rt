@@ -2,7 +2,7 @@
 
 use crate::tagged::tagged;
 use crate::words::{Call, words};
-use asn1_rs::{BmpString, OctetString, Sequence, Set, SetOf};
+use asn1_rs::{BmpString, OctetString, Sequence, SequenceOf, Set, SetOf};
 use std::alloc::Global;
 use std::io;
 
@@ -13,6 +13,8 @@ pub fn list(alloc: Global, call: Call, name: &str, octets: &[u8]) -> io::Result<
         "Sequence" => words::<Sequence<'_>>(alloc, call, octets),
         "Set" => words::<Set<'_>>(alloc, call, octets),
         "Vec<u32>" => words::<Vec<u32>>(alloc, call, octets),
+        "SequenceOf<u32>" => words::<SequenceOf<u32>>(alloc, call, octets),
+        "SetOf<u32>" => words::<SetOf<u32>>(alloc, call, octets),
         "SetOf<OctetString>" => words::<SetOf<OctetString<'_>>>(alloc, call, octets),
         "Option<u8>" => words::<Option<u8>>(alloc, call, octets),
         _ => tagged(alloc, call, name, octets),

@@ -1,6 +1,6 @@
 //! Reads rows `KIND OCTETS` from standard input, and prints each with what its octets mean: `KIND OCTETS = OUTCOME`.
 //!
-//! The octets stand in hex, and a kind is a call and what it is called for, as `der:u32`. Empty lines and those that begin
+//! The octets stand in hex, or as a text in quotes, and a kind is a call and what it is called for, as `der:u32`. Empty lines and those that begin
 //! with `#` are printed as they stand.
 #![tactic(auto)]
 

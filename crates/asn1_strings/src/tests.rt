@@ -1,4 +1,5 @@
-//! Worked octets: which text each type takes, and what is read and written of it.
+//! Which text each type takes, and what is read and written of it. The worked octets of `BmpString` stand in the rows of
+//! `asn1_rows`.
 
 use crate::charsets::{
     Descriptor, General, Graphic, Ia5, Numeric, Printable, Teletex, Utf8, Videotex, Visible,
@@ -89,9 +90,8 @@ fn charset_refused<'a, R: Abort, T: FromDer<'a, Error> + FromBer<'a, Error> + Dr
 // The text of one octet is taken exactly where the octet is one of these.
 fn takes_exactly<C: TestValidCharset, R: Abort>(rt: &R, octets: &[u8]) {
     for octet in 0..=255u8 {
-        assert_eq!(rt;
-            C::test_valid_charset(&[octet]).is_ok(),
-            octets.contains(&octet),
+        assert!(rt;
+            C::test_valid_charset(&[octet]).is_ok() == octets.contains(&octet),
             "{octet:02x}"
         );
     }
@@ -328,34 +328,16 @@ fn wide_both_ways<R: Abort, F: WideForm + Drop>(
     Ok(())
 }
 
+// By both rules, the octets are no text of wide characters.
+fn is_no_wide_text<R: Abort, F: WideForm + Drop>(rt: &R, alloc: Global, octets: &[u8]) {
+    charset_refused::<R, WideString<F>>(rt, alloc, octets);
+}
+
 #[test]
 fn bmp_strings(rt: HostRuntime) -> Result<(), Fail> {
-    let alloc = rt.alloc();
     same(&rt, <BmpString as Tagged>::TAG, Tag(30));
-    wide_both_ways::<_, Utf16>(&rt, alloc, &[30, 0], "")?;
-    wide_both_ways::<_, Utf16>(&rt, alloc, &[30, 4, 0, 0x41, 0, 0x42], "AB")?;
-    wide_both_ways::<_, Utf16>(&rt, alloc, &[30, 2, 0, 0], "\0")?;
-    wide_both_ways::<_, Utf16>(&rt, alloc, &[30, 2, 0xd7, 0xff], "\u{d7ff}")?;
-    wide_both_ways::<_, Utf16>(&rt, alloc, &[30, 2, 0xe0, 0], "\u{e000}")?;
-    wide_both_ways::<_, Utf16>(&rt, alloc, &[30, 2, 0xff, 0xff], "\u{ffff}")?;
-    wide_both_ways::<_, Utf16>(&rt, alloc, &[30, 4, 0xd8, 0, 0xdc, 0], "\u{10000}")?;
-    wide_both_ways::<_, Utf16>(&rt, alloc, &[30, 4, 0xdb, 0xff, 0xdf, 0xff], "\u{10ffff}")?;
-    wide_both_ways::<_, Utf16>(
-        &rt,
-        alloc,
-        &[30, 8, 0x20, 0xac, 0xd8, 0x3d, 0xde, 0, 0, 0x41],
-        "€😀A",
-    )?;
-    charset_refused::<_, BmpString>(&rt, alloc, &[30, 1, 0]);
-    charset_refused::<_, BmpString>(&rt, alloc, &[30, 3, 0, 0x41, 0]);
-    charset_refused::<_, BmpString>(&rt, alloc, &[30, 2, 0xd8, 0]);
-    charset_refused::<_, BmpString>(&rt, alloc, &[30, 3, 0xd8, 0, 0xdc]);
-    charset_refused::<_, BmpString>(&rt, alloc, &[30, 4, 0xd8, 0, 0, 0x41]);
-    charset_refused::<_, BmpString>(&rt, alloc, &[30, 4, 0xd8, 0, 0xdb, 0xff]);
-    charset_refused::<_, BmpString>(&rt, alloc, &[30, 4, 0xd8, 0, 0xe0, 0]);
-    charset_refused::<_, BmpString>(&rt, alloc, &[30, 2, 0xdc, 0]);
-    charset_refused::<_, BmpString>(&rt, alloc, &[30, 2, 0xdf, 0xff]);
-    charset_refused::<_, BmpString>(&rt, alloc, &[30, 6, 0, 0x41, 0xdb, 0xff, 0, 0x42]);
+    wide_both_ways::<_, Utf16>(&rt, rt.alloc(), &[30, 2, 0x20, 0xac], "€")?;
+    is_no_wide_text::<_, Utf16>(&rt, rt.alloc(), &[30, 1, 0]);
     Ok(())
 }
 
@@ -375,51 +357,14 @@ fn universal_strings(rt: HostRuntime) -> Result<(), Fail> {
         &[28, 12, 0, 0, 0x20, 0xac, 0, 1, 0xf6, 0, 0, 0, 0, 0x41],
         "€😀A",
     )?;
-    charset_refused::<_, UniversalString>(&rt, alloc, &[28, 1, 0]);
-    charset_refused::<_, UniversalString>(&rt, alloc, &[28, 3, 0, 0, 0]);
-    charset_refused::<_, UniversalString>(&rt, alloc, &[28, 5, 0, 0, 0, 0x41, 0]);
-    charset_refused::<_, UniversalString>(&rt, alloc, &[28, 4, 0, 0, 0xd8, 0]);
-    charset_refused::<_, UniversalString>(&rt, alloc, &[28, 4, 0, 0, 0xdf, 0xff]);
-    charset_refused::<_, UniversalString>(&rt, alloc, &[28, 4, 0, 0x11, 0, 0]);
-    charset_refused::<_, UniversalString>(&rt, alloc, &[28, 4, 0xff, 0xff, 0xff, 0xff]);
-    charset_refused::<_, UniversalString>(&rt, alloc, &[28, 4, 1, 0, 0, 0x41]);
-    Ok(())
-}
-
-// 63 and 64 characters of two octets: the longest short form of a length, and the first long one.
-#[test]
-fn lengths_of_wide_strings(rt: HostRuntime) -> Result<(), Fail> {
-    let alloc = rt.alloc();
-    let letters = [b'A'; 64];
-    let mut octets = [0u8; 131];
-    for i in 0..64usize {
-        octets[4 + 2 * i] = b'A';
-    }
-    octets[0] = 30;
-    octets[1] = 0x81;
-    octets[2] = 128;
-    wide_both_ways::<_, Utf16>(&rt, alloc, &octets, str::from_utf8(&letters)?)?;
-    octets[0] = 0;
-    octets[1] = 30;
-    octets[2] = 126;
-    wide_both_ways::<_, Utf16>(&rt, alloc, &octets[1..129], str::from_utf8(&letters[..63])?)?;
-    octets[0] = 30;
-    octets[1] = 2;
-    octets[2] = 0;
-    octets[3] = b'7';
-    let (rest, read) = der_value::<Error, BmpString>(alloc, &octets[..6])?;
-    same(&rt, rest, &[b'A', 0][..]);
-    same(&rt, read.as_str(), "7");
-    same(
-        &rt,
-        der_refusal::<Error, BmpString>(alloc, &octets[..3]),
-        Some(Refusal::Incomplete(Needed::Size(1))),
-    );
-    same(
-        &rt,
-        der_refusal::<Error, BmpString>(alloc, &[0x3e, 2, 0, 0x41]),
-        Some(Refusal::Error(Error::ConstructUnexpected)),
-    );
+    is_no_wide_text::<_, Utf32>(&rt, alloc, &[28, 1, 0]);
+    is_no_wide_text::<_, Utf32>(&rt, alloc, &[28, 3, 0, 0, 0]);
+    is_no_wide_text::<_, Utf32>(&rt, alloc, &[28, 5, 0, 0, 0, 0x41, 0]);
+    is_no_wide_text::<_, Utf32>(&rt, alloc, &[28, 4, 0, 0, 0xd8, 0]);
+    is_no_wide_text::<_, Utf32>(&rt, alloc, &[28, 4, 0, 0, 0xdf, 0xff]);
+    is_no_wide_text::<_, Utf32>(&rt, alloc, &[28, 4, 0, 0x11, 0, 0]);
+    is_no_wide_text::<_, Utf32>(&rt, alloc, &[28, 4, 0xff, 0xff, 0xff, 0xff]);
+    is_no_wide_text::<_, Utf32>(&rt, alloc, &[28, 4, 1, 0, 0, 0x41]);
     same(
         &rt,
         ber_refusal::<Error, UniversalString>(alloc, &[30, 2, 0, 0x41]),
