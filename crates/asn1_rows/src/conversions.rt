@@ -1,7 +1,7 @@
 //! Elements, and what they mean by the conversions of `Any`.
 
-use crate::words::{literal, told};
 use asn1_rs::{Any, AnyConversions};
+use hex_rows::{literal, told};
 use std::alloc::Global;
 use std::io;
 

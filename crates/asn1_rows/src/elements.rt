@@ -1,12 +1,11 @@
 //! Elements of any type, one or several.
 
 use crate::headers::parts_of;
-use crate::octets::hex_of;
-use crate::words::{literal, told};
 use asn1_rs::{
     Any, BerParser, DerParser, Error, HeaderCount, ParseResult, SequenceIterator,
     cut_elements_counted,
 };
+use hex_rows::{hex_of, literal, told};
 use std::alloc::Global;
 use std::io;
 

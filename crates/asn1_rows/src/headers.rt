@@ -1,8 +1,7 @@
 //! Headers.
 
-use crate::octets::hex_of;
-use crate::words::{literal, told};
 use asn1_rs::{Error, Header, ParseResult};
+use hex_rows::{hex_of, literal, told};
 use std::alloc::Global;
 use std::io;
 

@@ -8,9 +8,9 @@ mod conversions;
 mod elements;
 mod headers;
 mod lists;
-mod octets;
 mod row;
 mod tagged;
+mod tags;
 mod values;
 mod words;
 

@@ -3,9 +3,10 @@
 use crate::conversions::converted;
 use crate::elements::{cut, element, fronts, items};
 use crate::headers::header;
-use crate::octets::octets_of;
+use crate::tags::tag;
 use crate::values::typed;
-use crate::words::{Call, literal};
+use crate::words::Call;
+use hex_rows::{literal, octets_of};
 use std::alloc::Global;
 use std::io;
 
@@ -24,6 +25,7 @@ pub fn outcome(alloc: Global, row: &str) -> io::Result<String> {
 /// What the call answers for the octets.
 fn called(alloc: Global, call: &str, name: &str, octets: &[u8]) -> io::Result<String> {
     match call {
+        "tag" => tag(alloc, name),
         "der" => typed(alloc, Call::Der, name, octets),
         "ber" => typed(alloc, Call::Ber, name, octets),
         "write" => typed(alloc, Call::Write, name, octets),

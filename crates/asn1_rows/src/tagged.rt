@@ -1,11 +1,12 @@
 //! Values under tags.
 
-use crate::words::{Call, literal, words};
+use crate::words::{Call, words};
 use asn1_rs::{
     ApplicationExplicit, ApplicationImplicit, Error, Explicit, Implicit, OptTaggedExplicit,
     OptTaggedImplicit, PrivateExplicit, PrivateImplicit, TaggedExplicit, TaggedImplicit,
     TaggedValue,
 };
+use hex_rows::literal;
 use std::alloc::Global;
 use std::io;
 

@@ -1,7 +1,7 @@
 //! What a call answers, in words.
 
-use crate::octets::hex_of;
 use asn1_rs::{Err, Error, FromBer, FromDer, IResult, ToDer};
+use hex_rows::{hex_of, literal, told};
 use std::alloc::Global;
 use std::fmt::Debug;
 use std::io;
@@ -33,12 +33,6 @@ pub fn words<'a, T: FromDer<'a, Error> + FromBer<'a, Error> + ToDer + Debug + Dr
     }
 }
 
-/// A value in its debug text.
-pub fn told<T: Debug + Drop>(alloc: Global, value: T) -> io::Result<String> {
-    let text = format!(in alloc; "{value:?}")?;
-    Ok(text)
-}
-
 /// The value and how many octets are left, or the refusal.
 fn told_of<T: Debug + Drop>(alloc: Global, read: IResult<&[u8], T, Error>) -> io::Result<String> {
     match read {
@@ -68,10 +62,4 @@ fn written<T: ToDer>(alloc: Global, value: &T) -> io::Result<String> {
         }
         Err(refusal) => told(alloc, refusal),
     }
-}
-
-/// The text as it stands.
-pub fn literal(alloc: Global, text: &str) -> io::Result<String> {
-    let text = String::from_str(alloc, text)?;
-    Ok(text)
 }

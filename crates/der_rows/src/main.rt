@@ -3,7 +3,6 @@
 //! The octets stand in hex. Empty lines and those that begin with `#` are printed as they stand.
 #![tactic(auto)]
 
-mod octets;
 mod row;
 mod tree;
 mod typed;

@@ -1,10 +1,9 @@
 //! A row, taken apart.
 
-use crate::octets::octets_of;
 use crate::typed::typed;
 use crate::untyped::{ber, der, levels};
+use hex_rows::{literal, octets_of};
 use std::alloc::Global;
-use std::fmt::Debug;
 use std::io;
 
 /// What the call of the row answers.
@@ -22,16 +21,4 @@ pub fn outcome(alloc: Global, row: &str) -> io::Result<String> {
             None => typed(alloc, call, octets),
         },
     }
-}
-
-/// A value in its debug text.
-pub fn told<T: Debug + Drop>(alloc: Global, value: T) -> io::Result<String> {
-    let text = format!(in alloc; "{value:?}")?;
-    Ok(text)
-}
-
-/// The text as it stands.
-pub fn literal(alloc: Global, text: &str) -> io::Result<String> {
-    let text = String::from_str(alloc, text)?;
-    Ok(text)
 }

@@ -1,9 +1,8 @@
 //! An object in words.
 
-use crate::octets::hex_of;
-use crate::row::literal;
 use asn1_core::Length;
 use der_parser::{BerObject, BerObjectContent};
+use hex_rows::{hex_of, literal};
 use std::alloc::Global;
 use std::io;
 

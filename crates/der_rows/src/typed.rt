@@ -1,6 +1,5 @@
 //! Objects of one type, numbers and headers.
 
-use crate::row::{literal, told};
 use crate::untyped::object_words;
 use asn1_core::Header;
 use der_parser::{
@@ -11,6 +10,7 @@ use der_parser::{
     parse_der_set, parse_der_t61string, parse_der_u32, parse_der_universalstring,
     parse_der_utctime, parse_der_utf8string,
 };
+use hex_rows::{literal, told};
 use std::alloc::Global;
 use std::io;
 

@@ -1,10 +1,10 @@
 //! Objects of any type.
 
-use crate::row::{literal, told};
 use crate::tree::words_of;
 use der_parser::{
     BerObject, BerResult, parse_ber, parse_ber_recursive, parse_der, parse_der_recursive,
 };
+use hex_rows::{literal, told};
 use std::alloc::Global;
 use std::io;
 

@@ -5,11 +5,23 @@ use std::alloc::{AllocError, Global};
 use std::fmt::Debug;
 use std::io;
 
-/// The octets that the text spells: two digits an octet, in lower case, blanks between octets or none. None where it spells no octets.
+/// The octets that the text spells; none where it spells none.
 pub fn octets_of(alloc: Global, text: &str) -> Result<Option<Vec<u8>>, AllocError> {
     let mut octets = Vec::new(alloc);
+    for (i, part) in text.split('"').enumerate() {
+        if i % 2 == 1 {
+            octets.extend_from_slice(part.as_bytes())?;
+        } else if !push_octets(&mut octets, part)? {
+            return Ok(None);
+        }
+    }
+    Ok(Some(octets))
+}
+
+/// Appends the octets that the digits spell, and answers whether they spell any.
+fn push_octets(octets: &mut Vec<u8>, digits: &str) -> Result<bool, AllocError> {
     let mut first = None;
-    for digit in text.chars() {
+    for digit in digits.chars() {
         match (first, value_of(digit)) {
             (None, None) if digit == ' ' => {}
             (None, Some(value)) => first = Some(value),
@@ -17,13 +29,10 @@ pub fn octets_of(alloc: Global, text: &str) -> Result<Option<Vec<u8>>, AllocErro
                 octets.push(high << 4 | low)?;
                 first = None;
             }
-            _ => return Ok(None),
+            _ => return Ok(false),
         }
     }
-    if first.is_some() {
-        return Ok(None);
-    }
-    Ok(Some(octets))
+    Ok(first.is_none())
 }
 
 /// The value of a hexadecimal digit.
