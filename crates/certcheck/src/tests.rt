@@ -31,7 +31,7 @@ fn kind_of(alloc: Global, item: &[u8]) -> Result<Kind, OutOfMemory> {
 fn are_told(rt: &impl Abort, alloc: Global, rows: &[(&str, &[u8], Kind)]) -> Result<(), Fail> {
     for (name, item, kind) in rows {
         let told = kind_of(alloc, item)?;
-        assert_eq!(rt; told, *kind, "{name}");
+        assert!(rt; told == *kind, "{name}");
     }
     Ok(())
 }
@@ -535,17 +535,14 @@ fn fields_of_a_certificate(rt: HostRuntime) -> Result<(), Fail> {
     else {
         return Err(Fail::from("no certificate"));
     };
-    assert_eq!(rt; fields.version, 2);
-    assert_eq!(rt; fields.serial, b"\x01".as_slice());
-    assert_eq!(rt; fields.issuer.sets.len(), 1);
-    assert_eq!(rt; fields.not_before.year(), 2025);
-    assert_eq!(rt; fields.not_after.year(), 2026);
-    assert_eq!(rt; fields.extensions.len(), 1);
+    assert!(rt; fields.version == 2);
+    assert!(rt; fields.serial == b"\x01".as_slice());
+    assert!(rt; fields.issuer.sets.len() == 1);
+    assert!(rt; fields.not_before.year() == 2025);
+    assert!(rt; fields.not_after.year() == 2026);
+    assert!(rt; fields.extensions.len() == 1);
     assert!(rt; fields.extensions[0].critical);
-    assert_eq!(rt;
-        fields.extensions[0].value,
-        b"\x30\x06\x01\x01\xff\x02\x01\x00".as_slice()
-    );
+    assert!(rt; fields.extensions[0].value == b"\x30\x06\x01\x01\xff\x02\x01\x00".as_slice());
     assert!(rt; fields.issuer_id.is_none());
     Ok(())
 }
