@@ -38,7 +38,8 @@ pub fn parse_ber<'a>(alloc: Global, i: &'a [u8]) -> BerResult<'a>
 /// Reads one BER object of at most so many levels from the front of the octets (X.690, 8): a header in any form, of at most
 /// `MAX_OBJECT_SIZE` content octets where it tells a length, and a content by the table. Each element takes one level,
 /// those within a raw element of the indefinite form too. Answers the octets after the object, and its tree, whose windows
-/// lie in `i`. Octets 00 00 by themselves are read as `EndOfContent`.
+/// lie in `i`. Octets 00 00 by themselves are read as `EndOfContent`. It recurses as `parse_der_recursive` does, which tells
+/// how many levels a stack holds.
 ///
 /// Refusals, in their order: those of `Any::from_ber_recursive`, an element of too many levels or one that the octets cut
 /// among them; and where the element is whole `Failure` of `OutOfMemory`, or an error: it is no object of so many levels.

@@ -35,7 +35,8 @@ pub fn parse_der<'a>(alloc: Global, i: &'a [u8]) -> BerResult<'a>
 }
 
 /// Reads one DER object of at most so many levels from the front of the octets (X.690, 8, 10 and 11). Each element takes
-/// one level. Answers the octets after the object, and its tree, whose windows lie in `i`.
+/// one level. Answers the octets after the object, and its tree, whose windows lie in `i`. Reading recurses, and so do the
+/// tree's drop and `Debug`: 4,000 levels fit a stack of 8 MB, many more don't.
 ///
 /// Refusals, in their order: `BerMaxDepth` at no level; those of `Header::strict`; `InvalidLength` of more than
 /// `MAX_OBJECT_SIZE` content octets; `Incomplete` with the number of those that are missing; and where the element is whole
