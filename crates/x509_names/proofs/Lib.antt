@@ -1,0 +1,4 @@
+pub mod FrontLaws
+pub mod KeyLaws
+pub mod LeafLaws
+pub mod NameLaws
