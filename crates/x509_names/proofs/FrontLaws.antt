@@ -1,5 +1,5 @@
 -- From the equation of a reader of the element at the front to what is promised of it.
-use Rattle.std.proofs.Common.{◌≡◌, subst, ℕ, List, Result, Ok, Err, IfErr, Bor, inr}
+use Rattle.std.proofs.Common.{◌≡◌, subst, ℕ, List, Result, Ok, Err, IfErr, Bor, inr, IfOk, ◌∙◌, append_assoc, ap, ◌++◌}
 use Rattle.std.specs.Int.Digits.{AllBelowBase}
 use Rattle.asn1_core.specs.Missing.{IsMissing}
 use Rattle.asn1_core.specs.declared.error.Needed.{Needed}
@@ -14,11 +14,11 @@ use Rattle.asn1_traits.specs.Reads.{Reads, NoneReads, Lacks, IsNoMemory}
 use Rattle.x509_core.specs.declared.error.X509Error.{X509Error}
 use Rattle.x509_core.specs.Answers.{Answer, FailsWith, Gives, naming}
 use Rattle.x509_core.specs.Errors.{told}
-use Rattle.x509_core.specs.Grammar.{Grammar, One}
+use Rattle.x509_core.specs.Grammar.{Grammar, One, WindowBox}
 use Rattle.x509_core.specs.Reading.{Reader, next}
 use Rattle.x509_core.proofs.Grammars.{IsMeaning, IsReading, next_reading, was_named, is_named}
 use Rattle.x509_core.proofs.Many.{error_by}
-use Rattle.x509_names.specs.Fronts.{TellsMissing}
+use Rattle.x509_names.specs.Fronts.{TellsMissing, IsWindow}
 
 -- where octets of an element are missing, no value of one begins with fewer of them
 lacks : {A : Type 0} (M : Piece → A → Type 0) (octets : List ℕ) (n : Needed) → IsMissing HasElement octets (refusals.Incomplete n) → (V : Type 0) (view : V → A) → Lacks (λ o (v : V) r. One M o (view v) r) octets n
@@ -63,3 +63,9 @@ gives_whole P p reading view i x (Ok r) below given only = (reading.found i (vie
 gives_whole P p reading view i x (Err (refusals.Incomplete n)) below given only = let wrong = only in cc
 gives_whole P p reading view i x (Err (refusals.Error e)) below given only = (none_reads P p reading view i e below given, no_memory e (p i) given, λ n is. is)
 gives_whole P p reading view i x (Err (refusals.Failure e)) below given only = let wrong = only in cc
+
+-- the window of what was found
+pub gives_window : {X A : Type 0} (n : ℕ) (P : Grammar A) (raw : A → List ℕ) (view : X → A) (i : List ℕ) (answer : Result (Bor (List ℕ) × X) (Refusal X509Error)) → IfOk answer (λ r. WindowBox n P raw i (view r.1) r.0.now)
+    → IfOk answer (λ r. IsWindow i (raw (view r.1)) r.0.now)
+gives_window n P raw view i (Ok r) found = (found.means.left, found.whole ∙ ap (λ z. z ++ r.0.now) found.means.window ∙ append_assoc (raw (view r.1)) found.means.left r.0.now)
+gives_window n P raw view i (Err e) found = tt

@@ -16,7 +16,7 @@ use Rattle.asn1_values.specs.ReaderLaws.{bits_is, check_bits_is}
 use Rattle.x509_core.specs.Answers.{Answer, unnamed, plain, ◌>>=◌}
 use Rattle.x509_core.specs.Reading.{piece_at, next, content_in, oid_in}
 use Rattle.x509_core.specs.Grammar.{One, UnlessAtEnd}
-use Rattle.x509_core.proofs.Grammars.{IsMeaning, next_reading, two, piece_found, piece_only}
+use Rattle.x509_core.proofs.Grammars.{IsMeaning, two, piece_found, piece_only}
 use Rattle.x509_names.specs.Fields.{Bits}
 use Rattle.x509_names.specs.Leaves.{Leaf, IsOid, IsOctets, IsInteger, IsShortestContent, IsBits, AreBits, IsAny}
 use Rattle.x509_names.specs.Reading.{leaf_in, octets_in, integer_in, shortest_of, bits_of, bits_in, parameters_at}
@@ -136,6 +136,14 @@ piece_any i q r below given =
     let read = piece_found i q r below given in
     record { piece = q; spells = read.spells; whole = read.whole; means = refl }
 
+same_some : (a v : Element) (s r : List ℕ) → (let x : Answer (Option Element × List ℕ) = Ok (Some a, s) in x ≡ Ok (Some v, r)) → ◌≡◌ {A = Element × List ℕ} (a, s) (v, r)
+same_some a v s r given =
+    let pairs : ◌≡◌ {A = Option Element × List ℕ} (Some a, s) (Some v, r) = cc in
+    let value : ◌≡◌ {A = Option Element} (Some a) (Some v) = ap (λ (z : Option Element × List ℕ). z.0) pairs in
+    let rest : s ≡ r = ap (λ (z : Option Element × List ℕ). z.1) pairs in
+    let same : a ≡ v = cc in
+    cc
+
 pub parameters_found : (i : List ℕ) (v : Option Element) (r : List ℕ) → AllBelowBase 256 i → parameters_at i ≡ Ok (v, r) → UnlessAtEnd (One IsAny) i v r
 parameters_found [] None r below given = (refl, let both : ◌≡◌ {A = Option Element × List ℕ} (None, []) (None, r) = cc in sym (ap (λ (z : Option Element × List ℕ). z.1) both))
 parameters_found [] (Some v) r below given =
@@ -149,12 +157,9 @@ parameters_found (x ∷ s) None r below given =
     cc
 parameters_found (x ∷ s) (Some v) r below given =
     let step = two (piece_at (x ∷ s)) _ (Some v, r) given in
-    let given_pair : ◌≡◌ {A = Option Element × List ℕ} (Some step.0.0.element, step.0.1) (Some v, r) = cc in
-    let value : ◌≡◌ {A = Option Element} (Some step.0.0.element) (Some v) = ap (λ (z : Option Element × List ℕ). z.0) given_pair in
-    let same : step.0.0.element ≡ v = cc in
-    let both : ◌≡◌ {A = Element × List ℕ} (step.0.0.element, step.0.1) (v, r) = ap (λ z. (z, step.0.1)) same ∙ ap (λ (z : Option Element × List ℕ). (v, z.1)) given_pair in
-    let read : next (λ q. Ok q.element) (x ∷ s) ≡ Ok (v, r) = rw step.1 (ap (λ (z : Element × List ℕ). Ok z) both) in
-    ((next_reading IsAny (λ q. Ok q.element) any_meaning).found (x ∷ s) v r below read).0
+    let same = same_some step.0.0.element v step.0.1 r step.2 in
+    let any = piece_any (x ∷ s) step.0.0 step.0.1 below step.1 in
+    subst (λ (z : Element × List ℕ). One IsAny (x ∷ s) z.0 z.1) same any
 
 pub parameters_only : (i : List ℕ) (v : Option Element) (r : List ℕ) → UnlessAtEnd (One IsAny) i v r → parameters_at i ≡ Ok (v, r)
 parameters_only [] None r is = rw is.1 refl

@@ -1,5 +1,5 @@
 -- A value read from the element at the front of octets, for the traits of readers.
-use Rattle.std.specs.Prelude.{◌≡◌, ℕ, List, Result, Ok, Err}
+use Rattle.std.specs.Prelude.{◌≡◌, ℕ, List, ◌++◌, Result, Ok, Err}
 use Rattle.asn1_core.specs.declared.error.Needed.{Needed}
 use Rattle.asn1_core.specs.declared.outcome.Err.{Err as Refusal}
 use Rattle.asn1_core.specs.declared.outcome.Err.TheVariants as refusals
@@ -36,3 +36,7 @@ abbrev pub TakesNoMemory : Refusal X509Error → Type 0
 TakesNoMemory (refusals.Incomplete n) = Unit {0}
 TakesNoMemory (refusals.Error e) = Unit {0}
 TakesNoMemory (refusals.Failure e) = ⊥
+
+-- the octets begin with the window; then come those of its element that were ignored, then the rest
+abbrev pub IsWindow : List ℕ → List ℕ → List ℕ → Type 0
+IsWindow octets raw rest = (ignored : List ℕ) × (octets ≡ raw ++ (ignored ++ rest))

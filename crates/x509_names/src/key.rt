@@ -9,7 +9,7 @@ ghost use Rattle.x509_core.specs.Answers.{Gives, ElseMemory, naming};
 ghost use Rattle.x509_core.specs.Errors.{told};
 ghost use Rattle.x509_core.specs.Grammar.{HoldsWindow};
 ghost use Rattle.x509_names.specs.Fields.{Key, KeyValue};
-ghost use Rattle.x509_names.specs.Fronts.{TellsMissing, one_rest};
+ghost use Rattle.x509_names.specs.Fronts.{TellsMissing, IsWindow, one_rest};
 ghost use Rattle.x509_names.specs.Names as grammar;
 ghost use Rattle.x509_names.specs.PublicKeys.{IsKeyValue};
 ghost use Rattle.x509_names.specs.Reading.{bits_at, key_in, key_at};
@@ -136,6 +136,7 @@ impl<'a> FromDer<'a, X509Error> for SubjectPublicKeyInfo<'a> {
         ensures reads { Reads (λ given e. e ≡ told given) (Unit {0}) EndsWithinElement (λ i. i.now)
             (λ i v r. grammar.SubjectPublicKeyInfo i (key_view v) r) bytes.now result }
         ensures exact { Gives (λ r. (key_view r.1, r.0.now)) result (key_at bytes.now) }
+        ensures window { IfOk result (λ r. IsWindow bytes.now r.1.raw.now r.0.now) }
         ensures found { IfOk result (λ r. grammar.SubjectPublicKeyInfo bytes.now (key_view r.1) r.0.now) }
         ensures only { (v : Key) (rest : List ℕ) → grammar.SubjectPublicKeyInfo bytes.now v rest
             → ElseMemory result (λ r. (key_view r.1 ≡ v) × (r.0.now ≡ rest)) }

@@ -7,6 +7,7 @@ mod attribute;
 mod attributes;
 mod front;
 mod key;
+pub mod laws;
 mod leaves;
 mod name;
 mod public_key;

@@ -12,7 +12,7 @@ ghost use Rattle.x509_core.specs.Errors.{told};
 ghost use Rattle.x509_core.specs.Grammar.{HoldsWindow};
 ghost use Rattle.x509_core.specs.Reading.{many_of};
 ghost use Rattle.x509_names.specs.Fields.{Name};
-ghost use Rattle.x509_names.specs.Fronts.{TellsMissing, one_rest};
+ghost use Rattle.x509_names.specs.Fronts.{TellsMissing, IsWindow, one_rest};
 ghost use Rattle.x509_names.specs.Identifiers.{common_name_id, country_id, organization_id, organizational_unit_id, state_or_province_id, locality_id, email_id};
 ghost use Rattle.x509_names.specs.Names as grammar;
 ghost use Rattle.x509_names.specs.Reading.{relative_name_at, name_in, name_at};
@@ -236,6 +236,7 @@ impl<'a> FromDer<'a, X509Error> for X509Name<'a> {
         ensures reads { Reads (λ given e. e ≡ told given) (Unit {0}) EndsWithinElement (λ i. i.now)
             (λ i v r. grammar.X509Name i (name_view v) r) bytes.now result }
         ensures exact { Gives (λ r. (name_view r.1, r.0.now)) result (name_at bytes.now) }
+        ensures window { IfOk result (λ r. IsWindow bytes.now r.1.raw.now r.0.now) }
         ensures found { IfOk result (λ r. grammar.X509Name bytes.now (name_view r.1) r.0.now) }
         ensures only { (v : Name) (rest : List ℕ) → grammar.X509Name bytes.now v rest
             → ElseMemory result (λ r. (name_view r.1 ≡ v) × (r.0.now ≡ rest)) }

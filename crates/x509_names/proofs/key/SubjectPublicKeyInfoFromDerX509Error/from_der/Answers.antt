@@ -6,7 +6,7 @@ use Rattle.x509_core.proofs.Public.{gives_found, gives_only}
 use Rattle.x509_names.specs.Names.{KeyParts, SubjectPublicKeyInfo}
 use Rattle.x509_names.specs.Reading.{key_in, key_at}
 use Rattle.x509_names.specs.View.{key_view}
-use Rattle.x509_names.proofs.FrontLaws.{gives_reads}
+use Rattle.x509_names.proofs.FrontLaws.{gives_reads, gives_window}
 use Rattle.x509_names.proofs.KeyLaws.{key_meaning}
 use Rattle.x509_names.proofs.key.SubjectPublicKeyInfoFromDerX509Error.from_der.Goals as goal
 
@@ -24,3 +24,11 @@ pub returns-clause-only : goal.returns-clause-only
 returns-clause-only c =
     gives_only SubjectPublicKeyInfo key_at (next_reading (HoldsWindow 16 KeyParts (λ k. k.raw)) key_in key_meaning) key_view c.args.bytes.now c.key_at_front.result
     (octets_below c.args.bytes.now (λ k. omega (arith, c.type_inv.bytes k))) c.key_at_front.ensures.exact
+
+pub returns-clause-window : goal.returns-clause-window
+returns-clause-window c =
+    gives_window 16 KeyParts (λ k. k.raw) key_view c.args.bytes.now c.key_at_front.result
+    (
+    gives_found SubjectPublicKeyInfo key_at (next_reading (HoldsWindow 16 KeyParts (λ k. k.raw)) key_in key_meaning) key_view c.args.bytes.now c.key_at_front.result
+    (octets_below c.args.bytes.now (λ k. omega (arith, c.type_inv.bytes k))) c.key_at_front.ensures.exact
+    )

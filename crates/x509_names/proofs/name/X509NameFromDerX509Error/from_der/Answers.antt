@@ -6,7 +6,7 @@ use Rattle.x509_core.proofs.Public.{gives_found, gives_only}
 use Rattle.x509_names.specs.Names.{NameParts, X509Name}
 use Rattle.x509_names.specs.Reading.{name_in, name_at}
 use Rattle.x509_names.specs.View.{name_view}
-use Rattle.x509_names.proofs.FrontLaws.{gives_reads}
+use Rattle.x509_names.proofs.FrontLaws.{gives_reads, gives_window}
 use Rattle.x509_names.proofs.NameLaws.{name_meaning}
 use Rattle.x509_names.proofs.name.X509NameFromDerX509Error.from_der.Goals as goal
 
@@ -24,3 +24,11 @@ pub returns-clause-only : goal.returns-clause-only
 returns-clause-only c =
     gives_only X509Name name_at (next_reading (HoldsWindow 16 NameParts (λ n. n.raw)) name_in name_meaning) name_view c.args.bytes.now c.name_at_front.result
     (octets_below c.args.bytes.now (λ k. omega (arith, c.type_inv.bytes k))) c.name_at_front.ensures.exact
+
+pub returns-clause-window : goal.returns-clause-window
+returns-clause-window c =
+    gives_window 16 NameParts (λ n. n.raw) name_view c.args.bytes.now c.name_at_front.result
+    (
+    gives_found X509Name name_at (next_reading (HoldsWindow 16 NameParts (λ n. n.raw)) name_in name_meaning) name_view c.args.bytes.now c.name_at_front.result
+    (octets_below c.args.bytes.now (λ k. omega (arith, c.type_inv.bytes k))) c.name_at_front.ensures.exact
+    )
