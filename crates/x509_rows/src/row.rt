@@ -1,0 +1,46 @@
+//! A row, taken apart.
+
+use crate::keys::{exponent, parsed};
+use crate::names::{as_slice, as_str, attributes_of, attributes_under};
+use crate::words::told_of;
+use asn1_traits::FromDer;
+use hex_rows::{literal, octets_of};
+use std::alloc::Global;
+use std::io;
+use x509_names::{
+    AlgorithmIdentifier, AttributeTypeAndValue, RSAPublicKey, RelativeDistinguishedName,
+    SubjectPublicKeyInfo, X509Name,
+};
+
+/// What the call of the row answers.
+pub fn outcome(alloc: Global, row: &str) -> io::Result<String> {
+    let (call, digits) = row.split_once(' ').unwrap_or((row, ""));
+    let Some(octets) = octets_of(alloc, digits)? else {
+        return literal(alloc, "no octets");
+    };
+    let octets = octets.as_slice();
+    match call {
+        "algorithm" => told_of(alloc, AlgorithmIdentifier::from_der(alloc, octets)),
+        "attribute" => told_of(alloc, AttributeTypeAndValue::from_der(alloc, octets)),
+        "relative" => told_of(alloc, RelativeDistinguishedName::from_der(alloc, octets)),
+        "name" => told_of(alloc, X509Name::from_der(alloc, octets)),
+        "key" => told_of(alloc, SubjectPublicKeyInfo::from_der(alloc, octets)),
+        "rsa" => told_of(alloc, RSAPublicKey::from_der(alloc, octets)),
+        _ => called(alloc, call, octets),
+    }
+}
+
+/// The same of calls on what was read.
+fn called(alloc: Global, call: &str, octets: &[u8]) -> io::Result<String> {
+    match call {
+        "as_str" => as_str(alloc, octets),
+        "as_slice" => as_slice(alloc, octets),
+        "iter_attributes" => attributes_of(alloc, octets),
+        "try_exponent" => exponent(alloc, octets),
+        "parsed" => parsed(alloc, octets),
+        _ => match call.strip_prefix("iter_") {
+            Some(name) => attributes_under(alloc, name, octets),
+            None => literal(alloc, "no call"),
+        },
+    }
+}

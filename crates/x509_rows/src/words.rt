@@ -1,0 +1,74 @@
+//! What a reader answers, in words.
+
+use asn1_any::Any;
+use asn1_core::{Class, Err as Refusal};
+use asn1_values::BitString;
+use hex_rows::{hex_of, literal, told};
+use std::alloc::Global;
+use std::io;
+use x509_core::{X509Error, X509Result};
+
+/// A value that has words.
+pub trait Words {
+    /// The value's parts, in the order of its fields.
+    fn words(&self, alloc: Global) -> io::Result<String>;
+}
+
+/// The value's words and the octets after it, or the refusal.
+pub fn told_of<T: Words + Drop>(alloc: Global, read: X509Result<'_, T>) -> io::Result<String> {
+    match read {
+        Ok((rest, value)) => {
+            let words = value.words(alloc)?;
+            let rest = hex_of(alloc, rest)?;
+            let text = format!(in alloc; "{words}; rest {rest}")?;
+            Ok(text)
+        }
+        Err(refusal) => refusal_text(alloc, refusal),
+    }
+}
+
+/// The refusal; of an error of the readers below its kind alone, since which one it is isn't promised.
+fn refusal_text(alloc: Global, refusal: Refusal<X509Error>) -> io::Result<String> {
+    match refusal {
+        Refusal::Error(error) => {
+            let error = error_text(alloc, error)?;
+            let text = format!(in alloc; "Error({error})")?;
+            Ok(text)
+        }
+        refusal => told(alloc, refusal),
+    }
+}
+
+/// The error's name.
+pub fn error_text(alloc: Global, error: X509Error) -> io::Result<String> {
+    match error {
+        X509Error::Der(_) => literal(alloc, "Der"),
+        X509Error::NomError(_) => literal(alloc, "NomError"),
+        error => told(alloc, error),
+    }
+}
+
+/// An element: class, form, tag number and content.
+pub fn element_text(alloc: Global, any: &Any<'_>) -> io::Result<String> {
+    let class = match any.header.class() {
+        Class::Universal => "universal",
+        Class::Application => "application",
+        Class::ContextSpecific => "context",
+        Class::Private => "private",
+    };
+    let form = if any.header.is_constructed() {
+        "constructed"
+    } else {
+        "primitive"
+    };
+    let content = hex_of(alloc, any.content)?;
+    let text = format!(in alloc; "{class} {form} {} {content}", any.tag().0)?;
+    Ok(text)
+}
+
+/// The number of unused bits, and the octets.
+pub fn bits_text(alloc: Global, bits: &BitString<'_>) -> io::Result<String> {
+    let octets = hex_of(alloc, bits.content)?;
+    let text = format!(in alloc; "{} unused of {octets}", bits.unused_bits)?;
+    Ok(text)
+}
