@@ -7,7 +7,9 @@ use asn1_traits::FromDer;
 use hex_rows::{hex_of, literal};
 use std::alloc::Global;
 use std::io;
-use x509_names::{AlgorithmIdentifier, AttributeTypeAndValue, RelativeDistinguishedName, X509Name};
+use x509_names::{
+    AlgorithmIdentifier, AttributeTypeAndValue, AttributesOf, RelativeDistinguishedName, X509Name,
+};
 
 impl Words for AlgorithmIdentifier<'_> {
     fn words(&self, alloc: Global) -> io::Result<String> {
@@ -99,21 +101,28 @@ pub fn attributes_under(alloc: Global, call: &str, octets: &[u8]) -> io::Result<
     let Ok((_, name)) = X509Name::from_der(alloc, octets) else {
         return literal(alloc, "no name");
     };
-    let attributes = match call {
-        "common_name" => name.iter_common_name(),
-        "country" => name.iter_country(),
-        "organization" => name.iter_organization(),
-        "organizational_unit" => name.iter_organizational_unit(),
-        "state_or_province" => name.iter_state_or_province(),
-        "locality" => name.iter_locality(),
-        "email" => name.iter_email(),
-        _ => return literal(alloc, "no call"),
+    let Some(attributes) = attributes_by(&name, call) else {
+        return literal(alloc, "no call");
     };
     let mut text = String::new(alloc);
     for attribute in attributes {
         add_attribute(alloc, &mut text, attribute)?;
     }
     Ok(text)
+}
+
+/// What the call of this name walks over.
+fn attributes_by<'n, 'a>(name: &'n X509Name<'a>, call: &str) -> Option<AttributesOf<'n, 'a>> {
+    match call {
+        "common_name" => Some(name.iter_common_name()),
+        "country" => Some(name.iter_country()),
+        "organization" => Some(name.iter_organization()),
+        "organizational_unit" => Some(name.iter_organizational_unit()),
+        "state_or_province" => Some(name.iter_state_or_province()),
+        "locality" => Some(name.iter_locality()),
+        "email" => Some(name.iter_email()),
+        _ => None,
+    }
 }
 
 /// Adds an attribute in parentheses.
