@@ -19,14 +19,18 @@ impl Words for SubjectPublicKeyInfo<'_> {
 
 impl Words for RSAPublicKey<'_> {
     fn words(&self, alloc: Global) -> io::Result<String> {
-        let modulus = hex_of(alloc, self.modulus)?;
-        let exponent = hex_of(alloc, self.exponent)?;
-        let text = format!(in alloc;
-            "modulus {modulus}, exponent {exponent}, {} bits",
-            self.key_size()
-        )?;
+        let numbers = numbers_text(alloc, self)?;
+        let text = format!(in alloc; "{numbers}, {} bits", self.key_size())?;
         Ok(text)
     }
+}
+
+/// The contents of a key's two numbers.
+fn numbers_text(alloc: Global, key: &RSAPublicKey<'_>) -> io::Result<String> {
+    let modulus = hex_of(alloc, key.modulus)?;
+    let exponent = hex_of(alloc, key.exponent)?;
+    let text = format!(in alloc; "modulus {modulus}, exponent {exponent}")?;
+    Ok(text)
 }
 
 /// The exponent of a key with these octets as its exponent.
@@ -62,7 +66,7 @@ pub fn parsed(alloc: Global, octets: &[u8]) -> io::Result<String> {
 /// The kind of a key, and its octets.
 fn kind_text(alloc: Global, key: &PublicKey<'_>) -> io::Result<String> {
     let (kind, octets) = match key {
-        PublicKey::RSA(key) => return key.words(alloc),
+        PublicKey::RSA(key) => return numbers_text(alloc, key),
         PublicKey::EC(point) => ("EC", point.data()),
         PublicKey::DSA(octets) => ("DSA", *octets),
         PublicKey::GostR3410(octets) => ("GostR3410", *octets),
