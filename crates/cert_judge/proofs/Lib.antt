@@ -1,0 +1,10 @@
+pub mod PlacedParts
+pub mod Mapped
+pub mod Sets
+pub mod UsedLists
+pub mod Grouping
+pub mod Numbering
+pub mod WindowFacts
+pub mod PathLimits
+pub mod Examples
+pub mod ExampleLists

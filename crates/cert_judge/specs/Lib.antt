@@ -1,0 +1,12 @@
+pub mod Moments
+pub mod Constraints
+pub mod Usage
+pub mod Judging
+pub mod Revoking
+pub mod Limits
+pub mod ItemGraph
+pub mod ListItems
+pub mod Built
+pub mod Examples
+pub mod Numbers
+pub mod Windows
