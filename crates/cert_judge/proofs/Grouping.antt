@@ -1,6 +1,8 @@
 -- Groups carry exactly the links of the definitions.
-use Rattle.std.specs.Prelude.{◌↔◌}
-use Rattle.std.proofs.Common.{◌≡◌, ◌∙◌, ap, sym, subst, ℕ, ◌<◌, List, [], ◌∷◌, length, arith, get_or, inl, inr, Option, Bool, true, false}
+use Rattle.std.specs.Prelude.{◌↔◌, ◌⊎◌, Some, None}
+use Rattle.std.proofs.Common.{◌≡◌, ◌∙◌, ap, sym, subst, refl, ℕ, ◌<◌, List, [], ◌∷◌, length, arith, get_or, inl, inr, Option, Bool, true, false}
+use Rattle.std.proofs.Math.Logic.{∥∥₁_elim, ∥∥₁_map}
+use Rattle.std.proofs.Props.{props}
 use Rattle.std.proofs.lemmas.List.{get_or_default}
 use Rattle.cert_graph.specs.declared.entries.Entry.{Entry}
 use Rattle.cert_graph.specs.Laws.{Agrees}
@@ -11,10 +13,17 @@ use Rattle.cert_model.specs.Octets.{name_octets, key_octets}
 use Rattle.cert_model.specs.Class.{Class, certificate, list, other}
 use Rattle.cert_judge.specs.Revoking.{Item, Rules}
 use Rattle.cert_judge.specs.ItemGraph.{IsCertificateWith, IsIssuedUnder, IsLink, IsAnchorLink, HaveSameKeyId, graph_of_items}
-use Rattle.cert_judge.specs.Built.{Holder, anchors, everyone, certificates, GroupKey, StandsAs, IsGroupOf, IsGroupOfAnchor, Allows, IsLinkedTo, IsIdentified, AreGrouped, AreJudged}
+use Rattle.cert_judge.specs.Named.{NamesKeyId, HasKeyId}
+use Rattle.cert_judge.specs.Built.{Holder, anchors, everyone, certificates, GroupKey, StandsAs, IsGroupOf, IsGroupOfAnchor, Allows, IsLinkedTo, NamesKey, IsIdentified, AreGrouped, AreJudged}
+
+one_path : (o p : Option (List ℕ)) → IsProp (o ≡ p)
+one_path o p = hlevel props
+
+pub one_name : (a s : List ℕ) → IsProp (a ≡ s)
+one_name a s = hlevel props
 
 -- the element at a position
-element : {X : Type 0} (xs : List X) (v : ℕ) → v < length xs → (x : X) × (x ≡ get_or xs v x)
+pub element : {X : Type 0} (xs : List X) (v : ℕ) → v < length xs → (x : X) × (x ≡ get_or xs v x)
 element [] v lt = absurd (omega arith)
 element (z ∷ zs) v lt = (get_or (z ∷ zs) v z, get_or_default (z ∷ zs) v z (get_or (z ∷ zs) v z) lt)
 
@@ -23,7 +32,7 @@ certificate_in c (certificate d) = d
 certificate_in c (list l) = c
 certificate_in c other = c
 
-one_certificate : (k : Class) (c d : Certificate) → k ≡ certificate c → k ≡ certificate d → c ≡ d
+pub one_certificate : (k : Class) (c d : Certificate) → k ≡ certificate c → k ≡ certificate d → c ≡ d
 one_certificate k c d p q = ap (certificate_in c) (sym p ∙ q)
 
 issued_same : (r : Rules) (items : List Item) (x : Item) (c : Certificate) (m n k l : List ℕ) → m ≡ n → k ≡ l → IsIssuedUnder r items x c m k → IsIssuedUnder r items x c n l
@@ -31,8 +40,8 @@ issued_same r items x c m n k l e f h = subst (λ z. IsIssuedUnder r items x c n
 
 same_key_id : (c d : Certificate) (h : Holder) → Allows c h → StandsAs d h → HaveSameKeyId c d
 same_key_id c d anchors allowed stands = absurd stands
-same_key_id c d everyone allowed stands = λ a s names own. absurd (allowed (a, names))
-same_key_id c d (certificates o) allowed stands = λ a s names own. allowed.1 a s names ((stands s).0 own)
+same_key_id c d everyone allowed stands = λ a s names own. absurd (allowed ∣ (a, names) ∣₁)
+same_key_id c d (certificates o) allowed stands = λ a s names own. allowed.1 a s names (∥∥₁_elim stands (one_path o (Some s)) (λ f. (f s).0 own))
 
 link_to : (r : Rules) (items : List Item) (x : Item) (c d : Certificate) (g : GroupKey) → IsLinkedTo r items x c g → IsGroupOf d g
     → IsIssuedUnder r items x c (name_octets d.subject) (key_octets d.key) × HaveSameKeyId c d
@@ -42,11 +51,15 @@ link_from : (r : Rules) (items : List Item) (x : Item) (c d : Certificate) (g : 
     → IsLinkedTo r items x c g
 link_from r items x c d g h allowed p = record { issued = issued_same r items x c (name_octets d.subject) g.name (key_octets d.key) g.key p.name p.key h; allowed = allowed }
 
+named_or_not : (c : Certificate) (o : Option (List ℕ)) → NamesKeyId c o → NamesKey c ⊎ (NamesKey c → ⊥)
+named_or_not c (Some a) names = inl (∥∥₁_map names (λ f. (a, (f a).1 refl)))
+named_or_not c None names = inr (λ h. ∥∥₁_elim names (λ a b. absurd a) (λ f. ∥∥₁_elim h (λ a b. absurd a) (λ x. let e = (f x.0).0 x.1 in cc)))
+
 -- the holder among whom a certificate stands and to whom another is linked
 common : (c d : Certificate) → IsIdentified c → IsIdentified d → HaveSameKeyId c d → (h : Holder) × Allows c h × StandsAs d h
 common c d ic id same =
-    elim ic.names [
-      | inl names ↦ (certificates id.own, (names, λ a s ha e. same a s ha ((id.is s).1 e)), id.is)
+    elim (named_or_not c ic.named ic.names) [
+      | inl names ↦ (certificates id.own, (names, λ a s ha e. ∥∥₁_elim id.has (one_name a s) (λ f. same a s ha ((f s).1 e))), id.has)
       | inr none ↦ (everyone, none, tt)
     ]
 

@@ -6,5 +6,7 @@ pub mod Grouping
 pub mod Numbering
 pub mod WindowFacts
 pub mod PathLimits
+pub mod Singles
+pub mod Linking
 pub mod Examples
 pub mod ExampleLists

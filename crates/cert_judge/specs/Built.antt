@@ -1,14 +1,15 @@
 -- What the building of nodes owes to the definitions: groups by name, key and key identifier.
-use Rattle.std.specs.Prelude.{◌≡◌, ℕ, ◌<◌, Option, Some, List, length, map, ◌↔◌, ◌⊎◌, slice_index_or, true}
+use Rattle.std.specs.Prelude.{◌≡◌, ℕ, ◌<◌, Option, Some, List, length, map, ◌↔◌, slice_index_or, true}
 use Rattle.cert_graph.specs.declared.reach.Reach.TheVariants.{No}
 use Rattle.cert_graph.specs.declared.entries.Entry.{Entry}
 use Rattle.cert_graph.specs.Reach.{reach_of}
 use Rattle.cert_graph.specs.Entries.{IsAt, BelongsTo, LinkedTo, AnchorIn}
 use Rattle.cert_model.specs.Fields.{Certificate}
 use Rattle.cert_model.specs.Octets.{name_octets, key_octets}
-use Rattle.cert_model.specs.KeyIds.{IsAuthorityKeyId, IsSubjectKeyId}
+use Rattle.cert_model.specs.KeyIds.{IsAuthorityKeyId}
 use Rattle.cert_judge.specs.Judging.{IsUsable, IsFitIssuer}
 use Rattle.cert_judge.specs.Revoking.{Item, Rules}
+use Rattle.cert_judge.specs.Named.{NamesKeyId, HasKeyId}
 use Rattle.cert_judge.specs.ItemGraph.{IsCertificateWith, IsIssuedUnder, self_issued_of, limit_of}
 
 -- who stands in a group: anchors, all certificates of a name and key, or those of one subject key identifier, or of none
@@ -22,15 +23,11 @@ pub record GroupKey : Type 0 where
   pub key : List ℕ
   pub holder : Holder
 
--- a certificate's subject key identifier, or none
-abbrev pub HasSubjectKeyId : Certificate → Option (List ℕ) → Type 0
-HasSubjectKeyId d o = (s : List ℕ) → IsSubjectKeyId d s ↔ (o ≡ Some s)
-
 -- a certificate stands among these
 abbrev pub StandsAs : Certificate → Holder → Type 0
 StandsAs d anchors = ⊥
 StandsAs d everyone = Unit {0}
-StandsAs d (certificates o) = HasSubjectKeyId d o
+StandsAs d (certificates o) = HasKeyId d o
 
 pub record IsGroupOf (d : Certificate) (g : GroupKey) : Type 0 where
   pub name : name_octets d.subject ≡ g.name
@@ -44,7 +41,7 @@ pub record IsGroupOfAnchor (d : Certificate) (g : GroupKey) : Type 0 where
 
 -- it names its issuer's key
 abbrev pub NamesKey : Certificate → Type 0
-NamesKey c = (a : List ℕ) × IsAuthorityKeyId c a
+NamesKey c = ∥ ((a : List ℕ) × IsAuthorityKeyId c a) ∥₁
 
 -- the group that the key identifiers lead to: one that names no key is linked to everyone, another to those of this key identifier and of none
 abbrev pub Allows : Certificate → Holder → Type 0
@@ -58,9 +55,10 @@ pub record IsLinkedTo (r : Rules) (items : List Item) (x : Item) (c : Certificat
 
 -- both key identifiers of a certificate are known
 pub record IsIdentified (c : Certificate) : Type 0 where
-  pub names : NamesKey c ⊎ (NamesKey c → ⊥)
+  pub named : Option (List ℕ)
+  pub names : NamesKeyId c named
   pub own : Option (List ℕ)
-  pub is : HasSubjectKeyId c own
+  pub has : HasKeyId c own
 
 -- Entries and anchors that name their groups as the definitions say. Nothing asks that the groups differ.
 pub record AreGrouped (r : Rules) (items anchor_items : List Item) (keys : List GroupKey) (entries : List Entry) (groups : List (Option ℕ)) : Type 0 where

@@ -5,8 +5,10 @@ pub mod Judging
 pub mod Revoking
 pub mod Limits
 pub mod ItemGraph
-pub mod ListItems
+pub mod Named
+pub mod Items
 pub mod Built
+pub mod Singly
 pub mod Examples
 pub mod Numbers
 pub mod Windows

@@ -2,11 +2,13 @@
 //! (RFC 5280, 5 and 6, as far as this profile goes).
 #![tactic(auto)]
 
+mod building;
 mod constraints;
 mod distinct;
+mod items;
 mod judging;
 pub mod laws;
-mod lists;
+mod links;
 mod moments;
 mod numbers;
 mod policy;
@@ -15,9 +17,10 @@ mod usage;
 mod vouch;
 mod windows;
 
+pub use crate::building::nodes_of;
+pub use crate::items::{CertificateItem, ListItem, ReadItem};
 pub use crate::judging::{Judged, judge_certificate};
-pub use crate::lists::ListItem;
 pub use crate::policy::Policy;
 pub use crate::revoking::is_satisfied;
 pub use crate::vouch::Vouch;
-pub use crate::windows::{Windows, windows_of};
+pub use crate::windows::{Windows, list_issuer_of, windows_of};

@@ -4,9 +4,9 @@ ghost use Rattle.std.specs.Prelude.{◌≡◌, ◌↔◌, ℕ, List, Bool, map, 
 ghost use Rattle.cert_model.specs.Fields.{Entry};
 ghost use Rattle.cert_model.specs.View.{ext_view, entry_view, list_view, time_view};
 ghost use Rattle.cert_judge.specs.Revoking.{Item, Rules, AreUncritical, IsCurrent, IsPlain, IsUsedList, HasUsedList, IsRevoked, IsSatisfied};
-ghost use Rattle.cert_judge.specs.ListItems.{fields_of, item_of, rules_by, IsUsed, IsUsedAgainst};
+ghost use Rattle.cert_judge.specs.Items.{list_of, item_of, rules_by, IsUsed, IsUsedAgainst, IsListWith};
 
-use crate::lists::ListItem;
+use crate::items::{ListItem, ReadItem};
 use crate::moments::is_between;
 use crate::{Policy, Vouch};
 use cert_model::fields::{EntryFields, ExtField, ListFields};
@@ -84,25 +84,40 @@ fn is_used<V: Vouch>(
     vouch.vouches(key, list.octets)
 }
 
-/// Whether some list is used under a name and key.
-fn has_used<V: Vouch>(
-    lists: &[ListItem<'_>],
+fn is_used_item<V: Vouch>(
+    item: &ReadItem<'_>,
     vouch: &V,
     moment: &DateTime,
     name: &[u8],
     key: &[u8],
 ) -> bool
-    ensures { IsTrue result ↔ Any (IsUsed (V.vouches_for vouch.now) moment.now name.now key.now) lists.now }
+    ensures { IsTrue result ↔ IsListWith (IsUsed (V.vouches_for vouch.now) moment.now name.now key.now) item.now }
 {
-    for list in lists {
-        if is_used(list, vouch, moment, name, key) {
+    match item {
+        ReadItem::List(list) => is_used(list, vouch, moment, name, key),
+        _ => false,
+    }
+}
+
+/// Whether some list is used under a name and key.
+fn has_used<V: Vouch>(
+    items: &[ReadItem<'_>],
+    vouch: &V,
+    moment: &DateTime,
+    name: &[u8],
+    key: &[u8],
+) -> bool
+    ensures { IsTrue result ↔ Any (IsListWith (IsUsed (V.vouches_for vouch.now) moment.now name.now key.now)) items.now }
+{
+    for item in items {
+        if is_used_item(item, vouch, moment, name, key) {
             return true;
         }
     }
     false
 }
 
-#[tactic(auto, unfolding(crate::specs::ListItems::IsUsedAgainst))]
+#[tactic(auto, unfolding(crate::specs::Items::IsUsedAgainst))]
 fn is_used_against<V: Vouch>(
     list: &ListItem<'_>,
     vouch: &V,
@@ -119,41 +134,57 @@ fn is_used_against<V: Vouch>(
     is_used(list, vouch, moment, name, key)
 }
 
-fn is_revoked<V: Vouch>(
-    lists: &[ListItem<'_>],
+fn is_item_against<V: Vouch>(
+    item: &ReadItem<'_>,
     vouch: &V,
     moment: &DateTime,
     name: &[u8],
     key: &[u8],
     serial: &[u8],
 ) -> bool
-    ensures { IsTrue result ↔ Any (IsUsedAgainst (V.vouches_for vouch.now) moment.now name.now key.now serial.now) lists.now }
+    ensures { IsTrue result ↔ IsListWith (IsUsedAgainst (V.vouches_for vouch.now) moment.now name.now key.now serial.now) item.now }
 {
-    for list in lists {
-        if is_used_against(list, vouch, moment, name, key, serial) {
+    match item {
+        ReadItem::List(list) => is_used_against(list, vouch, moment, name, key, serial),
+        _ => false,
+    }
+}
+
+fn is_revoked<V: Vouch>(
+    items: &[ReadItem<'_>],
+    vouch: &V,
+    moment: &DateTime,
+    name: &[u8],
+    key: &[u8],
+    serial: &[u8],
+) -> bool
+    ensures { IsTrue result ↔ Any (IsListWith (IsUsedAgainst (V.vouches_for vouch.now) moment.now name.now key.now serial.now)) items.now }
+{
+    for item in items {
+        if is_item_against(item, vouch, moment, name, key, serial) {
             return true;
         }
     }
     false
 }
 
-/// Whether a certificate of this serial number stands under a name and key.
+/// Whether a certificate of this serial number stands under a name and key, by the lists among the items.
 pub fn is_satisfied<V: Vouch>(
-    lists: &[ListItem<'_>],
+    items: &[ReadItem<'_>],
     vouch: &V,
     policy: &Policy,
     name: &[u8],
     key: &[u8],
     serial: &[u8],
 ) -> bool
-    ensures { IsTrue result ↔ IsSatisfied (rules_by policy.now.moment policy.now.demand_lists (V.vouches_for vouch.now)) (map item_of lists.now) name.now key.now serial.now }
+    ensures { IsTrue result ↔ IsSatisfied (rules_by policy.now.moment policy.now.demand_lists (V.vouches_for vouch.now)) (map item_of items.now) name.now key.now serial.now }
 {
     let moment = policy.moment();
-    if is_revoked(lists, vouch, &moment, name, key, serial) {
+    if is_revoked(items, vouch, &moment, name, key, serial) {
         return false;
     }
     if !policy.demands_lists() {
         return true;
     }
-    has_used(lists, vouch, &moment, name, key)
+    has_used(items, vouch, &moment, name, key)
 }
