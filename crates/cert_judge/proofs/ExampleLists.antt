@@ -12,6 +12,7 @@ use Rattle.cert_judge.specs.Revoking.{Item, Rules, AreUncritical, IsCurrent, IsP
 use Rattle.cert_judge.specs.Judging.{IsUsable}
 use Rattle.cert_judge.specs.ItemGraph.{HaveSameKeyId, graph_of_items}
 use Rattle.cert_judge.specs.Examples.{in_june, revoking_two, anchor_named, certificate_item, list_item, vouching_for_all, vouching_but_for}
+use Rattle.cert_judge.proofs.Linking.{fit_is_usable}
 use Rattle.cert_judge.proofs.Examples.{none, one, june_valid, no_extensions, authority_is_fit}
 
 -- which of two items it is
@@ -80,10 +81,6 @@ another_revoked = record {
   ];
   listed = λ d. (list_item revoking_two, revoking_two, (1, lit< tt, refl), record { is_list = refl; issuer = refl; vouched = tt; current = current_two; plain = plain_two });
 }
-
--- whoever is fit is usable
-pub fit_is_usable : (r : Rules) (items anchor_items : List Item) → FitIsUsable (graph_of_items r items anchor_items)
-fit_is_usable r items anchor_items v h = (h.0, λ d. let f = h.1 d in (f.0, f.1, f.2.usable))
 
 abbrev bundle : List Item
 bundle = certificate_item issued_by_b ∷ certificate_item authority_b ∷ []

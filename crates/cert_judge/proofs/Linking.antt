@@ -1,14 +1,15 @@
 -- What the code finds of two items is what the definitions say of them.
-use Rattle.std.specs.Prelude.{◌↔◌, IsTrue}
-use Rattle.std.proofs.Common.{◌≡◌, ◌∙◌, ap, sym, subst, refl, ℕ, ◌+◌, ◌-◌, ◌<◌, ◌≤◌, Bool, true, false, List, map, length, arith, get_or, inl, inr, Option, Some, None}
+use Rattle.std.specs.Prelude.{◌↔◌, IsTrue, IfSome, IsSomeAnd}
+use Rattle.std.proofs.Common.{◌≡◌, ◌∙◌, ap, sym, subst, refl, ℕ, ◌+◌, ◌-◌, ◌<◌, ◌≤◌, Bool, true, false, List, map, length, arith, get_or, inl, inr, Option, Some, None, Bor, option_map}
 use Rattle.std.proofs.Math.Logic.{∥∥₁_elim}
 use Rattle.std.proofs.lemmas.List.{get_or-map, length-map}
 use Rattle.cert_graph.specs.Entries.{IsAt}
 use Rattle.cert_graph.specs.Graph.{Graph}
-use Rattle.cert_graph.specs.Laws.{Agrees}
+use Rattle.cert_graph.specs.Laws.{Agrees, FitIsUsable}
 use Rattle.cert_graph.proofs.EntryFacts.{is_at, has_at}
 use Rattle.cert_model.specs.Fields.{Certificate}
 use Rattle.cert_model.specs.Octets.{name_octets, key_octets}
+use Rattle.cert_model.specs.KeyIds.{IsAuthorityKeyId, IsSubjectKeyId}
 use Rattle.cert_model.specs.Class.{certificate}
 use Rattle.cert_judge.specs.declared.items.CertificateItem.{CertificateItem}
 use Rattle.cert_judge.specs.declared.items.ReadItem.{ReadItem}
@@ -16,7 +17,7 @@ use Rattle.cert_judge.specs.declared.items.ReadItem.TheVariants.{Certificate as 
 use Rattle.cert_judge.specs.Items.{certificate_of, certificate_item, item_of}
 use Rattle.cert_judge.specs.Named.{NamesKeyId, HasKeyId}
 use Rattle.cert_judge.specs.Revoking.{Item, Rules}
-use Rattle.cert_judge.specs.ItemGraph.{IsCertificateWith, IsIssuedUnder, HaveSameKeyId, IsLink, IsAnchorLink}
+use Rattle.cert_judge.specs.ItemGraph.{IsCertificateWith, IsIssuedUnder, HaveSameKeyId, IsLink, IsAnchorLink, graph_of_items}
 use Rattle.cert_judge.specs.Singly.{LeadsTo}
 use Rattle.cert_judge.proofs.Grouping.{one_certificate, one_name}
 
@@ -113,3 +114,16 @@ agreed_on g h k a b = record {
   edge = λ v w f. let x = a.edge v w f in let y = b.edge v w ((a.fit w).0 f) in (λ p. y.0 (x.0 p), λ p. x.1 (y.1 p));
   anchored = λ v w. let x = a.anchored v w in let y = b.anchored v w in (λ p. y.0 (x.0 p), λ p. x.1 (y.1 p));
 }
+
+-- whoever is fit is usable
+pub fit_is_usable : (r : Rules) (items anchor_items : List Item) → FitIsUsable (graph_of_items r items anchor_items)
+fit_is_usable r items anchor_items v h = (h.0, λ d. let f = h.1 d in (f.0, f.1, f.2.usable))
+
+-- a reader that finds a key identifier and no other tells whether there is one
+pub names_from : (c : Certificate) (o : Option (Bor (List ℕ))) → IfSome o (λ s. IsAuthorityKeyId c s.now) → ((id : List ℕ) → IsAuthorityKeyId c id → IsSomeAnd o (λ s. s.now ≡ id)) → NamesKeyId c (option_map (λ s. s.now) o)
+names_from c (Some s) found only = ∣ (λ id. (λ h. ap Some (only id h), λ e. subst (IsAuthorityKeyId c) (one_held e) found)) ∣₁
+names_from c None found only = ∣ (λ id. (λ h. absurd (only id h), λ e. absurd (not_held e))) ∣₁
+
+pub owns_from : (c : Certificate) (o : Option (Bor (List ℕ))) → IfSome o (λ s. IsSubjectKeyId c s.now) → ((id : List ℕ) → IsSubjectKeyId c id → IsSomeAnd o (λ s. s.now ≡ id)) → HasKeyId c (option_map (λ s. s.now) o)
+owns_from c (Some s) found only = ∣ (λ id. (λ h. ap Some (only id h), λ e. subst (IsSubjectKeyId c) (one_held e) found)) ∣₁
+owns_from c None found only = ∣ (λ id. (λ h. absurd (only id h), λ e. absurd (not_held e))) ∣₁

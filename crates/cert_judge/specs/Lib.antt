@@ -4,6 +4,7 @@ pub mod Usage
 pub mod Judging
 pub mod Revoking
 pub mod Limits
+pub mod Classed
 pub mod ItemGraph
 pub mod Named
 pub mod Items
