@@ -118,6 +118,9 @@ fn anchor_groups(
 }
 
 /// The nodes of items and anchors under a policy, by what is vouched for.
+///
+/// Each item and each anchor is a group of its own, so each item is looked at with each other and each anchor: `vouches` is
+/// asked for each two of one name, and once more for each list of that name.
 pub fn nodes_of<V: Vouch>(
     alloc: Global,
     items: &[ReadItem<'_>],
