@@ -16,3 +16,5 @@ pub mod Refusals
 pub mod Tagged
 pub mod Extensions
 pub mod Orders
+pub mod PartFacts
+pub mod FirstUnder

@@ -11,3 +11,6 @@ pub mod Assembly
 pub mod View
 pub mod Versions
 pub mod AttributePieces
+pub mod Extended
+pub mod KeyIds
+pub mod Parts

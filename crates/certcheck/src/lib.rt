@@ -1,20 +1,25 @@
 //! Cuts a stream of DER into items, and says of each what it is: a certificate or a revocation list in its one spelling, or
-//! something else. Items are read as trees.
+//! something else. Items are read as trees. `check` says whether an answer on items is true.
 #![tactic(auto)]
 
 mod certificate;
 mod class;
 mod extensions;
+mod judge;
 mod list;
 mod names;
 mod parts;
+mod reading;
 mod times;
 
 pub use crate::class::{ItemClass, read_tree};
+pub use crate::judge::check;
 pub use asn1_core::OutOfMemory;
 pub use cert_framing::{
     Bundle, BundleError, End, Items, any_cutting, one_bundle, one_framing, one_item, one_stream,
 };
+pub use cert_graph::{Answer, Reach, Table};
+pub use cert_judge::{Policy, Vouch};
 pub use cert_model::fields::{
     AlgField, AnyField, AttrField, BitField, CertFields, EntryFields, ExtField, KeyField,
     ListFields, NameFields,

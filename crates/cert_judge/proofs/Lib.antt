@@ -1,0 +1,12 @@
+pub mod PlacedParts
+pub mod Mapped
+pub mod Sets
+pub mod UsedLists
+pub mod Grouping
+pub mod Numbering
+pub mod WindowFacts
+pub mod PathLimits
+pub mod Singles
+pub mod Linking
+pub mod Examples
+pub mod ExampleLists

@@ -1,0 +1,15 @@
+pub mod Moments
+pub mod Constraints
+pub mod Usage
+pub mod Judging
+pub mod Revoking
+pub mod Limits
+pub mod Classed
+pub mod ItemGraph
+pub mod Named
+pub mod Items
+pub mod Built
+pub mod Singly
+pub mod Examples
+pub mod Numbers
+pub mod Windows

@@ -1,0 +1,214 @@
+//! What may stand in a path, and what may issue (RFC 5280, 6.1.3 and 6.1.4).
+
+ghost use Rattle.std.specs.Prelude.{◌≡◌, ◌≢◌, ◌↔◌, ℕ, List, map, option_map, All, true, IsTrue, IfSome, IsNone, IfOk, length};
+ghost use Rattle.cert_model.specs.View.{ext_view, time_view, certificate_view};
+ghost use Rattle.cert_model.specs.Extended.{under_ce, basic_constraints, key_usage, name_constraints, policy_constraints, EachUnder, SomeUnder, IsWithout};
+ghost use Rattle.cert_judge.specs.Judging.{HasConstraints, HasUsage, IsProcessed, IsAuthority, HasPathLen, IsSigner, IsAuthorityExtension, IsPathLenExtension, AreUsable, IsUsable, MayIssue, IsFitIssuer};
+
+use crate::constraints::constraints_of;
+use crate::distinct::are_distinct;
+use crate::moments::is_between;
+use crate::usage::signs_by;
+use cert_model::fields::{CertFields, ExtField};
+use cert_model::identifiers::{
+    BASIC_CONSTRAINTS, KEY_USAGE, NAME_CONSTRAINTS, POLICY_CONSTRAINTS, is_ce,
+};
+use jiff::civil::DateTime;
+use std::alloc::{AllocError, Global};
+
+#[tactic(auto, unfolding(crate::specs::Judging::IsProcessed))]
+fn is_processed(extension: &ExtField<'_>) -> bool
+    ensures { IsTrue result ↔ IsProcessed (ext_view extension.now) }
+{
+    if !extension.critical {
+        return true;
+    }
+    if is_ce(extension.identifier, BASIC_CONSTRAINTS) {
+        return true;
+    }
+    is_ce(extension.identifier, KEY_USAGE)
+}
+
+fn are_processed(extensions: &[ExtField<'_>]) -> bool
+    ensures { IsTrue result ↔ All IsProcessed (map ext_view extensions.now) }
+{
+    extensions.iter().all(|extension| is_processed(extension))
+}
+
+fn has_constraints(value: &[u8]) -> bool
+    ensures { IsTrue result ↔ HasConstraints value.now }
+{
+    constraints_of(value).is_some()
+}
+
+fn has_usage(value: &[u8]) -> bool
+    ensures { IsTrue result ↔ HasUsage value.now }
+{
+    signs_by(value).is_some()
+}
+
+fn is_signer(value: &[u8]) -> bool
+    ensures { IsTrue result ↔ IsSigner value.now }
+{
+    match signs_by(value) {
+        Some(signs) => signs,
+        None => false,
+    }
+}
+
+fn is_constrained(extension: &ExtField<'_>) -> bool
+    ensures { IsTrue result ↔ ((ext_view extension.now).identifier ≡ basic_constraints → HasConstraints (ext_view extension.now).value) }
+{
+    !is_ce(extension.identifier, BASIC_CONSTRAINTS) || has_constraints(extension.value)
+}
+
+fn are_constrained(extensions: &[ExtField<'_>]) -> bool
+    ensures { IsTrue result ↔ EachUnder basic_constraints HasConstraints (map ext_view extensions.now) }
+{
+    extensions.iter().all(|extension| is_constrained(extension))
+}
+
+fn is_used(extension: &ExtField<'_>) -> bool
+    ensures { IsTrue result ↔ ((ext_view extension.now).identifier ≡ key_usage → HasUsage (ext_view extension.now).value) }
+{
+    !is_ce(extension.identifier, KEY_USAGE) || has_usage(extension.value)
+}
+
+fn are_used(extensions: &[ExtField<'_>]) -> bool
+    ensures { IsTrue result ↔ EachUnder key_usage HasUsage (map ext_view extensions.now) }
+{
+    extensions.iter().all(|extension| is_used(extension))
+}
+
+fn may_sign(extension: &ExtField<'_>) -> bool
+    ensures { IsTrue result ↔ ((ext_view extension.now).identifier ≡ key_usage → IsSigner (ext_view extension.now).value) }
+{
+    !is_ce(extension.identifier, KEY_USAGE) || is_signer(extension.value)
+}
+
+fn are_signers(extensions: &[ExtField<'_>]) -> bool
+    ensures { IsTrue result ↔ EachUnder key_usage IsSigner (map ext_view extensions.now) }
+{
+    extensions.iter().all(|extension| may_sign(extension))
+}
+
+fn is_without(extensions: &[ExtField<'_>], n: u8) -> bool
+    ensures { IsTrue result ↔ IsWithout (under_ce n) (map ext_view extensions.now) }
+{
+    extensions
+        .iter()
+        .all(|extension| !is_ce(extension.identifier, n))
+}
+
+#[tactic(auto, unfolding(crate::specs::Judging::IsAuthorityExtension, crate::specs::Judging::IsPathLenExtension))]
+fn authority_in(extension: &ExtField<'_>) -> Option<Option<u32>>
+    ensures found { IfSome result (λ n. IsPathLenExtension n (ext_view extension.now)) }
+    ensures only { IsNone result → IsAuthorityExtension (ext_view extension.now) → ⊥ }
+{
+    if !is_ce(extension.identifier, BASIC_CONSTRAINTS) {
+        return None;
+    }
+    let constraints = constraints_of(extension.value)?;
+    if constraints.ca {
+        Some(constraints.path_len)
+    } else {
+        None
+    }
+}
+
+/// The path length constraint of an authority, or none of it where there is no authority.
+fn authority_of(extensions: &[ExtField<'_>]) -> Option<Option<u32>>
+    ensures found { IfSome result (λ n. SomeUnder basic_constraints (HasPathLen n) (map ext_view extensions.now)) }
+    ensures only { IsNone result → SomeUnder basic_constraints IsAuthority (map ext_view extensions.now) → ⊥ }
+{
+    for extension in extensions {
+        if let Some(limit) = authority_in(extension) {
+            return Some(limit);
+        }
+    }
+    None
+}
+
+/// Whether extensions let a certificate stand in a path.
+fn are_usable(alloc: Global, extensions: &[ExtField<'_>]) -> Result<bool, AllocError>
+    ensures { IfOk result (λ yes. IsTrue yes ↔ AreUsable (map ext_view extensions.now)) }
+{
+    if !are_processed(extensions) {
+        return Ok(false);
+    }
+    if !are_constrained(extensions) {
+        return Ok(false);
+    }
+    if !are_used(extensions) {
+        return Ok(false);
+    }
+    are_distinct(alloc, extensions)
+}
+
+/// Whether a certificate may stand in a path at a moment.
+pub(crate) fn is_usable(
+    alloc: Global,
+    fields: &CertFields<'_>,
+    moment: &DateTime,
+) -> Result<bool, AllocError>
+    ensures { IfOk result (λ yes. IsTrue yes ↔ IsUsable (time_view moment.now) (certificate_view fields.now)) }
+{
+    if !is_between(&fields.not_before, moment, &fields.not_after) {
+        return Ok(false);
+    }
+    let usable = are_usable(alloc, &fields.extensions)?;
+    Ok(usable)
+}
+
+/// The path length constraint of extensions that let a usable certificate issue others, or none of it where they don't.
+fn issuing_of(extensions: &[ExtField<'_>]) -> Option<Option<u32>>
+    ensures found { IfSome result (λ n. MayIssue (map ext_view extensions.now) × SomeUnder basic_constraints (HasPathLen n) (map ext_view extensions.now)) }
+    ensures only { IsNone result → MayIssue (map ext_view extensions.now) → ⊥ }
+{
+    if !are_signers(extensions) {
+        return None;
+    }
+    if !is_without(extensions, NAME_CONSTRAINTS) {
+        return None;
+    }
+    if !is_without(extensions, POLICY_CONSTRAINTS) {
+        return None;
+    }
+    let limit = authority_of(extensions)?;
+    Some(limit)
+}
+
+/// What is judged of a certificate by itself.
+#[derive(Clone, Copy, Debug)]
+pub struct Judged {
+    pub usable: bool,
+    pub fit: bool,
+    /// The path length constraint of a fit certificate.
+    pub limit: Option<u32>,
+    ghost fit_is_usable: { IsTrue fit → IsTrue usable },
+}
+
+/// Judges a certificate by itself at a moment.
+pub fn judge_certificate(
+    alloc: Global,
+    fields: &CertFields<'_>,
+    moment: &DateTime,
+) -> Result<Judged, AllocError>
+    ensures usable { IfOk result (λ j. IsTrue j.usable ↔ IsUsable (time_view moment.now) (certificate_view fields.now)) }
+    ensures fit { IfOk result (λ j. IsTrue j.fit ↔ IsFitIssuer (time_view moment.now) (certificate_view fields.now)) }
+    ensures limit { IfOk result (λ j. IsTrue j.fit → SomeUnder basic_constraints (HasPathLen j.limit) (certificate_view fields.now).extensions) }
+{
+    let usable = is_usable(alloc, fields, moment)?;
+    match issuing_of(&fields.extensions) {
+        Some(limit) => Ok(Judged {
+            usable,
+            fit: usable,
+            limit,
+        }),
+        None => Ok(Judged {
+            usable,
+            fit: false,
+            limit: None,
+        }),
+    }
+}

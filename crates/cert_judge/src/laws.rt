@@ -1,0 +1,58 @@
+//! Laws of judging. Each is a function that does nothing: its contract is the law.
+
+ghost use Rattle.std.specs.Prelude.{◌≡◌, ℕ, Option, false, true, [], ◌∷◌};
+ghost use Rattle.cert_graph.specs.declared.reach.Reach.TheVariants.{UpTo};
+ghost use Rattle.cert_graph.specs.Reach.{reach_of};
+ghost use Rattle.cert_graph.specs.Graph.{IsValidPath};
+ghost use Rattle.cert_model.specs.Fields.{CivilTime, Certificate};
+ghost use Rattle.cert_model.specs.Octets.{name_octets, key_octets, list_octets};
+ghost use Rattle.cert_model.specs.Extended.{SomeUnder, basic_constraints};
+ghost use Rattle.cert_model.specs.Examples.{key, new_year, plain, issued_by_b, authority_b, revoking};
+ghost use Rattle.cert_judge.specs.Judging.{HasPathLen, IsUsable, IsFitIssuer};
+ghost use Rattle.cert_judge.specs.Limits.{path_limit};
+ghost use Rattle.cert_judge.specs.Revoking.{IsSatisfied};
+ghost use Rattle.cert_judge.specs.ItemGraph.{graph_of_items};
+ghost use Rattle.cert_judge.specs.Examples.{in_june, too_early, too_late, extended_by, extension, unconstrained, default_written, extended_key_usage, authority_with_usage, encipherment, signing, anchor_named, revoking_two, certificate_item, list_item, vouching_for_all, vouching_but_for};
+
+/// What a fit issuer lets through is its path length constraint (RFC 5280, 4.2.1.9).
+pub fn limit_is_path_length()
+    ensures { (moment : CivilTime) (c : Certificate) (n : Option ℕ) → IsFitIssuer moment c → SomeUnder basic_constraints (HasPathLen n) c.extensions → path_limit c ≡ reach_of n }
+{}
+
+/// The definitions say of worked cases what they ought to: of the first and the last second of a validity.
+pub fn examples_of_moments()
+    ensures first { IsUsable (new_year 2025) plain }
+    ensures last { IsUsable (new_year 2026) plain }
+    ensures before { IsUsable too_early plain → ⊥ }
+    ensures behind { IsUsable too_late plain → ⊥ }
+{}
+
+/// Of extensions: one that is judged may be critical and another not, none may stand twice, a default may not be written.
+pub fn examples_of_extensions()
+    ensures plain { IsUsable in_june (extended_by (extension basic_constraints false unconstrained ∷ [])) }
+    ensures critical { IsUsable in_june (extended_by (extension basic_constraints true unconstrained ∷ [])) }
+    ensures unknown { IsUsable in_june (extended_by (extension extended_key_usage true unconstrained ∷ [])) → ⊥ }
+    ensures twice { IsUsable in_june (extended_by (extension basic_constraints false unconstrained ∷ extension basic_constraints false unconstrained ∷ [])) → ⊥ }
+    ensures default { IsUsable in_june (extended_by (extension basic_constraints false default_written ∷ [])) → ⊥ }
+{}
+
+/// Of issuers: an authority of path length 0; with a key usage, exactly where it has keyCertSign.
+pub fn examples_of_issuers()
+    ensures authority { IsFitIssuer in_june authority_b }
+    ensures limit { path_limit authority_b ≡ UpTo 0 }
+    ensures signing { IsFitIssuer in_june (authority_with_usage signing) }
+    ensures encipherment { IsFitIssuer in_june (authority_with_usage encipherment) → ⊥ }
+{}
+
+/// Of lists: one that is vouched for revokes what it names and nothing else; where lists are demanded, one must be used.
+pub fn examples_of_lists()
+    ensures revoked { IsSatisfied (vouching_for_all false) (certificate_item plain ∷ list_item revoking ∷ []) (name_octets []) (key_octets key) (1 ∷ []) → ⊥ }
+    ensures unvouched { IsSatisfied (vouching_but_for (list_octets revoking)) (certificate_item plain ∷ list_item revoking ∷ []) (name_octets []) (key_octets key) (1 ∷ []) }
+    ensures none { IsSatisfied (vouching_for_all true) (certificate_item plain ∷ []) (name_octets []) (key_octets key) (1 ∷ []) → ⊥ }
+    ensures another { IsSatisfied (vouching_for_all true) (certificate_item plain ∷ list_item revoking_two ∷ []) (name_octets []) (key_octets key) (1 ∷ []) }
+{}
+
+/// Of paths: a certificate of b, b of c with path length 0, and the anchor c: the target is not counted.
+pub fn example_of_a_path()
+    ensures { IsValidPath (graph_of_items (vouching_for_all false) (certificate_item issued_by_b ∷ certificate_item authority_b ∷ []) (certificate_item (anchor_named 0x63) ∷ [])) 0 (0 ∷ 1 ∷ []) 0 }
+{}

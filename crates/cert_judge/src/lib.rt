@@ -1,0 +1,26 @@
+//! Judges classed items: who may stand in a path and who may issue, which revocation lists are used, who is linked to whom
+//! (RFC 5280, 5 and 6, as far as this profile goes).
+#![tactic(auto)]
+
+mod building;
+mod constraints;
+mod distinct;
+mod items;
+mod judging;
+pub mod laws;
+mod links;
+mod moments;
+mod numbers;
+mod policy;
+mod revoking;
+mod usage;
+mod vouch;
+mod windows;
+
+pub use crate::building::nodes_of;
+pub use crate::items::{CertificateItem, ListItem, ReadItem};
+pub use crate::judging::{Judged, judge_certificate};
+pub use crate::policy::Policy;
+pub use crate::revoking::is_satisfied;
+pub use crate::vouch::Vouch;
+pub use crate::windows::{Windows, list_issuer_of, windows_of};

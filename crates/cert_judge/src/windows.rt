@@ -1,0 +1,84 @@
+//! Where the names and the key of a certificate, and the issuer of a list, lie in their items.
+
+ghost use Rattle.std.specs.Prelude.{◌≡◌, ◌<◌, ◌++◌, ℕ, List, [], length, slice_index_or, nat_lt, if◌then◌else◌, IsSomeAnd};
+ghost use Rattle.std.specs.List.{concat, AllByRecursion};
+ghost use Rattle.cert_model.specs.Octets.{sequence_octets, certificate_octets, list_octets, name_octets, key_octets};
+ghost use Rattle.cert_model.specs.Parts.{IsPart};
+ghost use Rattle.cert_model.specs.View.{certificate_view, list_view};
+ghost use Rattle.cert_judge.specs.Windows.{issuer_place};
+
+use asn1_core::Class;
+use cert_model::fields::{CertFields, ListFields};
+use cert_model::parts::{first_part, whole};
+
+/// One of the elements that octets begin with, by its place from 0.
+fn part_at(octets: &[u8], place: usize) -> Option<&[u8]>
+    ensures { (parts : List (List ℕ)) (rest : List ℕ) → AllByRecursion IsPart parts → place < length parts → octets.now ≡ concat parts ++ rest
+        → IsSomeAnd result (λ r. r.now ≡ slice_index_or parts place []) }
+{
+    let (first, rest) = first_part(octets)?;
+    if place == 0 {
+        Some(first)
+    } else {
+        part_at(rest, place - 1)
+    }
+}
+
+/// The content of the sequence that begins the one sequence which the octets are.
+fn tbs_of(item: &[u8]) -> Option<&[u8]>
+    ensures { (content rest : List ℕ) → item.now ≡ sequence_octets (sequence_octets content ++ rest) → IsSomeAnd result (λ r. r.now ≡ content) }
+{
+    let content = whole(Class::Universal, true, 16, item)?;
+    let (tbs, _) = first_part(content)?;
+    whole(Class::Universal, true, 16, tbs)
+}
+
+/// The names and the key of a certificate, as they lie in its item.
+#[derive(Clone, Copy, Debug)]
+pub struct Windows<'a> {
+    pub issuer: &'a [u8],
+    pub subject: &'a [u8],
+    pub key: &'a [u8],
+}
+
+// How many parts stand before the serial number.
+fn first_of(version: u8) -> usize
+    ensures { result ≡ (if nat_lt 0 version then 1 else 0) }
+{
+    if version > 0 { 1 } else { 0 }
+}
+
+/// The windows of an item that the fields of a certificate write (RFC 5280, 4.1).
+pub fn windows_of<'a>(item: &'a [u8], fields: &CertFields<'_>) -> Option<Windows<'a>>
+    ensures { item.now ≡ certificate_octets (certificate_view fields.now) → IsSomeAnd result (λ w. (w.issuer.now ≡ name_octets (certificate_view fields.now).issuer)
+        × (w.subject.now ≡ name_octets (certificate_view fields.now).subject) × (w.key.now ≡ key_octets (certificate_view fields.now).key)) }
+{
+    let tbs = tbs_of(item)?;
+    let first = first_of(fields.version);
+    let issuer = part_at(tbs, first + 2)?;
+    let subject = part_at(tbs, first + 4)?;
+    let key = part_at(tbs, first + 5)?;
+    Some(Windows {
+        issuer,
+        subject,
+        key,
+    })
+}
+
+// The place of a list's issuer among its parts.
+fn issuer_place(version: Option<u8>) -> usize
+    ensures { result ≡ issuer_place version }
+{
+    match version {
+        Some(_) => 2,
+        None => 1,
+    }
+}
+
+/// The issuer in an item that the fields of a list write (RFC 5280, 5.1).
+pub fn list_issuer_of<'a>(item: &'a [u8], fields: &ListFields<'_>) -> Option<&'a [u8]>
+    ensures { item.now ≡ list_octets (list_view fields.now) → IsSomeAnd result (λ w. w.now ≡ name_octets (list_view fields.now).issuer) }
+{
+    let tbs = tbs_of(item)?;
+    part_at(tbs, issuer_place(fields.version))
+}

@@ -1,0 +1,26 @@
+//! Identifiers of extensions (RFC 5280, 4.2.1). Each constant is the last arc under id-ce, 2.5.29.
+
+ghost use Rattle.std.specs.Prelude.{◌≡◌, ◌↔◌, IsTrue};
+ghost use Rattle.cert_model.specs.Extended.{under_ce};
+
+pub const SUBJECT_KEY_IDENTIFIER: u8 = 14;
+
+pub const KEY_USAGE: u8 = 15;
+
+pub const BASIC_CONSTRAINTS: u8 = 19;
+
+pub const NAME_CONSTRAINTS: u8 = 30;
+
+pub const AUTHORITY_KEY_IDENTIFIER: u8 = 35;
+
+pub const POLICY_CONSTRAINTS: u8 = 36;
+
+/// Whether the content octets of an identifier are those of 2.5.29.n.
+pub fn is_ce(identifier: &[u8], n: u8) -> bool
+    ensures { IsTrue result ↔ (identifier.now ≡ under_ce n) }
+{
+    match identifier {
+        [0x55, 0x1d, last] => *last == n,
+        _ => false,
+    }
+}
