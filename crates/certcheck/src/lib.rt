@@ -13,9 +13,11 @@ mod reading;
 #[cfg(test)]
 mod tests;
 mod times;
+mod vouchers;
 
 pub use crate::class::{ItemClass, read_tree};
 pub use crate::judge::check;
+pub use crate::vouchers::Vouchers;
 pub use asn1_core::OutOfMemory;
 pub use cert_framing::{Bundle, BundleError, End, Items};
 pub use cert_graph::{Answer, Reach, Table};
