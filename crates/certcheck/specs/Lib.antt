@@ -1,2 +1,3 @@
 pub mod ClassView
 pub mod PieceView
+pub mod Vouching

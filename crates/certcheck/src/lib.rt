@@ -11,9 +11,11 @@ mod names;
 mod parts;
 mod reading;
 mod times;
+mod vouchers;
 
 pub use crate::class::{ItemClass, read_tree};
 pub use crate::judge::check;
+pub use crate::vouchers::Vouchers;
 pub use asn1_core::OutOfMemory;
 pub use cert_framing::{
     Bundle, BundleError, End, Items, any_cutting, one_bundle, one_framing, one_item, one_stream,

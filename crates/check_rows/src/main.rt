@@ -1,0 +1,32 @@
+//! Reads lines from standard input and prints each; behind a line that asks whether an answer is adequate, what `check` says.
+//!
+//! `octets NAME HEX` names octets. `case` begins a new case, in which nothing is held; `at YEAR MONTH DAY HOUR MINUTE SECOND` sets
+//! its moment, `demand` demands lists, `items NAME..` and `anchors NAME..` add items and anchors, `vouch KEY NAME..` lets a
+//! key vouch for items. The questions are `path TARGET POSITION.. to ANCHOR ROW..`, `none TARGET ROW..` and `other TARGET`; a
+//! row is `No`, `Any` and numbers, with commas between them. Other lines are printed as they stand.
+#![tactic(auto)]
+
+mod answers;
+mod cases;
+mod octets;
+mod vouching;
+
+use crate::cases::Case;
+use jiff::civil::DateTime;
+use std::io;
+
+fn main(rt: HostRuntime) -> io::Result<()> {
+    let alloc = rt.alloc();
+    let mut case = Case::new(alloc, DateTime::MIN);
+    for line in rt.lines(alloc) {
+        let line = line?;
+        let Ok(said) = case.take(alloc, line.as_str()) else {
+            return Err(io::Error::from(io::ErrorKind::OutOfMemory));
+        };
+        match said {
+            Some(yes) => println!(&rt; "{line} = {yes}")?,
+            None => println!(&rt; "{line}")?,
+        }
+    }
+    Ok(())
+}
