@@ -1,5 +1,6 @@
 pub mod FrontLaws
 pub mod HeaderLaws
+pub mod LateLaws
 pub mod MomentLaws
 pub mod RangeLaws
 pub mod TimeLaws

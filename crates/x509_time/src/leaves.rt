@@ -1,6 +1,6 @@
 //! A time at the front of octets, of an element, and of content octets.
 
-ghost use Rattle.std.specs.Prelude.{◌≡◌, ◌+◌, ◌≤◌, ℕ, List, length, IfOk, IfErr, IsOkAnd, option_map};
+ghost use Rattle.std.specs.Prelude.{◌≡◌, ◌+◌, ◌≤◌, ℕ, List, length, IfOk, IfErr, IfSome, IfNone, IsOkAnd, option_map};
 ghost use Rattle.jiff.specs.Words.{civil_nanos};
 ghost use Rattle.asn1_any.specs.Views.{any_of};
 ghost use Rattle.asn1_core.specs.declared.outcome.Err.TheVariants as refusals;
@@ -11,18 +11,18 @@ ghost use Rattle.x509_core.specs.Errors.{told};
 ghost use Rattle.x509_core.specs.Reading.{next};
 ghost use Rattle.x509_core.specs.declared.error.X509Error.TheVariants as errors;
 ghost use Rattle.x509_time.specs.Fronts.{one_rest};
-ghost use Rattle.x509_time.specs.Reading.{utc_nanos_at, general_nanos_at, time_in, time_at, is_general_time};
+ghost use Rattle.x509_time.specs.Reading.{utc_nanos_at, general_nanos_at, time_in, time_at, is_general_time, TakesTime};
 ghost use Rattle.x509_time.specs.Times as grammar;
 ghost use Rattle.x509_time.specs.View.{time_view};
 
 use crate::time::ASN1Time;
 use asn1_any::Any;
-use asn1_core::{Err as Refusal, Error};
+use asn1_core::Err as Refusal;
 use asn1_times::{GeneralizedTime, UtcTime};
 use asn1_traits::{DerLeaf, DerMeaning, FromDer};
 use jiff::civil::DateTime;
 use std::alloc::Global;
-use x509_core::{Parts, X509Error, X509Result, renamed};
+use x509_core::{Parts, X509Error, X509Result};
 
 // The moment of a UTCTime's content, where it is one's and the calendar has it.
 #[tactic(auto, unfolding(crate::specs::Reading::utc_nanos_at))]
@@ -90,27 +90,30 @@ pub(crate) fn is_general_time(any: Any<'_>) -> bool
     !any.header.is_constructed() && any.tag().0 == 24 && general_time(any.content).is_some()
 }
 
-fn any_time<'a>(parts: &mut Parts<'a>) -> Result<ASN1Time, Refusal<X509Error>>
-    ensures read { Gives (λ v. (time_view v, parts.new.octets)) result (next (λ p. plain (time_in p.element)) parts.old.octets) }
-    ensures elements { IfOk result (λ _. parts.old.elements ≡ parts.new.elements + 1) }
+/// The time at the front, taken; the octets stay where none is there. No header is tried, and no memory taken.
+pub(crate) fn take_time(parts: &mut Parts<'_>) -> Option<ASN1Time>
+    ensures read { TakesTime parts.old.octets (option_map time_view result) parts.new.octets }
+    ensures elements { IfSome result (λ _. parts.old.elements ≡ parts.new.elements + 1) }
+    ensures stays { IfNone result (parts.new ≡ parts.old) }
     ensures ends { length parts.new.octets ≤ length parts.old.octets }
 {
-    let element = parts.next()?;
-    match time_of(element.any) {
-        Some(time) => Ok(time),
-        None => Err(Refusal::Error(X509Error::Der(Error::InvalidDateTime))),
-    }
+    let element = parts.first()?;
+    let time = time_of(element.any)?;
+    parts.advance();
+    Some(time)
 }
 
-/// A time at the front; `InvalidDate` where none begins there.
-pub fn next_time<'a>(parts: &mut Parts<'a>) -> Result<ASN1Time, Refusal<X509Error>>
+/// A time at the front; `InvalidDate` where none begins there, and the octets stay. No header is tried.
+pub fn next_time(parts: &mut Parts<'_>) -> Result<ASN1Time, Refusal<X509Error>>
     ensures read { Gives (λ v. (time_view v, parts.new.octets)) result (time_at parts.old.octets) }
+    ensures refused { IfErr result (λ e. e ≡ refusals.Error errors.InvalidDate) }
     ensures elements { IfOk result (λ _. parts.old.elements ≡ parts.new.elements + 1) }
+    ensures stays { IfErr result (λ _. parts.new ≡ parts.old) }
     ensures ends { length parts.new.octets ≤ length parts.old.octets }
 {
-    match any_time(parts) {
-        Ok(time) => Ok(time),
-        Err(refusal) => Err(renamed(refusal, X509Error::InvalidDate)),
+    match take_time(parts) {
+        Some(time) => Ok(time),
+        None => Err(Refusal::Error(X509Error::InvalidDate)),
     }
 }
 

@@ -1,14 +1,16 @@
 //! The time of a list's next update, which may be absent (RFC 5280, 5.1.2.5).
 
-ghost use Rattle.std.specs.Prelude.{◌≡◌, ◌+◌, ◌^◌, ◌<◌, ◌≤◌, length, nat_le, option_map};
+ghost use Rattle.std.specs.Prelude.{◌≡◌, ◌+◌, ◌^◌, ◌<◌, ◌≤◌, length, nat_le, option_map, IfErr};
 ghost use Rattle.std.specs.List.{list_all};
 ghost use Rattle.asn1_any.specs.Views.{any_of};
 ghost use Rattle.asn1_core.specs.Counts.{attempts};
+ghost use Rattle.asn1_core.specs.declared.outcome.Err.TheVariants as refusals;
 ghost use Rattle.x509_core.specs.Answers.{Gives};
-ghost use Rattle.x509_time.specs.Reading.{next_update_at, is_cut_tag, is_absent, begins_general_time, TakesTime};
+ghost use Rattle.x509_core.specs.declared.error.X509Error.TheVariants as errors;
+ghost use Rattle.x509_time.specs.Reading.{next_update_at, is_cut_tag, is_absent, begins_general_time};
 ghost use Rattle.x509_time.specs.View.{time_view};
 
-use crate::leaves::{is_general_time, time_of};
+use crate::leaves::{is_general_time, take_time};
 use crate::time::ASN1Time;
 use asn1_any::Element;
 use asn1_core::{Err as Refusal, Header, HeaderCount, Length};
@@ -65,18 +67,6 @@ fn begins_general_time(first: Option<Element<'_>>) -> bool
     }
 }
 
-// The time at the front, taken; the octets stay where none is there.
-fn take_time(parts: &mut Parts<'_>) -> Option<ASN1Time>
-    ensures read { TakesTime parts.old.octets (option_map time_view result) parts.new.octets }
-    ensures elements { parts.new.elements ≤ parts.old.elements }
-    ensures ends { length parts.new.octets ≤ length parts.old.octets }
-{
-    let element = parts.first()?;
-    let time = time_of(element.any)?;
-    parts.advance();
-    Some(time)
-}
-
 /// The time of the next update at the front. None where no octet is left, where the octets end within their first tag number,
 /// or where they begin with a header of at most 4,294,967,295 content octets whose tag number is neither 23 nor 24, or is 24
 /// and begins no GeneralizedTime; the octets then stay. `InvalidDate` in every other case without a time. At most one header
@@ -88,7 +78,9 @@ pub fn next_update(
 ) -> Result<Option<ASN1Time>, Refusal<X509Error>>
     requires { attempts count.old + 1 < 2 ^ 128 }
     ensures read { Gives (λ v. (option_map time_view v, parts.new.octets)) result (next_update_at parts.old.octets) }
+    ensures refused { IfErr result (λ e. e ≡ refusals.Error errors.InvalidDate) }
     ensures elements { parts.new.elements ≤ parts.old.elements }
+    ensures stays { IfErr result (λ _. parts.new ≡ parts.old) }
     ensures grows { attempts count.old ≤ attempts count.new }
     ensures ends { length parts.new.octets ≤ length parts.old.octets }
     ensures most { attempts count.new ≤ attempts count.old + 1 }
