@@ -5,7 +5,9 @@
 
 mod keys;
 mod names;
+mod objects;
 mod row;
+mod times;
 mod words;
 
 use crate::row::outcome;

@@ -2,6 +2,8 @@
 
 use crate::keys::{exponent, parsed};
 use crate::names::{as_slice, as_str, attributes_of, attributes_under};
+use crate::objects::name_of;
+use crate::times::{from_timestamp, next_update_of, time, validity};
 use crate::words::told_of;
 use asn1_traits::FromDer;
 use hex_rows::{literal, octets_of};
@@ -25,6 +27,8 @@ pub fn outcome(alloc: Global, row: &str) -> io::Result<String> {
         "relative" => told_of(alloc, RelativeDistinguishedName::from_der(alloc, octets)),
         "name" => told_of(alloc, X509Name::from_der(alloc, octets)),
         "key" => told_of(alloc, SubjectPublicKeyInfo::from_der(alloc, octets)),
+        "time" => time(alloc, octets),
+        "validity" => validity(alloc, octets),
         "rsa" => told_of(alloc, RSAPublicKey::from_der(alloc, octets)),
         _ => called(alloc, call, octets),
     }
@@ -33,14 +37,20 @@ pub fn outcome(alloc: Global, row: &str) -> io::Result<String> {
 /// The same of calls on what was read.
 fn called(alloc: Global, call: &str, octets: &[u8]) -> io::Result<String> {
     match call {
+        "next_update" => next_update_of(alloc, octets),
+        "oid2sn" | "oid2description" | "oid2abbrev" => name_of(alloc, call, octets),
         "as_str" => as_str(alloc, octets),
         "as_slice" => as_slice(alloc, octets),
         "iter_attributes" => attributes_of(alloc, octets),
         "try_exponent" => exponent(alloc, octets),
         "parsed" => parsed(alloc, octets),
-        _ => match call.strip_prefix("iter_") {
-            Some(name) => attributes_under(alloc, name, octets),
-            None => literal(alloc, "no call"),
+        _ => match (
+            call.strip_prefix("iter_"),
+            call.strip_prefix("from_timestamp:"),
+        ) {
+            (Some(name), _) => attributes_under(alloc, name, octets),
+            (None, Some(seconds)) => from_timestamp(alloc, seconds),
+            (None, None) => literal(alloc, "no call"),
         },
     }
 }

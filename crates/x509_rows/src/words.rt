@@ -28,7 +28,7 @@ pub fn told_of<T: Words + Drop>(alloc: Global, read: X509Result<'_, T>) -> io::R
 }
 
 /// The refusal; of an error of the readers below its kind alone, since which one it is isn't promised.
-fn refusal_text(alloc: Global, refusal: Refusal<X509Error>) -> io::Result<String> {
+pub fn refusal_text(alloc: Global, refusal: Refusal<X509Error>) -> io::Result<String> {
     match refusal {
         Refusal::Error(error) => {
             let error = error_text(alloc, error)?;

@@ -1,8 +1,8 @@
 -- Where the year 2050 begins.
-use Rattle.std.proofs.Common.{◌≡◌, ◌↔◌, sym, ap, refl, subst, arith, ◌<◌, ◌≤◌, ◌+◌, ◌⊎◌, inl, inr, ◌∙◌, ℕ, ℤ, pos, neg_ℤ, ◌≤ℤ◌, ◌<ℤ◌, int_lt, Bool, true, false}
+use Rattle.std.proofs.Common.{◌≡◌, ◌↔◌, ap, refl, arith, ◌<◌, ◌≤◌, ◌∙◌, ℕ, ℤ, pos, ◌≤ℤ◌, ◌<ℤ◌, int_lt, true}
 use Rattle.std.proofs.lemmas.Int.{ints, by_lt_z}
 use Rattle.jiff.specs.Words.{civil_nanos}
-use Rattle.jiff_core.specs.Calendar.{day_count, days_from_civil, IsCivilDate}
+use Rattle.jiff_core.specs.Calendar.{day_count, IsCivilDate}
 use Rattle.jiff_core.specs.declared.civil.datetime.DateTime.{DateTime}
 use Rattle.jiff_core.proofs.CalendarLemmas.{day_count-lt_year, day_count-day_of_year, days_from_civil-day_count}
 use Rattle.jiff_core.proofs.DateLemmas.{civil}

@@ -1,5 +1,5 @@
 -- The readers of times and validities take what the relations say, and no more.
-use Rattle.std.proofs.Common.{◌≡◌, ◌⊎◌, inl, inr, sym, ap, refl, subst, arith, ◌==◌, ℕ, ℤ, Bool, true, false, if◌then◌else◌, List, Option, Some, None, option_map, Ok}
+use Rattle.std.proofs.Common.{◌≡◌, ◌↔◌, ◌⊎◌, inl, inr, sym, ap, refl, subst, arith, ◌==◌, ℕ, ℤ, Bool, true, false, if◌then◌else◌, List, Option, Some, None, option_map, Ok}
 use Rattle.std.specs.Int.Digits.{AllBelowBase}
 use Rattle.std.proofs.lemmas.Bool.Decides.{nat_tests}
 use Rattle.std.proofs.lemmas.Option.{option_and_then_some}
@@ -64,6 +64,9 @@ general_only content n is =
     let civil = universal_in t.year t is.moment.clock zone in
     rw (content_only content t is.spelled) (moment_only t.year t n (rw zone tt) (rw is.moment.value civil) is.moment)
 
+pub general_is : (content : List ℕ) (n : ℤ) → (general_nanos_at content ≡ Some n) ↔ GeneralMoment content n
+general_is content n = (general_found content n, general_only content n)
+
 equal_tags : (a b : ℕ) → (a == b) ≡ true → a ≡ b
 equal_tags a b e = grind (arith, nat_tests)
 
@@ -117,6 +120,9 @@ time_only q v (utc_time is form) =
     rw (is.leaf.primitive, is.leaf.tag_is, utc_only q.element.content v.nanoseconds is.meant) (ap (λ g. Some (time_of_nanos g v.nanoseconds)) (sym form))
 time_only q v (general_time is form) =
     rw (is.leaf.primitive, is.leaf.tag_is, general_only q.element.content v.nanoseconds is.meant) (ap (λ g. Some (time_of_nanos g v.nanoseconds)) (sym form))
+
+pub time_is : (q : Piece) (v : Time) → (time_in q.element ≡ Some v) ↔ IsTime q v
+time_is q v = (time_found q v, time_only q v)
 
 pub time_meaning : IsMeaning IsTime (λ q. plain (time_in q.element))
 time_meaning = record {

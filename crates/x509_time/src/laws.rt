@@ -1,18 +1,29 @@
 //! What is so of all octets.
 
-ghost use Rattle.std.specs.Prelude.{◌≡◌, ◌↔◌, ℕ, List, Option, Ok, pos, ◌≤ℤ◌, true};
+ghost use Rattle.std.specs.Prelude.{◌≡◌, ◌↔◌, ℕ, List, Option, Some, Ok, ℤ, pos, ◌≤ℤ◌, true};
 ghost use Rattle.std.specs.Int.Digits.{AllBelowBase};
+ghost use Rattle.asn1_any.specs.Cutting.{Piece};
 ghost use Rattle.jiff.specs.Words.{civil_nanos};
 ghost use Rattle.jiff_core.specs.declared.civil.datetime.DateTime.{DateTime};
 ghost use Rattle.x509_time.specs.Calls.{is_late};
-ghost use Rattle.x509_time.specs.Reading.{time_at, validity_at, next_update_at};
-ghost use Rattle.x509_time.specs.Times.{Time, Period, ASN1Time, Validity};
+ghost use Rattle.x509_time.specs.Reading.{general_nanos_at, time_in, time_at, validity_at, next_update_at};
+ghost use Rattle.x509_time.specs.Times.{Time, Period, GeneralMoment, IsTime, ASN1Time, Validity};
 ghost use Rattle.x509_time.specs.Updates.{NextUpdate};
 
 /// The function of the reader of times finds the times that begin octets, and nothing else.
 pub fn time_function()
     ensures found { (i : List ℕ) (v : Time) (rest : List ℕ) → AllBelowBase 256 i → time_at i ≡ Ok (v, rest) → ASN1Time i v rest }
     ensures only { (i : List ℕ) (v : Time) (rest : List ℕ) → AllBelowBase 256 i → ASN1Time i v rest → time_at i ≡ Ok (v, rest) }
+{}
+
+/// The function of the time of an element finds what the element means, and nothing else.
+pub fn element_time_function()
+    ensures { (piece : Piece) (v : Time) → (time_in piece.element ≡ Some v) ↔ IsTime piece v }
+{}
+
+/// The function of the moment of a GeneralizedTime's content finds that moment, and nothing else.
+pub fn general_moment_function()
+    ensures { (content : List ℕ) (nanoseconds : ℤ) → (general_nanos_at content ≡ Some nanoseconds) ↔ GeneralMoment content nanoseconds }
 {}
 
 /// The function of the reader of validities finds the validities that begin octets, and nothing else.

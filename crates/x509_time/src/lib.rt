@@ -12,7 +12,10 @@ mod time;
 mod validity;
 
 pub use crate::front::whole_element;
-pub use crate::laws::{late_moments, next_update_function, time_function, validity_function};
+pub use crate::laws::{
+    element_time_function, general_moment_function, late_moments, next_update_function,
+    time_function, validity_function,
+};
 pub use crate::leaves::{general_moment, next_time, time_of};
 pub use crate::next::next_update;
 pub use crate::time::ASN1Time;
