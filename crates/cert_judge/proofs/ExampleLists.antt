@@ -2,13 +2,12 @@
 use Rattle.std.proofs.Common.{◌≡◌, ◌∙◌, ap, sym, subst, refl, zero, suc, ℕ, ◌<◌, true, false, List, [], ◌∷◌, length, length-append, arith, get_or, inl, inr, lit<, ◌⊎◌}
 use Rattle.std.specs.List.{Any, Contains}
 use Rattle.cert_graph.specs.Graph.{IsValidPath}
-use Rattle.cert_graph.specs.Laws.{FitIsUsable}
 use Rattle.cert_graph.proofs.PathLaws.{valid_from}
 use Rattle.cert_model.specs.Fields.{Number, Entry, Extension, Certificate, RevocationList}
 use Rattle.cert_model.specs.Octets.{name_octets, key_octets, list_octets}
 use Rattle.cert_model.specs.Class.{Class, certificate, list, other}
 use Rattle.cert_model.specs.Examples.{key, new_year, plain, issued_by_b, authority_b, revoking}
-use Rattle.cert_judge.specs.Revoking.{Item, Rules, AreUncritical, IsCurrent, IsPlain, IsSatisfied}
+use Rattle.cert_judge.specs.Revoking.{Item, AreUncritical, IsCurrent, IsPlain, IsSatisfied}
 use Rattle.cert_judge.specs.Judging.{IsUsable}
 use Rattle.cert_judge.specs.ItemGraph.{HaveSameKeyId, graph_of_items}
 use Rattle.cert_judge.specs.Examples.{in_june, revoking_two, anchor_named, certificate_item, list_item, vouching_for_all, vouching_but_for}

@@ -13,7 +13,7 @@ use Rattle.cert_model.specs.Octets.{name_octets, key_octets}
 use Rattle.cert_model.specs.Class.{Class, certificate, list, other}
 use Rattle.cert_judge.specs.Revoking.{Item, Rules}
 use Rattle.cert_judge.specs.ItemGraph.{IsCertificateWith, IsIssuedUnder, IsLink, IsAnchorLink, HaveSameKeyId, graph_of_items}
-use Rattle.cert_judge.specs.Named.{NamesKeyId, HasKeyId}
+use Rattle.cert_judge.specs.Named.{NamesKeyId}
 use Rattle.cert_judge.specs.Built.{Holder, anchors, everyone, certificates, GroupKey, StandsAs, IsGroupOf, IsGroupOfAnchor, Allows, IsLinkedTo, NamesKey, IsIdentified, AreGrouped, AreJudged}
 
 one_path : (o p : Option (List ℕ)) → IsProp (o ≡ p)

@@ -8,5 +8,6 @@ pub mod WindowFacts
 pub mod PathLimits
 pub mod Singles
 pub mod Linking
+pub mod Carrying
 pub mod Examples
 pub mod ExampleLists

@@ -1,6 +1,6 @@
 -- What the code finds of two items is what the definitions say of them.
 use Rattle.std.specs.Prelude.{◌↔◌, IsTrue, IfSome, IsSomeAnd}
-use Rattle.std.proofs.Common.{◌≡◌, ◌∙◌, ap, sym, subst, refl, ℕ, ◌+◌, ◌-◌, ◌<◌, ◌≤◌, Bool, true, false, List, map, length, arith, get_or, inl, inr, Option, Some, None, Bor, option_map}
+use Rattle.std.proofs.Common.{◌≡◌, ◌∙◌, ap, sym, subst, refl, ℕ, ◌+◌, ◌-◌, ◌<◌, ◌≤◌, Bool, true, List, map, length, arith, get_or, inl, inr, Option, Some, None, Bor, option_map}
 use Rattle.std.proofs.Math.Logic.{∥∥₁_elim}
 use Rattle.std.proofs.lemmas.List.{get_or-map, length-map}
 use Rattle.cert_graph.specs.Entries.{IsAt}
@@ -13,7 +13,7 @@ use Rattle.cert_model.specs.KeyIds.{IsAuthorityKeyId, IsSubjectKeyId}
 use Rattle.cert_model.specs.Class.{certificate}
 use Rattle.cert_judge.specs.declared.items.CertificateItem.{CertificateItem}
 use Rattle.cert_judge.specs.declared.items.ReadItem.{ReadItem}
-use Rattle.cert_judge.specs.declared.items.ReadItem.TheVariants.{Certificate as certificate_read, List as list_read, Other as other_read}
+use Rattle.cert_judge.specs.declared.items.ReadItem.TheVariants.{Certificate as certificate_read}
 use Rattle.cert_judge.specs.Items.{certificate_of, certificate_item, item_of}
 use Rattle.cert_judge.specs.Named.{NamesKeyId, HasKeyId}
 use Rattle.cert_judge.specs.Revoking.{Item, Rules}

@@ -1,22 +1,20 @@
 -- Where each item and each anchor is a group of its own, entries carry the links of the definitions.
 use Rattle.std.specs.Prelude.{◌↔◌}
-use Rattle.std.proofs.Common.{◌≡◌, ◌∙◌, ap, sym, subst, refl, ℕ, ◌+◌, ◌<◌, ◌≤◌, List, [], ◌∷◌, ◌++◌, map, length, length-append, arith, get_or, inl, inr, ◌⊎◌, Option, Some, None, Bool, true, false}
+use Rattle.std.proofs.Common.{◌≡◌, ◌∙◌, ap, sym, subst, refl, ℕ, ◌+◌, ◌<◌, List, [], ◌∷◌, ◌++◌, map, length, length-append, arith, get_or, inl, inr, ◌⊎◌, Option, Some, true, false}
 use Rattle.std.specs.List.{Contains}
 use Rattle.std.proofs.Math.ListN.{get_or-append}
 use Rattle.std.proofs.Math.Seq.{get_or-append_seam}
 use Rattle.std.proofs.lemmas.Bool.{cases_lt}
-use Rattle.std.proofs.lemmas.List.{get_or-map, length-map, get_or_past, get_or_default}
+use Rattle.std.proofs.lemmas.List.{get_or-map, length-map, get_or_past}
 use Rattle.cert_graph.specs.declared.entries.Entry.{Entry}
-use Rattle.cert_graph.specs.declared.reach.Reach.{Reach}
 use Rattle.cert_graph.specs.declared.reach.Reach.TheVariants.{No}
 use Rattle.cert_graph.specs.Reach.{reach_of}
 use Rattle.cert_graph.specs.Laws.{Agrees}
 use Rattle.cert_graph.specs.Entries.{IsAt, BelongsTo, LinkedTo, AnchorIn, graph_by}
-use Rattle.cert_graph.proofs.EntryFacts.{is_at, has_at}
 use Rattle.cert_judge.specs.Judging.{IsUsable, IsFitIssuer}
 use Rattle.cert_judge.specs.Revoking.{Item, Rules}
 use Rattle.cert_judge.specs.ItemGraph.{IsCertificateWith, IsLink, IsAnchorLink, self_issued_of, limit_of, graph_of_items}
-use Rattle.cert_judge.specs.Singly.{IsNodeOf, LeadsTo, IsEntryOf, AreEntriesOf, AreAnchorGroups}
+use Rattle.cert_judge.specs.Singly.{LeadsTo, IsEntryOf, AreEntriesOf, AreAnchorGroups}
 use Rattle.cert_judge.proofs.Grouping.{element}
 
 -- what relates elements of one place relates what is said of them

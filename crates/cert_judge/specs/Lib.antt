@@ -10,6 +10,7 @@ pub mod Named
 pub mod Items
 pub mod Built
 pub mod Singly
+pub mod LawsOfItems
 pub mod Examples
 pub mod Numbers
 pub mod Windows

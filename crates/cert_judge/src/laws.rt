@@ -1,16 +1,20 @@
 //! Laws of judging. Each is a function that does nothing: its contract is the law.
 
-ghost use Rattle.std.specs.Prelude.{◌≡◌, ℕ, Option, false, true, [], ◌∷◌};
+ghost use Rattle.std.specs.Prelude.{◌≡◌, ◌↔◌, ℕ, Bool, Option, List, All, false, true, [], ◌∷◌, ◌++◌};
 ghost use Rattle.cert_graph.specs.declared.reach.Reach.TheVariants.{UpTo};
 ghost use Rattle.cert_graph.specs.Reach.{reach_of};
 ghost use Rattle.cert_graph.specs.Graph.{IsValidPath};
+ghost use Rattle.cert_graph.specs.Adequate.{IsTrueAnswer};
+ghost use Rattle.cert_graph.specs.declared.answer.Answer.{Answer};
 ghost use Rattle.cert_model.specs.Fields.{CivilTime, Certificate};
 ghost use Rattle.cert_model.specs.Octets.{name_octets, key_octets, list_octets};
 ghost use Rattle.cert_model.specs.Extended.{SomeUnder, basic_constraints};
 ghost use Rattle.cert_model.specs.Examples.{key, new_year, plain, issued_by_b, authority_b, revoking};
 ghost use Rattle.cert_judge.specs.Judging.{HasPathLen, IsUsable, IsFitIssuer};
 ghost use Rattle.cert_judge.specs.Limits.{path_limit};
-ghost use Rattle.cert_judge.specs.Revoking.{IsSatisfied};
+ghost use Rattle.cert_judge.specs.Revoking.{Item, IsSatisfied};
+ghost use Rattle.cert_judge.specs.LawsOfItems.{rules_from, VouchesForMore, Keeps, HasPathsOf, HasPathOf, IsValidAt};
+ghost use Rattle.cert_model.specs.Class.{certificate, other};
 ghost use Rattle.cert_judge.specs.ItemGraph.{graph_of_items};
 ghost use Rattle.cert_judge.specs.Examples.{in_june, too_early, too_late, extended_by, extension, unconstrained, default_written, extended_key_usage, authority_with_usage, encipherment, signing, anchor_named, revoking_two, certificate_item, list_item, vouching_for_all, vouching_but_for};
 
@@ -55,4 +59,43 @@ pub fn examples_of_lists()
 /// Of paths: a certificate of b, b of c with path length 0, and the anchor c: the target is not counted.
 pub fn example_of_a_path()
     ensures { IsValidPath (graph_of_items (vouching_for_all false) (certificate_item issued_by_b ∷ certificate_item authority_b ∷ []) (certificate_item (anchor_named 0x63) ∷ [])) 0 (0 ∷ 1 ∷ []) 0 }
+{}
+
+/// Rules that vouch for more certificates, and for the same lists, never lose a path.
+pub fn vouching_for_more()
+    ensures { (moment : CivilTime) (demand : Bool) (vouches more : List ℕ → List ℕ → Bool) (items anchors : List Item)
+        → VouchesForMore (rules_from moment demand vouches) (rules_from moment demand more) items → HasPathsOf (λ v. v) (rules_from moment demand vouches) (rules_from moment demand more) items items anchors }
+{}
+
+/// A further certificate behind the last item never loses a path.
+pub fn further_certificate()
+    ensures { (moment : CivilTime) (demand : Bool) (vouches : List ℕ → List ℕ → Bool) (items anchors : List Item) (x : Item) (c : Certificate)
+        → x.class ≡ certificate c → let r = rules_from moment demand vouches in HasPathsOf (λ v. v) r r items (items ++ x ∷ []) anchors }
+{}
+
+/// Items that keep each certificate, at a place of its own or another's, and the same lists keep the paths.
+pub fn other_places()
+    ensures { (moment : CivilTime) (demand : Bool) (vouches : List ℕ → List ℕ → Bool) (items others anchors : List Item) (f : ℕ → ℕ)
+        → Keeps f items others → let r = rules_from moment demand vouches in HasPathsOf f r r items others anchors }
+{}
+
+/// Of a valid path each certificate is valid at the moment, ends included; nothing is said of the anchor.
+pub fn valid_at_the_moment()
+    ensures { (moment : CivilTime) (demand : Bool) (vouches : List ℕ → List ℕ → Bool) (items anchors : List Item) (target : ℕ) (ps : List ℕ) (a : ℕ)
+        → IsValidPath (graph_of_items (rules_from moment demand vouches) items anchors) target ps a → All (IsValidAt items moment) ps }
+{}
+
+/// Reordering changes neither whether there is a path nor how many certificates it takes, the target following its item: items
+/// go to other places and back.
+pub fn reordered()
+    ensures { (moment : CivilTime) (demand : Bool) (vouches : List ℕ → List ℕ → Bool) (items others anchors : List Item) (f g : ℕ → ℕ) (target : ℕ)
+        → Keeps f items others → Keeps g others items → g (f target) ≡ target → (n : ℕ)
+        → let r = rules_from moment demand vouches in HasPathOf r items anchors target n ↔ HasPathOf r others anchors (f target) n }
+{}
+
+/// Another item in the place of one, neither of them a certificate or a list, changes no true answer.
+pub fn exchanged_other()
+    ensures { (moment : CivilTime) (demand : Bool) (vouches : List ℕ → List ℕ → Bool) (front back anchors : List Item) (x y : Item) (target : ℕ) (answer : Answer)
+        → x.class ≡ other → y.class ≡ other
+        → let r = rules_from moment demand vouches in IsTrueAnswer (graph_of_items r (front ++ x ∷ back) anchors) target answer ↔ IsTrueAnswer (graph_of_items r (front ++ y ∷ back) anchors) target answer }
 {}

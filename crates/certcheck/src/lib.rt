@@ -6,6 +6,7 @@ mod certificate;
 mod class;
 mod extensions;
 mod judge;
+pub mod laws;
 mod list;
 mod names;
 mod parts;

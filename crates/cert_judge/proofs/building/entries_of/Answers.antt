@@ -1,4 +1,4 @@
-use Rattle.std.proofs.Common.{map, refl, sym, subst, ap, ◌∙◌, ◌≡◌, arith, length, get_or}
+use Rattle.std.proofs.Common.{map, sym, subst, ap, ◌∙◌, ◌≡◌, get_or}
 use Rattle.std.proofs.lemmas.List.{get_or-map}
 use Rattle.cert_judge.specs.Items.{item_of, rules_by}
 use Rattle.cert_judge.specs.Revoking.{Item}

@@ -1,4 +1,4 @@
-use Rattle.std.proofs.Common.{map, refl, arith, ◌<◌, ◌≤◌, ◌+◌, length}
+use Rattle.std.proofs.Common.{map, arith}
 use Rattle.std.proofs.lemmas.List.{length-map}
 use Rattle.cert_judge.specs.Items.{item_of, rules_by}
 use Rattle.cert_judge.specs.Singly.{LeadsTo}

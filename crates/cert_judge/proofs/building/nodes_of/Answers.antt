@@ -1,4 +1,4 @@
-use Rattle.std.proofs.Common.{map, arith, sym, subst, ap, ◌∙◌, ◌≡◌, ◌+◌, length}
+use Rattle.std.proofs.Common.{map, arith, sym, subst, ◌≡◌, ◌+◌, length}
 use Rattle.std.proofs.lemmas.List.{length-map}
 use Rattle.cert_judge.specs.Items.{item_of, rules_by}
 use Rattle.cert_graph.specs.Laws.{Agrees}

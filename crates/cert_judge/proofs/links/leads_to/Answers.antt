@@ -1,4 +1,4 @@
-use Rattle.std.proofs.Common.{◌≡◌, ◌<◌, ◌-◌, length, refl}
+use Rattle.std.proofs.Common.{◌-◌, length, refl}
 use Rattle.cert_judge.specs.Items.{item_of, rules_by}
 use Rattle.cert_judge.proofs.Linking.{leads_item, leads_anchor}
 use Rattle.cert_judge.proofs.links.leads_to.Goals as goal

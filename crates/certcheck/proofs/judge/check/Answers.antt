@@ -1,5 +1,5 @@
-use Rattle.std.proofs.Common.{map, subst, sym}
-use Rattle.cert_graph.specs.Laws.{Agrees, FitIsUsable}
+use Rattle.std.proofs.Common.{map, subst}
+use Rattle.cert_graph.specs.Laws.{Agrees}
 use Rattle.cert_graph.specs.Nodes.{graph_of}
 use Rattle.cert_graph.proofs.Agreeing.{agreed_adequate, agreed_true}
 use Rattle.cert_graph.proofs.NodeFacts.{fit_is_usable}

@@ -1,4 +1,4 @@
-use Rattle.std.proofs.Common.{map, take, subst, length, arith, ◌≡◌, ◌<◌, ◌≤◌}
+use Rattle.std.proofs.Common.{map, subst, length, arith, ◌<◌, ◌≤◌}
 use Rattle.std.proofs.lemmas.List.{take_all}
 use Rattle.cert_judge.specs.Items.{item_of}
 use Rattle.cert_judge.specs.Classed.{AreClassed}

@@ -1,0 +1,219 @@
+-- Items that keep certificates and lists keep paths.
+use Rattle.std.specs.Prelude.{◌↔◌}
+use Rattle.std.proofs.Common.{◌≡◌, ◌≢◌, ◌∙◌, ap, sym, subst, refl, zero, suc, ℕ, ◌<◌, Bool, false, List, [], ◌∷◌, ◌++◌, map, length, length-append, arith, get_or, inl, inr}
+use Rattle.std.specs.List.{All, Contains}
+use Rattle.std.proofs.Math.ListN.{get_or-append}
+use Rattle.std.proofs.Math.Seq.{get_or-append_seam}
+use Rattle.std.proofs.lemmas.Bool.{cases_lt}
+use Rattle.std.proofs.lemmas.List.{get_or-map, length-map}
+use Rattle.cert_graph.specs.declared.reach.Reach.{Reach}
+use Rattle.cert_graph.specs.declared.reach.Reach.TheVariants.{No}
+use Rattle.cert_graph.specs.Reach.{Takes}
+use Rattle.cert_graph.specs.Graph.{IsValidPath}
+use Rattle.cert_graph.specs.Entries.{IsAt}
+use Rattle.cert_graph.specs.Laws.{Carries, Agrees}
+use Rattle.cert_graph.specs.declared.answer.Answer.{Answer}
+use Rattle.cert_graph.specs.Adequate.{IsTrueAnswer}
+use Rattle.cert_graph.proofs.Agreeing.{agreed_true}
+use Rattle.cert_graph.proofs.PathLaws.{path_carried}
+use Rattle.cert_graph.proofs.EntryFacts.{is_at, has_at}
+use Rattle.cert_model.specs.Fields.{Number, Certificate, RevocationList}
+use Rattle.cert_model.specs.Class.{Class, certificate, list, other}
+use Rattle.cert_judge.specs.Judging.{IsUsable, IsFitIssuer}
+use Rattle.cert_judge.specs.Revoking.{Item, Rules, IsCurrent, IsUsedList, IsSatisfied}
+use Rattle.cert_judge.specs.ItemGraph.{IsCertificateWith, IsIssuedUnder, IsLink, IsAnchorLink, self_issued_of, limit_of, graph_of_items}
+use Rattle.cert_judge.specs.LawsOfItems.{VouchesForMore, Keeps, HasPathsOf, HasPathOf, IsValidAt}
+use Rattle.cert_judge.proofs.Grouping.{element}
+use Rattle.cert_judge.proofs.Linking.{fit_is_usable}
+
+contained : (items : List Item) (v : ℕ) (x : Item) → v < length items → x ≡ get_or items v x → Contains items x
+contained items v x lt is = (v, lt, sym is)
+
+-- a certificate at a place goes to its other place
+moved : (f : ℕ → ℕ) (items others : List Item) → Keeps f items others → (P Q : Certificate → Type 0) → ((c : Certificate) → P c → Q c) → (v : ℕ) → IsAt items v (IsCertificateWith P) → IsAt others (f v) (IsCertificateWith Q)
+moved f items others k P Q g v h =
+    let x = element items v h.0 in
+    let p = has_at items v x.0 x.1 (IsCertificateWith P) h in
+    let there = k.certificates v x.0 p.0 (is_at items v x.0 h.0 x.1 (λ y. y ≡ x.0) refl) p.1 in
+    (there.0, λ d. subst (IsCertificateWith Q) (sym (there.1 d)) (p.0, p.1, g p.0 p.2))
+
+-- what a place shows of its item
+shown : {Z : Type 0} (g : Item → Z) (z : Z) (items : List Item) (v : ℕ) (x : Item) → IsAt items v (λ y. y ≡ x) → get_or (map g items) v z ≡ g x
+shown g z items v x h = get_or-map g items v x z h.0 ∙ ap g (h.1 x)
+
+same_shown : {Z : Type 0} (g : Item → Z) (z : Z) (f : ℕ → ℕ) (items others : List Item) → Keeps f items others → (P : Certificate → Type 0) (v : ℕ) → IsAt items v (IsCertificateWith P) → get_or (map g others) (f v) z ≡ get_or (map g items) v z
+same_shown g z f items others k P v h =
+    let x = element items v h.0 in
+    let p = has_at items v x.0 x.1 (IsCertificateWith P) h in
+    let here = is_at items v x.0 h.0 x.1 (λ y. y ≡ x.0) refl in
+    shown g z others (f v) x.0 (k.certificates v x.0 p.0 here p.1) ∙ sym (shown g z items v x.0 here)
+
+used_more : (r s : Rules) (items : List Item) → VouchesForMore r s items → (name key : List ℕ) (x : Item) (l : RevocationList) → IsUsedList r name key x l → IsUsedList s name key x l
+used_more r s items m name key x l u = record {
+  is_list = u.is_list;
+  issuer = u.issuer;
+  vouched = (m.lists x l key u.is_list).0 u.vouched;
+  current = subst (λ t. IsCurrent t l) m.moment u.current;
+  plain = u.plain;
+}
+
+used_less : (r s : Rules) (items : List Item) → VouchesForMore r s items → (name key : List ℕ) (x : Item) (l : RevocationList) → IsUsedList s name key x l → IsUsedList r name key x l
+used_less r s items m name key x l u = record {
+  is_list = u.is_list;
+  issuer = u.issuer;
+  vouched = (m.lists x l key u.is_list).1 u.vouched;
+  current = subst (λ t. IsCurrent t l) (sym m.moment) u.current;
+  plain = u.plain;
+}
+
+satisfied_more : (f : ℕ → ℕ) (r s : Rules) (items others : List Item) → VouchesForMore r s items → Keeps f items others → (name key : List ℕ) (serial : Number) → IsSatisfied r items name key serial → IsSatisfied s others name key serial
+satisfied_more f r s items others m k name key serial h = record {
+  kept = λ v. h.kept (v.0, v.1, (k.lists v.0 v.1 v.3.is_list).1 v.2, used_less r s items m name key v.0 v.1 v.3, v.4);
+  listed = λ d. let u = h.listed (m.demand ∙ d) in (u.0, u.1, (k.lists u.0 u.1 u.3.is_list).0 u.2, used_more r s items m name key u.0 u.1 u.3);
+}
+
+issued_more : (f : ℕ → ℕ) (r s : Rules) (items others : List Item) → VouchesForMore r s items → Keeps f items others → (x : Item) (c : Certificate) (name key : List ℕ) → Contains items x → x.class ≡ certificate c → IsIssuedUnder r items x c name key → IsIssuedUnder s others x c name key
+issued_more f r s items others m k x c name key at is h = record { issuer = h.issuer; vouched = m.certificates x c key at is h.vouched; satisfied = satisfied_more f r s items others m k name key c.serial h.satisfied }
+
+pub items_carry : (f : ℕ → ℕ) (r s : Rules) (items others anchors : List Item) → VouchesForMore r s items → Keeps f items others → Carries f (graph_of_items r items anchors) (graph_of_items s others anchors)
+items_carry f r s items others anchors m k = record {
+  usable = λ v h. moved f items others k (IsUsable r.moment) (IsUsable s.moment) (λ c u. subst (λ t. IsUsable t c) m.moment u) v h;
+  fit = λ v h. moved f items others k (IsFitIssuer r.moment) (IsFitIssuer s.moment) (λ c u. subst (λ t. IsFitIssuer t c) m.moment u) v h;
+  self_issued = λ v h. same_shown (λ (x : Item). self_issued_of x.class) false f items others k (IsFitIssuer r.moment) v h;
+  limit = λ v c h t. subst (λ (z : Reach). Takes z c) (sym (same_shown (λ (x : Item). limit_of x.class) No f items others k (IsFitIssuer r.moment) v h)) t;
+  edge = λ v w fit h.
+      let x = element items v h.0 in
+      let h' = has_at items v x.0 x.1 (λ x. IsAt items w (λ y. IsLink r items x y)) h in
+      let y = element items w h'.0 in
+      let l = has_at items w y.0 y.1 (λ y. IsLink r items x.0 y) h' in
+      let a = k.certificates v x.0 l.0 (is_at items v x.0 h.0 x.1 (λ z. z ≡ x.0) refl) l.1 in
+      let b = k.certificates w y.0 l.2.0 (is_at items w y.0 h'.0 y.1 (λ z. z ≡ y.0) refl) l.2.1 in
+      let link : IsLink s others x.0 y.0 = (l.0, l.1, (l.2.0, l.2.1, (issued_more f r s items others m k x.0 l.0 _ _ (contained items v x.0 h.0 x.1) l.1 l.2.2.0, l.2.2.1))) in
+      (a.0, λ d. (b.0, λ e. subst (λ z. IsLink s others z (get_or others (f w) e)) (sym (a.1 d)) (subst (IsLink s others x.0) (sym (b.1 e)) link)));
+  anchored = λ v w h.
+      let x = element items v h.0 in
+      let h' = has_at items v x.0 x.1 (λ x. IsAt anchors w (λ y. IsAnchorLink r items x y)) h in
+      let y = element anchors w h'.0 in
+      let l = has_at anchors w y.0 y.1 (λ y. IsAnchorLink r items x.0 y) h' in
+      let a = k.certificates v x.0 l.0 (is_at items v x.0 h.0 x.1 (λ z. z ≡ x.0) refl) l.1 in
+      let link : IsAnchorLink s others x.0 y.0 = (l.0, l.1, (l.2.0, l.2.1, issued_more f r s items others m k x.0 l.0 _ _ (contained items v x.0 h.0 x.1) l.1 l.2.2)) in
+      (a.0, λ d. is_at anchors w y.0 h'.0 y.1 (λ y. IsAnchorLink s others (get_or others (f v) d) y) (subst (λ z. IsAnchorLink s others z y.0) (sym (a.1 d)) link));
+}
+
+pub items_keep_paths : (f : ℕ → ℕ) (r s : Rules) (items others anchors : List Item) → VouchesForMore r s items → Keeps f items others → HasPathsOf f r s items others anchors
+items_keep_paths f r s items others anchors m k = λ target ps a v.
+    (map f ps, length-map ps f, path_carried f (graph_of_items r items anchors) (graph_of_items s others anchors) (items_carry f r s items others anchors m k) (fit_is_usable s others anchors) target ps a v)
+
+pub same_rules : (r : Rules) (items : List Item) → VouchesForMore r r items
+same_rules r items = record { moment = refl; demand = refl; certificates = λ x c key at is v. v; lists = λ x l key is. (λ v. v, λ v. v) }
+
+pub same_items : (items : List Item) → Keeps (λ v. v) items items
+same_items items = record { certificates = λ v x c at is. at; lists = λ x l is. (λ h. h, λ h. h) }
+
+never_both : (l : RevocationList) (d : Certificate) → list l ≡ certificate d → ⊥
+never_both l d e = cc
+
+-- a further certificate behind the others
+pub one_item_more : (items : List Item) (y : Item) (d : Certificate) → y.class ≡ certificate d → Keeps (λ v. v) items (items ++ y ∷ [])
+one_item_more items y d is_y =
+    let long = length-append items (y ∷ []) in record {
+      certificates = λ v x c at is. let lt = at.0 in (omega arith, λ e. get_or-append items (y ∷ []) e v at.0 ∙ at.1 e);
+      lists = λ x l is. (
+        λ h. let lt = h.1 in (h.0, omega arith, get_or-append items (y ∷ []) x h.0 h.1 ∙ h.2),
+        λ h. elim (cases_lt h.0 (length items)) [
+          | inl lt ↦ (h.0, lt, sym (get_or-append items (y ∷ []) x h.0 lt) ∙ h.2)
+          | inr past ↦
+              let place = h.1 in
+              let same : h.0 ≡ length items = omega arith in
+              let here : x ≡ y = sym h.2 ∙ ap (λ i. get_or (items ++ y ∷ []) i x) same ∙ get_or-append_seam items y [] x in
+              let k = sym is ∙ ap (λ (z : Item). z.class) here ∙ is_y in
+              absurd (never_both l d k)
+        ],
+      );
+    }
+
+-- of a valid path each certificate is valid at the moment
+pub path_is_valid : (r : Rules) (items anchors : List Item) (target : ℕ) (ps : List ℕ) (a : ℕ) → IsValidPath (graph_of_items r items anchors) target ps a → All (IsValidAt items r.moment) ps
+path_is_valid r items anchors target ps a v = λ k d lt. let u = v.usable k d lt in (u.0, λ e. let c = u.1 e in (c.0, c.1, c.2.valid))
+
+-- there and back again
+pub kept_both_ways : (r : Rules) (items others anchors : List Item) (f g : ℕ → ℕ) (target : ℕ) → Keeps f items others → Keeps g others items → g (f target) ≡ target
+    → (n : ℕ) → HasPathOf r items anchors target n ↔ HasPathOf r others anchors (f target) n
+kept_both_ways r items others anchors f g target there back same n = (
+  λ h. let v = items_keep_paths f r r items others anchors (same_rules r items) there target h.0 h.1 h.3 in (v.0, h.1, v.1 ∙ h.2, v.2),
+  λ h.
+      let v = items_keep_paths g r r others items anchors (same_rules r others) back (f target) h.0 h.1 h.3 in
+      (v.0, h.1, v.1 ∙ h.2, subst (λ t. IsValidPath (graph_of_items r items anchors) t v.0 h.1) same v.2),
+)
+
+-- lists that differ at one place
+elsewhere : (front back : List Item) (x y : Item) (v : ℕ) (d : Item) → v ≢ length front → get_or (front ++ x ∷ back) v d ≡ get_or (front ++ y ∷ back) v d
+elsewhere [] back x y zero d n = absurd (n refl)
+elsewhere [] back x y (suc v) d n = refl
+elsewhere (z ∷ front) back x y zero d n = refl
+elsewhere (z ∷ front) back x y (suc v) d n = elsewhere front back x y v d (λ e. n (ap suc e))
+
+as_long : (front back : List Item) (x y : Item) → length (front ++ x ∷ back) ≡ length (front ++ y ∷ back)
+as_long front back x y = length-append front (x ∷ back) ∙ sym (length-append front (y ∷ back))
+
+other_is_none : (k : Class) (z : Item) (x : Item) → z ≡ x → x.class ≡ other → z.class ≡ k → k ≡ other
+other_is_none k z x e is_x is_z = sym is_z ∙ ap (λ (i : Item). i.class) e ∙ is_x
+
+not_certificate : (c : Certificate) → certificate c ≡ other → ⊥
+not_certificate c e = cc
+
+not_list : (l : RevocationList) → list l ≡ other → ⊥
+not_list l e = cc
+
+kept_at : (front back : List Item) (x y : Item) (k : Class) → (k ≡ other → ⊥) → x.class ≡ other → (v : ℕ) (z : Item) → z.class ≡ k → (v < length (front ++ x ∷ back)) → get_or (front ++ x ∷ back) v z ≡ z → v ≢ length front
+kept_at front back x y k apart is_x v z is_z lt at = λ e.
+    let here : z ≡ x = sym at ∙ ap (λ i. get_or (front ++ x ∷ back) i z) e ∙ get_or-append_seam front x back z in
+    apart (other_is_none k z x here is_x is_z)
+
+pub exchanged_keeps : (front back : List Item) (x y : Item) → x.class ≡ other → y.class ≡ other → Keeps (λ v. v) (front ++ x ∷ back) (front ++ y ∷ back)
+exchanged_keeps front back x y is_x is_y =
+    let long = as_long front back x y in record {
+      certificates = λ v z c at is_z.
+          let apart = kept_at front back x y (certificate c) (not_certificate c) is_x v z is_z at.0 (at.1 z) in
+          let lt = at.0 in
+          (omega arith, λ d. sym (elsewhere front back x y v d apart) ∙ at.1 d);
+      lists = λ z l is_z. (
+        λ h.
+            let apart = kept_at front back x y (list l) (not_list l) is_x h.0 z is_z h.1 h.2 in
+            let lt = h.1 in
+            (h.0, omega arith, sym (elsewhere front back x y h.0 z apart) ∙ h.2),
+        λ h.
+            let apart = kept_at front back y x (list l) (not_list l) is_y h.0 z is_z h.1 h.2 in
+            let lt = h.1 in
+            (h.0, omega arith, elsewhere front back x y h.0 z apart ∙ h.2),
+      );
+    }
+
+-- what is shown of two others is the same
+shown_alike : {Z : Type 0} (g : Class → Z) (front back : List Item) (x y : Item) → x.class ≡ other → y.class ≡ other → map (λ (i : Item). g i.class) (front ++ x ∷ back) ≡ map (λ (i : Item). g i.class) (front ++ y ∷ back)
+shown_alike g [] back x y is_x is_y = ap (λ k. g k ∷ map (λ (i : Item). g i.class) back) (is_x ∙ sym is_y)
+shown_alike g (z ∷ front) back x y is_x is_y = ap (λ l. g z.class ∷ l) (shown_alike g front back x y is_x is_y)
+
+pub exchanged_agrees : (r : Rules) (front back anchors : List Item) (x y : Item) → x.class ≡ other → y.class ≡ other → Agrees (graph_of_items r (front ++ x ∷ back) anchors) (graph_of_items r (front ++ y ∷ back) anchors)
+exchanged_agrees r front back anchors x y is_x is_y =
+    let items = front ++ x ∷ back in
+    let others = front ++ y ∷ back in
+    let k = exchanged_keeps front back x y is_x is_y in
+    let l = exchanged_keeps front back y x is_y is_x in
+    let a = items_carry (λ v. v) r r items others anchors (same_rules r items) k in
+    let b = items_carry (λ v. v) r r others items anchors (same_rules r others) l in
+    record {
+      items = as_long front back x y;
+      certificate = λ v. (moved (λ v. v) items others k (λ c. Unit {0}) (λ c. Unit {0}) (λ c u. u) v, moved (λ v. v) others items l (λ c. Unit {0}) (λ c. Unit {0}) (λ c u. u) v);
+      usable = λ v. (a.usable v, b.usable v);
+      fit = λ v. (a.fit v, b.fit v);
+      self_issued = λ v. ap (λ (s : List Bool). get_or s v false) (shown_alike self_issued_of front back y x is_y is_x);
+      limit = λ v f. ap (λ (s : List Reach). get_or s v No) (shown_alike limit_of front back y x is_y is_x);
+      edge = λ v w f. (a.edge v w f, b.edge v w (a.fit w f));
+      anchored = λ v w. (a.anchored v w, b.anchored v w);
+    }
+
+pub exchanged_true : (r : Rules) (front back anchors : List Item) (x y : Item) → x.class ≡ other → y.class ≡ other → (target : ℕ) (answer : Answer)
+    → IsTrueAnswer (graph_of_items r (front ++ x ∷ back) anchors) target answer ↔ IsTrueAnswer (graph_of_items r (front ++ y ∷ back) anchors) target answer
+exchanged_true r front back anchors x y is_x is_y target answer =
+    agreed_true (graph_of_items r (front ++ x ∷ back) anchors) (graph_of_items r (front ++ y ∷ back) anchors) (exchanged_agrees r front back anchors x y is_x is_y) (fit_is_usable r (front ++ x ∷ back) anchors) target answer
