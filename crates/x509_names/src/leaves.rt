@@ -1,0 +1,89 @@
+//! Single elements at the front of a cut content: identifiers and bit strings.
+
+ghost use Rattle.std.specs.Prelude.{◌≡◌, ◌+◌, ◌≤◌, length, IfOk, IfErr};
+ghost use Rattle.asn1_any.specs.Views.{any_of};
+ghost use Rattle.x509_core.specs.Answers.{Gives};
+ghost use Rattle.x509_names.specs.Fronts.{TakesNoMemory};
+ghost use Rattle.x509_names.specs.Reading.{leaf_in, oid_at, bits_of, bits_at, integer_in, octets_in};
+ghost use Rattle.x509_names.specs.View.{bits_view};
+
+use asn1_any::Any;
+use asn1_core::{Err as Refusal, Error};
+use asn1_oid::Oid;
+use asn1_traits::{DerLeaf, FromLeaf, check_shortest};
+use asn1_values::BitString;
+use std::alloc::Global;
+use x509_core::{Parts, X509Error, oid_of};
+
+/// The content of a primitive element of this tag number, whatever its class.
+pub fn leaf_of<'a>(tag: u32, any: Any<'a>) -> Result<&'a [u8], Refusal<X509Error>>
+    ensures read { Gives (λ c. c.now) result (leaf_in tag (any_of any.entry)) }
+    ensures memory { IfErr result TakesNoMemory }
+{
+    if any.tag().0 != tag || any.header.is_constructed() {
+        return Err(Refusal::Error(X509Error::Der(Error::InvalidTag)));
+    }
+    Ok(any.content)
+}
+
+/// The content of an OCTET STRING.
+pub(crate) fn octets_of<'a>(any: Any<'a>) -> Result<&'a [u8], Refusal<X509Error>>
+    ensures read { Gives (λ c. c.now) result (octets_in (any_of any.entry)) }
+    ensures memory { IfErr result TakesNoMemory }
+{
+    leaf_of(4, any)
+}
+
+/// The content of an INTEGER, in the fewest octets (X.690, 8.3.2).
+pub(crate) fn integer_of<'a>(any: Any<'a>) -> Result<&'a [u8], Refusal<X509Error>>
+    ensures read { Gives (λ c. c.now) result (integer_in (any_of any.entry)) }
+    ensures memory { IfErr result TakesNoMemory }
+{
+    let content = leaf_of(2, any)?;
+    match check_shortest(content) {
+        Ok(()) => Ok(content),
+        Err(e) => Err(Refusal::Error(X509Error::Der(e))),
+    }
+}
+
+/// The bits of a content, as DER has them (X.690, 8.6 and 11.2).
+#[tactic(auto, unfolding(crate::specs::Reading::bits_of))]
+pub fn bits_within<'a>(
+    alloc: Global,
+    content: &'a [u8],
+) -> Result<BitString<'a>, Refusal<X509Error>>
+    ensures read { Gives bits_view result (bits_of content.now) }
+    ensures memory { IfErr result TakesNoMemory }
+{
+    if let Err(e) = BitString::check_content(content) {
+        return Err(Refusal::Error(X509Error::Der(e)));
+    }
+    match BitString::from_content(alloc, content) {
+        Ok(bits) => Ok(bits),
+        Err(e) => Err(Refusal::Error(X509Error::Der(e))),
+    }
+}
+
+/// An OBJECT IDENTIFIER at the front.
+pub fn next_oid<'a>(parts: &mut Parts<'a>) -> Result<Oid<'a>, Refusal<X509Error>>
+    ensures read { Gives (λ o. (o, parts.new.octets)) result (oid_at parts.old.octets) }
+    ensures elements { IfOk result (λ _. parts.old.elements ≡ parts.new.elements + 1) }
+    ensures ends { length parts.new.octets ≤ length parts.old.octets }
+{
+    let element = parts.next()?;
+    oid_of(element)
+}
+
+/// A BIT STRING at the front.
+pub fn next_bits<'a>(
+    alloc: Global,
+    parts: &mut Parts<'a>,
+) -> Result<BitString<'a>, Refusal<X509Error>>
+    ensures read { Gives (λ v. (bits_view v, parts.new.octets)) result (bits_at parts.old.octets) }
+    ensures elements { IfOk result (λ _. parts.old.elements ≡ parts.new.elements + 1) }
+    ensures ends { length parts.new.octets ≤ length parts.old.octets }
+{
+    let element = parts.next()?;
+    let content = leaf_of(3, element.any)?;
+    bits_within(alloc, content)
+}

@@ -1,0 +1,24 @@
+//! Algorithms, names and keys of certificates (RFC 5280, 4.1.1.2, 4.1.2.4 and 4.1.2.7), read leniently: the octets that a
+//! reader leaves in a container's content are ignored, and neither class nor constructed bit of a container is looked at.
+#![tactic(auto)]
+
+mod algorithm;
+mod attribute;
+mod attributes;
+mod front;
+mod key;
+pub mod laws;
+mod leaves;
+mod name;
+mod public_key;
+mod relative;
+
+pub use crate::algorithm::{AlgorithmIdentifier, algorithm_of, next_algorithm};
+pub use crate::attribute::{AttributeTypeAndValue, attribute_of};
+pub use crate::attributes::{Attributes, AttributesOf};
+pub use crate::front::whole_element;
+pub use crate::key::{SubjectPublicKeyInfo, key_of, next_key};
+pub use crate::leaves::{bits_within, leaf_of, next_bits, next_oid};
+pub use crate::name::{X509Name, name_of, next_name};
+pub use crate::public_key::{ECPoint, PublicKey, RSAPublicKey};
+pub use crate::relative::{RelativeDistinguishedName, relative_name_of};

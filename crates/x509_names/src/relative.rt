@@ -1,0 +1,146 @@
+//! `RelativeDistinguishedName` (RFC 5280, 4.1.2.4).
+
+ghost use Rattle.std.specs.Prelude.{◌≡◌, ◌+◌, ◌*◌, ◌^◌, ◌<◌, ◌≤◌, ℕ, List, length, IfOk, map};
+ghost use Rattle.std.specs.Slice.Iter.{iter_rest};
+ghost use Rattle.asn1_core.specs.Counts.{attempts};
+ghost use Rattle.asn1_any.specs.Views.{any_of};
+ghost use Rattle.asn1_traits.specs.Elements.{EndsWithinElement};
+ghost use Rattle.asn1_traits.specs.Reads.{Reads};
+ghost use Rattle.x509_core.specs.Answers.{Gives, ManyGive, ElseMemory};
+ghost use Rattle.x509_core.specs.Errors.{told};
+ghost use Rattle.x509_core.specs.Grammar.{Holds};
+ghost use Rattle.x509_core.specs.Reading.{many_of};
+ghost use Rattle.x509_names.specs.Fields.{Attribute};
+ghost use Rattle.x509_names.specs.Fronts.{TellsMissing, one_rest};
+ghost use Rattle.x509_names.specs.Names as grammar;
+ghost use Rattle.x509_names.specs.Reading.{attribute_at, relative_name_in, relative_name_at};
+ghost use Rattle.x509_names.specs.View.{attribute_view, set_view};
+
+use crate::attribute::{AttributeTypeAndValue, attribute_of};
+use crate::front::{whole_element, within};
+use asn1_any::Element;
+use asn1_core::{Err as Refusal, ErrorKind, HeaderCount, OutOfMemory};
+use asn1_traits::{DerMeaning, FromDer};
+use std::alloc::Global;
+use std::slice;
+use x509_core::{Parts, X509Error, X509Result, parts_of};
+
+/// A set of attributes, in the order in which they were read: one or more in one that was read.
+#[derive(Debug, Drop, PartialEq, Eq)]
+pub struct RelativeDistinguishedName<'a> {
+    set: Vec<AttributeTypeAndValue<'a>>,
+}
+
+impl<'a> RelativeDistinguishedName<'a> {
+    /// The set of these attributes.
+    pub fn new(set: Vec<AttributeTypeAndValue<'a>>) -> RelativeDistinguishedName<'a>
+        ensures { result ≡ record { set = set.entry } }
+    {
+        RelativeDistinguishedName { set }
+    }
+
+    /// The attributes.
+    pub fn iter(&self) -> slice::Iter<'_, AttributeTypeAndValue<'a>>
+        ensures { iter_rest result ≡ self.now.set.items }
+    {
+        self.set.iter()
+    }
+
+    /// A copy: it borrows what the set borrows.
+    pub fn clone(&self, alloc: Global) -> Result<RelativeDistinguishedName<'a>, OutOfMemory>
+        ensures { IfOk result (λ copy. copy.set.items ≡ self.now.set.items) }
+    {
+        let mut set = Vec::new(alloc);
+        for attribute in self.set.as_slice() {
+            set.push(attribute.clone(alloc)?)?;
+        }
+        Ok(RelativeDistinguishedName { set })
+    }
+}
+
+/// As many attributes as begin there.
+fn attributes_of<'a>(
+    alloc: Global,
+    parts: &mut Parts<'a>,
+    count: &mut HeaderCount,
+) -> Result<Vec<AttributeTypeAndValue<'a>>, Refusal<X509Error>>
+    requires { attempts count.old + length parts.old.octets < 2 ^ 128 }
+    ensures read { ManyGive (λ v. map attribute_view v.items) result (many_of attribute_at parts.old.octets) parts.new.octets }
+    ensures grows { attempts count.old ≤ attempts count.new }
+    ensures most { attempts count.new ≤ attempts count.old + length parts.old.octets }
+    ensures shorter { length parts.new.octets ≤ length parts.old.octets }
+{
+    let mut attributes = Vec::new(alloc);
+    while let Some(element) = parts.first() {
+        match attribute_of(alloc, element, count) {
+            Ok(attribute) => {
+                attributes.push(attribute)?;
+                parts.advance();
+            }
+            Err(refusal) => match refusal {
+                Refusal::Failure(e) => return Err(Refusal::Failure(e)),
+                _ => return Ok(attributes),
+            },
+        }
+    }
+    Ok(attributes)
+}
+
+/// The set that an element is: as many attributes as begin its content, and one at least.
+#[tactic(auto, unfolding(crate::specs::Reading::relative_name_in))]
+pub fn relative_name_of<'a>(
+    alloc: Global,
+    element: Element<'a>,
+    count: &mut HeaderCount,
+) -> Result<RelativeDistinguishedName<'a>, Refusal<X509Error>>
+    requires { attempts count.old + 2 * length element.any.content.now < 2 ^ 128 }
+    ensures read { Gives set_view result (relative_name_in (any_of element.entry.any)) }
+    ensures grows { attempts count.old ≤ attempts count.new }
+    ensures most { attempts count.new ≤ attempts count.old + 2 * length element.entry.any.content.now }
+{
+    let mut parts = parts_of(alloc, 17, element, count)?;
+    let set = attributes_of(alloc, &mut parts, count)?;
+    if set.is_empty() {
+        return Err(Refusal::Error(X509Error::NomError(ErrorKind::Many1)));
+    }
+    Ok(RelativeDistinguishedName { set })
+}
+
+impl<'b> DerMeaning for RelativeDistinguishedName<'b> {
+    ghost der_reads = { λ i v r. grammar.RelativeDistinguishedName i (set_view v) r };
+
+    ghost der_cut = { EndsWithinElement };
+
+    ghost der_grows = { Unit {0} };
+
+    ghost one_rest = { λ i v w r s left right. one_rest (Holds 17 grammar.RelativeParts) i (set_view v) (set_view w) r s left right };
+}
+
+impl<'a> FromDer<'a, X509Error> for RelativeDistinguishedName<'a> {
+    /// The set that begins the octets, behind those after it. An attribute that is none ends the set.
+    fn from_der(alloc: Global, bytes: &'a [u8]) -> X509Result<'a, RelativeDistinguishedName<'a>>
+        ensures reads { Reads (λ given e. e ≡ told given) (Unit {0}) EndsWithinElement (λ i. i.now)
+            (λ i v r. grammar.RelativeDistinguishedName i (set_view v) r) bytes.now result }
+        ensures exact { Gives (λ r. (set_view r.1, r.0.now)) result (relative_name_at bytes.now) }
+        ensures found { IfOk result (λ r. grammar.RelativeDistinguishedName bytes.now (set_view r.1) r.0.now) }
+        ensures only { (v : List Attribute) (rest : List ℕ) → grammar.RelativeDistinguishedName bytes.now v rest
+            → ElseMemory result (λ r. (set_view r.1 ≡ v) × (r.0.now ≡ rest)) }
+    {
+        relative_name_at_front(alloc, bytes)
+    }
+}
+
+fn relative_name_at_front<'a>(
+    alloc: Global,
+    i: &'a [u8],
+) -> X509Result<'a, RelativeDistinguishedName<'a>>
+    ensures exact { Gives (λ r. (set_view r.1, r.0.now)) result (relative_name_at i.now) }
+    ensures missing { TellsMissing i.now result }
+{
+    let mut count = HeaderCount::new();
+    let (rest, element) = whole_element(i, &mut count)?;
+    match relative_name_of(alloc, element, &mut count) {
+        Ok(set) => Ok((rest, set)),
+        Err(refusal) => Err(within(refusal)),
+    }
+}
