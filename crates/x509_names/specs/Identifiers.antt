@@ -17,11 +17,11 @@ dsa_id = 0x2a ∷ 0x86 ∷ 0x48 ∷ 0xce ∷ 0x38 ∷ 0x04 ∷ 0x01 ∷ []
 abbrev pub gost_id : List ℕ
 gost_id = 0x2a ∷ 0x85 ∷ 0x03 ∷ 0x02 ∷ 0x02 ∷ 0x13 ∷ []
 
--- id-tc26-gost3410-12-256, 1.2.643.7.1.1.1.1 (RFC 9215, 4.1)
+-- id-tc26-gost3410-12-256, 1.2.643.7.1.1.1.1 (RFC 9215, 4)
 abbrev pub gost_2012_256_id : List ℕ
 gost_2012_256_id = 0x2a ∷ 0x85 ∷ 0x03 ∷ 0x07 ∷ 0x01 ∷ 0x01 ∷ 0x01 ∷ 0x01 ∷ []
 
--- id-tc26-gost3410-12-512, 1.2.643.7.1.1.1.2 (RFC 9215, 4.1)
+-- id-tc26-gost3410-12-512, 1.2.643.7.1.1.1.2 (RFC 9215, 4)
 abbrev pub gost_2012_512_id : List ℕ
 gost_2012_512_id = 0x2a ∷ 0x85 ∷ 0x03 ∷ 0x07 ∷ 0x01 ∷ 0x01 ∷ 0x01 ∷ 0x02 ∷ []
 

@@ -34,9 +34,9 @@ pub data IsKeyValue (identifier : List ℕ) (octets : List ℕ) (v : KeyValue) :
   is_dsa : (y rest : List ℕ) → identifier ≡ dsa_id → One IsInteger octets y rest → v ≡ dsa y → IsKeyValue identifier octets v
   -- GostR3410-2001-PublicKey ::= OCTET STRING (RFC 4491, 2.3.2)
   is_gost : (y rest : List ℕ) → identifier ≡ gost_id → One IsOctets octets y rest → v ≡ gost y → IsKeyValue identifier octets v
-  -- GostR3410-2012-256-PublicKey ::= OCTET STRING (RFC 9215, 4.2)
+  -- GostR3410-2012-256-PublicKey ::= OCTET STRING (RFC 9215, 4)
   is_gost_256 : (y rest : List ℕ) → identifier ≡ gost_2012_256_id → One IsOctets octets y rest → v ≡ gost_2012 y → IsKeyValue identifier octets v
-  -- GostR3410-2012-512-PublicKey ::= OCTET STRING (RFC 9215, 4.2)
+  -- GostR3410-2012-512-PublicKey ::= OCTET STRING (RFC 9215, 4)
   is_gost_512 : (y rest : List ℕ) → identifier ≡ gost_2012_512_id → One IsOctets octets y rest → v ≡ gost_2012 y → IsKeyValue identifier octets v
   is_unknown : IsUnknown identifier → v ≡ unknown octets → IsKeyValue identifier octets v
 

@@ -1,6 +1,7 @@
 //! `X509Name` (RFC 5280, 4.1.2.4).
 
-ghost use Rattle.std.specs.Prelude.{◌≡◌, ◌+◌, ◌*◌, ◌^◌, ◌<◌, ◌≤◌, ◌++◌, ℕ, List, length, IfOk, map};
+ghost use Rattle.std.specs.Prelude.{◌≡◌, ◌+◌, ◌*◌, ◌^◌, ◌<◌, ◌≤◌, ◌++◌, ℕ, List, [], length, IfOk, map};
+ghost use Rattle.std.specs.Iterator.{Drains, IsFinite};
 ghost use Rattle.std.specs.List.{filter};
 ghost use Rattle.std.specs.Slice.Iter.{iter_rest};
 ghost use Rattle.asn1_core.specs.Counts.{attempts};
@@ -42,6 +43,23 @@ impl<'a> X509Name<'a> {
         ensures { result ≡ record { rdn_seq = rdn_seq.entry; raw = raw.entry } }
     {
         X509Name { rdn_seq, raw }
+    }
+
+    /// The name of the sets that an iterator gives, read from no octets.
+    pub fn try_from_iter<I: Iterator<Item = RelativeDistinguishedName<'a>> + Drop>(
+        alloc: Global,
+        sets: I,
+    ) -> Result<X509Name<'a>, OutOfMemory>
+        requires can { I.can_next sets }
+        requires ends { IsFinite (I.remaining sets) }
+        ensures sets { IfOk result (λ name. Drains I.next_gives sets name.rdn_seq.items) }
+        ensures raw { IfOk result (λ name. name.raw.now ≡ []) }
+    {
+        let mut rdn_seq = Vec::new(alloc);
+        for set in sets {
+            rdn_seq.push(set)?;
+        }
+        Ok(X509Name { rdn_seq, raw: &[] })
     }
 
     /// The octets of the name, up to where its sets end.

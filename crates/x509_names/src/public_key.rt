@@ -1,4 +1,4 @@
-//! Public keys by their kinds (RFC 3279, 2.3; RFC 4491, 2.3; RFC 5480, 2).
+//! Public keys by their kinds (RFC 3279, 2.3; RFC 4491, 2.3; RFC 9215, 4; RFC 5480, 2).
 
 ghost use Rattle.std.specs.Prelude.{◌≡◌, ℕ, List, Ok, Some, IfOk, IfErr, IfSome, IsSomeAnd, option_map};
 ghost use Rattle.asn1_any.specs.Views.{any_of};
@@ -53,7 +53,7 @@ pub enum PublicKey<'a> {
     DSA(&'a [u8]),
     /// The content of an OCTET STRING (RFC 4491, 2.3.2).
     GostR3410(&'a [u8]),
-    /// The content of an OCTET STRING (RFC 9215, 4.2).
+    /// The content of an OCTET STRING (RFC 9215, 4).
     GostR3410_2012(&'a [u8]),
     /// The octets of a key of another algorithm.
     Unknown(&'a [u8]),

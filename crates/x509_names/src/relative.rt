@@ -1,6 +1,7 @@
 //! `RelativeDistinguishedName` (RFC 5280, 4.1.2.4).
 
 ghost use Rattle.std.specs.Prelude.{◌≡◌, ◌+◌, ◌*◌, ◌^◌, ◌<◌, ◌≤◌, ℕ, List, length, IfOk, map};
+ghost use Rattle.std.specs.Iterator.{Drains, IsFinite};
 ghost use Rattle.std.specs.Slice.Iter.{iter_rest};
 ghost use Rattle.asn1_core.specs.Counts.{attempts};
 ghost use Rattle.asn1_any.specs.Views.{any_of};
@@ -37,6 +38,22 @@ impl<'a> RelativeDistinguishedName<'a> {
         ensures { result ≡ record { set = set.entry } }
     {
         RelativeDistinguishedName { set }
+    }
+
+    /// The set of the attributes that an iterator gives.
+    pub fn try_from_iter<I: Iterator<Item = AttributeTypeAndValue<'a>> + Drop>(
+        alloc: Global,
+        attributes: I,
+    ) -> Result<RelativeDistinguishedName<'a>, OutOfMemory>
+        requires can { I.can_next attributes }
+        requires ends { IsFinite (I.remaining attributes) }
+        ensures { IfOk result (λ set. Drains I.next_gives attributes set.set.items) }
+    {
+        let mut set = Vec::new(alloc);
+        for attribute in attributes {
+            set.push(attribute)?;
+        }
+        Ok(RelativeDistinguishedName { set })
     }
 
     /// The attributes.
