@@ -1,0 +1,7 @@
+pub mod Times
+pub mod Updates
+pub mod Calls
+pub mod Texts
+pub mod Reading
+pub mod View
+pub mod Fronts

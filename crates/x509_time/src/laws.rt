@@ -1,0 +1,33 @@
+//! What is so of all octets.
+
+ghost use Rattle.std.specs.Prelude.{◌≡◌, ◌↔◌, ℕ, List, Option, Ok, pos, ◌≤ℤ◌, true};
+ghost use Rattle.std.specs.Int.Digits.{AllBelowBase};
+ghost use Rattle.jiff.specs.Words.{civil_nanos};
+ghost use Rattle.jiff_core.specs.declared.civil.datetime.DateTime.{DateTime};
+ghost use Rattle.x509_time.specs.Calls.{is_late};
+ghost use Rattle.x509_time.specs.Reading.{time_at, validity_at, next_update_at};
+ghost use Rattle.x509_time.specs.Times.{Time, Period, ASN1Time, Validity};
+ghost use Rattle.x509_time.specs.Updates.{NextUpdate};
+
+/// The function of the reader of times finds the times that begin octets, and nothing else.
+pub fn time_function()
+    ensures found { (i : List ℕ) (v : Time) (rest : List ℕ) → AllBelowBase 256 i → time_at i ≡ Ok (v, rest) → ASN1Time i v rest }
+    ensures only { (i : List ℕ) (v : Time) (rest : List ℕ) → AllBelowBase 256 i → ASN1Time i v rest → time_at i ≡ Ok (v, rest) }
+{}
+
+/// The function of the reader of validities finds the validities that begin octets, and nothing else.
+pub fn validity_function()
+    ensures found { (i : List ℕ) (v : Period) (rest : List ℕ) → AllBelowBase 256 i → validity_at i ≡ Ok (v, rest) → Validity i v rest }
+    ensures only { (i : List ℕ) (v : Period) (rest : List ℕ) → AllBelowBase 256 i → Validity i v rest → validity_at i ≡ Ok (v, rest) }
+{}
+
+/// The function of the reader of next updates finds the time that begins octets, or that none is there, and nothing else.
+pub fn next_update_function()
+    ensures found { (i : List ℕ) (v : Option Time) (rest : List ℕ) → AllBelowBase 256 i → next_update_at i ≡ Ok (v, rest) → NextUpdate i v rest }
+    ensures only { (i : List ℕ) (v : Option Time) (rest : List ℕ) → AllBelowBase 256 i → NextUpdate i v rest → next_update_at i ≡ Ok (v, rest) }
+{}
+
+/// A moment is of a year from 2050 on exactly where it is 2,524,608,000 seconds after 1970 began, or later.
+pub fn late_moments()
+    ensures { (moment : DateTime) → (is_late moment ≡ true) ↔ (pos 2_524_608_000_000_000_000 ≤ℤ civil_nanos moment) }
+{}
