@@ -1,0 +1,4 @@
+pub mod Certificates
+pub mod Fields
+pub mod Reading
+pub mod View

@@ -1,0 +1,171 @@
+//! `X509Certificate` (RFC 5280, 4.1.1).
+
+ghost use Rattle.std.specs.Prelude.{◌≡◌, ◌+◌, ◌*◌, ◌^◌, ◌<◌, ◌≤◌, length, IfOk, option_map, string_bytes};
+ghost use Rattle.std.specs.Slice.Iter.{iter_rest};
+ghost use Rattle.asn1_core.specs.Counts.{attempts};
+ghost use Rattle.asn1_any.specs.CutViews.{piece_of};
+ghost use Rattle.x509_core.specs.Answers.{Gives, naming};
+ghost use Rattle.x509_core.specs.declared.error.X509Error.TheVariants.{InvalidSignatureValue};
+ghost use Rattle.x509_names.specs.Reading.{bits_at};
+ghost use Rattle.x509_names.specs.View.{bits_view};
+ghost use Rattle.x509_values.specs.Texts.{serial_text};
+ghost use Rattle.x509_ext.specs.Fields.{unread};
+ghost use Rattle.x509_ext.specs.Lookup.{all_of, first_of, only_of, seen};
+ghost use Rattle.x509_certs.specs.Reading.{certificate_in};
+ghost use Rattle.x509_certs.specs.View.{certificate_view, HasSerial};
+
+use crate::tbs::{TbsCertificate, next_tbs};
+use asn1_any::Element;
+use asn1_core::{Err as Refusal, HeaderCount, OutOfMemory};
+use asn1_oid::Oid;
+use asn1_values::BitString;
+use std::alloc::Global;
+use std::slice;
+use x509_core::{Parts, X509Error, named, parts_of};
+use x509_ext::{X509Extension, X509Version};
+use x509_names::{AlgorithmIdentifier, SubjectPublicKeyInfo, X509Name, next_algorithm, next_bits};
+use x509_time::Validity;
+
+/// A certificate. The calls of its signed part are its own too.
+#[derive(Debug, Drop, PartialEq, Eq)]
+pub struct X509Certificate<'a> {
+    /// The signed part.
+    pub tbs_certificate: TbsCertificate<'a>,
+    /// The algorithm of the signature.
+    pub signature_algorithm: AlgorithmIdentifier<'a>,
+    /// The signature.
+    pub signature_value: BitString<'a>,
+    raw: &'a [u8],
+}
+
+impl<'a> X509Certificate<'a> {
+    /// All octets of the certificate.
+    pub fn as_raw(&self) -> &'a [u8]
+        ensures { result ≡ self.now.raw }
+    {
+        self.raw
+    }
+
+    /// All octets of the certificate.
+    pub fn as_ref(&self) -> &'a [u8]
+        ensures { result ≡ self.now.raw }
+    {
+        self.raw
+    }
+
+    /// The version.
+    pub fn version(&self) -> X509Version
+        ensures { result ≡ self.now.tbs_certificate.version }
+    {
+        self.tbs_certificate.version()
+    }
+
+    /// Whose the key is.
+    pub fn subject(&self) -> &X509Name<'a>
+        ensures { result.now ≡ self.now.tbs_certificate.subject }
+    {
+        self.tbs_certificate.subject()
+    }
+
+    /// Who signed.
+    pub fn issuer(&self) -> &X509Name<'a>
+        ensures { result.now ≡ self.now.tbs_certificate.issuer }
+    {
+        self.tbs_certificate.issuer()
+    }
+
+    /// When the certificate is valid.
+    pub fn validity(&self) -> &Validity
+        ensures { result.now ≡ self.now.tbs_certificate.validity }
+    {
+        self.tbs_certificate.validity()
+    }
+
+    /// The key.
+    pub fn public_key(&self) -> &SubjectPublicKeyInfo<'a>
+        ensures { result.now ≡ self.now.tbs_certificate.subject_pki }
+    {
+        self.tbs_certificate.public_key()
+    }
+
+    /// The extensions, in the order in which they stand.
+    pub fn extensions(&self) -> &[X509Extension<'a>]
+        ensures { result.now ≡ self.now.tbs_certificate.extensions.items }
+    {
+        self.tbs_certificate.extensions()
+    }
+
+    /// The extensions, in the order in which they stand.
+    pub fn iter_extensions(&self) -> slice::Iter<'_, X509Extension<'a>>
+        ensures { iter_rest result ≡ self.now.tbs_certificate.extensions.items }
+    {
+        self.tbs_certificate.iter_extensions()
+    }
+
+    /// The extension of this identifier; none where none has it, `DuplicateExtensions` where several have.
+    pub fn get_extension_unique(
+        &self,
+        oid: &Oid<'_>,
+    ) -> Result<Option<&X509Extension<'a>>, X509Error>
+        ensures { seen (λ e. e.now) result ≡ only_of (all_of oid.now self.now.tbs_certificate.extensions.items) }
+    {
+        self.tbs_certificate.get_extension_unique(oid)
+    }
+
+    /// The first extension of this identifier. Whether others have it too isn't told.
+    pub fn find_extension(&self, oid: &Oid<'_>) -> Option<&X509Extension<'a>>
+        ensures { option_map (λ e. e.now) result ≡ first_of (all_of oid.now self.now.tbs_certificate.extensions.items) }
+    {
+        self.tbs_certificate.find_extension(oid)
+    }
+
+    /// The octets of the serial number.
+    pub fn raw_serial(&self) -> &'a [u8]
+        ensures { result ≡ self.now.tbs_certificate.raw_serial }
+    {
+        self.tbs_certificate.raw_serial()
+    }
+
+    /// The octets of the serial number in hexadecimal, with a colon between two.
+    pub fn raw_serial_as_string(&self, alloc: Global) -> Result<String, OutOfMemory>
+        ensures { IfOk result (λ text. string_bytes text ≡ serial_text self.now.tbs_certificate.raw_serial.now) }
+    {
+        self.tbs_certificate.raw_serial_as_string(alloc)
+    }
+}
+
+fn next_signature<'a>(
+    alloc: Global,
+    parts: &mut Parts<'a>,
+) -> Result<BitString<'a>, Refusal<X509Error>>
+    ensures read { Gives (λ v. (bits_view v, parts.new.octets)) result (naming InvalidSignatureValue (bits_at parts.old.octets)) }
+    ensures elements { IfOk result (λ _. parts.old.elements ≡ parts.new.elements + 1) }
+{
+    named(next_bits(alloc, parts), X509Error::InvalidSignatureValue)
+}
+
+/// The certificate that an element is.
+#[tactic(auto, unfolding(crate::specs::Reading::certificate_in))]
+pub(crate) fn certificate_of<'a>(
+    alloc: Global,
+    element: Element<'a>,
+    count: &mut HeaderCount,
+) -> Result<X509Certificate<'a>, Refusal<X509Error>>
+    requires { attempts count.old + 8 * length element.any.content.now < 2 ^ 128 }
+    ensures read { Gives certificate_view result (certificate_in unread (piece_of element.entry)) }
+    ensures serial { IfOk result (λ c. HasSerial c.tbs_certificate) }
+    ensures least { IfOk result (λ _. attempts count.old + 16 ≤ attempts count.new) }
+    ensures grows { attempts count.old ≤ attempts count.new }
+    ensures most { attempts count.new ≤ attempts count.old + 8 * length element.entry.any.content.now }
+{
+    let mut parts = parts_of(alloc, 16, element, count)?;
+    let tbs_certificate = next_tbs(alloc, &mut parts, count)?;
+    let signature_algorithm = next_algorithm(alloc, &mut parts, count)?;
+    let signature_value = next_signature(alloc, &mut parts)?;
+    Ok(X509Certificate {
+        tbs_certificate,
+        signature_algorithm,
+        signature_value,
+        raw: element.octets,
+    })
+}

@@ -1,0 +1,13 @@
+//! Certificates (RFC 5280, 4.1), read leniently: the octets that a reader leaves in a container's content are ignored. The
+//! values of extensions aren't parsed yet.
+#![tactic(auto)]
+
+mod certificate;
+mod parser;
+mod tbs;
+
+pub use crate::certificate::X509Certificate;
+pub use crate::parser::{
+    TbsCertificateParser, X509CertificateParser, parse_x509_certificate, parse_x509_der,
+};
+pub use crate::tbs::TbsCertificate;

@@ -1,0 +1,278 @@
+//! The parsers of certificates and of their signed parts.
+
+ghost use Rattle.std.specs.Prelude.{◌≡◌, ◌++◌, ◌+◌, ◌*◌, ◌^◌, ◌<◌, ◌≤◌, ℕ, List, true, length, IfOk};
+ghost use Rattle.asn1_core.specs.Counts.{attempts};
+ghost use Rattle.asn1_traits.specs.Elements.{EndsWithinElement};
+ghost use Rattle.asn1_traits.specs.Reads.{Reads};
+ghost use Rattle.x509_core.specs.Answers.{Gives, ElseMemory};
+ghost use Rattle.x509_core.specs.Errors.{told};
+ghost use Rattle.x509_core.specs.Grammar.{HoldsWindow, HoldsWhole};
+ghost use Rattle.x509_names.specs.Fronts.{TellsMissing, IsWithin, one_rest};
+ghost use Rattle.x509_ext.specs.Fields.{IsUnparsed, unread};
+ghost use Rattle.x509_certs.specs.Certificates as grammar;
+ghost use Rattle.x509_certs.specs.Fields.{Tbs, Certificate};
+ghost use Rattle.x509_certs.specs.Reading.{tbs_at, certificate_at};
+ghost use Rattle.x509_certs.specs.View.{tbs_view, certificate_view, HasSerial};
+
+use crate::certificate::{X509Certificate, certificate_of};
+use crate::tbs::{TbsCertificate, tbs_of};
+use asn1_core::{Err as Refusal, Error, HeaderCount, Needed};
+use asn1_traits::{DerMeaning, FromDer};
+use std::alloc::Global;
+use x509_core::{X509Error, X509Result};
+use x509_names::whole_element;
+
+/// A parser of certificates. The values of extensions aren't parsed yet, whatever is asked for.
+#[derive(Clone, Copy, Debug)]
+pub struct X509CertificateParser {
+    deep_parse_extensions: bool,
+}
+
+impl X509CertificateParser {
+    /// One that parses the values of extensions too.
+    pub fn new() -> X509CertificateParser
+        ensures { result.deep_parse_extensions ≡ true }
+    {
+        X509CertificateParser {
+            deep_parse_extensions: true,
+        }
+    }
+
+    /// One that parses the values of extensions too, or doesn't.
+    pub fn with_deep_parse_extensions(self, deep_parse_extensions: bool) -> X509CertificateParser
+        ensures { result.deep_parse_extensions ≡ deep_parse_extensions }
+    {
+        X509CertificateParser {
+            deep_parse_extensions,
+        }
+    }
+
+    /// The certificate that begins the octets, behind those after it.
+    ///
+    /// By its parts in the order in which they stand: `InvalidVersion`, `InvalidSerial`, `InvalidAlgorithmIdentifier` of an
+    /// algorithm without an identifier, `InvalidDate`, `InvalidSPKI` of a key without bits, `InvalidIssuerUID`,
+    /// `InvalidSubjectUID`, `InvalidExtensions` where a header of another tag number than 3 stands in the place of extensions,
+    /// or what is none, and `InvalidSignatureValue`; `Incomplete` exactly where the octets end within the certificate.
+    pub fn parse<'a>(&self, alloc: Global, i: &'a [u8]) -> X509Result<'a, X509Certificate<'a>>
+        ensures exact { Gives (λ r. (certificate_view r.1, r.0.now)) result (certificate_at unread i.now) }
+        ensures missing { TellsMissing i.now result }
+        ensures window { IfOk result (λ r. i.now ≡ r.1.raw.now ++ r.0.now) }
+        ensures serial { IfOk result (λ r. HasSerial r.1.tbs_certificate) }
+        ensures found { IfOk result (λ r. grammar.X509Certificate IsUnparsed i.now (certificate_view r.1) r.0.now) }
+        ensures only { (v : Certificate) (rest : List ℕ) → grammar.X509Certificate IsUnparsed i.now v rest
+            → ElseMemory result (λ r. (certificate_view r.1 ≡ v) × (r.0.now ≡ rest)) }
+    {
+        certificate_at_front(alloc, i)
+    }
+
+    /// The answer of `parse`, and the header attempts that it took, in the count: at most eight for each octet, and at least
+    /// 17 where there is a certificate.
+    pub fn parse_counted<'a>(
+        &self,
+        alloc: Global,
+        i: &'a [u8],
+        count: &mut HeaderCount,
+    ) -> X509Result<'a, X509Certificate<'a>>
+        requires { attempts count.old + 8 * length i.now < 2 ^ 128 }
+        ensures exact { Gives (λ r. (certificate_view r.1, r.0.now)) result (certificate_at unread i.now) }
+        ensures missing { TellsMissing i.now result }
+        ensures window { IfOk result (λ r. i.now ≡ r.1.raw.now ++ r.0.now) }
+        ensures serial { IfOk result (λ r. HasSerial r.1.tbs_certificate) }
+        ensures found { IfOk result (λ r. grammar.X509Certificate IsUnparsed i.now (certificate_view r.1) r.0.now) }
+        ensures only { (v : Certificate) (rest : List ℕ) → grammar.X509Certificate IsUnparsed i.now v rest
+            → ElseMemory result (λ r. (certificate_view r.1 ≡ v) × (r.0.now ≡ rest)) }
+        ensures least { IfOk result (λ _. attempts count.old + 17 ≤ attempts count.new) }
+        ensures grows { attempts count.old ≤ attempts count.new }
+        ensures most { attempts count.new ≤ attempts count.old + 8 * length i.now }
+    {
+        counted_certificate(alloc, i, count)
+    }
+}
+
+impl Default for X509CertificateParser {
+    ghost use Rattle.std.specs.Prelude.{◌≡◌, true};
+
+    ghost is_default = { λ parser. parser.deep_parse_extensions ≡ true };
+
+    fn default() -> X509CertificateParser {
+        X509CertificateParser::new()
+    }
+}
+
+/// A parser of the signed parts of certificates. The values of extensions aren't parsed yet, whatever is asked for.
+#[derive(Clone, Copy, Debug)]
+pub struct TbsCertificateParser {
+    deep_parse_extensions: bool,
+}
+
+impl TbsCertificateParser {
+    /// One that parses the values of extensions too.
+    pub fn new() -> TbsCertificateParser
+        ensures { result.deep_parse_extensions ≡ true }
+    {
+        TbsCertificateParser {
+            deep_parse_extensions: true,
+        }
+    }
+
+    /// One that parses the values of extensions too, or doesn't.
+    pub fn with_deep_parse_extensions(self, deep_parse_extensions: bool) -> TbsCertificateParser
+        ensures { result.deep_parse_extensions ≡ deep_parse_extensions }
+    {
+        TbsCertificateParser {
+            deep_parse_extensions,
+        }
+    }
+
+    /// The signed part that begins the octets, behind those after it. It is refused as within a certificate.
+    pub fn parse<'a>(&self, alloc: Global, i: &'a [u8]) -> X509Result<'a, TbsCertificate<'a>>
+        ensures exact { Gives (λ r. (tbs_view r.1, r.0.now)) result (tbs_at unread i.now) }
+        ensures missing { TellsMissing i.now result }
+        ensures window { IfOk result (λ r. i.now ≡ r.1.raw.now ++ r.0.now) }
+        ensures serial { IfOk result (λ r. HasSerial r.1) }
+        ensures found { IfOk result (λ r. grammar.TbsCertificate IsUnparsed i.now (tbs_view r.1) r.0.now) }
+        ensures only { (v : Tbs) (rest : List ℕ) → grammar.TbsCertificate IsUnparsed i.now v rest
+            → ElseMemory result (λ r. (tbs_view r.1 ≡ v) × (r.0.now ≡ rest)) }
+    {
+        tbs_at_front(alloc, i)
+    }
+}
+
+impl Default for TbsCertificateParser {
+    ghost use Rattle.std.specs.Prelude.{◌≡◌, true};
+
+    ghost is_default = { λ parser. parser.deep_parse_extensions ≡ true };
+
+    fn default() -> TbsCertificateParser {
+        TbsCertificateParser::new()
+    }
+}
+
+impl<'b> DerMeaning for X509Certificate<'b> {
+    ghost der_reads = { λ i v r. grammar.X509Certificate IsUnparsed i (certificate_view v) r };
+
+    ghost der_cut = { EndsWithinElement };
+
+    ghost der_grows = { Unit {0} };
+
+    ghost one_rest = { λ i v w r s left right. one_rest (HoldsWhole 16 (grammar.CertificateParts IsUnparsed) (λ c. c.raw)) i (certificate_view v) (certificate_view w) r s left right };
+}
+
+impl<'a> FromDer<'a, X509Error> for X509Certificate<'a> {
+    /// The certificate that begins the octets, behind those after it: `parse` of `X509CertificateParser::new()`.
+    fn from_der(alloc: Global, bytes: &'a [u8]) -> X509Result<'a, X509Certificate<'a>>
+        ensures reads { Reads (λ given e. e ≡ told given) (Unit {0}) EndsWithinElement (λ i. i.now)
+            (λ i v r. grammar.X509Certificate IsUnparsed i (certificate_view v) r) bytes.now result }
+        ensures exact { Gives (λ r. (certificate_view r.1, r.0.now)) result (certificate_at unread bytes.now) }
+        ensures window { IfOk result (λ r. bytes.now ≡ r.1.raw.now ++ r.0.now) }
+        ensures serial { IfOk result (λ r. HasSerial r.1.tbs_certificate) }
+        ensures found { IfOk result (λ r. grammar.X509Certificate IsUnparsed bytes.now (certificate_view r.1) r.0.now) }
+        ensures only { (v : Certificate) (rest : List ℕ) → grammar.X509Certificate IsUnparsed bytes.now v rest
+            → ElseMemory result (λ r. (certificate_view r.1 ≡ v) × (r.0.now ≡ rest)) }
+    {
+        X509CertificateParser::new().parse(alloc, bytes)
+    }
+}
+
+impl<'b> DerMeaning for TbsCertificate<'b> {
+    ghost der_reads = { λ i v r. grammar.TbsCertificate IsUnparsed i (tbs_view v) r };
+
+    ghost der_cut = { EndsWithinElement };
+
+    ghost der_grows = { Unit {0} };
+
+    ghost one_rest = { λ i v w r s left right. one_rest (HoldsWindow 16 (grammar.TbsParts IsUnparsed) (λ t. t.raw)) i (tbs_view v) (tbs_view w) r s left right };
+}
+
+impl<'a> FromDer<'a, X509Error> for TbsCertificate<'a> {
+    /// The signed part that begins the octets, behind those after it: `parse` of `TbsCertificateParser::new()`.
+    fn from_der(alloc: Global, bytes: &'a [u8]) -> X509Result<'a, TbsCertificate<'a>>
+        ensures reads { Reads (λ given e. e ≡ told given) (Unit {0}) EndsWithinElement (λ i. i.now)
+            (λ i v r. grammar.TbsCertificate IsUnparsed i (tbs_view v) r) bytes.now result }
+        ensures exact { Gives (λ r. (tbs_view r.1, r.0.now)) result (tbs_at unread bytes.now) }
+        ensures window { IfOk result (λ r. bytes.now ≡ r.1.raw.now ++ r.0.now) }
+        ensures serial { IfOk result (λ r. HasSerial r.1) }
+        ensures found { IfOk result (λ r. grammar.TbsCertificate IsUnparsed bytes.now (tbs_view r.1) r.0.now) }
+        ensures only { (v : Tbs) (rest : List ℕ) → grammar.TbsCertificate IsUnparsed bytes.now v rest
+            → ElseMemory result (λ r. (tbs_view r.1 ≡ v) × (r.0.now ≡ rest)) }
+    {
+        TbsCertificateParser::new().parse(alloc, bytes)
+    }
+}
+
+/// The certificate that begins the octets, behind those after it: `X509Certificate::from_der`.
+pub fn parse_x509_certificate<'a>(alloc: Global, i: &'a [u8]) -> X509Result<'a, X509Certificate<'a>>
+    ensures exact { Gives (λ r. (certificate_view r.1, r.0.now)) result (certificate_at unread i.now) }
+    ensures missing { TellsMissing i.now result }
+    ensures window { IfOk result (λ r. i.now ≡ r.1.raw.now ++ r.0.now) }
+    ensures serial { IfOk result (λ r. HasSerial r.1.tbs_certificate) }
+{
+    X509CertificateParser::new().parse(alloc, i)
+}
+
+/// The same by its older name.
+pub fn parse_x509_der<'a>(alloc: Global, i: &'a [u8]) -> X509Result<'a, X509Certificate<'a>>
+    ensures exact { Gives (λ r. (certificate_view r.1, r.0.now)) result (certificate_at unread i.now) }
+    ensures missing { TellsMissing i.now result }
+    ensures window { IfOk result (λ r. i.now ≡ r.1.raw.now ++ r.0.now) }
+    ensures serial { IfOk result (λ r. HasSerial r.1.tbs_certificate) }
+{
+    parse_x509_certificate(alloc, i)
+}
+
+// A refusal of a whole element: no octet is missing of one.
+fn of_whole(refusal: Refusal<X509Error>) -> Refusal<X509Error>
+    ensures { IsWithin refusal result }
+{
+    match refusal {
+        Refusal::Incomplete(needed) => { Refusal::Error(X509Error::Der(Error::Incomplete(needed))) }
+        Refusal::Error(e) => Refusal::Error(e),
+        Refusal::Failure(e) => Refusal::Failure(e),
+    }
+}
+
+fn tbs_at_front<'a>(alloc: Global, i: &'a [u8]) -> X509Result<'a, TbsCertificate<'a>>
+    ensures exact { Gives (λ r. (tbs_view r.1, r.0.now)) result (tbs_at unread i.now) }
+    ensures missing { TellsMissing i.now result }
+    ensures serial { IfOk result (λ r. HasSerial r.1) }
+{
+    let mut count = HeaderCount::new();
+    let (rest, element) = whole_element(i, &mut count)?;
+    match tbs_of(alloc, element, &mut count) {
+        Ok(tbs) => Ok((rest, tbs)),
+        Err(refusal) => Err(of_whole(refusal)),
+    }
+}
+
+fn certificate_at_front<'a>(alloc: Global, i: &'a [u8]) -> X509Result<'a, X509Certificate<'a>>
+    ensures exact { Gives (λ r. (certificate_view r.1, r.0.now)) result (certificate_at unread i.now) }
+    ensures missing { TellsMissing i.now result }
+    ensures serial { IfOk result (λ r. HasSerial r.1.tbs_certificate) }
+{
+    let mut count = HeaderCount::new();
+    counted_certificate(alloc, i, &mut count)
+}
+
+// Of no octets no header is tried, so that the count may be as high as it gets.
+fn counted_certificate<'a>(
+    alloc: Global,
+    i: &'a [u8],
+    count: &mut HeaderCount,
+) -> X509Result<'a, X509Certificate<'a>>
+    requires { attempts count.old + 8 * length i.now < 2 ^ 128 }
+    ensures exact { Gives (λ r. (certificate_view r.1, r.0.now)) result (certificate_at unread i.now) }
+    ensures missing { TellsMissing i.now result }
+    ensures serial { IfOk result (λ r. HasSerial r.1.tbs_certificate) }
+    ensures least { IfOk result (λ _. attempts count.old + 17 ≤ attempts count.new) }
+    ensures grows { attempts count.old ≤ attempts count.new }
+    ensures most { attempts count.new ≤ attempts count.old + 8 * length i.now }
+{
+    if i.is_empty() {
+        return Err(Refusal::Incomplete(Needed::Size(1)));
+    }
+    let (rest, element) = whole_element(i, count)?;
+    match certificate_of(alloc, element, count) {
+        Ok(certificate) => Ok((rest, certificate)),
+        Err(refusal) => Err(of_whole(refusal)),
+    }
+}

@@ -1,0 +1,3 @@
+pub mod ExtensionLaws
+pub mod PartLaws
+pub mod Public

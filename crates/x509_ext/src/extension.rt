@@ -1,0 +1,116 @@
+//! `X509Extension` by its envelope (RFC 5280, 4.1 and 4.2).
+
+ghost use Rattle.std.specs.Prelude.{◌≡◌, ◌+◌, ◌^◌, ◌<◌, ◌≤◌, length, IfOk};
+ghost use Rattle.asn1_core.specs.Counts.{attempts};
+ghost use Rattle.asn1_any.specs.Views.{any_of};
+ghost use Rattle.x509_core.specs.Answers.{Gives};
+ghost use Rattle.x509_core.specs.Reading.{next};
+ghost use Rattle.x509_names.specs.Reading.{octets_in};
+ghost use Rattle.x509_ext.specs.Fields.{unread};
+ghost use Rattle.x509_ext.specs.Reading.{boolean_in, critical_at, extension_in};
+ghost use Rattle.x509_ext.specs.View.{extension_view};
+
+use crate::parsed::ParsedExtension;
+use asn1_any::{Any, Element};
+use asn1_core::{Err as Refusal, HeaderCount};
+use asn1_oid::Oid;
+use std::alloc::Global;
+use x509_core::{Parts, X509Error, parts_of};
+use x509_names::{leaf_of, next_oid};
+
+/// An extension.
+#[derive(Debug, Drop, PartialEq, Eq)]
+pub struct X509Extension<'a> {
+    /// What the extension is.
+    pub oid: Oid<'a>,
+    /// Whether whoever doesn't know the extension has to refuse what it stands in.
+    pub critical: bool,
+    /// The octets of the value.
+    pub value: &'a [u8],
+    parsed_extension: ParsedExtension<'a>,
+}
+
+impl<'a> X509Extension<'a> {
+    /// The extension of these parts.
+    pub fn new(
+        oid: Oid<'a>,
+        critical: bool,
+        value: &'a [u8],
+        parsed_extension: ParsedExtension<'a>,
+    ) -> X509Extension<'a>
+        ensures { result ≡ record { oid = oid.entry; critical = critical; value = value.entry; parsed_extension = parsed_extension.entry } }
+    {
+        X509Extension {
+            oid,
+            critical,
+            value,
+            parsed_extension,
+        }
+    }
+
+    /// What the value was parsed as.
+    pub fn parsed_extension(&self) -> &ParsedExtension<'a>
+        ensures { result.now ≡ self.now.parsed_extension }
+    {
+        &self.parsed_extension
+    }
+}
+
+fn boolean_of(any: Any<'_>) -> Option<bool>
+    ensures { result ≡ boolean_in (any_of any.entry) }
+{
+    if any.tag().0 != 1 || any.header.is_constructed() {
+        return None;
+    }
+    match any.content {
+        [octet] => Some(*octet != 0),
+        _ => None,
+    }
+}
+
+/// A BOOLEAN at the front, or false and nothing read.
+#[tactic(auto, unfolding(crate::specs::Reading::critical_at))]
+fn next_critical(parts: &mut Parts<'_>) -> bool
+    ensures read { (result, parts.new.octets) ≡ critical_at parts.old.octets }
+    ensures ends { length parts.new.octets ≤ length parts.old.octets }
+{
+    let Some(element) = parts.first() else {
+        return false;
+    };
+    let Some(critical) = boolean_of(element.any) else {
+        return false;
+    };
+    parts.advance();
+    critical
+}
+
+fn next_octets<'a>(parts: &mut Parts<'a>) -> Result<&'a [u8], Refusal<X509Error>>
+    ensures read { Gives (λ v. (v.now, parts.new.octets)) result (next (λ p. octets_in p.element) parts.old.octets) }
+{
+    let element = parts.next()?;
+    leaf_of(4, element.any)
+}
+
+/// The extension that an element is, its value not looked into.
+#[tactic(auto, unfolding(crate::specs::Reading::extension_in))]
+pub fn extension_of<'a>(
+    alloc: Global,
+    element: Element<'a>,
+    count: &mut HeaderCount,
+) -> Result<X509Extension<'a>, Refusal<X509Error>>
+    requires { attempts count.old + length element.any.content.now < 2 ^ 128 }
+    ensures read { Gives extension_view result (extension_in unread (any_of element.entry.any)) }
+    ensures grows { attempts count.old ≤ attempts count.new }
+    ensures most { attempts count.new ≤ attempts count.old + length element.entry.any.content.now }
+{
+    let mut parts = parts_of(alloc, 16, element, count)?;
+    let oid = next_oid(&mut parts)?;
+    let critical = next_critical(&mut parts);
+    let value = next_octets(&mut parts)?;
+    Ok(X509Extension {
+        oid,
+        critical,
+        value,
+        parsed_extension: ParsedExtension::Unparsed,
+    })
+}

@@ -1,0 +1,113 @@
+//! Extensions one after the other, and where they stand in certificates and lists (RFC 5280, 4.1.2.9 and 5.1.2.7).
+
+ghost use Rattle.std.specs.Prelude.{◌≡◌, ◌+◌, ◌*◌, ◌^◌, ◌<◌, ◌≤◌, length, IfOk, map};
+ghost use Rattle.asn1_core.specs.Counts.{attempts};
+ghost use Rattle.asn1_any.specs.Views.{any_of};
+ghost use Rattle.x509_core.specs.Answers.{Gives, ManyGive};
+ghost use Rattle.x509_core.specs.Reading.{many_of};
+ghost use Rattle.x509_ext.specs.Fields.{unread};
+ghost use Rattle.x509_ext.specs.Reading.{extension_at, extension_list_in, extension_list_at, extensions_at};
+ghost use Rattle.x509_ext.specs.View.{extension_view};
+
+use crate::extension::{X509Extension, extension_of};
+use asn1_any::Element;
+use asn1_core::{Err as Refusal, Error, HeaderCount};
+use std::alloc::Global;
+use x509_core::{Parts, X509Error, cut_all, front_header, parts_of, renamed};
+
+/// As many extensions as begin there.
+pub fn each_extension<'a>(
+    alloc: Global,
+    parts: &mut Parts<'a>,
+    count: &mut HeaderCount,
+) -> Result<Vec<X509Extension<'a>>, Refusal<X509Error>>
+    requires { attempts count.old + length parts.old.octets < 2 ^ 128 }
+    ensures read { ManyGive (λ v. map extension_view v.items) result (many_of (extension_at unread) parts.old.octets) parts.new.octets }
+    ensures grows { attempts count.old ≤ attempts count.new }
+    ensures most { attempts count.new ≤ attempts count.old + length parts.old.octets }
+    ensures shorter { length parts.new.octets ≤ length parts.old.octets }
+{
+    let mut extensions = Vec::new(alloc);
+    while let Some(element) = parts.first() {
+        match extension_of(alloc, element, count) {
+            Ok(extension) => {
+                extensions.push(extension)?;
+                parts.advance();
+            }
+            Err(refusal) => match refusal {
+                Refusal::Failure(e) => return Err(Refusal::Failure(e)),
+                _ => return Ok(extensions),
+            },
+        }
+    }
+    Ok(extensions)
+}
+
+/// The extensions that an element holds, to its end.
+#[tactic(auto, unfolding(crate::specs::Reading::extension_list_in))]
+pub fn extension_list_of<'a>(
+    alloc: Global,
+    element: Element<'a>,
+    count: &mut HeaderCount,
+) -> Result<Vec<X509Extension<'a>>, Refusal<X509Error>>
+    requires { attempts count.old + 2 * length element.any.content.now < 2 ^ 128 }
+    ensures read { Gives (λ v. map extension_view v.items) result (extension_list_in unread (any_of element.entry.any)) }
+    ensures grows { attempts count.old ≤ attempts count.new }
+    ensures most { attempts count.new ≤ attempts count.old + 2 * length element.entry.any.content.now }
+{
+    let mut parts = parts_of(alloc, 16, element, count)?;
+    let extensions = each_extension(alloc, &mut parts, count)?;
+    if parts.left().is_empty() {
+        Ok(extensions)
+    } else {
+        Err(Refusal::Error(X509Error::Der(Error::InvalidLength)))
+    }
+}
+
+/// A list of extensions, to the end.
+#[tactic(auto, unfolding(crate::specs::Reading::extension_list_at))]
+fn all_extensions<'a>(
+    alloc: Global,
+    octets: &'a [u8],
+    count: &mut HeaderCount,
+) -> Result<Vec<X509Extension<'a>>, Refusal<X509Error>>
+    requires { attempts count.old + 3 * length octets.now < 2 ^ 128 }
+    ensures read { Gives (λ v. map extension_view v.items) result (extension_list_at unread octets.now) }
+    ensures grows { attempts count.old ≤ attempts count.new }
+    ensures most { attempts count.new ≤ attempts count.old + 3 * length octets.now }
+{
+    let mut parts = cut_all(alloc, octets, count)?;
+    let element = parts.next()?;
+    let extensions = extension_list_of(alloc, element, count)?;
+    if parts.left().is_empty() {
+        Ok(extensions)
+    } else {
+        Err(Refusal::Error(X509Error::Der(Error::InvalidLength)))
+    }
+}
+
+/// Extensions under this tag number, to the end; none where no octet is left. The wrapper's length isn't used.
+pub fn extensions_of<'a>(
+    alloc: Global,
+    tag: u32,
+    left: &'a [u8],
+    count: &mut HeaderCount,
+) -> Result<Vec<X509Extension<'a>>, Refusal<X509Error>>
+    requires { attempts count.old + 4 * length left.now < 2 ^ 128 }
+    ensures read { Gives (λ v. map extension_view v.items) result (extensions_at unread tag left.now) }
+    ensures grows { attempts count.old ≤ attempts count.new }
+    ensures most { attempts count.new ≤ attempts count.old + 4 * length left.now }
+{
+    if left.is_empty() {
+        return Ok(Vec::new(alloc));
+    }
+    match front_header(left, count) {
+        Ok((after, header)) => {
+            if header.tag().0 != tag {
+                return Err(Refusal::Error(X509Error::InvalidExtensions));
+            }
+            all_extensions(alloc, after, count)
+        }
+        Err(refusal) => Err(renamed(refusal, X509Error::InvalidExtensions)),
+    }
+}
