@@ -3,6 +3,7 @@
 //! The octets stand in hex. Empty lines and those that begin with `#` are printed as they stand.
 #![tactic(auto)]
 
+mod certificates;
 mod keys;
 mod names;
 mod objects;

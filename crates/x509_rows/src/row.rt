@@ -1,5 +1,6 @@
 //! A row, taken apart.
 
+use crate::certificates::{counted, version};
 use crate::keys::{exponent, parsed};
 use crate::names::{as_slice, as_str, attributes_of, attributes_under};
 use crate::objects::name_of;
@@ -9,6 +10,8 @@ use asn1_traits::FromDer;
 use hex_rows::{literal, octets_of};
 use std::alloc::Global;
 use std::io;
+use x509_certs::{TbsCertificate, X509Certificate};
+use x509_ext::X509Extension;
 use x509_names::{
     AlgorithmIdentifier, AttributeTypeAndValue, RSAPublicKey, RelativeDistinguishedName,
     SubjectPublicKeyInfo, X509Name,
@@ -30,6 +33,10 @@ pub fn outcome(alloc: Global, row: &str) -> io::Result<String> {
         "time" => time(alloc, octets),
         "validity" => validity(alloc, octets),
         "rsa" => told_of(alloc, RSAPublicKey::from_der(alloc, octets)),
+        "version" => version(alloc, octets),
+        "extension" => told_of(alloc, X509Extension::from_der(alloc, octets)),
+        "tbs" => told_of(alloc, TbsCertificate::from_der(alloc, octets)),
+        "certificate" => told_of(alloc, X509Certificate::from_der(alloc, octets)),
         _ => called(alloc, call, octets),
     }
 }
@@ -37,6 +44,7 @@ pub fn outcome(alloc: Global, row: &str) -> io::Result<String> {
 /// The same of calls on what was read.
 fn called(alloc: Global, call: &str, octets: &[u8]) -> io::Result<String> {
     match call {
+        "parse_counted" => counted(alloc, octets),
         "next_update" => next_update_of(alloc, octets),
         "oid2sn" | "oid2description" | "oid2abbrev" => name_of(alloc, call, octets),
         "as_str" => as_str(alloc, octets),
