@@ -21,12 +21,24 @@ pub fn version(alloc: Global, octets: &[u8]) -> io::Result<String> {
     }
 }
 
-/// How many headers are tried, and whether a certificate is read.
+/// Whether a certificate is read, and whether the number of headers that were tried is in its bounds: at most eight for each
+/// octet, and at least 17 of a certificate.
 pub fn counted(alloc: Global, octets: &[u8]) -> io::Result<String> {
     let mut count = HeaderCount::new();
     let read = X509CertificateParser::new().parse_counted(alloc, octets, &mut count);
-    let told = if read.is_ok() { "read" } else { "refused" };
-    let text = format!(in alloc; "{told} with {} headers", count.get())?;
+    let (told, least) = if read.is_ok() {
+        ("read", 17)
+    } else {
+        ("refused", 0)
+    };
+    let tried = u128::from(count.get());
+    let is_bounded = least <= tried && tried <= octets.len() as u128 * 8;
+    let bounds = if is_bounded {
+        "in bounds"
+    } else {
+        "out of bounds"
+    };
+    let text = format!(in alloc; "{told}, headers {bounds}")?;
     Ok(text)
 }
 
