@@ -1,6 +1,5 @@
 -- Copies of names stand for the same.
-use Rattle.std.proofs.Common.{◌≡◌, ◌∙◌, refl, sym, ap, ℕ, List, [], ◌∷◌, map}
-use Rattle.x509_names.specs.Fields.{Attribute, Name}
+use Rattle.std.proofs.Common.{◌≡◌, ◌∙◌, refl, sym, ap, List, [], ◌∷◌, map}
 use Rattle.x509_names.specs.View.{attribute_view, set_view, name_view, attributes_of_set}
 use Rattle.x509_names.specs.declared.attribute.AttributeTypeAndValue.{AttributeTypeAndValue}
 use Rattle.x509_names.specs.declared.relative.RelativeDistinguishedName.{RelativeDistinguishedName}

@@ -1,5 +1,5 @@
 -- What the values of this crate's types are, as the data of `Values`.
-use Rattle.std.specs.Prelude.{ℕ, List, Option, option_map, map}
+use Rattle.std.specs.Prelude.{ℕ, List, option_map, map}
 use Rattle.asn1_any.specs.Views.{any_of}
 use Rattle.x509_names.specs.View.{name_view, set_view}
 use Rattle.x509_values.specs.Values as values
