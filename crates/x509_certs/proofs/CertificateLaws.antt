@@ -1,5 +1,5 @@
 -- Readers of certificates take what the relations say, and no more.
-use Rattle.std.proofs.Common.{◌≡◌, ◌∙◌, refl, sym, ap, subst, ℕ, List, [], ◌∷◌, ◌++◌, append-nil, Option, Result, Ok, Err, IfOk, Bor}
+use Rattle.std.proofs.Common.{◌≡◌, ◌∙◌, refl, sym, ap, subst, ℕ, List, [], ◌++◌, append-nil, Option, Result, Ok, Err, IfOk, Bor}
 use Rattle.std.specs.Int.Digits.{AllBelowBase}
 use Rattle.asn1_core.specs.declared.error.Needed.TheVariants as needed
 use Rattle.asn1_core.specs.declared.outcome.Err.{Err as Refusal}
@@ -7,12 +7,12 @@ use Rattle.asn1_core.specs.Reading.{header_at, identity_at}
 use Rattle.asn1_any.specs.Cutting.{Piece}
 use Rattle.asn1_any.specs.Reading.{der_element_at}
 use Rattle.asn1_traits.specs.Elements.{EndsWithinElement}
-use Rattle.x509_core.specs.Answers.{Answer, Why, unnamed, naming, ◌>>=◌}
-use Rattle.x509_core.specs.Grammar.{One, Within, HoldsWindow, Holds, HoldsWhole}
-use Rattle.x509_core.specs.Reading.{content_in, next}
+use Rattle.x509_core.specs.Answers.{Answer, unnamed, naming, ◌>>=◌}
+use Rattle.x509_core.specs.Grammar.{One, HoldsWindow, Holds, HoldsWhole}
+use Rattle.x509_core.specs.Reading.{content_in}
 use Rattle.x509_core.specs.declared.error.X509Error.{X509Error}
 use Rattle.x509_core.specs.declared.error.X509Error.TheVariants as errors
-use Rattle.x509_core.proofs.Grammars.{IsMeaning, IsReading, next_reading, two, was_named, is_named, content_below}
+use Rattle.x509_core.proofs.Grammars.{IsMeaning, IsReading, next_reading, two, was_named, content_below}
 use Rattle.x509_core.proofs.Pieces.{empty_read}
 use Rattle.x509_names.specs.Fields.{Algorithm, Name, Key, Bits}
 use Rattle.x509_names.specs.Leaves.{IsBits}

@@ -1,6 +1,6 @@
 -- The readers of certificates as functions on octets, with the refusals that are promised, in their order. What they read
 -- stands in `Certificates`; laws tie each function to it.
-use Rattle.std.specs.Prelude.{ℕ, List, Ok, Err}
+use Rattle.std.specs.Prelude.{Ok}
 use Rattle.asn1_any.specs.Cutting.{Piece}
 use Rattle.x509_core.specs.Answers.{Answer, naming, ◌>>=◌}
 use Rattle.x509_core.specs.Reading.{Reader, content_in, next}

@@ -1,5 +1,5 @@
 -- What the values of this crate's types are, as the records of `Fields`.
-use Rattle.std.specs.Prelude.{◌≡◌, List, option_map, map}
+use Rattle.std.specs.Prelude.{◌≡◌, option_map, map}
 use Rattle.std.specs.Int.Digits.{number_from_digits}
 use Rattle.asn1_unsigned.specs.Numbers.{number_of}
 use Rattle.x509_names.specs.View.{algorithm_view, name_view, key_view, bits_view}

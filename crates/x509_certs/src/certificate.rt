@@ -53,6 +53,21 @@ impl<'a> X509Certificate<'a> {
         self.raw
     }
 
+    /// A copy: it borrows what the certificate borrows.
+    pub fn clone(&self, alloc: Global) -> Result<X509Certificate<'a>, OutOfMemory>
+        ensures value { IfOk result (λ copy. certificate_view copy ≡ certificate_view self.now) }
+        ensures serial { IfOk result (λ copy. copy.tbs_certificate.serial ≡ self.now.tbs_certificate.serial) }
+    {
+        let tbs_certificate = self.tbs_certificate.clone(alloc)?;
+        let signature_algorithm = self.signature_algorithm.clone(alloc)?;
+        Ok(X509Certificate {
+            tbs_certificate,
+            signature_algorithm,
+            signature_value: self.signature_value,
+            raw: self.raw,
+        })
+    }
+
     /// The version.
     pub fn version(&self) -> X509Version
         ensures { result ≡ self.now.tbs_certificate.version }

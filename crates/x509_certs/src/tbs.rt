@@ -26,7 +26,7 @@ use x509_names::{
     AlgorithmIdentifier, SubjectPublicKeyInfo, X509Name, next_algorithm, next_key, next_name,
 };
 use x509_time::{Validity, next_validity};
-use x509_values::format_serial;
+use x509_values::{copy_all, format_serial};
 
 /// The signed part of a certificate.
 #[derive(Debug, Drop, PartialEq, Eq)]
@@ -135,11 +135,50 @@ impl<'a> TbsCertificate<'a> {
         format_serial(alloc, self.raw_serial)
     }
 
+    /// A copy: it borrows what the signed part borrows.
+    #[tactic(auto, using(x509_values::proofs::Copied::same_name))]
+    pub fn clone(&self, alloc: Global) -> Result<TbsCertificate<'a>, OutOfMemory>
+        ensures value { IfOk result (λ copy. tbs_view copy ≡ tbs_view self.now) }
+        ensures serial { IfOk result (λ copy. copy.serial ≡ self.now.serial) }
+    {
+        let signature = self.signature.clone(alloc)?;
+        let issuer = self.issuer.clone(alloc)?;
+        let subject = self.subject.clone(alloc)?;
+        let subject_pki = self.subject_pki.clone(alloc)?;
+        let extensions = copy_all(alloc, self.extensions.as_slice())?;
+        Ok(TbsCertificate {
+            version: self.version,
+            serial: self.serial,
+            signature,
+            issuer,
+            validity: Validity {
+                not_before: self.validity.not_before,
+                not_after: self.validity.not_after,
+            },
+            subject,
+            subject_pki,
+            issuer_uid: copy_id(&self.issuer_uid),
+            subject_uid: copy_id(&self.subject_uid),
+            extensions,
+            raw: self.raw,
+            raw_serial: self.raw_serial,
+        })
+    }
+
     /// The octets that the signature is of.
     pub fn as_ref(&self) -> &'a [u8]
         ensures { result ≡ self.now.raw }
     {
         self.raw
+    }
+}
+
+fn copy_id<'a>(id: &Option<UniqueIdentifier<'a>>) -> Option<UniqueIdentifier<'a>>
+    ensures { result ≡ id.now }
+{
+    match id {
+        Some(id) => Some(UniqueIdentifier(id.0)),
+        None => None,
     }
 }
 

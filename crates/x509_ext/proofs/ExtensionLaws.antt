@@ -1,5 +1,5 @@
 -- Readers of extensions take what the relations say, and no more.
-use Rattle.std.proofs.Common.{◌≡◌, ◌≢◌, ◌∙◌, refl, sym, ap, subst, ℕ, ◌==◌, ◌||◌, not, List, [], ◌∷◌, ◌++◌, Bool, true, false, arith, Option, Some, None, Result, Ok, Err, if◌then◌else◌, inl, inr}
+use Rattle.std.proofs.Common.{◌≡◌, ◌∙◌, refl, sym, ap, subst, ℕ, ◌==◌, ◌||◌, not, List, [], ◌∷◌, Bool, true, false, arith, Option, Some, None, Ok, Err, if◌then◌else◌, inl, inr}
 use Rattle.std.specs.Int.Digits.{AllBelowBase}
 use Rattle.std.specs.Result.{result_ok}
 use Rattle.std.proofs.lemmas.Bool.Decides.{nat_tests}
@@ -7,17 +7,15 @@ use Rattle.asn1_core.proofs.Cases.{chosen}
 use Rattle.asn1_core.proofs.Headers.{header_found, header_again}
 use Rattle.asn1_core.proofs.Numbers.{append_below}
 use Rattle.asn1_core.specs.Answers.{Answer as Reads}
-use Rattle.asn1_core.specs.Elements.{Element}
 use Rattle.asn1_core.specs.Reading.{header_at, identity_at}
 use Rattle.asn1_core.specs.Strict.{Head}
 use Rattle.asn1_any.specs.Cutting.{Piece}
 use Rattle.asn1_traits.specs.Booleans.{BooleanMeans}
-use Rattle.asn1_traits.specs.Leaves.{IsLeaf}
-use Rattle.x509_core.specs.Answers.{Answer, Why, named, unnamed, plain, naming, ◌>>=◌}
-use Rattle.x509_core.specs.Grammar.{Grammar, NoneBegins, Header, One, Within, Holds, Maybe, AsMany, ToEnd}
-use Rattle.x509_core.specs.Reading.{Reader, piece_at, front_header_at, content_in, oid_in, next, many_of}
+use Rattle.x509_core.specs.Answers.{Answer, plain, naming, ◌>>=◌}
+use Rattle.x509_core.specs.Grammar.{NoneBegins, Header, One, Holds, Maybe, AsMany, ToEnd}
+use Rattle.x509_core.specs.Reading.{piece_at, front_header_at, content_in, oid_in, next, many_of}
 use Rattle.x509_core.specs.declared.error.X509Error.TheVariants as errors
-use Rattle.x509_core.proofs.Grammars.{IsMeaning, IsReading, next_reading, two, was_named, is_named, content_below, many_found, many_only}
+use Rattle.x509_core.proofs.Grammars.{IsMeaning, IsReading, next_reading, two, was_named, content_below, many_found, many_only}
 use Rattle.x509_names.specs.Leaves.{IsOid, IsOctets}
 use Rattle.x509_names.specs.Reading.{octets_in, oid_at}
 use Rattle.x509_names.proofs.FrontLaws.{named_reading}

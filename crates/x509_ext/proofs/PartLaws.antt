@@ -1,10 +1,10 @@
 -- Readers of versions, serial numbers and unique identifiers take what the relations say, and no more.
-use Rattle.std.proofs.Common.{◌≡◌, ◌≢◌, ◌∙◌, refl, sym, ap, subst, ℕ, pos, ◌<◌, ◌^◌, ◌==◌, ◌||◌, not, List, [], ◌∷◌, ◌++◌, Bool, true, false, arith, Option, Some, None, Result, Ok, Err, if◌then◌else◌, inl, inr, append_assoc}
+use Rattle.std.proofs.Common.{◌≡◌, ◌≢◌, ◌∙◌, refl, sym, ap, subst, ℕ, ◌==◌, ◌||◌, not, List, [], ◌∷◌, ◌++◌, Bool, true, false, arith, Option, Some, None, Result, Ok, Err, if◌then◌else◌, inl, inr, append_assoc}
 use Rattle.std.specs.Int.Digits.{AllBelowBase}
 use Rattle.std.specs.Result.{result_ok}
 use Rattle.std.proofs.lemmas.Bool.Decides.{nat_tests}
 use Rattle.asn1_core.proofs.Cases.{chosen}
-use Rattle.asn1_core.specs.Elements.{Element, head_of_element}
+use Rattle.asn1_core.specs.Elements.{head_of_element}
 use Rattle.asn1_core.specs.Strict.{Head}
 use Rattle.asn1_core.specs.declared.error.Error.{Error}
 use Rattle.asn1_any.specs.Cutting.{Piece, IsPiece}
@@ -12,9 +12,9 @@ use Rattle.asn1_traits.specs.Integers.{IsShortest}
 use Rattle.asn1_traits.specs.IntegerReading.{is_shortest}
 use Rattle.asn1_values.specs.Readers.{unsigned_at, bits_at as bits_inside, check_bits}
 use Rattle.asn1_values.specs.ReaderLaws.{unsigned_found, unsigned_only, bits_is, check_bits_is}
-use Rattle.x509_core.specs.Answers.{Answer, Why, named, unnamed, plain, naming, ◌>>=◌}
-use Rattle.x509_core.specs.Grammar.{Grammar, One}
-use Rattle.x509_core.specs.Reading.{Reader, piece_at, front_header_at, content_in, next}
+use Rattle.x509_core.specs.Answers.{Answer, unnamed, plain}
+use Rattle.x509_core.specs.Grammar.{One}
+use Rattle.x509_core.specs.Reading.{piece_at, front_header_at, content_in, next}
 use Rattle.x509_core.proofs.Pieces.{empty_read}
 use Rattle.x509_core.proofs.Grammars.{IsMeaning, IsReading, next_reading, two, content_below, piece_found, piece_only}
 use Rattle.x509_core.specs.declared.error.X509Error.TheVariants as errors
@@ -24,7 +24,7 @@ use Rattle.x509_names.specs.Reading.{bits_of}
 use Rattle.x509_names.proofs.FrontLaws.{named_reading}
 use Rattle.x509_names.proofs.LeafLaws.{content_found, content_only}
 use Rattle.x509_ext.specs.Parts.{IsNumber, IsVersion, X509Version, IsTaggedVersion, IsOtherElement, IsSerial, IsIdentifier, IsOtherHeader, Version, version_at_end, version_absent, version_there, UniqueIdentifier, id_at_end, id_absent, id_there}
-use Rattle.x509_ext.specs.Reading.{number_of, version_in, version_at, tagged_version_in, version_behind, any_version_at, serial_at, implicit_bits_in, id_behind, id_at}
+use Rattle.x509_ext.specs.Reading.{number_of, version_in, version_at, tagged_version_in, version_behind, any_version_at, implicit_bits_in, id_behind, id_at}
 use Rattle.x509_ext.proofs.ExtensionLaws.{front_header_found, front_header_only}
 
 equal_tags : (a b : ℕ) → (a == b) ≡ true → a ≡ b

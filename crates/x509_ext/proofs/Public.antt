@@ -1,14 +1,11 @@
 -- From the equation of a reader whose refusals have one name to what is promised of it.
-use Rattle.std.proofs.Common.{◌≡◌, ◌≢◌, refl, sym, ap, subst, ℕ, List, Result, Ok, Err, IfErr, IsOkAnd, Bor, inl, inr}
+use Rattle.std.proofs.Common.{◌≡◌, ap, subst, ℕ, List, Result, Ok, Err, IfErr, IsOkAnd, Bor, inr}
 use Rattle.std.specs.Int.Digits.{AllBelowBase}
-use Rattle.asn1_core.specs.declared.error.Error.{Error}
-use Rattle.asn1_core.specs.declared.error.Error.TheVariants as der
 use Rattle.asn1_core.specs.declared.outcome.Err.{Err as Refusal}
 use Rattle.asn1_core.specs.declared.outcome.Err.TheVariants as refusals
 use Rattle.asn1_traits.specs.Reads.{Reads, NoneReads, IsNoMemory}
 use Rattle.x509_core.specs.declared.error.X509Error.{X509Error}
-use Rattle.x509_core.specs.declared.error.X509Error.TheVariants as errors
-use Rattle.x509_core.specs.Answers.{Answer, FailsWith, Gives, Why}
+use Rattle.x509_core.specs.Answers.{Answer, FailsWith, Gives}
 use Rattle.x509_core.specs.Errors.{told}
 use Rattle.x509_core.specs.Grammar.{Grammar}
 use Rattle.x509_core.specs.Reading.{Reader}

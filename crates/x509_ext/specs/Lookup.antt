@@ -1,5 +1,5 @@
 -- Which of several extensions is meant by an identifier.
-use Rattle.std.specs.Prelude.{◌≡◌, ℕ, Bool, List, [], ◌∷◌, Option, Some, None, Result, Ok, Err, bytes_eq, option_map}
+use Rattle.std.specs.Prelude.{ℕ, Bool, List, [], ◌∷◌, Option, Some, None, Result, Ok, Err, bytes_eq, option_map}
 use Rattle.std.specs.List.{filter}
 use Rattle.x509_core.specs.declared.error.X509Error.{X509Error}
 use Rattle.x509_core.specs.declared.error.X509Error.TheVariants as errors

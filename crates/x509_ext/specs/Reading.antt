@@ -1,17 +1,17 @@
 -- The readers of this crate as functions on octets, with the refusals that are promised, in their order. What they read stands
 -- in `Extensions` and `Parts`; laws tie each function to it.
 use Rattle.std.specs.Result.{result_ok}
-use Rattle.std.specs.Prelude.{ℕ, ◌==◌, ◌||◌, not, Bool, true, false, if◌then◌else◌, List, [], ◌∷◌, Option, Some, None, Result, Ok, Err}
+use Rattle.std.specs.Prelude.{ℕ, ◌==◌, ◌||◌, not, Bool, false, if◌then◌else◌, List, [], ◌∷◌, Option, Some, None, Ok, Err}
 use Rattle.asn1_core.specs.Elements.{Element}
 use Rattle.asn1_core.specs.Strict.{Head}
 use Rattle.asn1_any.specs.Cutting.{Piece}
 use Rattle.asn1_traits.specs.IntegerReading.{is_shortest}
 use Rattle.asn1_values.specs.Readers.{unsigned_at}
-use Rattle.x509_core.specs.Answers.{Answer, Why, named, unnamed, plain, naming, ◌>>=◌}
+use Rattle.x509_core.specs.Answers.{Answer, named, unnamed, plain, naming, ◌>>=◌}
 use Rattle.x509_core.specs.Reading.{Reader, piece_at, front_header_at, content_in, next, many_of}
 use Rattle.x509_core.specs.declared.error.X509Error.TheVariants as errors
 use Rattle.x509_names.specs.Fields.{Bits}
-use Rattle.x509_names.specs.Reading.{leaf_in, octets_in, oid_at, bits_of}
+use Rattle.x509_names.specs.Reading.{octets_in, oid_at, bits_of}
 use Rattle.x509_ext.specs.Fields.{Extension, ValueReading}
 
 -- BOOLEAN: one octet, any but 0 being true

@@ -1,5 +1,5 @@
 -- What the values of this crate's types are, as the data of `Fields` and of the values of extensions.
-use Rattle.std.specs.Prelude.{List, Option, option_map, map}
+use Rattle.std.specs.Prelude.{map}
 use Rattle.asn1_unsigned.specs.Numbers.{number_of}
 use Rattle.x509_names.specs.Fields.{Bits}
 use Rattle.x509_names.specs.View.{bits_view}

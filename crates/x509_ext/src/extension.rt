@@ -6,17 +6,19 @@ ghost use Rattle.asn1_any.specs.Views.{any_of};
 ghost use Rattle.x509_core.specs.Answers.{Gives};
 ghost use Rattle.x509_core.specs.Reading.{next};
 ghost use Rattle.x509_names.specs.Reading.{octets_in};
+ghost use Rattle.x509_ext.specs.Cases.{error_of};
 ghost use Rattle.x509_ext.specs.Fields.{unread};
 ghost use Rattle.x509_ext.specs.Reading.{boolean_in, critical_at, extension_in};
 ghost use Rattle.x509_ext.specs.View.{extension_view};
 
 use crate::parsed::ParsedExtension;
 use asn1_any::{Any, Element};
-use asn1_core::{Err as Refusal, HeaderCount};
+use asn1_core::{Err as Refusal, HeaderCount, OutOfMemory};
 use asn1_oid::Oid;
 use std::alloc::Global;
 use x509_core::{Parts, X509Error, parts_of};
 use x509_names::{leaf_of, next_oid};
+use x509_values::Copies;
 
 /// An extension.
 #[derive(Debug, Drop, PartialEq, Eq)]
@@ -48,11 +50,39 @@ impl<'a> X509Extension<'a> {
         }
     }
 
+    /// A copy: it borrows what the extension borrows.
+    pub fn clone(&self, alloc: Global) -> Result<X509Extension<'a>, OutOfMemory>
+        ensures value { IfOk result (λ copy. extension_view copy ≡ extension_view self.now) }
+        ensures error { IfOk result (λ copy. error_of copy.parsed_extension ≡ error_of self.now.parsed_extension) }
+    {
+        let oid = self.oid.clone(alloc)?;
+        let parsed_extension = self.parsed_extension.clone(alloc)?;
+        Ok(X509Extension {
+            oid,
+            critical: self.critical,
+            value: self.value,
+            parsed_extension,
+        })
+    }
+
     /// What the value was parsed as.
     pub fn parsed_extension(&self) -> &ParsedExtension<'a>
         ensures { result.now ≡ self.now.parsed_extension }
     {
         &self.parsed_extension
+    }
+}
+
+impl<'a> Copies for X509Extension<'a> {
+    ghost use Rattle.x509_ext.specs.Fields.{Extension};
+    ghost use Rattle.x509_ext.specs.View.{extension_view};
+
+    ghost Value = { Extension };
+
+    ghost value = { extension_view };
+
+    fn copy(&self, alloc: Global) -> Result<X509Extension<'a>, OutOfMemory> {
+        self.clone(alloc)
     }
 }
 

@@ -1,5 +1,5 @@
 -- What the values of this crate's types are, as the data of `Values`.
-use Rattle.std.specs.Prelude.{ℕ, List, Option, option_map, map}
+use Rattle.std.specs.Prelude.{ℕ, List, option_map, map}
 use Rattle.asn1_any.specs.Views.{any_of}
 use Rattle.x509_names.specs.View.{name_view, set_view}
 use Rattle.x509_values.specs.Values as values
@@ -21,6 +21,12 @@ use Rattle.x509_values.specs.declared.points.DistributionPointName.TheVariants a
 use Rattle.x509_values.specs.declared.points.CRLDistributionPoint.{CRLDistributionPoint}
 use Rattle.x509_values.specs.declared.points.IssuingDistributionPoint.{IssuingDistributionPoint}
 use Rattle.x509_values.specs.declared.access.AccessDescription.{AccessDescription}
+use Rattle.x509_values.specs.declared.access.AuthorityInfoAccess.{AuthorityInfoAccess}
+use Rattle.x509_values.specs.declared.access.SubjectInfoAccess.{SubjectInfoAccess}
+use Rattle.x509_values.specs.declared.general_name.SubjectAlternativeName.{SubjectAlternativeName}
+use Rattle.x509_values.specs.declared.general_name.IssuerAlternativeName.{IssuerAlternativeName}
+use Rattle.x509_values.specs.declared.points.CRLDistributionPoints.{CRLDistributionPoints}
+use Rattle.x509_values.specs.declared.policies.PolicyMappings.{PolicyMappings}
 use Rattle.x509_values.specs.declared.timestamps.DigitallySigned.{DigitallySigned}
 use Rattle.x509_values.specs.declared.timestamps.SignedCertificateTimestamp.{SignedCertificateTimestamp}
 
@@ -120,3 +126,21 @@ timestamp_view t = record {
   extensions = t.extensions.0.now;
   signature = signed_view t.signature;
 }
+
+abbrev pub authority_info_view : AuthorityInfoAccess → List values.AccessDescription
+authority_info_view a = map access_view a.accessdescs.items
+
+abbrev pub subject_info_view : SubjectInfoAccess → List values.AccessDescription
+subject_info_view a = map access_view a.accessdescs.items
+
+abbrev pub subject_names_view : SubjectAlternativeName → List values.GeneralName
+subject_names_view n = map general_name_view n.general_names.items
+
+abbrev pub issuer_names_view : IssuerAlternativeName → List values.GeneralName
+issuer_names_view n = map general_name_view n.general_names.items
+
+abbrev pub points_view : CRLDistributionPoints → List values.DistributionPoint
+points_view p = map point_view p.points.items
+
+abbrev pub mappings_view : PolicyMappings → List values.PolicyMapping
+mappings_view m = map mapping_view m.mappings.items

@@ -3,6 +3,7 @@
 
 mod access;
 mod constraints;
+mod copies;
 mod general_name;
 mod identifiers;
 mod points;
@@ -14,6 +15,7 @@ mod usage;
 
 pub use crate::access::{AccessDescription, AuthorityInfoAccess, SubjectInfoAccess};
 pub use crate::constraints::{BasicConstraints, GeneralSubtree, NameConstraints};
+pub use crate::copies::{Copies, copy_all, copy_some};
 pub use crate::general_name::{GeneralName, IssuerAlternativeName, SubjectAlternativeName};
 pub use crate::identifiers::{AuthorityKeyIdentifier, KeyIdentifier};
 pub use crate::points::{

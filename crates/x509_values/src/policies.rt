@@ -1,8 +1,12 @@
 //! Under which rules certificates are issued (RFC 5280, 4.2.1.4, 4.2.1.5, 4.2.1.11 and 4.2.1.14).
 
-ghost use Rattle.std.specs.Prelude.{◌≡◌};
+ghost use Rattle.std.specs.Prelude.{◌≡◌, IfOk, map};
+ghost use Rattle.x509_values.specs.View.{qualifier_view, policy_view, mapping_view, mappings_view};
 
+use crate::copies::{Copies, copy_all, copy_some};
+use asn1_core::OutOfMemory;
 use asn1_oid::Oid;
+use std::alloc::Global;
 
 /// More on a policy.
 #[derive(Debug, Drop, PartialEq, Eq)]
@@ -67,4 +71,94 @@ pub struct PolicyConstraints {
 pub struct InhibitAnyPolicy {
     /// Behind so many certificates.
     pub skip_certs: u32,
+}
+
+impl<'a> PolicyQualifierInfo<'a> {
+    /// A copy: it borrows what the value borrows.
+    pub fn clone(&self, alloc: Global) -> Result<PolicyQualifierInfo<'a>, OutOfMemory>
+        ensures { IfOk result (λ copy. qualifier_view copy ≡ qualifier_view self.now) }
+    {
+        let policy_qualifier_id = self.policy_qualifier_id.clone(alloc)?;
+        Ok(PolicyQualifierInfo {
+            policy_qualifier_id,
+            qualifier: self.qualifier,
+        })
+    }
+}
+
+impl<'a> Copies for PolicyQualifierInfo<'a> {
+    ghost use Rattle.x509_values.specs.Values as values;
+    ghost use Rattle.x509_values.specs.View.{qualifier_view};
+
+    ghost Value = { values.PolicyQualifierInfo };
+
+    ghost value = { qualifier_view };
+
+    fn copy(&self, alloc: Global) -> Result<PolicyQualifierInfo<'a>, OutOfMemory> {
+        self.clone(alloc)
+    }
+}
+
+impl<'a> PolicyInformation<'a> {
+    /// A copy: it borrows what the policy borrows.
+    pub fn clone(&self, alloc: Global) -> Result<PolicyInformation<'a>, OutOfMemory>
+        ensures { IfOk result (λ copy. policy_view copy ≡ policy_view self.now) }
+    {
+        let policy_id = self.policy_id.clone(alloc)?;
+        let policy_qualifiers = copy_some(alloc, &self.policy_qualifiers)?;
+        Ok(PolicyInformation {
+            policy_id,
+            policy_qualifiers,
+        })
+    }
+}
+
+impl<'a> Copies for PolicyInformation<'a> {
+    ghost use Rattle.x509_values.specs.Values as values;
+    ghost use Rattle.x509_values.specs.View.{policy_view};
+
+    ghost Value = { values.PolicyInformation };
+
+    ghost value = { policy_view };
+
+    fn copy(&self, alloc: Global) -> Result<PolicyInformation<'a>, OutOfMemory> {
+        self.clone(alloc)
+    }
+}
+
+impl<'a> PolicyMapping<'a> {
+    /// A copy: it borrows what the pair borrows.
+    pub fn clone(&self, alloc: Global) -> Result<PolicyMapping<'a>, OutOfMemory>
+        ensures { IfOk result (λ copy. mapping_view copy ≡ mapping_view self.now) }
+    {
+        let issuer_domain_policy = self.issuer_domain_policy.clone(alloc)?;
+        let subject_domain_policy = self.subject_domain_policy.clone(alloc)?;
+        Ok(PolicyMapping {
+            issuer_domain_policy,
+            subject_domain_policy,
+        })
+    }
+}
+
+impl<'a> Copies for PolicyMapping<'a> {
+    ghost use Rattle.x509_values.specs.Values as values;
+    ghost use Rattle.x509_values.specs.View.{mapping_view};
+
+    ghost Value = { values.PolicyMapping };
+
+    ghost value = { mapping_view };
+
+    fn copy(&self, alloc: Global) -> Result<PolicyMapping<'a>, OutOfMemory> {
+        self.clone(alloc)
+    }
+}
+
+impl<'a> PolicyMappings<'a> {
+    /// A copy: it borrows what the pairs borrows.
+    pub fn clone(&self, alloc: Global) -> Result<PolicyMappings<'a>, OutOfMemory>
+        ensures { IfOk result (λ copy. mappings_view copy ≡ mappings_view self.now) }
+    {
+        let mappings = copy_all(alloc, self.mappings.as_slice())?;
+        Ok(PolicyMappings { mappings })
+    }
 }

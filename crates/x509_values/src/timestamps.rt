@@ -1,5 +1,9 @@
 //! Promises of logs to publish a certificate (RFC 6962, 3).
 
+use crate::copies::Copies;
+use asn1_core::OutOfMemory;
+use std::alloc::Global;
+
 /// The version of a log's answers (RFC 6962, 3.2).
 #[derive(Clone, Copy, Debug, PartialEq, Eq)]
 pub struct CtVersion(pub u8);
@@ -44,4 +48,29 @@ pub struct SignedCertificateTimestamp<'a> {
     pub extensions: CtExtensions<'a>,
     /// Its signature.
     pub signature: DigitallySigned<'a>,
+}
+
+impl<'a> Copies for SignedCertificateTimestamp<'a> {
+    ghost use Rattle.x509_values.specs.Values as values;
+    ghost use Rattle.x509_values.specs.View.{timestamp_view};
+
+    ghost Value = { values.SignedCertificateTimestamp };
+
+    ghost value = { timestamp_view };
+
+    fn copy(&self, _alloc: Global) -> Result<SignedCertificateTimestamp<'a>, OutOfMemory> {
+        Ok(SignedCertificateTimestamp {
+            version: self.version,
+            id: CtLogID {
+                key_id: self.id.key_id,
+            },
+            timestamp: self.timestamp,
+            extensions: CtExtensions(self.extensions.0),
+            signature: DigitallySigned {
+                hash_alg_id: self.signature.hash_alg_id,
+                sign_alg_id: self.signature.sign_alg_id,
+                content: self.signature.content,
+            },
+        })
+    }
 }
