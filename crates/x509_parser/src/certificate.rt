@@ -1,0 +1,7 @@
+//! Certificates and their parsers (RFC 5280, 4.1).
+
+pub use x509_certs::{
+    TbsCertificate, TbsCertificateParser, X509Certificate, X509CertificateParser,
+};
+pub use x509_ext::{BasicExtension, UniqueIdentifier};
+pub use x509_time::{Validity, validity_function};

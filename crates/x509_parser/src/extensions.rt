@@ -1,0 +1,12 @@
+//! Extensions by their envelope (RFC 5280, 4.2), and the types of what their values hold.
+
+pub use x509_ext::{ParsedExtension, X509Extension, X509ExtensionParser};
+pub use x509_values::{
+    AccessDescription, AuthorityInfoAccess, AuthorityKeyIdentifier, BasicConstraints,
+    CRLDistributionPoint, CRLDistributionPoints, CertificatePolicies, CtExtensions, CtLogID,
+    CtVersion, DigitallySigned, DistributionPointName, ExtendedKeyUsage, GeneralName,
+    GeneralSubtree, InhibitAnyPolicy, IssuerAlternativeName, IssuingDistributionPoint,
+    KeyIdentifier, KeyUsage, NSCertType, NameConstraints, PolicyConstraints, PolicyInformation,
+    PolicyMapping, PolicyMappings, PolicyQualifierInfo, ReasonFlags, SignedCertificateTimestamp,
+    SubjectAlternativeName, SubjectInfoAccess,
+};

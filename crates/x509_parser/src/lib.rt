@@ -1,0 +1,18 @@
+//! Certificates (RFC 5280), read leniently and exactly where their grammar has them.
+//!
+//! The types stand in crates of their own, each with what is proved of it; this one names them in the Rust crate's modules.
+//! The values of extensions aren't parsed yet, and revocation lists and requests aren't read.
+#![tactic(auto)]
+
+pub mod certificate;
+pub mod error;
+pub mod extensions;
+pub mod objects;
+pub mod prelude;
+pub mod public_key;
+pub mod time;
+pub mod utils;
+pub mod x509;
+
+pub use asn1_traits::FromDer;
+pub use x509_certs::{parse_x509_certificate, parse_x509_der};

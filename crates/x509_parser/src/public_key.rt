@@ -1,0 +1,3 @@
+//! Public keys by their kinds.
+
+pub use x509_names::{ECPoint, PublicKey, RSAPublicKey};

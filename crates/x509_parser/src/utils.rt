@@ -1,0 +1,3 @@
+//! Octets as text.
+
+pub use x509_values::format_serial;
