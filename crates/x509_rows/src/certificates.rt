@@ -8,6 +8,7 @@ use std::alloc::Global;
 use std::io;
 use x509_certs::{TbsCertificate, X509Certificate, X509CertificateParser};
 use x509_ext::{UniqueIdentifier, X509Extension, X509Version};
+use x509_values::format_serial;
 
 /// The version that begins the octets.
 pub fn version(alloc: Global, octets: &[u8]) -> io::Result<String> {
@@ -40,6 +41,14 @@ pub fn counted(alloc: Global, octets: &[u8]) -> io::Result<String> {
     };
     let text = format!(in alloc; "{told}, headers {bounds}")?;
     Ok(text)
+}
+
+/// The octets in hexadecimal, with a colon between two.
+pub fn serial(alloc: Global, octets: &[u8]) -> io::Result<String> {
+    match format_serial(alloc, octets) {
+        Ok(text) => Ok(text),
+        Err(_) => Err(io::Error::from(io::ErrorKind::OutOfMemory)),
+    }
 }
 
 impl Words for X509Extension<'_> {

@@ -1,6 +1,6 @@
 //! A row, taken apart.
 
-use crate::certificates::{counted, version};
+use crate::certificates::{counted, serial, version};
 use crate::keys::{exponent, parsed};
 use crate::names::{as_slice, as_str, attributes_of, attributes_under};
 use crate::objects::name_of;
@@ -44,6 +44,7 @@ pub fn outcome(alloc: Global, row: &str) -> io::Result<String> {
 /// The same of calls on what was read.
 fn called(alloc: Global, call: &str, octets: &[u8]) -> io::Result<String> {
     match call {
+        "format_serial" => serial(alloc, octets),
         "parse_counted" => counted(alloc, octets),
         "next_update" => next_update_of(alloc, octets),
         "oid2sn" | "oid2description" | "oid2abbrev" => name_of(alloc, call, octets),
