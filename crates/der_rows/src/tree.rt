@@ -106,7 +106,7 @@ fn kind_of(content: &BerObjectContent<'_>) -> &'static str {
         BerObjectContent::RelativeOID(_) => "relative identifier",
         BerObjectContent::NumericString(_) => "numeric text",
         BerObjectContent::PrintableString(_) => "printable text",
-        BerObjectContent::T61String(_) => "T61 text",
+        BerObjectContent::T61String(_) => "T61String text",
         BerObjectContent::VideotexString(_) => "videotex text",
         BerObjectContent::IA5String(_) => "IA5 text",
         BerObjectContent::UTCTime(_) => "UTC time",
