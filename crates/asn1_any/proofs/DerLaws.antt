@@ -7,9 +7,9 @@ use Rattle.asn1_core.specs.Lenient.{SpellsHeader}
 use Rattle.asn1_core.specs.Elements.{Element, head_of_element, IsElement, element_octets}
 use Rattle.asn1_core.specs.Reading.{header_at}
 use Rattle.asn1_core.proofs.StrictLaws.{header_is_lenient}
-use Rattle.asn1_any.specs.DerElements.{SpellsElement, BeginsWithElement}
+use Rattle.asn1_any.specs.DerElements.{SpellsElement, BeginsWithElement, element_of}
 use Rattle.asn1_any.specs.BerElements.{definite_element, BeginsWithBerElement}
-use Rattle.asn1_any.specs.Reading.{element_of, part_at, content_at, der_element_at, any_der}
+use Rattle.asn1_any.specs.Reading.{part_at, content_at, der_element_at, any_der}
 use Rattle.asn1_core.proofs.Cases.{same_answer, two_steps}
 use Rattle.asn1_core.proofs.Headers.{BeginsWith, header_found, header_again}
 use Rattle.asn1_any.proofs.Readings.{part_found, part_only}

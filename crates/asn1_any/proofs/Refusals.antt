@@ -15,8 +15,8 @@ use Rattle.asn1_core.specs.Reading.{header_at}
 use Rattle.asn1_core.proofs.Cases.{two_steps}
 use Rattle.asn1_core.proofs.Headers.{header_found, header_again}
 use Rattle.asn1_core.proofs.Refusals.{IsRefused, header_refused}
-use Rattle.asn1_any.specs.DerElements.{HasElement}
-use Rattle.asn1_any.specs.Reading.{element_of, part_at, content_at, der_element_at}
+use Rattle.asn1_any.specs.DerElements.{HasElement, element_of}
+use Rattle.asn1_any.specs.Reading.{part_at, content_at, der_element_at}
 use Rattle.asn1_any.proofs.DerLaws.{der_only}
 
 -- a reading in two steps that was refused was refused at one of them

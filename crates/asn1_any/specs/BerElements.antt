@@ -10,6 +10,10 @@ pub record BerElement : Type 0 where
   pub head : BerHead
   pub content : List ℕ
 
+-- its class, constructed bit, tag number and content
+abbrev pub element_of_ber : BerElement → Element
+element_of_ber e = record { class = e.head.class; constructed = e.head.constructed; tag = e.head.tag; content = e.content }
+
 -- what ends an indefinite content (X.690, 8.1.5)
 abbrev pub end_of_contents : List ℕ
 end_of_contents = 0 ∷ 0 ∷ []

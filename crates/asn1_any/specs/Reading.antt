@@ -13,11 +13,8 @@ use Rattle.asn1_core.specs.declared.error.Needed.TheVariants as needed
 use Rattle.asn1_core.specs.declared.outcome.Err.{Err as Refusal}
 use Rattle.asn1_core.specs.declared.outcome.Err.TheVariants as refusals
 use Rattle.asn1_any.specs.declared.read.TheConstants.{MAX_RECURSION}
-use Rattle.asn1_any.specs.BerElements.{BerElement}
-
--- an element of what its header says and its content
-abbrev pub element_of : Head → List ℕ → Element
-element_of h content = record { class = h.class; constructed = h.constructed; tag = h.tag; content = content }
+use Rattle.asn1_any.specs.BerElements.{BerElement, element_of_ber}
+use Rattle.asn1_any.specs.DerElements.{element_of}
 
 -- so many octets, and those after them
 abbrev pub part_at : ℕ → List ℕ → Answer (List ℕ)
@@ -95,10 +92,6 @@ ber_element_at levels octets = then_read (ber_header_at octets) (ber_content_at 
 abbrev pub ber_levels_at : ℕ → List ℕ → Answer BerElement
 ber_levels_at zero octets = then_read (ber_header_at octets) (λ h after. refuse errors.BerMaxDepth)
 ber_levels_at (suc levels) octets = ber_element_at levels octets
-
--- class, constructed bit, tag number and content
-abbrev pub element_of_ber : BerElement → Element
-element_of_ber e = record { class = e.head.class; constructed = e.head.constructed; tag = e.head.tag; content = e.content }
 
 -- the BER element that begins the octets, and the octets after it, where there is one of at most 50 levels
 abbrev pub any_ber : List ℕ → Option (Element × List ℕ)

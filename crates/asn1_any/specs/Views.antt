@@ -3,7 +3,7 @@ use Rattle.asn1_core.specs.Elements.{Element}
 use Rattle.asn1_core.specs.Views.{head_of, ber_head_of}
 use Rattle.asn1_any.specs.declared.any.Any.{Any}
 use Rattle.asn1_any.specs.BerElements.{BerElement}
-use Rattle.asn1_any.specs.Reading.{element_of}
+use Rattle.asn1_any.specs.DerElements.{element_of}
 
 -- class, constructed bit, tag number and content
 abbrev pub any_of : Any → Element

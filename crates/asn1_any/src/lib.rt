@@ -13,6 +13,3 @@ pub use crate::laws::{
     one_cutting, one_definite_element, strict_is_definite,
 };
 pub use crate::read::MAX_RECURSION;
-
-#[cfg(test)]
-mod tests;

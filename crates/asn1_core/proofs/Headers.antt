@@ -3,7 +3,8 @@ use Rattle.std.proofs.Common.{◌≡◌, ℕ, ◌^◌, ◌<◌, Bool, Option, So
 use Rattle.std.specs.Int.Digits.{AllBelowBase}
 use Rattle.asn1_core.specs.Strict.{Head, IsHead}
 use Rattle.asn1_core.specs.Lenient.{SpellsHeader, BerHead, IsBerHead, SpellsBerLength, SpellsBerHeader}
-use Rattle.asn1_core.specs.Reading.{Identity, identity_at, length_at, ber_head, definite_head, ber_header_at, header_at}
+use Rattle.asn1_core.specs.Reading.{identity_at, length_at, ber_head, definite_head, ber_header_at, header_at}
+use Rattle.asn1_core.specs.Views.{Identity}
 use Rattle.asn1_core.proofs.Cases.{chosen, same_answer, two_steps}
 use Rattle.asn1_core.proofs.Numbers.{append_below}
 use Rattle.asn1_core.proofs.Identities.{IsIdentified, identity_found, identity_again}

@@ -6,7 +6,8 @@ use Rattle.std.proofs.lemmas.Bool.{cases_Bool, eqb-false}
 use Rattle.asn1_core.specs.Digits.{continued}
 use Rattle.asn1_core.specs.Strict.{lead}
 use Rattle.asn1_core.specs.Lenient.{SpellsIdentifier}
-use Rattle.asn1_core.specs.Reading.{high_tag_after, tag_at, identity_at, Identity}
+use Rattle.asn1_core.specs.Reading.{high_tag_after, tag_at, identity_at}
+use Rattle.asn1_core.specs.Views.{Identity}
 use Rattle.asn1_core.proofs.Cases.{chosen, same_answer, two_steps}
 use Rattle.asn1_core.proofs.Numbers.{continued_more}
 

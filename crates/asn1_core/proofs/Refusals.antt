@@ -8,7 +8,8 @@ use Rattle.asn1_core.specs.declared.outcome.Err.{Err as Refusal}
 use Rattle.asn1_core.specs.declared.outcome.Err.TheVariants as refusals
 use Rattle.asn1_core.specs.Answers.{Answer, then_read, TakesNoMemory}
 use Rattle.asn1_core.specs.Missing.{HasHeader, HasBerHeader, HasStrictHeader, IsMissing}
-use Rattle.asn1_core.specs.Reading.{Identity, high_tag_after, tag_at, identity_at, size_at, length_at, ber_head, definite_head, ber_header_at, header_at, is_short_identifier, is_short_length, strict_head, strict_at}
+use Rattle.asn1_core.specs.Reading.{high_tag_after, tag_at, identity_at, size_at, length_at, ber_head, definite_head, ber_header_at, header_at, is_short_identifier, is_short_length, strict_head, strict_at}
+use Rattle.asn1_core.specs.Views.{Identity}
 use Rattle.asn1_core.proofs.Cases.{chosen, two_steps}
 use Rattle.asn1_core.proofs.Numbers.{empty_of}
 use Rattle.asn1_core.proofs.Identities.{identity_found, identity_again}

@@ -7,7 +7,8 @@ use Rattle.asn1_core.specs.Digits.{continued}
 use Rattle.asn1_core.specs.Strict.{Head, IsHead, lead, strict_identifier, strict_length, strict_header}
 use Rattle.asn1_core.specs.Elements.{Element, IsElement, head_of_element, element_octets}
 use Rattle.asn1_core.specs.Lenient.{SpellsIdentifier, SpellsLength, SpellsHeader}
-use Rattle.asn1_core.specs.Reading.{Identity, identity_at, length_at, is_short_identifier, is_short_length, strict_head, strict_at}
+use Rattle.asn1_core.specs.Reading.{identity_at, length_at, is_short_identifier, is_short_length, strict_head, strict_at}
+use Rattle.asn1_core.specs.Views.{Identity}
 use Rattle.asn1_core.proofs.Cases.{chosen, same_answer, two_steps}
 use Rattle.asn1_core.proofs.Numbers.{append_below, digits_shortest, fewest_are}
 use Rattle.asn1_core.proofs.Identities.{IsIdentified, identity_found, identity_again}

@@ -4,6 +4,7 @@ use Rattle.std.specs.Prelude.{ℕ, ◌+◌, ◌-◌, ◌*◌, ◌/◌, ◌%◌, 
 use Rattle.std.specs.Int.Digits.{number_from_digits}
 use Rattle.asn1_core.specs.Strict.{Head}
 use Rattle.asn1_core.specs.Lenient.{BerHead}
+use Rattle.asn1_core.specs.Views.{Identity}
 use Rattle.asn1_core.specs.Answers.{Answer, refuse, lack, then_read}
 use Rattle.asn1_core.specs.declared.error.Error.TheVariants as errors
 use Rattle.asn1_core.specs.declared.error.DerConstraint.TheVariants as constraints
@@ -15,12 +16,6 @@ high_tag_after n (octet ∷ rest) =
     if nat_lt (n * 128 + octet % 128) (2 ^ 32)
     then if nat_lt octet 128 then Ok (n * 128 + octet % 128, rest) else high_tag_after (n * 128 + octet % 128) rest
     else refuse errors.InvalidTag
-
--- what an identifier says
-pub record Identity : Type 0 where
-  pub class : ℕ
-  pub constructed : Bool
-  pub tag : ℕ
 
 -- the number in the first octet, or the high form
 abbrev pub tag_at : ℕ → List ℕ → Answer ℕ

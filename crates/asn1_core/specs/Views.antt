@@ -4,7 +4,6 @@ use Rattle.std.specs.Ordering.{on, eq_of_both}
 use Rattle.std.specs.Bool.{beq}
 use Rattle.asn1_core.specs.Strict.{Head}
 use Rattle.asn1_core.specs.Lenient.{BerHead}
-use Rattle.asn1_core.specs.Reading.{Identity}
 use Rattle.asn1_core.specs.declared.read.Identifier.{Identifier}
 use Rattle.asn1_core.specs.declared.class.Class.{Class}
 use Rattle.asn1_core.specs.declared.class.Class.TheVariants.{Universal, Application, ContextSpecific, Private}
@@ -85,6 +84,12 @@ IsSimpleHeader tag h = h ≡ record { class = Universal; constructed = is_constr
 abbrev pub same_kind : Header → Header → Bool
 same_kind = eq_of_both (on (λ h. class_number h.class) nat_eq) (eq_of_both (on (λ h. h.constructed) beq) (on (λ h. h.tag.0) nat_eq))
 
--- what identifier octets say, as the reader of the code holds it
+-- what identifier octets say (X.690, 8.1.2)
+pub record Identity : Type 0 where
+  pub class : ℕ
+  pub constructed : Bool
+  pub tag : ℕ
+
+-- the same of what the reader of the code holds
 abbrev pub identity_of : Identifier → Identity
 identity_of i = record { class = class_number i.class; constructed = i.constructed; tag = i.tag }

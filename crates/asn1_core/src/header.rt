@@ -55,7 +55,7 @@ impl Header {
         ensures tag { tag_of result ≡ tag }
         ensures length { length_of result ≡ Length.Definite 0 }
     {
-        let constructed = tag.0 == 16 || tag.0 == 17;
+        let constructed = tag.0 == Tag::Sequence.0 || tag.0 == Tag::Set.0;
         Header::new(Class::Universal, constructed, tag, Length::Definite(0))
     }
 

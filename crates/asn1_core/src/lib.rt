@@ -16,8 +16,6 @@ mod outcome;
 mod read;
 mod serialize;
 mod tag;
-#[cfg(test)]
-mod tests;
 
 pub use crate::class::{BerClassFromIntError, Class};
 pub use crate::count::HeaderCount;

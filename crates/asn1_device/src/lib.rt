@@ -14,6 +14,3 @@ pub use fault::DeviceFault;
 pub use sink::{Sink, WriteSink, write_octets};
 pub use source::{ReadSource, Source};
 pub use tally::Tally;
-
-#[cfg(test)]
-mod tests;

@@ -1,8 +1,7 @@
 -- Sequences and sets that keep their content octets (X.690, 8.9 and 8.11).
 use Rattle.std.specs.Prelude.{◌≡◌, ℕ, true, List}
 use Rattle.asn1_core.specs.Elements.{Element}
-use Rattle.asn1_any.specs.BerElements.{BerElement}
-use Rattle.asn1_any.specs.Reading.{element_of_ber}
+use Rattle.asn1_any.specs.BerElements.{BerElement, element_of_ber}
 use Rattle.asn1_traits.specs.Lists.{IsContainer}
 
 -- a constructed universal element of this tag number and this content

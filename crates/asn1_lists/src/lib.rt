@@ -10,8 +10,6 @@ mod sequence;
 mod sequence_of;
 mod set;
 mod set_of;
-#[cfg(test)]
-mod tests;
 
 pub use crate::iterator::SequenceIterator;
 pub use crate::laws::{ascending_order, ber_calls_to_the_end, calls_to_the_end, equal_sets};

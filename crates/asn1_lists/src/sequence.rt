@@ -108,7 +108,7 @@ impl<'a> Sequence<'a> {
 }
 
 impl<'b> Tagged for Sequence<'b> {
-    const TAG: Tag = Tag(16);
+    const TAG: Tag = Tag::Sequence;
 
     ghost tag_number = { 16 };
 
@@ -131,7 +131,7 @@ impl<'b> AnyMeaning for Sequence<'b> {
 
 impl<'b, E: From<Error>> FromAny<'b, E> for Sequence<'b> {
     fn try_from_any(_alloc: Global, any: Any<'b>) -> Result<Sequence<'b>, Err<E>> {
-        match check_container(&any, Tag(16)) {
+        match check_container(&any, Tag::Sequence) {
             Ok(()) => Ok(Sequence {
                 content: any.content,
             }),
@@ -162,7 +162,7 @@ impl<'b> ToDer for Sequence<'b> {
     }
 
     fn der_kind(&self) -> Option<DerKind> {
-        Some(DerKind::constructed(Tag(16)))
+        Some(DerKind::constructed(Tag::Sequence))
     }
 
     fn der_content_len(&self) -> SerializeResult<usize> {

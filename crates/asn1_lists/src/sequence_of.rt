@@ -106,7 +106,7 @@ impl<T> SequenceOf<T> {
 }
 
 impl<T> Tagged for SequenceOf<T> {
-    const TAG: Tag = Tag(16);
+    const TAG: Tag = Tag::Sequence;
 
     ghost tag_number = { 16 };
 
@@ -115,7 +115,7 @@ impl<T> Tagged for SequenceOf<T> {
     }
 
     fn own_tag() -> Tag {
-        Tag(16)
+        Tag::Sequence
     }
 }
 
@@ -127,7 +127,7 @@ impl<T: BerMeaning> AnyMeaning for SequenceOf<T> {
 
 impl<'a, E: From<Error>, T: FromBer<'a, E> + BerMeaning + Drop> FromAny<'a, E> for SequenceOf<T> {
     fn try_from_any(alloc: Global, any: Any<'a>) -> Result<SequenceOf<T>, Err<E>> {
-        match check_container(&any, Tag(16)) {
+        match check_container(&any, Tag::Sequence) {
             Ok(()) => match read_ber_items(alloc, any.content) {
                 Ok(items) => Ok(SequenceOf { items }),
                 Err(e) => Err(e),
@@ -146,7 +146,7 @@ impl<T: DerMeaning> DerAnyMeaning for SequenceOf<T> {
 impl<'a, E: From<Error>, T: FromDer<'a, E> + DerMeaning + Drop> FromDerAny<'a, E>
     for SequenceOf<T> {
     fn try_from_der_any(alloc: Global, any: Any<'a>) -> Result<SequenceOf<T>, Err<E>> {
-        match check_container(&any, Tag(16)) {
+        match check_container(&any, Tag::Sequence) {
             Ok(()) => match read_items(alloc, any.content) {
                 Ok(items) => Ok(SequenceOf { items }),
                 Err(e) => Err(e),
@@ -168,7 +168,7 @@ impl<T: ToDer> ToDer for SequenceOf<T> {
     }
 
     fn der_kind(&self) -> Option<DerKind> {
-        Some(DerKind::constructed(Tag(16)))
+        Some(DerKind::constructed(Tag::Sequence))
     }
 
     fn der_content_len(&self) -> SerializeResult<usize> {

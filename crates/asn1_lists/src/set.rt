@@ -108,7 +108,7 @@ impl<'a> Set<'a> {
 }
 
 impl<'b> Tagged for Set<'b> {
-    const TAG: Tag = Tag(17);
+    const TAG: Tag = Tag::Set;
 
     ghost tag_number = { 17 };
 
@@ -131,7 +131,7 @@ impl<'b> AnyMeaning for Set<'b> {
 
 impl<'b, E: From<Error>> FromAny<'b, E> for Set<'b> {
     fn try_from_any(_alloc: Global, any: Any<'b>) -> Result<Set<'b>, Err<E>> {
-        match check_container(&any, Tag(17)) {
+        match check_container(&any, Tag::Set) {
             Ok(()) => Ok(Set {
                 content: any.content,
             }),
@@ -162,7 +162,7 @@ impl<'b> ToDer for Set<'b> {
     }
 
     fn der_kind(&self) -> Option<DerKind> {
-        Some(DerKind::constructed(Tag(17)))
+        Some(DerKind::constructed(Tag::Set))
     }
 
     fn der_content_len(&self) -> SerializeResult<usize> {

@@ -110,7 +110,7 @@ impl<T> SetOf<T> {
 }
 
 impl<T> Tagged for SetOf<T> {
-    const TAG: Tag = Tag(17);
+    const TAG: Tag = Tag::Set;
 
     ghost tag_number = { 17 };
 
@@ -119,7 +119,7 @@ impl<T> Tagged for SetOf<T> {
     }
 
     fn own_tag() -> Tag {
-        Tag(17)
+        Tag::Set
     }
 }
 
@@ -131,7 +131,7 @@ impl<T: BerMeaning> AnyMeaning for SetOf<T> {
 
 impl<'a, E: From<Error>, T: FromBer<'a, E> + BerMeaning + Drop> FromAny<'a, E> for SetOf<T> {
     fn try_from_any(alloc: Global, any: Any<'a>) -> Result<SetOf<T>, Err<E>> {
-        match check_container(&any, Tag(17)) {
+        match check_container(&any, Tag::Set) {
             Ok(()) => match read_ber_items(alloc, any.content) {
                 Ok(items) => Ok(SetOf { items }),
                 Err(e) => Err(e),
@@ -149,7 +149,7 @@ impl<T: DerMeaning> DerAnyMeaning for SetOf<T> {
 
 impl<'a, E: From<Error>, T: FromDer<'a, E> + DerMeaning + Drop> FromDerAny<'a, E> for SetOf<T> {
     fn try_from_der_any(alloc: Global, any: Any<'a>) -> Result<SetOf<T>, Err<E>> {
-        match check_container(&any, Tag(17)) {
+        match check_container(&any, Tag::Set) {
             Ok(()) => match read_items(alloc, any.content) {
                 Ok(items) => Ok(SetOf { items }),
                 Err(e) => Err(e),
@@ -171,7 +171,7 @@ impl<T: ToDer> ToDer for SetOf<T> {
     }
 
     fn der_kind(&self) -> Option<DerKind> {
-        Some(DerKind::constructed(Tag(17)))
+        Some(DerKind::constructed(Tag::Set))
     }
 
     fn der_content_len(&self) -> SerializeResult<usize> {

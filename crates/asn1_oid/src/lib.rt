@@ -11,6 +11,4 @@ mod content;
 mod identifier;
 pub mod laws;
 mod spell;
-#[cfg(test)]
-mod tests;
 mod text;

@@ -1,6 +1,6 @@
 //! Identifiers as text.
 ghost use Rattle.std.specs.Prelude.{◌≡◌, ℕ, ◌<◌, false, List, Some, IfOk, string_bytes};
-ghost use Rattle.std.specs.Fmt.{DisplaysOnOk, digit_glyph};
+ghost use Rattle.std.specs.Fmt.{DisplaysOnOk};
 ghost use Rattle.asn1_oid.specs.Identifier.{Spells};
 ghost use Rattle.asn1_oid.specs.Text.{dotted, hex_pair, spaced_hex, oid_text};
 ghost use Rattle.asn1_oid.specs.Joining.{separator_text};
@@ -77,23 +77,11 @@ fn separate<W: fmt::Write>(begun: bool, separator: char, f: &mut fmt::Formatter<
 }
 
 /// Two hexadecimal digits.
+#[tactic(auto, using(std::proofs::lemmas::Fmt::hex_byte))]
 fn write_pair<W: fmt::Write>(octet: u8, f: &mut fmt::Formatter<W>) -> fmt::Result
     ensures { DisplaysOnOk W.write_str_gives f.old result (Some (hex_pair octet)) f.new }
 {
-    f.write_char(hex_digit(octet / 16))?;
-    f.write_char(hex_digit(octet % 16))
-}
-
-/// The lower-case hexadecimal digit of a number below 16.
-fn hex_digit(digit: u8) -> char
-    requires { digit < 16 }
-    ensures { result ≡ digit_glyph false digit }
-{
-    if digit < 10 {
-        char::from(b'0' + digit)
-    } else {
-        char::from(b'a' - 10 + digit)
-    }
+    write!(f, "{octet:02x}")
 }
 
 impl<'a> Oid<'a> {

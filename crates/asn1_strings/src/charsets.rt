@@ -46,7 +46,7 @@ pub type ObjectDescriptor<'a> = CharacterString<'a, Descriptor>;
 pub struct Utf8;
 
 impl Tagged for Utf8 {
-    const TAG: Tag = Tag(12);
+    const TAG: Tag = Tag::Utf8String;
 
     ghost tag_number = { 12 };
 
@@ -83,7 +83,7 @@ impl TestValidCharset for Utf8 {
 pub struct Numeric;
 
 impl Tagged for Numeric {
-    const TAG: Tag = Tag(18);
+    const TAG: Tag = Tag::NumericString;
 
     ghost tag_number = { 18 };
 
@@ -113,7 +113,7 @@ impl OctetCharset for Numeric {
 pub struct Printable;
 
 impl Tagged for Printable {
-    const TAG: Tag = Tag(19);
+    const TAG: Tag = Tag::PrintableString;
 
     ghost tag_number = { 19 };
 
@@ -149,7 +149,7 @@ impl OctetCharset for Printable {
 pub struct Ia5;
 
 impl Tagged for Ia5 {
-    const TAG: Tag = Tag(22);
+    const TAG: Tag = Tag::Ia5String;
 
     ghost tag_number = { 22 };
 
@@ -179,7 +179,7 @@ impl OctetCharset for Ia5 {
 pub struct Visible;
 
 impl Tagged for Visible {
-    const TAG: Tag = Tag(26);
+    const TAG: Tag = Tag::VisibleString;
 
     ghost tag_number = { 26 };
 
@@ -209,7 +209,7 @@ impl OctetCharset for Visible {
 pub struct Teletex;
 
 impl Tagged for Teletex {
-    const TAG: Tag = Tag(20);
+    const TAG: Tag = Tag::TeletexString;
 
     ghost tag_number = { 20 };
 
@@ -239,7 +239,7 @@ impl OctetCharset for Teletex {
 pub struct Videotex;
 
 impl Tagged for Videotex {
-    const TAG: Tag = Tag(21);
+    const TAG: Tag = Tag::VideotexString;
 
     ghost tag_number = { 21 };
 
@@ -269,7 +269,7 @@ impl OctetCharset for Videotex {
 pub struct Graphic;
 
 impl Tagged for Graphic {
-    const TAG: Tag = Tag(25);
+    const TAG: Tag = Tag::GraphicString;
 
     ghost tag_number = { 25 };
 
@@ -299,7 +299,7 @@ impl OctetCharset for Graphic {
 pub struct General;
 
 impl Tagged for General {
-    const TAG: Tag = Tag(27);
+    const TAG: Tag = Tag::GeneralString;
 
     ghost tag_number = { 27 };
 
@@ -329,7 +329,7 @@ impl OctetCharset for General {
 pub struct Descriptor;
 
 impl Tagged for Descriptor {
-    const TAG: Tag = Tag(7);
+    const TAG: Tag = Tag::ObjectDescriptor;
 
     ghost tag_number = { 7 };
 

@@ -4,8 +4,6 @@
 mod character_string;
 pub mod charsets;
 pub mod laws;
-#[cfg(test)]
-mod tests;
 mod wide;
 pub mod wide_forms;
 

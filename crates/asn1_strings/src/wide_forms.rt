@@ -20,7 +20,7 @@ pub type UniversalString = WideString<Utf32>;
 pub struct Utf16;
 
 impl Tagged for Utf16 {
-    const TAG: Tag = Tag(30);
+    const TAG: Tag = Tag::BmpString;
 
     ghost tag_number = { 30 };
 
@@ -88,7 +88,7 @@ impl WideForm for Utf16 {
 pub struct Utf32;
 
 impl Tagged for Utf32 {
-    const TAG: Tag = Tag(28);
+    const TAG: Tag = Tag::UniversalString;
 
     ghost tag_number = { 28 };
 

@@ -13,8 +13,7 @@ use Rattle.asn1_core.specs.declared.error.Needed.{Needed}
 use Rattle.asn1_core.specs.declared.outcome.Err.{Err as Refusal}
 use Rattle.asn1_core.specs.declared.outcome.Err.TheVariants as refusals
 use Rattle.asn1_any.specs.DerElements.{BeginsWithElement}
-use Rattle.asn1_any.specs.BerElements.{BerElement, BeginsWithBerElement}
-use Rattle.asn1_any.specs.Reading.{element_of_ber}
+use Rattle.asn1_any.specs.BerElements.{BerElement, BeginsWithBerElement, element_of_ber}
 use Rattle.asn1_any.specs.declared.read.TheConstants.{MAX_RECURSION}
 use Rattle.asn1_any.proofs.DerLaws.{der_once}
 use Rattle.asn1_any.proofs.BerReading.{ber_once}

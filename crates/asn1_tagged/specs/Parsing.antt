@@ -11,9 +11,8 @@ use Rattle.asn1_core.specs.declared.error.Needed.{Needed}
 use Rattle.asn1_core.specs.Missing.{IsMissing}
 use Rattle.asn1_core.specs.declared.outcome.Err.{Err as Refusal}
 use Rattle.asn1_core.specs.declared.outcome.Err.TheVariants as refusals
-use Rattle.asn1_any.specs.DerElements.{BeginsWithElement, HasElement}
-use Rattle.asn1_any.specs.BerElements.{BerElement, BeginsWithBerElement, HasBerElement}
-use Rattle.asn1_any.specs.Reading.{element_of, element_of_ber}
+use Rattle.asn1_any.specs.DerElements.{BeginsWithElement, HasElement, element_of}
+use Rattle.asn1_any.specs.BerElements.{BerElement, BeginsWithBerElement, HasBerElement, element_of_ber}
 use Rattle.asn1_any.specs.declared.read.TheConstants.{MAX_RECURSION}
 use Rattle.asn1_traits.specs.Reads.{IsNoMemory}
 use Rattle.asn1_traits.specs.Elements.{EndsWithinElement, EndsWithinBerElement}

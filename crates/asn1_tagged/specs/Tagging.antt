@@ -1,8 +1,7 @@
 -- Elements under a tag of a chosen class and number (X.690, 8.14).
 use Rattle.std.specs.Prelude.{◌≡◌, ◌<◌, ◌^◌, ℕ, nat_lt, if◌then◌else◌, true, Option, Some, None, option_map, List}
 use Rattle.asn1_core.specs.Elements.{Element}
-use Rattle.asn1_any.specs.BerElements.{BerElement}
-use Rattle.asn1_any.specs.Reading.{element_of_ber}
+use Rattle.asn1_any.specs.BerElements.{BerElement, element_of_ber}
 use Rattle.asn1_traits.specs.Writes.{Kind, kind_of_element, IsLong, written}
 
 -- an element of this class and tag number

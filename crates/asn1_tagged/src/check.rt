@@ -2,10 +2,11 @@
 
 ghost use Rattle.asn1_any.specs.Views.{any_of};
 ghost use Rattle.asn1_traits.specs.Reads.{Checks};
+ghost use Rattle.asn1_traits.specs.Writes.{IsFormRefusal};
 ghost use Rattle.asn1_tagged.specs.Tagging.{IsTagged, IsExplicit};
 
 use asn1_any::Any;
-use asn1_core::{Class, Error, Tag};
+use asn1_core::{Class, Error, SerializeError, Tag};
 
 /// An element of the class of this number and of this tag number: else `UnexpectedTag` or `UnexpectedClass`.
 pub(crate) fn check_tagged(any: &Any<'_>, class: u8, tag: u32) -> Result<(), Error>
@@ -27,4 +28,15 @@ pub(crate) fn check_explicit(any: &Any<'_>, class: u8, tag: u32) -> Result<(), E
 {
     check_tagged(any, class, tag)?;
     any.header.assert_constructed()
+}
+
+/// What is told of a value out of DER form under this tag: of a class above 3 that it is none.
+pub(crate) fn refusal_under(class: u8, tag: Tag) -> SerializeError
+    ensures { IsFormRefusal result }
+{
+    if class < 4 {
+        SerializeError::ASN1Error(tag.invalid_value("the value is not in DER form"))
+    } else {
+        SerializeError::InvalidClass { class }
+    }
 }

@@ -4,7 +4,7 @@ ghost use Rattle.std.specs.Prelude.{◌≡◌};
 ghost use Rattle.asn1_any.specs.Views.{any_of};
 ghost use Rattle.asn1_tagged.specs.Tagging.{ExplicitMeans, explicit_element, IsExplicitForm};
 
-use crate::check::check_explicit;
+use crate::check::{check_explicit, refusal_under};
 use crate::value::{Explicit, TaggedValue};
 use asn1_any::Any;
 use asn1_core::{Class, Err, Error, SerializeError, SerializeResult, Tag};
@@ -72,6 +72,10 @@ impl<T: ToDer, E, const CLASS: u8, const TAG: u32> ToDer
 
     fn in_der_form(&self) -> bool {
         CLASS < 4 && self.inner.in_der_form()
+    }
+
+    fn form_refusal(&self) -> SerializeError {
+        refusal_under(CLASS, Tag(TAG))
     }
 
     fn der_kind(&self) -> Option<DerKind> {

@@ -6,7 +6,7 @@ ghost use Rattle.asn1_any.specs.Views.{ber_any_of};
 ghost use Rattle.asn1_traits.specs.Writes.{kind_of};
 ghost use Rattle.asn1_tagged.specs.Tagging.{ImplicitMeans, ber_retagged, implicit_element, IsOf, IsImplicitForm};
 
-use crate::check::check_tagged;
+use crate::check::{check_tagged, refusal_under};
 use crate::value::{Implicit, TaggedValue};
 use asn1_any::Any;
 use asn1_core::{Class, Err, Error, SerializeError, SerializeResult, Tag};
@@ -94,6 +94,10 @@ impl<T: ToDer + Tagged, E, const CLASS: u8, const TAG: u32> ToDer
             && self.inner.in_der_form()
             && is_of(self.inner.der_kind(), T::own_class(), T::own_tag())
             && self.inner.to_der_len().is_ok()
+    }
+
+    fn form_refusal(&self) -> SerializeError {
+        refusal_under(CLASS, Tag(TAG))
     }
 
     fn der_kind(&self) -> Option<DerKind> {

@@ -7,8 +7,6 @@ mod implicit;
 mod laws;
 mod optional;
 mod parser;
-#[cfg(test)]
-mod tests;
 mod value;
 
 pub use crate::optional::{

@@ -57,7 +57,7 @@ impl GeneralizedTime {
 }
 
 impl Tagged for GeneralizedTime {
-    const TAG: Tag = Tag(24);
+    const TAG: Tag = Tag::GeneralizedTime;
 
     ghost tag_number = { 24 };
 

@@ -6,8 +6,6 @@ mod generalized_time;
 mod laws;
 mod moment;
 mod reading;
-#[cfg(test)]
-mod tests;
 mod utc_time;
 mod writing;
 

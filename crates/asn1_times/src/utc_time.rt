@@ -58,7 +58,7 @@ impl UtcTime {
 }
 
 impl Tagged for UtcTime {
-    const TAG: Tag = Tag(23);
+    const TAG: Tag = Tag::UtcTime;
 
     ghost tag_number = { 23 };
 

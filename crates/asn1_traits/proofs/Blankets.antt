@@ -11,8 +11,7 @@ use Rattle.asn1_core.specs.declared.length.Length.TheVariants.{Definite}
 use Rattle.asn1_core.specs.declared.outcome.Err.{Err as Refusal}
 use Rattle.asn1_core.specs.declared.outcome.Err.TheVariants as refusals
 use Rattle.asn1_any.specs.DerElements.{BeginsWithElement, HasElement}
-use Rattle.asn1_any.specs.BerElements.{BerElement, definite_element, BeginsWithBerElement, HasBerElement}
-use Rattle.asn1_any.specs.Reading.{element_of_ber}
+use Rattle.asn1_any.specs.BerElements.{BerElement, definite_element, BeginsWithBerElement, HasBerElement, element_of_ber}
 use Rattle.asn1_any.specs.Views.{any_of, ber_any_of}
 use Rattle.asn1_any.specs.declared.any.Any.{Any}
 use Rattle.asn1_any.specs.declared.read.TheConstants.{MAX_RECURSION}

@@ -5,8 +5,7 @@ use Rattle.asn1_core.specs.Views.{class_number}
 use Rattle.asn1_core.specs.declared.class.Class.{Class}
 use Rattle.asn1_core.specs.declared.class.Class.TheVariants.{Universal, Application, ContextSpecific, Private}
 use Rattle.asn1_core.specs.declared.length.Length.TheVariants.{Definite}
-use Rattle.asn1_any.specs.BerElements.{BerElement, definite_element}
-use Rattle.asn1_any.specs.Reading.{element_of_ber}
+use Rattle.asn1_any.specs.BerElements.{BerElement, definite_element, element_of_ber}
 use Rattle.asn1_any.specs.Views.{any_of, ber_any_of}
 use Rattle.asn1_any.specs.declared.any.Any.{Any}
 use Rattle.asn1_any.proofs.DerLaws.{strict_begins}

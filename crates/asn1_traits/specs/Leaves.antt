@@ -2,8 +2,7 @@
 use Rattle.std.specs.Prelude.{◌≡◌, ◌≢◌, ℕ, List, Bool, false, Result, Ok, Err}
 use Rattle.std.specs.Str.{IsUtf8}
 use Rattle.asn1_core.specs.Elements.{Element}
-use Rattle.asn1_any.specs.BerElements.{BerElement}
-use Rattle.asn1_any.specs.Reading.{element_of_ber}
+use Rattle.asn1_any.specs.BerElements.{BerElement, element_of_ber}
 use Rattle.asn1_core.specs.declared.error.Error.{Error}
 use Rattle.asn1_core.specs.declared.error.Error.TheVariants as errors
 

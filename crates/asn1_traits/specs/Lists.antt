@@ -1,8 +1,7 @@
 -- Values one after the other, as the content of a sequence or a set (X.690, 8.10 and 8.12).
 use Rattle.std.specs.Prelude.{◌≡◌, ◌<◌, ◌⊎◌, ℕ, Bool, true, Option, Some, List, [], ◌∷◌, ◌++◌, length, Result, Ok, Err}
 use Rattle.asn1_core.specs.Elements.{Element}
-use Rattle.asn1_any.specs.BerElements.{BerElement}
-use Rattle.asn1_any.specs.Reading.{element_of_ber}
+use Rattle.asn1_any.specs.BerElements.{BerElement, element_of_ber}
 use Rattle.asn1_core.specs.declared.error.Error.{Error}
 use Rattle.asn1_core.specs.declared.outcome.Err.{Err as Refusal}
 use Rattle.asn1_traits.specs.Reads.{Refuses}

@@ -7,8 +7,7 @@ use Rattle.asn1_core.specs.declared.error.Needed.{Needed}
 use Rattle.asn1_core.specs.declared.error.Needed.TheVariants as needed
 use Rattle.asn1_core.specs.declared.outcome.Err.{Err as Refusal}
 use Rattle.asn1_core.specs.declared.outcome.Err.TheVariants as refusals
-use Rattle.asn1_any.specs.BerElements.{BerElement}
-use Rattle.asn1_any.specs.Reading.{element_of_ber}
+use Rattle.asn1_any.specs.BerElements.{BerElement, element_of_ber}
 
 -- the error isn't want of memory: another error was converted to it, or nothing converts want of memory to it
 abbrev pub IsNoMemory : {E : Type 0} → (Error → E → Type 0) → E → Type 0

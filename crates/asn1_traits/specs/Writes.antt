@@ -66,6 +66,14 @@ pub record Writes (old new : Option (List ℕ)) (before after : ℕ) (long grows
   pub ok : IfOk r (λ n. Appends old new octets × (n ≡ length octets) × (after ≡ before))
   pub err : IfErr r (λ e. AppendsFront old new octets × Stops before after long grows wrong e)
 
+-- that the value has no encoding
+abbrev pub IsFormRefusal : SerializeError → Type 0
+IsFormRefusal (writes.ASN1Error e) = Unit {0}
+IsFormRefusal (writes.InvalidClass class) = Unit {0}
+IsFormRefusal writes.InvalidLength = ⊥
+IsFormRefusal writes.IOError = ⊥
+IsFormRefusal writes.OutOfMemory = ⊥
+
 -- why no octets are made of a value
 abbrev pub NotEncoded : Type 0 → List ℕ → SerializeError → Type 0
 NotEncoded wrong octets (writes.ASN1Error e) = wrong

@@ -13,7 +13,7 @@ use asn1_device::Sink;
 use std::alloc::Global;
 
 impl Tagged for bool {
-    const TAG: Tag = Tag(1);
+    const TAG: Tag = Tag::Boolean;
 
     ghost tag_number = { 1 };
 

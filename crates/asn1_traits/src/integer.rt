@@ -9,7 +9,7 @@ ghost use Rattle.asn1_traits.specs.IntegerLaws.{IntegerMeans, integer_fits, inte
 ghost use Rattle.asn1_traits.specs.Wholes.{whole_of, ReadsWhole, FitsWhole};
 
 use crate::leaf::{DerLeaf, FromLeaf};
-use crate::octets::{self, Octets};
+use crate::octets::{Octets, positive_len, push_positive};
 use crate::read::Tagged;
 use crate::write::write_all;
 use arrayvec::ArrayVec;
@@ -79,7 +79,7 @@ impl<T: DerInteger> DerLeaf for T {
     }
 
     fn leaf_len(&self) -> SerializeResult<usize> {
-        Ok(whole_octets(self.to_whole()).len())
+        Ok(positive_len(self.to_whole().size))
     }
 
     fn write_leaf<S: Sink>(&self, writer: &mut S) -> SerializeResult<usize> {
@@ -173,17 +173,9 @@ fn positive_octets(number: u128) -> Octets
     ensures octets { result.items ≡ with_sign_bit (digits_of 256 number) }
     ensures short { length result.items ≤ 17 }
 {
-    let mut digits = ArrayVec::new();
-    octets::push_digits(&mut digits, number);
-    match digits.as_slice().first() {
-        Some(first) if *first < 0x80 => digits,
-        _ => {
-            let mut out = ArrayVec::new();
-            out.push(0);
-            octets::push_digits(&mut out, number);
-            out
-        }
-    }
+    let mut octets = ArrayVec::new();
+    push_positive(&mut octets, number);
+    octets
 }
 
 // Each bit turned.

@@ -12,7 +12,7 @@ use crate::read::Tagged;
 use asn1_core::{Class, Error, Tag};
 
 impl Tagged for u8 {
-    const TAG: Tag = Tag(2);
+    const TAG: Tag = Tag::Integer;
 
     ghost tag_number = { 2 };
 
@@ -57,7 +57,7 @@ impl DerInteger for u8 {
 }
 
 impl Tagged for u16 {
-    const TAG: Tag = Tag(2);
+    const TAG: Tag = Tag::Integer;
 
     ghost tag_number = { 2 };
 
@@ -102,7 +102,7 @@ impl DerInteger for u16 {
 }
 
 impl Tagged for u32 {
-    const TAG: Tag = Tag(2);
+    const TAG: Tag = Tag::Integer;
 
     ghost tag_number = { 2 };
 
@@ -147,7 +147,7 @@ impl DerInteger for u32 {
 }
 
 impl Tagged for u64 {
-    const TAG: Tag = Tag(2);
+    const TAG: Tag = Tag::Integer;
 
     ghost tag_number = { 2 };
 
@@ -192,7 +192,7 @@ impl DerInteger for u64 {
 }
 
 impl Tagged for u128 {
-    const TAG: Tag = Tag(2);
+    const TAG: Tag = Tag::Integer;
 
     ghost tag_number = { 2 };
 
@@ -234,7 +234,7 @@ impl DerInteger for u128 {
 }
 
 impl Tagged for i8 {
-    const TAG: Tag = Tag(2);
+    const TAG: Tag = Tag::Integer;
 
     ghost tag_number = { 2 };
 
@@ -283,7 +283,7 @@ impl DerInteger for i8 {
 }
 
 impl Tagged for i16 {
-    const TAG: Tag = Tag(2);
+    const TAG: Tag = Tag::Integer;
 
     ghost tag_number = { 2 };
 
@@ -332,7 +332,7 @@ impl DerInteger for i16 {
 }
 
 impl Tagged for i32 {
-    const TAG: Tag = Tag(2);
+    const TAG: Tag = Tag::Integer;
 
     ghost tag_number = { 2 };
 
@@ -381,7 +381,7 @@ impl DerInteger for i32 {
 }
 
 impl Tagged for i64 {
-    const TAG: Tag = Tag(2);
+    const TAG: Tag = Tag::Integer;
 
     ghost tag_number = { 2 };
 
@@ -430,7 +430,7 @@ impl DerInteger for i64 {
 }
 
 impl Tagged for i128 {
-    const TAG: Tag = Tag(2);
+    const TAG: Tag = Tag::Integer;
 
     ghost tag_number = { 2 };
 

@@ -17,8 +17,6 @@ mod oid;
 mod option;
 mod read;
 mod round_trip;
-#[cfg(test)]
-mod tests;
 mod text;
 mod window;
 mod write;

@@ -32,7 +32,7 @@ pub fn check_container(any: &Any<'_>, tag: Tag) -> Result<(), Error>
 }
 
 impl<T> Tagged for Vec<T> {
-    const TAG: Tag = Tag(16);
+    const TAG: Tag = Tag::Sequence;
 
     ghost tag_number = { 16 };
 
@@ -41,7 +41,7 @@ impl<T> Tagged for Vec<T> {
     }
 
     fn own_tag() -> Tag {
-        Tag(16)
+        Tag::Sequence
     }
 }
 
@@ -53,7 +53,7 @@ impl<T: BerMeaning> AnyMeaning for Vec<T> {
 
 impl<'a, E: From<Error>, T: FromBer<'a, E> + BerMeaning + Drop> FromAny<'a, E> for Vec<T> {
     fn try_from_any(alloc: Global, any: Any<'a>) -> Result<Vec<T>, Err<E>> {
-        match check_container(&any, Tag(16)) {
+        match check_container(&any, Tag::Sequence) {
             Ok(()) => read_ber_items(alloc, any.content),
             Err(e) => Err(Err::from(e)),
         }
@@ -68,7 +68,7 @@ impl<T: DerMeaning> DerAnyMeaning for Vec<T> {
 
 impl<'a, E: From<Error>, T: FromDer<'a, E> + DerMeaning + Drop> FromDerAny<'a, E> for Vec<T> {
     fn try_from_der_any(alloc: Global, any: Any<'a>) -> Result<Vec<T>, Err<E>> {
-        match check_container(&any, Tag(16)) {
+        match check_container(&any, Tag::Sequence) {
             Ok(()) => read_items(alloc, any.content),
             Err(e) => Err(Err::from(e)),
         }
@@ -87,7 +87,7 @@ impl<T: ToDer> ToDer for Vec<T> {
     }
 
     fn der_kind(&self) -> Option<DerKind> {
-        Some(DerKind::constructed(Tag(16)))
+        Some(DerKind::constructed(Tag::Sequence))
     }
 
     fn der_content_len(&self) -> SerializeResult<usize> {

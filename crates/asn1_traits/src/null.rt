@@ -12,7 +12,7 @@ use asn1_device::Sink;
 use std::alloc::Global;
 
 impl Tagged for () {
-    const TAG: Tag = Tag(5);
+    const TAG: Tag = Tag::Null;
 
     ghost tag_number = { 5 };
 

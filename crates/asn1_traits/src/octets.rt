@@ -1,21 +1,36 @@
-//! The octets of a number, in a buffer.
+//! The octets of a number that isn't negative, in a buffer.
 
 ghost use Rattle.std.specs.Prelude.{◌≡◌, ◌+◌, ◌≤◌, ◌++◌, length};
 ghost use Rattle.std.specs.Int.Digits.{digits_of};
+ghost use Rattle.asn1_traits.specs.Integers.{with_sign_bit};
 
 use arrayvec::ArrayVec;
 
 /// At most 20 octets.
 pub(crate) type Octets = ArrayVec<u8, 20>;
 
-/// Appends the digits of base 256.
-pub(crate) fn push_digits(out: &mut Octets, number: u128)
-    requires { length out.old.items + length (digits_of 256 number) ≤ 20 }
-    ensures { out.new.items ≡ out.old.items ++ digits_of 256 number }
+/// Appends the digits of base 256, behind 00 where the first bit is 1, and 00 alone of 0.
+pub(crate) fn push_positive(out: &mut Octets, number: u128)
+    requires { length out.old.items + length (with_sign_bit (digits_of 256 number)) ≤ 20 }
+    ensures { out.new.items ≡ out.old.items ++ with_sign_bit (digits_of 256 number) }
 {
-    if number == 0 {
+    if number < 128 {
+        out.push(number as u8);
         return;
     }
-    push_digits(out, number / 256);
+    push_positive(out, number / 256);
     out.push((number % 256) as u8);
+}
+
+/// How many octets these are.
+pub(crate) fn positive_len(number: u128) -> usize
+    ensures { result ≡ length (with_sign_bit (digits_of 256 number)) }
+{
+    let mut len = 1;
+    let mut left = number;
+    while left >= 128 {
+        left /= 256;
+        len += 1;
+    }
+    len
 }

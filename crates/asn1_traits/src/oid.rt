@@ -14,7 +14,7 @@ use asn1_oid::Oid;
 use std::alloc::Global;
 
 impl<'b> Tagged for Oid<'b> {
-    const TAG: Tag = Tag(6);
+    const TAG: Tag = Tag::Oid;
 
     ghost tag_number = { 6 };
 

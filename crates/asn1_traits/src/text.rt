@@ -14,7 +14,7 @@ use asn1_device::Sink;
 use std::alloc::Global;
 
 impl<'b> Tagged for &'b str {
-    const TAG: Tag = Tag(12);
+    const TAG: Tag = Tag::Utf8String;
 
     ghost tag_number = { 12 };
 
@@ -76,7 +76,7 @@ impl<'b> FromLeaf<'b> for &'b str {
 }
 
 impl Tagged for String {
-    const TAG: Tag = Tag(12);
+    const TAG: Tag = Tag::Utf8String;
 
     ghost tag_number = { 12 };
 

@@ -13,7 +13,7 @@ use asn1_device::Sink;
 use std::alloc::Global;
 
 impl<'b> Tagged for &'b [u8] {
-    const TAG: Tag = Tag(4);
+    const TAG: Tag = Tag::OctetString;
 
     ghost tag_number = { 4 };
 

@@ -1,12 +1,12 @@
 //! Writing: the trait, and what every writer stands on.
 
-ghost use Rattle.std.specs.Prelude.{◌≡◌, ◌↔◌, ℕ, false, true, List, Option, Some, IsTrue, IfOk, IfErr, option_map, length};
+ghost use Rattle.std.specs.Prelude.{◌≡◌, ◌↔◌, ℕ, false, true, List, Option, Some, IsTrue, IsOk, IfOk, IfErr, option_map, length};
 ghost use Rattle.asn1_core.specs.Elements.{Element};
 ghost use Rattle.asn1_core.specs.Strict.{strict_header};
 ghost use Rattle.asn1_core.specs.Views.{class_number};
-ghost use Rattle.asn1_traits.specs.Writes.{written, header_of, content_of, constructed_of, kind_of, kind_of_element, IsLong, Measures, Writes, NotEncoded};
+ghost use Rattle.asn1_traits.specs.Writes.{written, header_of, content_of, constructed_of, kind_of, kind_of_element, IsLong, Measures, Writes, NotEncoded, IsFormRefusal};
 
-use asn1_core::{Class, Header, HeaderOctets, Length, SerializeError, SerializeResult, Tag};
+use asn1_core::{Class, Error, Header, HeaderOctets, Length, SerializeError, SerializeResult, Tag};
 use asn1_device::{Sink, WriteSink, write_octets};
 use std::alloc::Global;
 
@@ -88,6 +88,17 @@ pub trait ToDer {
         ensures { Writes (S.contents writer.old) (S.contents writer.new) (S.failures writer.old) (S.failures writer.new)
             (IsLong (content_of (element self.now))) (grows self.now) (is_der self.now → ⊥) (content_of (element self.now)) result };
 
+    /// What `write_der` answers of a value that isn't in DER form.
+    fn form_refusal(&self) -> SerializeError
+        ensures { IsFormRefusal result }
+    {
+        let error = match self.der_kind() {
+            Some(kind) => kind.tag.invalid_value("the value is not in DER form"),
+            None => Error::BerValueError,
+        };
+        SerializeError::ASN1Error(error)
+    }
+
     /// Whether the element is constructed.
     fn der_constructed(&self) -> bool
         ensures { result ≡ constructed_of (element self.now) }
@@ -98,7 +109,7 @@ pub trait ToDer {
         }
     }
 
-    /// How many octets are written. `InvalidLength` where `usize` can't count them.
+    /// How many octets the element has, of a value in DER form or not. `InvalidLength` where `usize` can't count them.
     fn to_der_len(&self) -> SerializeResult<usize>
         ensures { Measures (written (element self.now)) result }
     {
@@ -130,12 +141,18 @@ pub trait ToDer {
 
     /// Appends the element, and answers its number of octets.
     ///
-    /// Refusals, each behind a front of the octets: `IOError` where the writer failed; `InvalidLength` where `usize` can't
-    /// count the octets; `OutOfMemory` only from values that hold a set; others only of values that aren't in DER form.
+    /// Nothing is written of a value that isn't in DER form, since `from_der` would refuse it: `ASN1Error`, or `InvalidClass`
+    /// of a class above 3. Other refusals, each behind a front of the octets: `IOError` where the writer failed;
+    /// `InvalidLength` where `usize` can't count the octets; `OutOfMemory` only from values that hold a set.
     fn write_der<S: Sink>(&self, writer: &mut S) -> SerializeResult<usize>
-        ensures { Writes (S.contents writer.old) (S.contents writer.new) (S.failures writer.old) (S.failures writer.new)
+        ensures octets { Writes (S.contents writer.old) (S.contents writer.new) (S.failures writer.old) (S.failures writer.new)
             (IsLong (written (element self.now))) (grows self.now) (is_der self.now → ⊥) (written (element self.now)) result }
+        ensures in_form { IsOk result → is_der self.now }
+        ensures unwritten { (is_der self.now → ⊥) → S.contents writer.new ≡ S.contents writer.old }
     {
+        if !self.in_der_form() {
+            return Err(self.form_refusal());
+        }
         let header = match self.write_der_header(writer) {
             Ok(n) => n,
             Err(e) => return Err(e),
@@ -156,6 +173,7 @@ pub trait ToDer {
         Self: Sized,
         ensures ok { IfOk result (λ v. v.items ≡ written (element self.now)) }
         ensures err { IfErr result (NotEncoded (is_der self.now → ⊥) (written (element self.now))) }
+        ensures in_form { IsOk result → is_der self.now }
     {
         encode(self, alloc)
     }
@@ -165,6 +183,7 @@ pub trait ToDer {
 fn encode<T: ToDer>(value: &T, alloc: Global) -> SerializeResult<Vec<u8>>
     ensures ok { IfOk result (λ v. v.items ≡ written (T.element value.now)) }
     ensures err { IfErr result (NotEncoded (T.is_der value.now → ⊥) (written (T.element value.now))) }
+    ensures in_form { IsOk result → T.is_der value.now }
 {
     let mut sink = WriteSink::new(Vec::new(alloc));
     match value.write_der(&mut sink) {

@@ -3,8 +3,6 @@
 
 mod compare;
 pub mod laws;
-#[cfg(test)]
-mod tests;
 mod unsigned;
 
 pub use crate::unsigned::UnsignedBytes;

@@ -62,7 +62,7 @@ impl<'a> BitString<'a> {
 }
 
 impl<'b> Tagged for BitString<'b> {
-    const TAG: Tag = Tag(3);
+    const TAG: Tag = Tag::BitString;
 
     ghost tag_number = { 3 };
 

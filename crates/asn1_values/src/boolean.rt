@@ -26,7 +26,7 @@ impl Boolean {
     /// True, as DER has it.
     pub const TRUE: Boolean = Boolean { value: 0xff };
 
-    /// The boolean of this content octet.
+    /// The boolean of this content octet. Another one than 0 and 255 comes from BER alone and isn't written; `bool()` of it is.
     pub fn new(value: u8) -> Boolean
         ensures { result.value ≡ value }
     {
@@ -42,7 +42,7 @@ impl Boolean {
 }
 
 impl Tagged for Boolean {
-    const TAG: Tag = Tag(1);
+    const TAG: Tag = Tag::Boolean;
 
     ghost tag_number = { 1 };
 

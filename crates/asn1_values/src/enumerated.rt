@@ -26,7 +26,7 @@ impl Enumerated {
 }
 
 impl Tagged for Enumerated {
-    const TAG: Tag = Tag(10);
+    const TAG: Tag = Tag::Enumerated;
 
     ghost tag_number = { 10 };
 

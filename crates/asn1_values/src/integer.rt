@@ -51,7 +51,7 @@ impl<'a> Integer<'a> {
         ensures length { length_of result.header ≡ lengths.Definite (length self.now.content.now) }
         ensures window { result.content ≡ self.now.content }
     {
-        Any::from_tag_and_data(Tag(2), self.content)
+        Any::from_tag_and_data(Tag::Integer, self.content)
     }
 
     /// Whether the number is negative. No octets are 0.
@@ -237,7 +237,7 @@ impl<'a> Integer<'a> {
 }
 
 impl<'b> Tagged for Integer<'b> {
-    const TAG: Tag = Tag(2);
+    const TAG: Tag = Tag::Integer;
 
     ghost tag_number = { 2 };
 

@@ -9,8 +9,6 @@ mod integer;
 pub mod laws;
 mod null;
 mod octetstring;
-#[cfg(test)]
-mod tests;
 mod whole;
 
 pub use crate::bitstring::BitString;

@@ -22,7 +22,7 @@ impl Null {
 }
 
 impl Tagged for Null {
-    const TAG: Tag = Tag(5);
+    const TAG: Tag = Tag::Null;
 
     ghost tag_number = { 5 };
 

@@ -34,7 +34,7 @@ impl<'a> OctetString<'a> {
 }
 
 impl<'b> Tagged for OctetString<'b> {
-    const TAG: Tag = Tag(4);
+    const TAG: Tag = Tag::OctetString;
 
     ghost tag_number = { 4 };
 

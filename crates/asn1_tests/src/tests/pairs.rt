@@ -1,0 +1,70 @@
+//! Pairs read, written and read back, by themselves and within other types; a struct of one's own by a pair.
+
+use crate::own::Ticket;
+use asn1_core::{Err as Refusal, Error, IResult, Needed};
+use asn1_lists::SetOf;
+use asn1_pairs::Pair;
+use asn1_tagged::{OptTaggedExplicit, TaggedImplicit};
+use asn1_traits::{FromDer, ToDer, read_back, read_back_optional};
+use std::fmt::Debug;
+use std::process::Abort;
+use std::test::Fail;
+
+// What came is what was wanted.
+fn same<R: Abort, T: PartialEq + Debug + Drop>(rt: &R, got: T, want: T) {
+    assert_eq!(rt; got, want);
+}
+
+#[test]
+fn pairs(rt: HostRuntime) -> Result<(), Fail> {
+    let alloc = rt.alloc();
+    let octets = b"\x30\x06\x02\x01\x05\x01\x01\xff\x09";
+    let (rest, pair) = read_back::<Error, Pair<u32, bool>>(alloc, octets)?;
+    same(&rt, rest.len(), 1);
+    same(&rt, (pair.first, pair.second), (5, true));
+    same(&rt, pair.to_der_vec(alloc)?.as_slice(), &octets[..8]);
+    // a third value, and a missing one
+    let refused = Pair::<u32, bool>::from_der(alloc, b"\x30\x08\x02\x01\x05\x01\x01\xff\x05\x00");
+    same(&rt, refused, Err(Refusal::Error(Error::InvalidLength)));
+    let missing: IResult<_, Pair<u32, bool>, Error> = Pair::from_der(
+        alloc,
+        b"\x30\x03\x02\x01\x05",
+    );
+    same(
+        &rt,
+        missing,
+        Err(Refusal::Error(Error::Incomplete(Needed::Size(1)))),
+    );
+    Ok(())
+}
+
+#[test]
+fn pairs_in_others(rt: HostRuntime) -> Result<(), Fail> {
+    let alloc = rt.alloc();
+    let octets = b"\x30\x07\x30\x05\x02\x01\x01\x30\x00";
+    let (_, pairs) = read_back::<Error, Vec<Pair<u32, Vec<u8>>>>(alloc, octets)?;
+    same(&rt, pairs.len(), 1);
+    let (_, pairs) = read_back_optional::<Error, SetOf<Pair<u32, u32>>>(alloc, b"\x31\x00")?;
+    assert!(&rt; pairs.is_some());
+    let octets = b"\xa0\x06\x02\x01\x05\x02\x01\x06";
+    let (_, tagged) = TaggedImplicit::<Pair<u32, u32>, Error, 0>::from_der(alloc, octets)?;
+    same(&rt, tagged.into_inner().second, 6);
+    let (_, tagged) = OptTaggedExplicit::<Pair<u32, u32>, Error, 0>::from_der(alloc, b"\xa1\x00")?;
+    assert!(&rt; tagged.is_none());
+    Ok(())
+}
+
+#[test]
+fn tickets(rt: HostRuntime) -> Result<(), Fail> {
+    let alloc = rt.alloc();
+    let octets = b"\x30\x06\x02\x01\x05\x01\x01\xff\x09";
+    let (rest, ticket) = <Ticket as FromDer<'_, Error>>::from_der(alloc, octets)?;
+    same(&rt, rest, &octets[8..]);
+    let wanted = Ticket {
+        serial: 5,
+        valid: true,
+    };
+    same(&rt, ticket, wanted);
+    same(&rt, ticket.to_der_vec(alloc)?.as_slice(), &octets[..8]);
+    Ok(())
+}
