@@ -1,8 +1,7 @@
 -- A BER object of at most k levels is one of at most any more.
 use Rattle.std.proofs.Common.{ℕ, zero, suc, ◌-◌, ◌≤◌, Option, Some, None, List, [], ◌∷◌, arith}
 use Rattle.std.specs.List.{AllByRecursion}
-use Rattle.asn1_any.specs.BerElements.{BerElement, AreAll, Closes, IsWithin}
-use Rattle.asn1_any.specs.Reading.{element_of_ber}
+use Rattle.asn1_any.specs.BerElements.{BerElement, AreAll, Closes, IsWithin, element_of_ber}
 use Rattle.asn1_core.specs.Elements.{Element}
 use Rattle.der_tree.specs.Tree.{Tree, node, Content, leaf, sequence, set, Trees, none, more}
 use Rattle.ber_tree.specs.Object.{IsDelimited, IsEnded, IsBerObject, IsBerContent, AreBerObjects}

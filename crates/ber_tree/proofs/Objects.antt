@@ -5,8 +5,7 @@ use Rattle.asn1_core.specs.Lenient.{BerHead}
 use Rattle.asn1_core.specs.Reading.{identity_at, length_at, ber_header_at}
 use Rattle.asn1_core.proofs.Cases.{same_answer}
 use Rattle.asn1_core.proofs.Headers.{ber_header_again}
-use Rattle.asn1_any.specs.BerElements.{BerElement, AreAll, Closes, SpellsBer, IsWithin, end_of_contents, BeginsWithBerElement, HasBerElement}
-use Rattle.asn1_any.specs.Reading.{element_of_ber}
+use Rattle.asn1_any.specs.BerElements.{BerElement, AreAll, Closes, SpellsBer, IsWithin, end_of_contents, BeginsWithBerElement, HasBerElement, element_of_ber}
 use Rattle.asn1_core.proofs.Long.{header_long}
 use Rattle.asn1_any.proofs.BerReading.{ber_once}
 use Rattle.der_tree.specs.Tree.{Tree, node, Content, leaf, sequence, set, Trees, none, more, octets, all_octets}

@@ -5,8 +5,7 @@ use Rattle.asn1_core.specs.Views.{head_of, ber_head_of, size_of, definite_size}
 use Rattle.asn1_core.specs.declared.header.Header.{Header}
 use Rattle.asn1_core.specs.declared.length.Length.{Length}
 use Rattle.asn1_core.specs.declared.length.Length.TheVariants.{Definite, Indefinite}
-use Rattle.asn1_any.specs.BerElements.{BerElement, Closes, SpellsBer, IsWithin, BeginsWithBerElement}
-use Rattle.asn1_any.specs.Reading.{element_of_ber}
+use Rattle.asn1_any.specs.BerElements.{BerElement, Closes, SpellsBer, IsWithin, BeginsWithBerElement, element_of_ber}
 use Rattle.asn1_any.proofs.BerReading.{ber_once}
 use Rattle.asn1_any.proofs.Cuts.{front_is}
 use Rattle.der_tree.specs.declared.object.BerObject.{BerObject}

@@ -3,8 +3,7 @@ use Rattle.std.specs.Prelude.{◌≡◌, ◌⊎◌, ℕ, ◌-◌, ◌<◌, ◌�
 use Rattle.asn1_core.specs.Strict.{Head}
 use Rattle.asn1_core.specs.Elements.{Element}
 use Rattle.asn1_core.specs.Lenient.{BerHead, IsBerHead, SpellsBerHeader}
-use Rattle.asn1_any.specs.BerElements.{BerElement, AreAll, IsWithin, end_of_contents}
-use Rattle.asn1_any.specs.Reading.{element_of_ber}
+use Rattle.asn1_any.specs.BerElements.{BerElement, AreAll, IsWithin, end_of_contents, element_of_ber}
 use Rattle.der_tree.specs.Table.{IsConstructed}
 use Rattle.der_tree.specs.Tree.{Tree, node, Content, leaf, sequence, set, Trees, none, more, end_of_content, octets, all_octets}
 use Rattle.ber_tree.specs.Table.{HoldsBer}

@@ -4,8 +4,6 @@
 mod laws;
 mod leaf;
 mod read;
-#[cfg(test)]
-mod tests;
 mod times;
 
 pub use crate::laws::{more_ber_levels, one_ber_tree, strict_is_ber};

@@ -7,7 +7,7 @@ ghost use Rattle.asn1_any.specs.BerElements.{HasBerElement};
 ghost use Rattle.asn1_any.specs.Reading.{ber_levels_at};
 ghost use Rattle.ber_tree.specs.Lengths.{TellsAsRead, HoldsAsRead, ber_length};
 ghost use Rattle.der_tree.specs.Lengths.{lengths_told, lengths_of_all, all_lengths};
-ghost use Rattle.der_tree.specs.Outcome.{Refuses, ReadsFront, WantsMemory, IsNotCut, within_of};
+ghost use Rattle.der_tree.specs.Outcome.{Refuses, ReadsFront, WantsMemory, IsNotCut};
 ghost use Rattle.der_tree.specs.Table.{IsConstructed};
 ghost use Rattle.der_tree.specs.Tree.{Tree, Trees, Content, octets, all_octets};
 ghost use Rattle.der_tree.specs.View.{element_under, view, content_view, views};
@@ -70,7 +70,12 @@ fn end_of_content(i: &[u8]) -> Option<(&[u8], BerObject<'_>)>
     match i {
         [0, 0, rest @ ..] => {
             let (raw, _) = i.split_at(2);
-            let header = Header::new(Class::Universal, false, Tag(0), Length::Definite(0));
+            let header = Header::new(
+                Class::Universal,
+                false,
+                Tag::EndOfContent,
+                Length::Definite(0),
+            );
             Some((
                 rest,
                 object_with(header, BerObjectContent::EndOfContent, raw),
@@ -149,23 +154,12 @@ fn objects_of<'a>(
     while !rest.is_empty() {
         let (after, object) = match object_of(alloc, rest, levels) {
             Ok(read) => read,
-            Err(refusal) => return Err(within(refusal)),
+            Err(refusal) => return Err(Refusal::within(refusal)),
         };
         objects.push(object)?;
         rest = after;
     }
     Ok(objects)
-}
-
-/// A part's refusal as that of the whole: octets that are missing within it don't come behind the whole.
-fn within(refusal: Refusal<Error>) -> Refusal<Error>
-    ensures { result ≡ within_of refusal }
-{
-    match refusal {
-        Refusal::Incomplete(needed) => Refusal::Error(Error::Incomplete(needed)),
-        Refusal::Error(e) => Refusal::Error(e),
-        Refusal::Failure(e) => Refusal::Failure(e),
-    }
 }
 
 fn is_constructed(header: Header, tag: u32) -> bool

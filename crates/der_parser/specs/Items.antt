@@ -7,7 +7,7 @@ use Rattle.asn1_core.specs.declared.error.Error.TheVariants as errors
 use Rattle.asn1_core.specs.declared.error.ErrorKind.TheVariants as kinds
 use Rattle.asn1_core.specs.declared.outcome.Err.{Err as Refusal}
 use Rattle.asn1_core.specs.declared.outcome.Err.TheVariants as refusals
-use Rattle.asn1_core.specs.Conversions.{FailsForMemory, RefusesWith}
+use Rattle.asn1_core.specs.Conversions.{FailsForMemory, RefusesWith, TellsWhole}
 use Rattle.der_parser.specs.Handed.{Handed, Unwanted}
 
 -- call by call, these items were read of the octets, and the rest is left; each item took an octet at least
@@ -15,15 +15,9 @@ abbrev pub Takes : {T E : Type 0} → (Bor (List ℕ) → Result (Bor (List ℕ)
 Takes post octets [] rest = octets ≡ rest
 Takes post octets (x ∷ xs) rest = (i : Bor (List ℕ)) × (after : Bor (List ℕ)) × (i.now ≡ octets) × post i (Ok (after, x)) × (length after.now < length octets) × Takes post after.now xs rest
 
--- an item's refusal as that of all: octets that are missing within the content don't come behind it
-abbrev pub Within : {E : Type 0} → (Error → E → Type 0) → Refusal E → Refusal E → Type 0
-Within gives (refusals.Incomplete n) r = RefusesWith gives (errors.Incomplete n) r
-Within gives (refusals.Error x) r = r ≡ refusals.Error x
-Within gives (refusals.Failure x) r = r ≡ refusals.Failure x
-
 -- why no further item is read of the octets
 pub data Stops {T E : Type 0} (gives : Error → E → Type 0) (post : Bor (List ℕ) → Result (Bor (List ℕ) × T) (Refusal E) → Type 0) (octets : List ℕ) (r : Refusal E) : Type 0 where
-  refused : (i : Bor (List ℕ)) → (q : Refusal E) → i.now ≡ octets → post i (Err q) → Within gives q r → Stops gives post octets r
+  refused : (i : Bor (List ℕ)) → (q : Refusal E) → i.now ≡ octets → post i (Err q) → TellsWhole gives q r → Stops gives post octets r
   no_octet_taken : (i after : Bor (List ℕ)) → (x : T) → i.now ≡ octets → post i (Ok (after, x)) → length octets ≤ length after.now → RefusesWith gives (errors.NomError kinds.Many0) r → Stops gives post octets r
   no_memory : FailsForMemory gives r → Stops gives post octets r
 

@@ -1,6 +1,6 @@
 //! Items one after the other, each read by a closure.
 
-ghost use Rattle.der_parser.specs.Items.{Within, ReadsEach, HandsItems};
+ghost use Rattle.der_parser.specs.Items.{ReadsEach, HandsItems};
 
 use crate::element::element_of_tag;
 use asn1_core::{Err as Refusal, Error, ErrorKind, IResult, Tag};
@@ -50,19 +50,8 @@ fn items_of<'a, T: Drop, E: From<Error>, F: Fn(&'a [u8]) -> IResult<&'a [u8], T,
                     Err(_) => return Err(Refusal::Failure(E::from(Error::OutOfMemory))),
                 }
             }
-            Err(refusal) => return Err(within(refusal)),
+            Err(refusal) => return Err(Refusal::within(refusal)),
         }
     }
     Ok(items)
-}
-
-/// An item's refusal as that of all items.
-fn within<E: From<Error>>(refusal: Refusal<E>) -> Refusal<E>
-    ensures { Within E.from_gives refusal result }
-{
-    match refusal {
-        Refusal::Incomplete(needed) => Refusal::Error(E::from(Error::Incomplete(needed))),
-        Refusal::Error(e) => Refusal::Error(e),
-        Refusal::Failure(e) => Refusal::Failure(e),
-    }
 }

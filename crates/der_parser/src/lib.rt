@@ -7,8 +7,6 @@ mod element;
 mod header;
 mod items;
 mod laws;
-#[cfg(test)]
-mod tests;
 mod typed;
 
 pub use crate::combine::{

@@ -3,11 +3,13 @@ use Rattle.std.proofs.Common.{◌≡◌, sym, ap, subst, ℕ, List, ◌++◌, Re
 use Rattle.std.specs.Result.{IsErrAnd}
 use Rattle.asn1_core.specs.Answers.{Answer, TakesNoMemory}
 use Rattle.asn1_core.specs.Missing.{IsMissing}
+use Rattle.asn1_core.specs.Conversions.{RefusesWith, TellsWhole}
+use Rattle.asn1_core.specs.declared.error.Error.TheVariants as errors
 use Rattle.asn1_core.specs.declared.error.Error.{Error}
 use Rattle.asn1_core.specs.declared.error.Needed.TheVariants as needed
 use Rattle.asn1_core.specs.declared.outcome.Err.{Err as Refusal}
 use Rattle.asn1_core.specs.declared.outcome.Err.TheVariants as refusals
-use Rattle.der_tree.specs.Outcome.{Refuses, ReadsFront, IsNotCut, WantsMemory, within_of}
+use Rattle.der_tree.specs.Outcome.{Refuses, ReadsFront, IsNotCut, WantsMemory}
 
 pub weaker : (e : Refusal Error) (P Q : Type 0) → (P → Q) → Refuses e P → Refuses e Q
 weaker (refusals.Incomplete n) P Q f p = f p
@@ -20,10 +22,12 @@ passed_on (Ok x) e R is p = absurd is
 passed_on (Err y) e R is p = subst R (sym is) p
 
 -- a part's refusal, as that of the whole
-pub within_refuses : (e : Refusal Error) (P : Type 0) → Refuses e P → Refuses (within_of e) P
-within_refuses (refusals.Incomplete n) P p = (p, λ same. cc)
-within_refuses (refusals.Error e) P p = p
-within_refuses (refusals.Failure e) P p = p
+pub within_refuses : (gives : Error → Error → Type 0) (e r : Refusal Error) (P : Type 0) → ((x y : Error) → gives x y → y ≡ x) → TellsWhole gives e r → Refuses e P → Refuses r P
+within_refuses gives (refusals.Incomplete n) (refusals.Error y) P same t p = let is = same (errors.Incomplete n) y t in (p, λ memory. cc)
+within_refuses gives (refusals.Incomplete n) (refusals.Incomplete m) P same t p = absurd t
+within_refuses gives (refusals.Incomplete n) (refusals.Failure y) P same t p = absurd t
+within_refuses gives (refusals.Error e) r P same t p = subst (λ z. Refuses z P) (sym t) p
+within_refuses gives (refusals.Failure e) r P same t p = subst (λ z. Refuses z P) (sym t) p
 
 -- the refusal of a call that takes no memory
 pub refused : (e : Refusal Error) (P : Type 0) → TakesNoMemory e → P → Refuses e P

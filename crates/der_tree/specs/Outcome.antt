@@ -16,12 +16,6 @@ Refuses (refusals.Incomplete n) None = None
 Refuses (refusals.Error e) None = None × (e ≢ OutOfMemory)
 Refuses (refusals.Failure e) None = e ≡ OutOfMemory
 
--- octets that are missing within a content don't come behind it
-abbrev pub within_of : Refusal Error → Refusal Error
-within_of (refusals.Incomplete n) = refusals.Error (errors.Incomplete n)
-within_of (refusals.Error e) = refusals.Error e
-within_of (refusals.Failure e) = refusals.Failure e
-
 -- not that octets are missing behind the input
 abbrev pub IsNotCut : Refusal Error → Type 0
 IsNotCut (refusals.Incomplete n) = ⊥

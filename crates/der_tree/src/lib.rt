@@ -11,8 +11,6 @@ mod object;
 mod parts;
 mod read;
 mod strings;
-#[cfg(test)]
-mod tests;
 mod times;
 mod under;
 

@@ -10,7 +10,7 @@ ghost use Rattle.der_tree.specs.Table.{IsConstructed};
 ghost use Rattle.der_tree.specs.Tree.{Trees, Content, octets, all_octets, element_count, part_count, all_count};
 ghost use Rattle.der_tree.specs.Shape.{IsObject, IsContent, AreObjects, BeginsWithObject};
 ghost use Rattle.der_tree.specs.View.{element_under, view, content_view, views};
-ghost use Rattle.der_tree.specs.Outcome.{Refuses, ReadsFront, WantsMemory, IsNotCut, cut_at, within_of};
+ghost use Rattle.der_tree.specs.Outcome.{Refuses, ReadsFront, WantsMemory, IsNotCut, cut_at};
 
 use crate::cut::cut_of;
 use crate::leaf::leaf_of;
@@ -139,23 +139,12 @@ fn objects_of<'a>(
     while !rest.is_empty() {
         let (after, object) = match parse_der_recursive_counted(alloc, rest, levels, count) {
             Ok(read) => read,
-            Err(refusal) => return Err(within(refusal)),
+            Err(refusal) => return Err(Refusal::within(refusal)),
         };
         objects.push(object)?;
         rest = after;
     }
     Ok(objects)
-}
-
-/// A part's refusal as that of the whole: octets that are missing within it don't come behind the whole.
-fn within(refusal: Refusal<Error>) -> Refusal<Error>
-    ensures { result ≡ within_of refusal }
-{
-    match refusal {
-        Refusal::Incomplete(needed) => Refusal::Error(Error::Incomplete(needed)),
-        Refusal::Error(e) => Refusal::Error(e),
-        Refusal::Failure(e) => Refusal::Failure(e),
-    }
 }
 
 fn is_constructed(header: Header, tag: u32) -> bool

@@ -76,7 +76,7 @@ objects_of-returns-in-Err-clause-none t c =
     let passed = weaker c.in-Err.refusal _ _ (λ none ts p e.
     let us = c.loop-rest.invariant.others ts p e in
     none (objects_first c.args.levels us.0 c.loop-rest.rest.now (grind (arith, common_steps)) us.1 us.2)) c.in-Err.ensures.none in
-    rw c.within.ensures (within_refuses c.in-Err.refusal _ passed)
+    within_refuses _ c.in-Err.refusal _ _ (λ x y g. g) c.within.ensures passed
 
 pub objects_of-loop-rest-smaller : goal.objects_of-loop-rest-smaller
 objects_of-loop-rest-smaller t c =

@@ -1,12 +1,12 @@
 //! Each call once, a sequence of thousands of parts, and devices. Rows of octets are those of the program `der_rows`.
 
-use crate::{
+use asn1_core::{Err, Error, HeaderCount, Length, Needed, SerializeError};
+use asn1_device::WriteSink;
+use der_tree::{
     BerObjectContent, ber_encode_object, bits_of, end_of, first_of, is_negative_integer,
     is_shortest_integer, number_of, parse_der, parse_der_recursive, parse_der_recursive_counted,
     text_of, u32_of,
 };
-use asn1_core::{Err, Error, HeaderCount, Length, Needed, SerializeError};
-use asn1_device::WriteSink;
 use std::alloc::Global;
 use std::fmt::Debug;
 use std::io::{ErrorKind, Write};

@@ -1,8 +1,8 @@
 //! Each call once, the forms of lengths that objects tell, and a sequence of thousands of parts. Rows of octets are those of
 //! the program `der_rows`.
 
-use crate::{more_ber_levels, one_ber_tree, parse_ber, parse_ber_recursive, strict_is_ber};
 use asn1_core::{Class, Err, Error, Length, Tag};
+use ber_tree::{more_ber_levels, one_ber_tree, parse_ber, parse_ber_recursive, strict_is_ber};
 use der_tree::{BerObject, BerObjectContent};
 use std::fmt::Debug;
 use std::process::Abort;

@@ -1,13 +1,13 @@
 //! Each combinator with a closure that takes, leaves and refuses. Rows of octets are those of the program `der_rows`.
 
-use crate::{
+use asn1_core::{Class, Err as Refusal, Error, ErrorKind, Length, Needed, Tag};
+use der_parser::{
     BerObjectContent, BerResult, ber_read_element_header, der_read_element_header, parse_ber_bool,
     parse_der_bool, parse_der_content, parse_der_implicit, parse_der_sequence,
     parse_der_sequence_defined_g, parse_der_sequence_of_v, parse_der_set_defined_g,
     parse_der_tagged_explicit_g, parse_der_tagged_implicit, parse_der_tagged_implicit_g,
     parse_der_u32,
 };
-use asn1_core::{Class, Err as Refusal, Error, ErrorKind, Length, Needed, Tag};
 use std::alloc::Global;
 use std::fmt::Debug;
 use std::process::Abort;
