@@ -7,8 +7,6 @@ mod ending;
 mod front;
 mod items;
 mod laws;
-#[cfg(test)]
-mod tests;
 
 pub use bundle::{Bundle, BundleError};
 pub use ending::End;

@@ -18,8 +18,6 @@ mod path;
 mod reach;
 mod rows;
 mod tables;
-#[cfg(test)]
-mod tests;
 
 pub use answer::{Answer, Table};
 pub use check::check_nodes;

@@ -126,7 +126,12 @@ fn headers_of(attribute: &AttrField<'_>) -> Headers
         ≡ result.sequence ++ ((result.name ++ attribute.now.identifier.now) ++ (result.value ++ attribute.now.value.content.now)) }
 {
     let any = attribute.value;
-    let name = header_octets(Class::Universal, false, Tag(6), attribute.identifier.len());
+    let name = header_octets(
+        Class::Universal,
+        false,
+        Tag::Oid,
+        attribute.identifier.len(),
+    );
     let value = header_octets(any.class, any.constructed, any.tag, any.content.len());
     let sequence = sequence_octets(size_of(&name, attribute.identifier, &value, any.content));
     Headers {

@@ -12,8 +12,6 @@ pub mod laws;
 mod least;
 mod offers;
 mod rounds;
-#[cfg(test)]
-mod tests;
 mod walk;
 
 pub use find::find_nodes;

@@ -1,7 +1,7 @@
 //! Worked bundles as nodes built by hand: the answer on each with its table, to which the check says yes.
 
-use crate::find_nodes;
 use cert_graph::{Entry, Node, Nodes, check_nodes};
+use cert_search::find_nodes;
 use std::alloc::Global;
 use std::fmt::Debug;
 use std::process::Abort;

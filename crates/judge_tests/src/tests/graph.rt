@@ -1,7 +1,7 @@
 //! Worked bundles as nodes built by hand, with answers that are adequate and answers that are not.
 
-use crate::Reach::{Any, No, UpTo};
-use crate::{Answer, Entry, Node, Nodes, Reach, Table, check_nodes, reach_at};
+use cert_graph::Reach::{Any, No, UpTo};
+use cert_graph::{Answer, Entry, Node, Nodes, Reach, Table, check_nodes, reach_at};
 use std::alloc::{AllocError, Global};
 use std::test::Fail;
 

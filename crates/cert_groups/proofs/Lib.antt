@@ -1,0 +1,4 @@
+pub mod Sifted
+pub mod Adding
+pub mod Gathering
+pub mod Placing

@@ -1,0 +1,4 @@
+//! A module for each crate.
+
+mod graph;
+mod search;
