@@ -20,7 +20,7 @@ pick x a b (zero, lt, is) = inl (sym is)
 pick x a b (suc zero, lt, is) = inr (sym is)
 pick x a b (suc (suc k), lt, is) = absurd (omega (arith, lt))
 
-no_list : (x : Item) (c : Certificate) (l : RevocationList) → x ≡ certificate_item c → x.class ≡ list l → ⊥
+pub no_list : (x : Item) (c : Certificate) (l : RevocationList) → x ≡ certificate_item c → x.class ≡ list l → ⊥
 no_list x c l is told = let e = sym (ap (λ (i : Item). i.class) is) ∙ told in cc
 
 abbrev list_in : RevocationList → Class → RevocationList
@@ -93,12 +93,12 @@ no_lists name key serial = record {
   listed = λ d. absurd cc;
 }
 
-names_no_key : HaveSameKeyId issued_by_b authority_b
+pub names_no_key : HaveSameKeyId issued_by_b authority_b
 names_no_key = λ a s names own.
     let long = ap (λ (es : List Extension). length es) names.stands.place ∙ length-append names.stands.front (names.stands.extension ∷ names.stands.back) in
     absurd (omega arith)
 
-target_usable : IsUsable in_june issued_by_b
+pub target_usable : IsUsable in_june issued_by_b
 target_usable = record { valid = june_valid; extensions = no_extensions }
 
 pub path_of_two : IsValidPath (graph_of_items (vouching_for_all false) bundle (certificate_item (anchor_named 0x63) ∷ [])) 0 (0 ∷ 1 ∷ []) 0

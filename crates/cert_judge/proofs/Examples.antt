@@ -67,7 +67,7 @@ well_written : HasConstraints unconstrained
 unfolding basic_constraints_octets
 well_written = (says_nothing, record { in_range = tt; spelled = refl })
 
-alone_distinct : (e : Extension) → AreDistinct (e ∷ [])
+pub alone_distinct : (e : Extension) → AreDistinct (e ∷ [])
 alone_distinct e = λ i j d below within. absurd (omega arith)
 
 under_constraints : (critical : Bool) → IsUsable in_june (extended_by (extension basic_constraints critical unconstrained ∷ []))

@@ -1,10 +1,10 @@
 -- Certificates, lists and moments of worked cases: they try the definitions, not the code.
-use Rattle.std.specs.Prelude.{◌≡◌, ℕ, pos, false, true, List, [], ◌∷◌, Bool}
-use Rattle.cert_model.specs.Fields.{Identifier, Extension, CivilTime, Certificate, RevocationList}
-use Rattle.cert_model.specs.Octets.{certificate_octets, list_octets}
+use Rattle.std.specs.Prelude.{◌≡◌, ℕ, pos, false, true, List, [], ◌∷◌, Bool, Contains}
+use Rattle.cert_model.specs.Fields.{Identifier, Extension, CivilTime, Key, Certificate, RevocationList}
+use Rattle.cert_model.specs.Octets.{key_octets, certificate_octets, list_octets}
 use Rattle.cert_model.specs.Class.{certificate, list}
 use Rattle.cert_model.specs.Extended.{basic_constraints, key_usage}
-use Rattle.cert_model.specs.Examples.{common_name, plain, revoking, authority_b}
+use Rattle.cert_model.specs.Examples.{key, common_name, plain, issued_by_b, revoking, authority_b}
 use Rattle.cert_judge.specs.Revoking.{Item, Rules}
 
 -- the first of June 2025 at midnight
@@ -69,3 +69,69 @@ vouching_for_all demand = record { moment = in_june; demand_lists = demand; Vouc
 
 abbrev pub vouching_but_for : List ℕ → Rules
 vouching_but_for octets = record { moment = in_june; demand_lists = false; Vouches = λ key item. item ≡ octets → ⊥ }
+
+-- ---- paths
+
+-- the key of one octet
+abbrev pub key_of : ℕ → Key
+key_of octet = record key { key = record { unused = 0; octets = octet ∷ [] } }
+
+-- cA alone, and with path lengths 0 and 1
+abbrev pub unlimited : List ℕ
+unlimited = 0x30 ∷ 0x03 ∷ 0x01 ∷ 0x01 ∷ 0xff ∷ []
+
+abbrev pub limited_to : ℕ → List ℕ
+limited_to n = 0x30 ∷ 0x06 ∷ 0x01 ∷ 0x01 ∷ 0xff ∷ 0x02 ∷ 0x01 ∷ n ∷ []
+
+-- an authority: its name's letter, its issuer's, its key, its basic constraints
+abbrev pub authority : ℕ → ℕ → Key → List ℕ → Certificate
+authority subject issuer own constraints =
+    record authority_b { subject = common_name subject; issuer = common_name issuer; key = own; extensions = extension basic_constraints true constraints ∷ [] }
+
+-- a key vouches for a certificate
+abbrev pub vouches_for : Key → Certificate → List ℕ × List ℕ
+vouches_for own c = (key_octets own, certificate_octets c)
+
+abbrev pub vouching_by : List (List ℕ × List ℕ) → Rules
+vouching_by pairs = record { moment = in_june; demand_lists = false; Vouches = λ own item. Contains pairs (own, item) }
+
+abbrev pub self_issued_b : ℕ → Certificate
+self_issued_b octet = authority 0x62 0x62 (key_of octet) unlimited
+
+-- of b under c under d, where d's certificate lets no further authority stand below it
+abbrev pub limited_above : List Certificate
+limited_above = issued_by_b ∷ authority 0x62 0x63 key unlimited ∷ authority 0x63 0x64 key (limited_to 0) ∷ []
+
+-- of b, which changed its key once: b's certificate for its new key by its old one is self-issued
+abbrev pub b_from_c : ℕ → List ℕ → Certificate
+b_from_c octet constraints = authority 0x62 0x63 (key_of octet) constraints
+
+abbrev pub one_rollover : List Certificate
+one_rollover = issued_by_b ∷ self_issued_b 1 ∷ b_from_c 2 (limited_to 0) ∷ []
+
+abbrev pub one_rollover_rules : Rules
+one_rollover_rules =
+    vouching_by (vouches_for (key_of 1) issued_by_b ∷ vouches_for (key_of 2) (self_issued_b 1) ∷ vouches_for key (b_from_c 2 (limited_to 0)) ∷ [])
+
+-- of b, which changed its key twice, beside b under e under c: c's certificate lets one authority stand below it
+abbrev pub b_from_e : Certificate
+b_from_e = authority 0x62 0x65 (key_of 2) unlimited
+
+abbrev pub e_from_c : Certificate
+e_from_c = authority 0x65 0x63 key unlimited
+
+abbrev pub c_from_d : Certificate
+c_from_d = authority 0x63 0x64 key (limited_to 1)
+
+abbrev pub two_rollovers : List Certificate
+two_rollovers = issued_by_b ∷ b_from_e ∷ e_from_c ∷ self_issued_b 2 ∷ self_issued_b 1 ∷ b_from_c 0 unlimited ∷ c_from_d ∷ []
+
+abbrev pub two_rollover_rules : Rules
+two_rollover_rules =
+    vouching_by (
+    vouches_for (key_of 2) issued_by_b ∷ vouches_for (key_of 1) (self_issued_b 2) ∷ vouches_for (key_of 0) (self_issued_b 1)
+    ∷ vouches_for key b_from_e ∷ vouches_for key e_from_c ∷ vouches_for key (b_from_c 0 unlimited) ∷ vouches_for key c_from_d ∷ [])
+
+-- two equal issuers, under two equal anchors
+abbrev pub equal_issuers : List Certificate
+equal_issuers = issued_by_b ∷ authority_b ∷ authority_b ∷ []

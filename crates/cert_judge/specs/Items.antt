@@ -1,6 +1,6 @@
 -- What the types of `items` are values of.
 use Rattle.std.specs.Prelude.{◌≡◌, ℕ, Bool, List, Any}
-use Rattle.cert_model.specs.Fields.{Number, Entry, Certificate, RevocationList}
+use Rattle.cert_model.specs.Fields.{CivilTime, Number, Entry, Certificate, RevocationList}
 use Rattle.cert_model.specs.Class.{certificate, list, other}
 use Rattle.cert_model.specs.View.{certificate_view, list_view, time_view}
 use Rattle.jiff_core.specs.declared.civil.datetime.DateTime.{DateTime}
@@ -26,6 +26,9 @@ abbrev pub item_of : ReadItem → Item
 item_of (certificate_read x) = certificate_item x
 item_of (list_read x) = list_item x
 item_of (other_read octets) = record { octets = octets.now; class = other }
+
+abbrev pub rules_at : CivilTime → Bool → (List ℕ → List ℕ → Type 0) → Rules
+rules_at moment demand vouches = record { moment = moment; demand_lists = demand; Vouches = vouches }
 
 abbrev pub rules_by : DateTime → Bool → (List ℕ → List ℕ → Type 0) → Rules
 rules_by moment demand vouches = record { moment = time_view moment; demand_lists = demand; Vouches = vouches }

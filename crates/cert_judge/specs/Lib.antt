@@ -8,9 +8,9 @@ pub mod Classed
 pub mod ItemGraph
 pub mod Named
 pub mod Items
-pub mod Built
-pub mod Singly
+pub mod JudgedItems
+pub mod Standing
+pub mod NamedLinks
 pub mod LawsOfItems
 pub mod Examples
-pub mod Numbers
 pub mod Windows

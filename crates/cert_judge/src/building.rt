@@ -1,137 +1,83 @@
-//! From items and anchors to nodes: each item is a group of its own, and each anchor.
+//! From items and anchors to nodes.
 
-ghost use Rattle.std.specs.Prelude.{◌≡◌, ◌↔◌, ◌+◌, ◌<◌, ◌^◌, ℕ, length, map, Contains, IfOk};
+ghost use Rattle.std.specs.Prelude.{List, length, map, IfOk};
 ghost use Rattle.cert_graph.specs.Laws.{Agrees};
 ghost use Rattle.cert_graph.specs.Nodes.{graph_of};
+ghost use Rattle.cert_model.specs.Fields.{CivilTime};
 ghost use Rattle.cert_model.specs.View.{time_view};
-ghost use Rattle.cert_judge.specs.Items.{certificate_item, item_of, rules_by};
-ghost use Rattle.cert_judge.specs.ItemGraph.{graph_of_items, self_issued_of};
-ghost use Rattle.cert_judge.specs.Singly.{IsNodeOf, LeadsTo, AreEntriesOf, AreAnchorGroups};
+ghost use Rattle.cert_judge.specs.Items.{item_of, rules_by, rules_at};
+ghost use Rattle.cert_judge.specs.ItemGraph.{graph_of_items};
+ghost use Rattle.cert_judge.specs.JudgedItems.{AreJudged, AreNodesFor};
+ghost use Rattle.cert_judge.specs.Revoking.{Item};
 
-use crate::items::{CertificateItem, ReadItem};
-use crate::judging::judge_certificate;
-use crate::links::leads_to;
+use crate::items::ReadItem;
+use crate::judged::{JudgedItem, judge_item};
+use crate::name_groups::groups_of;
 use crate::{Policy, Vouch};
-use cert_graph::{Entry, Node, Nodes};
+use cert_graph::{Node, Nodes};
 use jiff::civil::DateTime;
 use std::alloc::{AllocError, Global};
 
-fn is_self_issued(item: &CertificateItem<'_>) -> bool
-    ensures { result ≡ self_issued_of (certificate_item item.now).class }
+fn judged_nodes(alloc: Global, items: &[JudgedItem<'_>]) -> Result<Vec<Node>, AllocError>
+    ensures { IfOk result (λ nodes. AreNodesFor items.now nodes.items (length items.now)) }
 {
-    item.subject == item.issuer
+    let mut nodes = Vec::with_capacity(alloc, items.len())?;
+    for item in items {
+        nodes.push(item.node())?;
+    }
+    Ok(nodes)
 }
 
-fn certificate_node(
+/// The nodes of judged items and anchors, by what is vouched for. What they were judged from, and at which moment, is the caller's.
+///
+/// `vouches` is asked once for each key of an anchor or of a fit issuer and each item that was issued under its name, certificates
+/// and lists in force; the entries of a list are gone over once for each key that vouches for it. All else takes the time of sorted
+/// maps: places are brought together by name, then by key, and then by key identifier, so no two items are ever compared.
+pub fn nodes_by<'a, V: Vouch>(
     alloc: Global,
-    item: &CertificateItem<'_>,
-    moment: &DateTime,
-) -> Result<Node, AllocError>
-    ensures { IfOk result (IsNodeOf (time_view moment.now) (certificate_item item.now)) }
+    items: &[JudgedItem<'a>],
+    anchors: &[JudgedItem<'a>],
+    vouch: &V,
+    demand_lists: bool,
+) -> Result<Nodes, AllocError>
+    ensures { (moment : CivilTime) (xs ys : List Item) → AreJudged moment xs items.now → AreJudged moment ys anchors.now
+        → IfOk result (λ nodes. Agrees (graph_of nodes) (graph_of_items (rules_at moment demand_lists (V.vouches_for vouch.now)) xs ys)) }
 {
-    let judged = judge_certificate(alloc, &item.fields, moment)?;
-    let self_issued = is_self_issued(item);
-    Ok(Node {
-        certificate: true,
-        usable: judged.usable,
-        fit: judged.fit,
-        self_issued,
-        limit: judged.limit,
+    let nodes = judged_nodes(alloc, items)?;
+    let groups = groups_of(alloc, items, anchors, vouch, demand_lists)?;
+    Ok(Nodes {
+        items: nodes,
+        groups,
     })
 }
 
-/// What is judged of an item by itself.
-fn node_of(alloc: Global, item: &ReadItem<'_>, moment: &DateTime) -> Result<Node, AllocError>
-    ensures { IfOk result (IsNodeOf (time_view moment.now) (item_of item.now)) }
-{
-    let ReadItem::Certificate(item) = item else {
-        return Ok(Node {
-            certificate: false,
-            usable: false,
-            fit: false,
-            self_issued: false,
-            limit: None,
-        });
-    };
-    certificate_node(alloc, item, moment)
-}
-
-/// The groups that an item is linked to.
-fn links_of<V: Vouch>(
+fn judge_items<'a>(
     alloc: Global,
-    items: &[ReadItem<'_>],
-    anchors: &[ReadItem<'_>],
-    vouch: &V,
-    policy: &Policy,
-    item: &ReadItem<'_>,
-) -> Result<Vec<usize>, AllocError>
-    ensures { IfOk result (λ links. (k : ℕ) → Contains links.items k
-        ↔ LeadsTo (rules_by policy.now.moment policy.now.demand_lists (V.vouches_for vouch.now)) (map item_of items.now) (map item_of anchors.now) (item_of item.now) k) }
+    items: &[ReadItem<'a>],
+    moment: &DateTime,
+) -> Result<Vec<JudgedItem<'a>>, AllocError>
+    ensures { IfOk result (λ judged. AreJudged (time_view moment.now) (map item_of items.now) judged.items) }
 {
-    let mut links = Vec::new(alloc);
-    for group in 0..items.len() + anchors.len() {
-        if leads_to(items, anchors, vouch, policy, item, group) {
-            links.push(group)?;
-        }
+    let mut judged = Vec::with_capacity(alloc, items.len())?;
+    for item in items {
+        judged.push(judge_item(alloc, item, moment)?)?;
     }
-    Ok(links)
+    Ok(judged)
 }
 
-fn entries_of<V: Vouch>(
+/// The nodes of items and anchors under a policy, by what is vouched for, as `nodes_by` builds them.
+pub fn nodes_of<'a, V: Vouch>(
     alloc: Global,
-    items: &[ReadItem<'_>],
-    anchors: &[ReadItem<'_>],
-    vouch: &V,
-    policy: &Policy,
-) -> Result<Vec<Entry>, AllocError>
-    ensures { IfOk result (λ entries. AreEntriesOf (rules_by policy.now.moment policy.now.demand_lists (V.vouches_for vouch.now)) (map item_of items.now) (map item_of anchors.now) entries.items (length items.now)) }
-{
-    let moment = policy.moment();
-    let mut entries = Vec::new(alloc);
-    for position in 0..items.len() {
-        let item = &items[position];
-        let node = node_of(alloc, item, &moment)?;
-        let links = links_of(alloc, items, anchors, vouch, policy, item)?;
-        let groups = vec![in alloc; position]?;
-        entries.push(Entry {
-            node,
-            groups,
-            links,
-        })?;
-    }
-    Ok(entries)
-}
-
-fn anchor_groups(
-    alloc: Global,
-    first: usize,
-    count: usize,
-) -> Result<Vec<Option<usize>>, AllocError>
-    requires { first + count < 2 ^ 64 }
-    ensures { IfOk result (λ groups. AreAnchorGroups first groups.items count) }
-{
-    let mut groups = Vec::new(alloc);
-    for place in 0..count {
-        groups.push(Some(first + place))?;
-    }
-    Ok(groups)
-}
-
-/// The nodes of items and anchors under a policy, by what is vouched for.
-///
-/// Each item and each anchor is a group of its own, so each item is looked at with each other and each anchor: `vouches` is
-/// asked for each two of one name, and once more for each list of that name.
-pub fn nodes_of<V: Vouch>(
-    alloc: Global,
-    items: &[ReadItem<'_>],
-    anchors: &[ReadItem<'_>],
+    items: &[ReadItem<'a>],
+    anchors: &[ReadItem<'a>],
     vouch: &V,
     policy: &Policy,
 ) -> Result<Nodes, AllocError>
     ensures { IfOk result (λ nodes. Agrees (graph_of nodes) (graph_of_items (rules_by policy.now.moment policy.now.demand_lists (V.vouches_for vouch.now)) (map item_of items.now) (map item_of anchors.now))) }
 {
-    let entries = entries_of(alloc, items, anchors, vouch, policy)?;
-    let groups = anchor_groups(alloc, items.len(), anchors.len())?;
-    let nodes = Nodes::new(alloc, &entries, &groups, items.len() + anchors.len())?;
+    let moment = policy.moment();
+    let items = judge_items(alloc, items, &moment)?;
+    let anchors = judge_items(alloc, anchors, &moment)?;
+    let nodes = nodes_by(alloc, &items, &anchors, vouch, policy.demands_lists())?;
     Ok(nodes)
 }

@@ -1,9 +1,9 @@
 //! Laws of judging. Each is a function that does nothing: its contract is the law.
 
-ghost use Rattle.std.specs.Prelude.{◌≡◌, ◌↔◌, ℕ, Bool, Option, List, All, false, true, [], ◌∷◌, ◌++◌};
+ghost use Rattle.std.specs.Prelude.{◌≡◌, ◌↔◌, ℕ, Bool, Option, List, All, map, false, true, [], ◌∷◌, ◌++◌};
 ghost use Rattle.cert_graph.specs.declared.reach.Reach.TheVariants.{UpTo};
 ghost use Rattle.cert_graph.specs.Reach.{reach_of};
-ghost use Rattle.cert_graph.specs.Graph.{IsValidPath};
+ghost use Rattle.cert_graph.specs.Graph.{IsValidPath, IsFirstPath, HasNoPath};
 ghost use Rattle.cert_graph.specs.Adequate.{IsTrueAnswer};
 ghost use Rattle.cert_graph.specs.declared.answer.Answer.{Answer};
 ghost use Rattle.cert_model.specs.Fields.{CivilTime, Certificate};
@@ -16,7 +16,7 @@ ghost use Rattle.cert_judge.specs.Revoking.{Item, IsSatisfied};
 ghost use Rattle.cert_judge.specs.LawsOfItems.{rules_from, VouchesForMore, Keeps, HasPathsOf, HasPathOf, IsValidAt};
 ghost use Rattle.cert_model.specs.Class.{certificate, other};
 ghost use Rattle.cert_judge.specs.ItemGraph.{graph_of_items};
-ghost use Rattle.cert_judge.specs.Examples.{in_june, too_early, too_late, extended_by, extension, unconstrained, default_written, extended_key_usage, authority_with_usage, encipherment, signing, anchor_named, revoking_two, certificate_item, list_item, vouching_for_all, vouching_but_for};
+ghost use Rattle.cert_judge.specs.Examples.{in_june, too_early, too_late, extended_by, extension, unconstrained, default_written, extended_key_usage, authority_with_usage, encipherment, signing, anchor_named, revoking_two, certificate_item, list_item, vouching_for_all, vouching_but_for, limited_above, one_rollover, one_rollover_rules, two_rollovers, two_rollover_rules, equal_issuers};
 
 /// What a fit issuer lets through is its path length constraint (RFC 5280, 4.2.1.9).
 pub fn limit_is_path_length()
@@ -59,6 +59,23 @@ pub fn examples_of_lists()
 /// Of paths: a certificate of b, b of c with path length 0, and the anchor c: the target is not counted.
 pub fn example_of_a_path()
     ensures { IsValidPath (graph_of_items (vouching_for_all false) (certificate_item issued_by_b ∷ certificate_item authority_b ∷ []) (certificate_item (anchor_named 0x63) ∷ [])) 0 (0 ∷ 1 ∷ []) 0 }
+{}
+
+/// Of paths over keys that changed: self-issued certificates aren't counted, others are.
+pub fn examples_of_rollovers()
+    ensures once { IsValidPath (graph_of_items one_rollover_rules (map certificate_item one_rollover) (certificate_item (anchor_named 0x63) ∷ [])) 0 (0 ∷ 1 ∷ 2 ∷ []) 0 }
+    ensures twice { IsValidPath (graph_of_items two_rollover_rules (map certificate_item two_rollovers) (certificate_item (anchor_named 0x64) ∷ [])) 0 (0 ∷ 3 ∷ 4 ∷ 5 ∷ 6 ∷ []) 0 }
+    ensures beside { (a : ℕ) → IsValidPath (graph_of_items two_rollover_rules (map certificate_item two_rollovers) (certificate_item (anchor_named 0x64) ∷ [])) 0 (0 ∷ 1 ∷ 2 ∷ 6 ∷ []) a → ⊥ }
+{}
+
+/// Of equal issuers and equal anchors: the first of each.
+pub fn example_of_equals()
+    ensures { IsFirstPath (graph_of_items (vouching_for_all false) (map certificate_item equal_issuers) (certificate_item (anchor_named 0x63) ∷ certificate_item (anchor_named 0x63) ∷ [])) 0 (0 ∷ 1 ∷ []) 0 }
+{}
+
+/// Of no path: an authority of path length 0 above another.
+pub fn example_of_no_path()
+    ensures { HasNoPath (graph_of_items (vouching_for_all false) (map certificate_item limited_above) (certificate_item (anchor_named 0x64) ∷ [])) 0 }
 {}
 
 /// Rules that vouch for more certificates, and for the same lists, never lose a path.

@@ -45,6 +45,18 @@ fn is_current(list: &ListFields<'_>, moment: &DateTime) -> bool
     }
 }
 
+/// Whether a list is current, and nothing in it says that it must not be read as it is.
+pub(crate) fn is_in_force(list: &ListFields<'_>, moment: &DateTime) -> bool
+    ensures current { IsTrue result → IsCurrent (time_view moment.now) (list_view list.now) }
+    ensures plain { IsTrue result → IsPlain (list_view list.now) }
+    ensures only { IsCurrent (time_view moment.now) (list_view list.now) → IsPlain (list_view list.now) → IsTrue result }
+{
+    if !is_current(list, moment) {
+        return false;
+    }
+    is_plain(list)
+}
+
 fn is_of(entry: &EntryFields<'_>, serial: &[u8]) -> bool
     ensures { IsTrue result ↔ ((entry_view entry.now).serial ≡ serial.now) }
 {

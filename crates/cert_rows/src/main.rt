@@ -1,6 +1,6 @@
-//! Reads items in hex from standard input, one a line, and prints each with its class: `HEX = other`, or `certificate` or
-//! `list` and below it each field in a line of its own, by its name. `N:HEX` tells whether the item's fields are in range
-//! where their version is the digit N, counted from 0 as it is written.
+//! Reads items in hex from standard input, one a line, and prints each with its class by both roads: `HEX = other`, or `certificate` or
+//! `list` and below it each field in a line of its own, by its name, and what the fields write. `N:HEX` tells whether the item's fields are in range
+//! where their version is the digit N, counted from 0 as it is written. `keys:HEX` tells a certificate's key identifiers.
 //!
 //! Empty lines and those that begin with `#` are printed as they stand.
 #![tactic(auto)]
@@ -9,8 +9,13 @@ mod fields;
 mod parts;
 
 use crate::fields::{certificate_text, list_text};
+use crate::parts::add_line;
+use asn1_core::SerializeResult;
+use asn1_device::WriteSink;
 use certcheck::{CertFields, ItemClass, ListFields, read_tree};
-use hex_rows::{literal, octets_of};
+use certpath_rebuild::{rebuild_certificate, rebuild_list};
+use certpath_typed::read_typed;
+use hex_rows::{hex_of, literal, octets_of};
 use std::alloc::Global;
 use std::io;
 
@@ -29,8 +34,8 @@ fn main(rt: HostRuntime) -> io::Result<()> {
 
 /// What there is to tell of a row.
 fn outcome(alloc: Global, row: &str) -> io::Result<String> {
-    let (version, digits) = match row.split_once(':') {
-        Some((version, digits)) => (Some(version), digits),
+    let (question, digits) = match row.split_once(':') {
+        Some((question, digits)) => (Some(question), digits),
         None => (None, row),
     };
     let Some(octets) = octets_of(alloc, digits)? else {
@@ -39,18 +44,74 @@ fn outcome(alloc: Global, row: &str) -> io::Result<String> {
     let Ok(class) = read_tree(alloc, octets.as_slice()) else {
         return Err(io::Error::from(io::ErrorKind::OutOfMemory));
     };
-    match version {
+    let Ok(typed) = read_typed(alloc, octets.as_slice()) else {
+        return Err(io::Error::from(io::ErrorKind::OutOfMemory));
+    };
+    if typed != class {
+        return literal(alloc, "two classes");
+    }
+    match question {
+        Some("keys") => keys_text(alloc, &class),
         Some(version) => literal(alloc, range_text(class, number_of(version))),
-        None => class_text(alloc, &class),
+        None => class_text(alloc, &class, octets.as_slice()),
     }
 }
 
 /// The class of an item, with its fields.
-fn class_text(alloc: Global, class: &ItemClass<'_>) -> io::Result<String> {
-    match class {
-        ItemClass::Certificate(fields) => certificate_text(alloc, fields),
-        ItemClass::List(fields) => list_text(alloc, fields),
-        ItemClass::Other => literal(alloc, "other"),
+fn class_text(alloc: Global, class: &ItemClass<'_>, item: &[u8]) -> io::Result<String> {
+    let mut writer = WriteSink::new(Vec::new(alloc));
+    let (mut text, answer) = match class {
+        ItemClass::Certificate(fields) => (
+            certificate_text(alloc, fields)?,
+            rebuild_certificate(fields, &mut writer),
+        ),
+        ItemClass::List(fields) => (list_text(alloc, fields)?, rebuild_list(fields, &mut writer)),
+        ItemClass::Other => return literal(alloc, "other"),
+    };
+    let written: Vec<u8> = writer.into_inner();
+    add_line(
+        &mut text,
+        "written",
+        written_text(alloc, answer, written.as_slice(), item)?,
+    )?;
+    Ok(text)
+}
+
+/// What was written of an item's fields: how many octets, and whether they are the item.
+fn written_text(
+    alloc: Global,
+    answer: SerializeResult<usize>,
+    written: &[u8],
+    item: &[u8],
+) -> io::Result<String> {
+    match answer {
+        Ok(count) if written == item => {
+            let text = format!(in alloc; "{count}, the item")?;
+            Ok(text)
+        }
+        Ok(_) => Ok(hex_of(alloc, written)?),
+        Err(_) => literal(alloc, "nothing"),
+    }
+}
+
+/// The key identifiers of the issuer and of the subject that a certificate names.
+fn keys_text(alloc: Global, class: &ItemClass<'_>) -> io::Result<String> {
+    let ItemClass::Certificate(fields) = class else {
+        return literal(alloc, "no certificate");
+    };
+    let Ok(authority) = fields.authority_key_id(alloc) else {
+        return Err(io::Error::from(io::ErrorKind::OutOfMemory));
+    };
+    let authority = key_text(alloc, authority)?;
+    let subject = key_text(alloc, fields.subject_key_id())?;
+    let text = format!(in alloc; "authority {authority}, subject {subject}")?;
+    Ok(text)
+}
+
+fn key_text(alloc: Global, id: Option<&[u8]>) -> io::Result<String> {
+    match id {
+        Some(id) => Ok(hex_of(alloc, id)?),
+        None => literal(alloc, "absent"),
     }
 }
 

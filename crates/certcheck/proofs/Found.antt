@@ -1,5 +1,5 @@
 -- What a step of the tree road finds is what the octets spell.
-use Rattle.std.proofs.Common.{◌≡◌, ◌∙◌, refl, sym, ap, ℕ, ◌<◌, arith, length, [], ◌∷◌, ◌++◌, List, Option, Some, None, option_map, MatchOption, subst}
+use Rattle.std.proofs.Common.{◌≡◌, ◌∙◌, refl, sym, ap, ℕ, ◌<◌, arith, length, [], ◌∷◌, ◌++◌, List, Result, Ok, Err, subst}
 use Rattle.asn1_core.specs.declared.error.Error.{Error}
 use Rattle.asn1_core.specs.declared.outcome.Err.{Err as Refusal}
 use Rattle.asn1_core.specs.declared.outcome.Err.TheVariants as refusals
@@ -20,11 +20,15 @@ use Rattle.cert_model.proofs.Steps.{in_sequence}
 use Rattle.cert_model.specs.Assembly.{AreExtensionsOf}
 use Rattle.cert_model.specs.Reads.{extensions_at}
 use Rattle.cert_model.proofs.Extensions.{extensions_found, extensions_only}
+use Rattle.certcheck.specs.declared.stop.Stop.{Stop}
+use Rattle.certcheck.specs.declared.stop.Stop.TheVariants as stops
+use Rattle.certcheck.specs.Stopping.{Finds, Settles}
 
-pub extensions_exact : {V : Type 0} (items : V → List Extension) (t : Tree) (s : List ℕ) → IsObject 50 t → octets t ≡ s → (r : Option V) → option_map items r ≡ extensions_at t →
-    MatchOption r ((es : List Extension) → AreExtensionsOf s es → ⊥) (λ v. AreExtensionsOf s (items v))
-extensions_exact items t s o is None e = λ es p. let found = extensions_only 50 t es o (subst (λ z. AreExtensionsOf z es) (sym is) p) in cc
-extensions_exact items t s o is (Some v) e = subst (λ z. AreExtensionsOf z (items v)) is (extensions_found 50 t (items v) o (sym e))
+pub extensions_exact : {V : Type 0} (items : V → List Extension) (t : Tree) (s : List ℕ) → IsObject 50 t → octets t ≡ s → (r : Result V Stop) → Finds items r (extensions_at t) →
+    Settles r (λ v. AreExtensionsOf s (items v)) ((es : List Extension) → AreExtensionsOf s es → ⊥)
+extensions_exact items t s o is (Ok v) e = subst (λ z. AreExtensionsOf z (items v)) is (extensions_found 50 t (items v) o (sym e))
+extensions_exact items t s o is (Err stops.Other) e = λ es p. let found = extensions_only 50 t es o (subst (λ z. AreExtensionsOf z es) (sym is) p) in cc
+extensions_exact items t s o is (Err stops.OutOfMemory) e = e
 
 -- a refusal that is not for want of memory
 pub refused_plainly : (e : Refusal Error) (P : Type 0) → ((x : Error) → e ≡ refusals.Failure x → ⊥) → Refuses e P → P

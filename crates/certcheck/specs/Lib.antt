@@ -1,3 +1,4 @@
 pub mod ClassView
 pub mod PieceView
+pub mod Stopping
 pub mod Vouching

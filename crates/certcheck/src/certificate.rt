@@ -1,6 +1,6 @@
 //! Certificates (RFC 5280, 4.1).
 
-ghost use Rattle.std.specs.Prelude.{◌≡◌, ℕ, Option, option_map, map, IfOk, MatchOption};
+ghost use Rattle.std.specs.Prelude.{◌≡◌, ℕ, Option, option_map, map};
 ghost use Rattle.der_tree.specs.Tree.{octets};
 ghost use Rattle.der_tree.specs.Shape.{IsObject};
 ghost use Rattle.der_tree.specs.View.{view, views};
@@ -9,15 +9,16 @@ ghost use Rattle.cert_model.specs.Range.{AreCertificateFields};
 ghost use Rattle.cert_model.specs.Assembly.{version_number, version_in, bits_in, id_in, fits_version};
 ghost use Rattle.cert_model.specs.Class.{NoCertificate};
 ghost use Rattle.cert_model.specs.View.{any_view, time_view, alg_view, bit_view, key_view, name_view, ext_view, certificate_view};
-ghost use Rattle.cert_model.specs.Reads.{next_at, number_at, algorithm_at, bits_at, key_at, name_at};
+ghost use Rattle.cert_model.specs.Reads.{name_at};
 ghost use Rattle.cert_model.specs.Pieces.{validity_at, tbs_at, signed_at};
 ghost use Rattle.certcheck.specs.PieceView.{cert_pieces_view, signed_certificate_view};
+ghost use Rattle.certcheck.specs.Stopping.{Finds, Settles};
 
 use crate::extensions::extensions_in;
 use crate::names::name_of;
-use crate::parts::{algorithm_of, bits_of, key_of, number_of, sequence_of, tagged_of};
+use crate::parts::{next_algorithm, next_bits, next_key, next_number, sequence_of, tagged_of};
+use crate::stop::Stop;
 use crate::times::time_of;
-use asn1_core::OutOfMemory;
 use cert_model::fields::{
     AlgField, AnyField, BitField, CertFields, ExtField, KeyField, NameFields,
 };
@@ -41,40 +42,6 @@ pub(crate) struct CertPieces<'a> {
     pub extensions: Option<AnyField<'a>>,
 }
 
-pub(crate) fn next_number<'b, 'a>(
-    parts: &'b [BerObject<'a>],
-) -> Option<(&'a [u8], &'b [BerObject<'a>])>
-    ensures { option_map (λ p. (p.0.now, views p.1.now)) result ≡ next_at number_at (views parts.now) }
-{
-    let (first, rest) = first_of(parts)?;
-    Some((number_of(first)?, rest))
-}
-
-pub(crate) fn next_algorithm<'b, 'a>(
-    parts: &'b [BerObject<'a>],
-) -> Option<(AlgField<'a>, &'b [BerObject<'a>])>
-    ensures { option_map (λ p. (alg_view p.0, views p.1.now)) result ≡ next_at algorithm_at (views parts.now) }
-{
-    let (first, rest) = first_of(parts)?;
-    Some((algorithm_of(first)?, rest))
-}
-
-pub(crate) fn next_bits<'b, 'a>(
-    parts: &'b [BerObject<'a>],
-) -> Option<(BitField<'a>, &'b [BerObject<'a>])>
-    ensures { option_map (λ p. (bit_view p.0, views p.1.now)) result ≡ next_at bits_at (views parts.now) }
-{
-    let (first, rest) = first_of(parts)?;
-    Some((bits_of(first)?, rest))
-}
-
-fn next_key<'b, 'a>(parts: &'b [BerObject<'a>]) -> Option<(KeyField<'a>, &'b [BerObject<'a>])>
-    ensures { option_map (λ p. (key_view p.0, views p.1.now)) result ≡ next_at key_at (views parts.now) }
-{
-    let (first, rest) = first_of(parts)?;
-    Some((key_of(first)?, rest))
-}
-
 /// Validity (RFC 5280, 4.1.2.5).
 #[tactic(auto, unfolding(cert_model::specs::Pieces::validity_at))]
 fn validity_of(object: &BerObject<'_>) -> Option<(DateTime, DateTime)>
@@ -90,50 +57,25 @@ fn validity_of(object: &BerObject<'_>) -> Option<(DateTime, DateTime)>
 
 /// TBSCertificate.
 #[tactic(auto, unfolding(cert_model::specs::Pieces::tbs_at))]
-pub(crate) fn tbs_of<'a>(
-    alloc: Global,
-    object: &BerObject<'a>,
-) -> Result<Option<CertPieces<'a>>, OutOfMemory>
-    ensures { IfOk result (λ r. option_map cert_pieces_view r ≡ tbs_at (view object.now)) }
+pub(crate) fn tbs_of<'a>(alloc: Global, object: &BerObject<'a>) -> Result<CertPieces<'a>, Stop>
+    ensures { Finds cert_pieces_view result (tbs_at (view object.now)) }
 {
-    let Some(parts) = sequence_of(object) else {
-        return Ok(None);
-    };
+    let parts = sequence_of(object).ok_or(Stop::Other)?;
     let (version, rest) = tagged_of(0, parts);
-    let Some((serial, rest)) = next_number(rest) else {
-        return Ok(None);
-    };
-    let Some((signature, rest)) = next_algorithm(rest) else {
-        return Ok(None);
-    };
-    let Some((first, rest)) = first_of(rest) else {
-        return Ok(None);
-    };
-    let Some(issuer) = name_of(alloc, first)? else {
-        return Ok(None);
-    };
-    let Some((validity, rest)) = first_of(rest) else {
-        return Ok(None);
-    };
-    let Some((not_before, not_after)) = validity_of(validity) else {
-        return Ok(None);
-    };
-    let Some((first, rest)) = first_of(rest) else {
-        return Ok(None);
-    };
-    let Some(subject) = name_of(alloc, first)? else {
-        return Ok(None);
-    };
-    let Some((key, rest)) = next_key(rest) else {
-        return Ok(None);
-    };
+    let (serial, rest) = next_number(rest).ok_or(Stop::Other)?;
+    let (signature, rest) = next_algorithm(rest).ok_or(Stop::Other)?;
+    let (first, rest) = first_of(rest).ok_or(Stop::Other)?;
+    let issuer = name_of(alloc, first)?;
+    let (validity, rest) = first_of(rest).ok_or(Stop::Other)?;
+    let (not_before, not_after) = validity_of(validity).ok_or(Stop::Other)?;
+    let (first, rest) = first_of(rest).ok_or(Stop::Other)?;
+    let subject = name_of(alloc, first)?;
+    let (key, rest) = next_key(rest).ok_or(Stop::Other)?;
     let (issuer_id, rest) = tagged_of(1, rest);
     let (subject_id, rest) = tagged_of(2, rest);
     let (extensions, rest) = tagged_of(3, rest);
-    if end_of(rest).is_none() {
-        return Ok(None);
-    }
-    Ok(Some(CertPieces {
+    end_of(rest).ok_or(Stop::Other)?;
+    Ok(CertPieces {
         version,
         serial,
         signature,
@@ -145,7 +87,7 @@ pub(crate) fn tbs_of<'a>(
         issuer_id,
         subject_id,
         extensions,
-    }))
+    })
 }
 
 /// Certificate: its first part, the algorithm and the signature value.
@@ -159,32 +101,20 @@ pub(crate) struct SignedCertificate<'a> {
 fn signed_certificate<'a>(
     alloc: Global,
     object: &BerObject<'a>,
-) -> Result<Option<SignedCertificate<'a>>, OutOfMemory>
-    ensures { IfOk result (λ r. option_map signed_certificate_view r ≡ signed_at tbs_at (view object.now)) }
+) -> Result<SignedCertificate<'a>, Stop>
+    ensures { Finds signed_certificate_view result (signed_at tbs_at (view object.now)) }
 {
-    let Some(parts) = sequence_of(object) else {
-        return Ok(None);
-    };
-    let Some((first, rest)) = first_of(parts) else {
-        return Ok(None);
-    };
-    let Some(tbs) = tbs_of(alloc, first)? else {
-        return Ok(None);
-    };
-    let Some((algorithm, rest)) = next_algorithm(rest) else {
-        return Ok(None);
-    };
-    let Some((signature_value, rest)) = next_bits(rest) else {
-        return Ok(None);
-    };
-    if end_of(rest).is_none() {
-        return Ok(None);
-    }
-    Ok(Some(SignedCertificate {
+    let parts = sequence_of(object).ok_or(Stop::Other)?;
+    let (first, rest) = first_of(parts).ok_or(Stop::Other)?;
+    let tbs = tbs_of(alloc, first)?;
+    let (algorithm, rest) = next_algorithm(rest).ok_or(Stop::Other)?;
+    let (signature_value, rest) = next_bits(rest).ok_or(Stop::Other)?;
+    end_of(rest).ok_or(Stop::Other)?;
+    Ok(SignedCertificate {
         tbs,
         algorithm,
         signature_value,
-    }))
+    })
 }
 
 /// The INTEGER in [0], which is 1 or 2.
@@ -258,34 +188,24 @@ fn fits_version(
         && (extensions.is_empty() || version == 2)
 }
 
-/// The fields of the certificate that the object is; none where it is none.
+/// The fields of the certificate that the object is.
 pub(crate) fn certificate_of<'a>(
     alloc: Global,
     object: &BerObject<'a>,
-) -> Result<Option<CertFields<'a>>, OutOfMemory>
+) -> Result<CertFields<'a>, Stop>
     requires { IsObject 50 (view object.now) }
-    ensures { IfOk result (λ r. MatchOption r (NoCertificate (octets (view object.now)))
-        (λ f. AreCertificateFields (certificate_view f) × (certificate_octets (certificate_view f) ≡ octets (view object.now)))) }
+    ensures { Settles result (λ f. AreCertificateFields (certificate_view f) × (certificate_octets (certificate_view f) ≡ octets (view object.now)))
+        (NoCertificate (octets (view object.now))) }
 {
-    let Some(signed) = signed_certificate(alloc, object)? else {
-        return Ok(None);
-    };
-    let Some(version) = version_of(signed.tbs.version) else {
-        return Ok(None);
-    };
-    let Some(issuer_id) = id_of(signed.tbs.issuer_id) else {
-        return Ok(None);
-    };
-    let Some(subject_id) = id_of(signed.tbs.subject_id) else {
-        return Ok(None);
-    };
-    let Some(extensions) = extensions_in(alloc, signed.tbs.extensions)? else {
-        return Ok(None);
-    };
+    let signed = signed_certificate(alloc, object)?;
+    let version = version_of(signed.tbs.version).ok_or(Stop::Other)?;
+    let issuer_id = id_of(signed.tbs.issuer_id).ok_or(Stop::Other)?;
+    let subject_id = id_of(signed.tbs.subject_id).ok_or(Stop::Other)?;
+    let extensions = extensions_in(alloc, signed.tbs.extensions)?;
     if !fits_version(version, issuer_id, subject_id, &extensions) {
-        return Ok(None);
+        return Err(Stop::Other);
     }
-    Ok(Some(CertFields {
+    Ok(CertFields {
         version,
         serial: signed.tbs.serial,
         signature: signed.tbs.signature,
@@ -299,5 +219,5 @@ pub(crate) fn certificate_of<'a>(
         extensions,
         algorithm: signed.algorithm,
         signature_value: signed.signature_value,
-    }))
+    })
 }

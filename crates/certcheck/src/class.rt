@@ -9,6 +9,7 @@ ghost use Rattle.certcheck.specs.ClassView.{class_view};
 
 use crate::certificate::certificate_of;
 use crate::list::list_of;
+use crate::stop::settled;
 use asn1_core::{Err as Refusal, OutOfMemory};
 use cert_model::fields::{CertFields, ListFields};
 use der_tree::{BerObject, MAX_RECURSION, parse_der_recursive};
@@ -50,10 +51,10 @@ fn class_of<'a>(alloc: Global, object: &BerObject<'a>) -> Result<ItemClass<'a>, 
     requires { IsObject 50 (view object.now) }
     ensures { IfOk result (λ class. IsClassOf (octets (view object.now)) (class_view class)) }
 {
-    if let Some(fields) = certificate_of(alloc, object)? {
+    if let Some(fields) = settled(certificate_of(alloc, object))? {
         return Ok(ItemClass::Certificate(fields));
     }
-    if let Some(fields) = list_of(alloc, object)? {
+    if let Some(fields) = settled(list_of(alloc, object))? {
         return Ok(ItemClass::List(fields));
     }
     Ok(ItemClass::Other)

@@ -1,6 +1,6 @@
 //! Extensions (RFC 5280, 4.2).
 
-ghost use Rattle.std.specs.Prelude.{◌≡◌, ◌≤◌, ℕ, List, length, option_map, map, IfOk, MatchOption};
+ghost use Rattle.std.specs.Prelude.{◌≡◌, ◌≤◌, ℕ, List, length, option_map, map};
 ghost use Rattle.der_tree.specs.View.{view, views};
 ghost use Rattle.cert_model.specs.Fields.{Extension};
 ghost use Rattle.cert_model.specs.Range.{IfThere};
@@ -8,9 +8,11 @@ ghost use Rattle.cert_model.specs.View.{any_view, ext_view};
 ghost use Rattle.cert_model.specs.PieceOctets.{HasSmallContent};
 ghost use Rattle.cert_model.specs.Assembly.{AreExtensionsOf, AreExtensionsIn};
 ghost use Rattle.cert_model.specs.Reads.{critical_at, extension_at, list_at, extensions_at};
+ghost use Rattle.certcheck.specs.Stopping.{Finds, Settles};
 
 use crate::parts::{identifier_of, octet_string_of, sequence_of};
-use asn1_core::{Err as Refusal, OutOfMemory};
+use crate::stop::Stop;
+use asn1_core::Err as Refusal;
 use cert_model::fields::{AnyField, ExtField};
 use der_tree::{BerObject, end_of, first_of, parse_der_recursive};
 use std::alloc::Global;
@@ -48,20 +50,14 @@ fn extension_of<'a>(object: &BerObject<'a>) -> Option<ExtField<'a>>
 }
 
 /// The extensions that all of the parts are.
-fn each_extension<'a>(
-    alloc: Global,
-    parts: &[BerObject<'a>],
-) -> Result<Option<Vec<ExtField<'a>>>, OutOfMemory>
-    ensures { IfOk result (λ r. option_map (λ v. map ext_view v.items) r ≡ list_at extension_at (views parts.now)) }
+fn each_extension<'a>(alloc: Global, parts: &[BerObject<'a>]) -> Result<Vec<ExtField<'a>>, Stop>
+    ensures { Finds (λ v. map ext_view v.items) result (list_at extension_at (views parts.now)) }
 {
     let mut extensions = Vec::new(alloc);
     for part in parts {
-        let Some(extension) = extension_of(part) else {
-            return Ok(None);
-        };
-        extensions.push(extension)?;
+        extensions.push(extension_of(part).ok_or(Stop::Other)?)?;
     }
-    Ok(Some(extensions))
+    Ok(extensions)
 }
 
 /// Extensions: one or more.
@@ -69,61 +65,54 @@ fn each_extension<'a>(
 pub(crate) fn extensions_of<'a>(
     alloc: Global,
     object: &BerObject<'a>,
-) -> Result<Option<Vec<ExtField<'a>>>, OutOfMemory>
-    ensures { IfOk result (λ r. option_map (λ v. map ext_view v.items) r ≡ extensions_at (view object.now)) }
+) -> Result<Vec<ExtField<'a>>, Stop>
+    ensures { Finds (λ v. map ext_view v.items) result (extensions_at (view object.now)) }
 {
-    let Some(parts) = sequence_of(object) else {
-        return Ok(None);
-    };
-    let Some(extensions) = each_extension(alloc, parts)? else {
-        return Ok(None);
-    };
+    let parts = sequence_of(object).ok_or(Stop::Other)?;
+    let extensions = each_extension(alloc, parts)?;
     if extensions.is_empty() {
-        return Ok(None);
+        return Err(Stop::Other);
     }
-    Ok(Some(extensions))
+    Ok(extensions)
 }
 
-/// The extensions that the content of a tagged element spells; none where it spells none.
-fn extensions_within<'a>(
-    alloc: Global,
-    content: &'a [u8],
-) -> Result<Option<Vec<ExtField<'a>>>, OutOfMemory>
+/// The extensions that the content of a tagged element spells.
+fn extensions_within<'a>(alloc: Global, content: &'a [u8]) -> Result<Vec<ExtField<'a>>, Stop>
     requires { length content.now ≤ 4_294_967_295 }
-    ensures { IfOk result (λ r. MatchOption r ((es : List Extension) → AreExtensionsOf content.now es → ⊥)
-        (λ v. AreExtensionsOf content.now (map ext_view v.items))) }
+    ensures { Settles result (λ v. AreExtensionsOf content.now (map ext_view v.items))
+        ((es : List Extension) → AreExtensionsOf content.now es → ⊥) }
 {
     match parse_der_recursive(alloc, content, 50) {
         Ok((rest, object)) => {
             if rest.is_empty() {
                 extensions_of(alloc, &object)
             } else {
-                Ok(None)
+                Err(Stop::Other)
             }
         }
         Err(e) => match e {
-            Refusal::Failure(_) => Err(OutOfMemory),
-            _ => Ok(None),
+            Refusal::Failure(_) => Err(Stop::OutOfMemory),
+            _ => Err(Stop::Other),
         },
     }
 }
 
-/// The extensions in a tagged element, no extensions where there is no element; none where the element has none.
+/// The extensions in a tagged element, no extensions where there is no element.
 pub(crate) fn extensions_in<'a>(
     alloc: Global,
     element: Option<AnyField<'a>>,
-) -> Result<Option<Vec<ExtField<'a>>>, OutOfMemory>
+) -> Result<Vec<ExtField<'a>>, Stop>
     requires { IfThere HasSmallContent (option_map any_view element) }
-    ensures { IfOk result (λ r. MatchOption r ((es : List Extension) → AreExtensionsIn (option_map any_view element.entry) es → ⊥)
-        (λ v. AreExtensionsIn (option_map any_view element.entry) (map ext_view v.items))) }
+    ensures { Settles result (λ v. AreExtensionsIn (option_map any_view element.entry) (map ext_view v.items))
+        ((es : List Extension) → AreExtensionsIn (option_map any_view element.entry) es → ⊥) }
 {
     match element {
-        None => Ok(Some(Vec::new(alloc))),
+        None => Ok(Vec::new(alloc)),
         Some(element) => {
             if element.constructed {
                 extensions_within(alloc, element.content)
             } else {
-                Ok(None)
+                Err(Stop::Other)
             }
         }
     }

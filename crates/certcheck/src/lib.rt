@@ -11,6 +11,7 @@ mod list;
 mod names;
 mod parts;
 mod reading;
+mod stop;
 mod times;
 mod vouchers;
 

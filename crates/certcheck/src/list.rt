@@ -1,6 +1,6 @@
 //! Revocation lists (RFC 5280, 5.1).
 
-ghost use Rattle.std.specs.Prelude.{◌≡◌, ◌&&◌, ℕ, Option, option_map, map, IfOk, MatchOption};
+ghost use Rattle.std.specs.Prelude.{◌≡◌, ◌&&◌, ℕ, Option, option_map, map};
 ghost use Rattle.der_tree.specs.Table.{integer};
 ghost use Rattle.der_tree.specs.Access.{plain_at};
 ghost use Rattle.der_tree.specs.Tree.{octets};
@@ -14,13 +14,13 @@ ghost use Rattle.cert_model.specs.Reads.{list_at};
 ghost use Rattle.cert_model.specs.Pieces.{last_extensions_at, entry_at, list_version_of, list_version_at, maybe_time_at, some_entries_at, entries_in, behind_entries, tbs_list_at, signed_at};
 ghost use Rattle.cert_model.specs.Assembly.{is_some, implies, is_version_two, entries_fit};
 ghost use Rattle.certcheck.specs.PieceView.{list_pieces_view, signed_list_view};
+ghost use Rattle.certcheck.specs.Stopping.{Finds, Settles};
 
-use crate::certificate::{next_algorithm, next_bits, next_number};
 use crate::extensions::{extensions_in, extensions_of};
 use crate::names::name_of;
-use crate::parts::{integer_of, sequence_of, tagged_of};
+use crate::parts::{integer_of, next_algorithm, next_bits, next_number, sequence_of, tagged_of};
+use crate::stop::Stop;
 use crate::times::time_of;
-use asn1_core::OutOfMemory;
 use cert_model::fields::{
     AlgField, AnyField, BitField, EntryFields, ExtField, ListFields, NameFields,
 };
@@ -49,18 +49,13 @@ pub(crate) struct SignedList<'a> {
 }
 
 /// Extensions to the end, or nothing.
-fn last_extensions<'a>(
-    alloc: Global,
-    parts: &[BerObject<'a>],
-) -> Result<Option<Vec<ExtField<'a>>>, OutOfMemory>
-    ensures { IfOk result (λ r. option_map (λ v. map ext_view v.items) r ≡ last_extensions_at (views parts.now)) }
+fn last_extensions<'a>(alloc: Global, parts: &[BerObject<'a>]) -> Result<Vec<ExtField<'a>>, Stop>
+    ensures { Finds (λ v. map ext_view v.items) result (last_extensions_at (views parts.now)) }
 {
     match first_of(parts) {
-        None => Ok(Some(Vec::new(alloc))),
+        None => Ok(Vec::new(alloc)),
         Some((first, rest)) => {
-            if end_of(rest).is_none() {
-                return Ok(None);
-            }
+            end_of(rest).ok_or(Stop::Other)?;
             extensions_of(alloc, first)
         }
     }
@@ -68,81 +63,54 @@ fn last_extensions<'a>(
 
 /// An entry of revokedCertificates (RFC 5280, 5.1.2.6).
 #[tactic(auto, unfolding(cert_model::specs::Pieces::entry_at))]
-fn entry_of<'a>(
-    alloc: Global,
-    object: &BerObject<'a>,
-) -> Result<Option<EntryFields<'a>>, OutOfMemory>
-    ensures { IfOk result (λ r. option_map entry_view r ≡ entry_at (view object.now)) }
+fn entry_of<'a>(alloc: Global, object: &BerObject<'a>) -> Result<EntryFields<'a>, Stop>
+    ensures { Finds entry_view result (entry_at (view object.now)) }
 {
-    let Some(parts) = sequence_of(object) else {
-        return Ok(None);
-    };
-    let Some((serial, rest)) = next_number(parts) else {
-        return Ok(None);
-    };
-    let Some((second, rest)) = first_of(rest) else {
-        return Ok(None);
-    };
-    let Some(date) = time_of(second) else {
-        return Ok(None);
-    };
-    let Some(extensions) = last_extensions(alloc, rest)? else {
-        return Ok(None);
-    };
-    Ok(Some(EntryFields {
+    let parts = sequence_of(object).ok_or(Stop::Other)?;
+    let (serial, rest) = next_number(parts).ok_or(Stop::Other)?;
+    let (second, rest) = first_of(rest).ok_or(Stop::Other)?;
+    let date = time_of(second).ok_or(Stop::Other)?;
+    let extensions = last_extensions(alloc, rest)?;
+    Ok(EntryFields {
         serial,
         date,
         extensions,
-    }))
+    })
 }
 
 /// The entries that all of the parts are.
-fn each_entry<'a>(
-    alloc: Global,
-    parts: &[BerObject<'a>],
-) -> Result<Option<Vec<EntryFields<'a>>>, OutOfMemory>
-    ensures { IfOk result (λ r. option_map (λ v. map entry_view v.items) r ≡ list_at entry_at (views parts.now)) }
+fn each_entry<'a>(alloc: Global, parts: &[BerObject<'a>]) -> Result<Vec<EntryFields<'a>>, Stop>
+    ensures { Finds (λ v. map entry_view v.items) result (list_at entry_at (views parts.now)) }
 {
     let mut entries = Vec::new(alloc);
     for part in parts {
-        let Some(entry) = entry_of(alloc, part)? else {
-            return Ok(None);
-        };
-        entries.push(entry)?;
+        entries.push(entry_of(alloc, part)?)?;
     }
-    Ok(Some(entries))
+    Ok(entries)
 }
 
 /// One or more entries.
 #[tactic(auto, unfolding(cert_model::specs::Pieces::some_entries_at))]
-fn some_entries<'a>(
-    alloc: Global,
-    parts: &[BerObject<'a>],
-) -> Result<Option<Vec<EntryFields<'a>>>, OutOfMemory>
-    ensures { IfOk result (λ r. option_map (λ v. map entry_view v.items) r ≡ some_entries_at (views parts.now)) }
+fn some_entries<'a>(alloc: Global, parts: &[BerObject<'a>]) -> Result<Vec<EntryFields<'a>>, Stop>
+    ensures { Finds (λ v. map entry_view v.items) result (some_entries_at (views parts.now)) }
 {
-    let Some(entries) = each_entry(alloc, parts)? else {
-        return Ok(None);
-    };
+    let entries = each_entry(alloc, parts)?;
     if entries.is_empty() {
-        return Ok(None);
+        return Err(Stop::Other);
     }
-    Ok(Some(entries))
+    Ok(entries)
 }
 
 /// The entries of the sequence at the front; no entries where there is no sequence.
 #[tactic(auto, unfolding(cert_model::specs::Pieces::entries_in))]
-fn entries_of<'a>(
-    alloc: Global,
-    parts: &[BerObject<'a>],
-) -> Result<Option<Vec<EntryFields<'a>>>, OutOfMemory>
-    ensures { IfOk result (λ r. option_map (λ v. map entry_view v.items) r ≡ entries_in (views parts.now)) }
+fn entries_of<'a>(alloc: Global, parts: &[BerObject<'a>]) -> Result<Vec<EntryFields<'a>>, Stop>
+    ensures { Finds (λ v. map entry_view v.items) result (entries_in (views parts.now)) }
 {
     let Some((first, _)) = first_of(parts) else {
-        return Ok(Some(Vec::new(alloc)));
+        return Ok(Vec::new(alloc));
     };
     let Some(listed) = sequence_of(first) else {
-        return Ok(Some(Vec::new(alloc)));
+        return Ok(Vec::new(alloc));
     };
     some_entries(alloc, listed)
 }
@@ -211,43 +179,22 @@ fn list_version<'b, 'a>(parts: &'b [BerObject<'a>]) -> Option<(Option<u8>, &'b [
 
 /// TBSCertList.
 #[tactic(auto, unfolding(cert_model::specs::Pieces::tbs_list_at))]
-fn tbs_list_of<'a>(
-    alloc: Global,
-    object: &BerObject<'a>,
-) -> Result<Option<ListPieces<'a>>, OutOfMemory>
-    ensures { IfOk result (λ r. option_map list_pieces_view r ≡ tbs_list_at (view object.now)) }
+fn tbs_list_of<'a>(alloc: Global, object: &BerObject<'a>) -> Result<ListPieces<'a>, Stop>
+    ensures { Finds list_pieces_view result (tbs_list_at (view object.now)) }
 {
-    let Some(parts) = sequence_of(object) else {
-        return Ok(None);
-    };
-    let Some((version, rest)) = list_version(parts) else {
-        return Ok(None);
-    };
-    let Some((signature, rest)) = next_algorithm(rest) else {
-        return Ok(None);
-    };
-    let Some((first, rest)) = first_of(rest) else {
-        return Ok(None);
-    };
-    let Some(issuer) = name_of(alloc, first)? else {
-        return Ok(None);
-    };
-    let Some((first, rest)) = first_of(rest) else {
-        return Ok(None);
-    };
-    let Some(this_update) = time_of(first) else {
-        return Ok(None);
-    };
+    let parts = sequence_of(object).ok_or(Stop::Other)?;
+    let (version, rest) = list_version(parts).ok_or(Stop::Other)?;
+    let (signature, rest) = next_algorithm(rest).ok_or(Stop::Other)?;
+    let (first, rest) = first_of(rest).ok_or(Stop::Other)?;
+    let issuer = name_of(alloc, first)?;
+    let (first, rest) = first_of(rest).ok_or(Stop::Other)?;
+    let this_update = time_of(first).ok_or(Stop::Other)?;
     let next_update = time_in(rest);
     let rest = after_time(rest);
-    let Some(entries) = entries_of(alloc, rest)? else {
-        return Ok(None);
-    };
+    let entries = entries_of(alloc, rest)?;
     let (extensions, rest) = tagged_of(0, after_entries(rest));
-    if end_of(rest).is_none() {
-        return Ok(None);
-    }
-    Ok(Some(ListPieces {
+    end_of(rest).ok_or(Stop::Other)?;
+    Ok(ListPieces {
         version,
         signature,
         issuer,
@@ -255,38 +202,23 @@ fn tbs_list_of<'a>(
         next_update,
         entries,
         extensions,
-    }))
+    })
 }
 
-fn signed_list<'a>(
-    alloc: Global,
-    object: &BerObject<'a>,
-) -> Result<Option<SignedList<'a>>, OutOfMemory>
-    ensures { IfOk result (λ r. option_map signed_list_view r ≡ signed_at tbs_list_at (view object.now)) }
+fn signed_list<'a>(alloc: Global, object: &BerObject<'a>) -> Result<SignedList<'a>, Stop>
+    ensures { Finds signed_list_view result (signed_at tbs_list_at (view object.now)) }
 {
-    let Some(parts) = sequence_of(object) else {
-        return Ok(None);
-    };
-    let Some((first, rest)) = first_of(parts) else {
-        return Ok(None);
-    };
-    let Some(tbs) = tbs_list_of(alloc, first)? else {
-        return Ok(None);
-    };
-    let Some((algorithm, rest)) = next_algorithm(rest) else {
-        return Ok(None);
-    };
-    let Some((signature_value, rest)) = next_bits(rest) else {
-        return Ok(None);
-    };
-    if end_of(rest).is_none() {
-        return Ok(None);
-    }
-    Ok(Some(SignedList {
+    let parts = sequence_of(object).ok_or(Stop::Other)?;
+    let (first, rest) = first_of(parts).ok_or(Stop::Other)?;
+    let tbs = tbs_list_of(alloc, first)?;
+    let (algorithm, rest) = next_algorithm(rest).ok_or(Stop::Other)?;
+    let (signature_value, rest) = next_bits(rest).ok_or(Stop::Other)?;
+    end_of(rest).ok_or(Stop::Other)?;
+    Ok(SignedList {
         tbs,
         algorithm,
         signature_value,
-    }))
+    })
 }
 
 /// Whether the list is of version 2, which is written 1.
@@ -324,25 +256,18 @@ fn fits_list(version: Option<u8>, entries: &[EntryFields<'_>], extensions: &[Ext
     entries_fit(version, entries) && (extensions.is_empty() || is_version_two(version))
 }
 
-/// The fields of the list that the object is; none where it is none.
-pub(crate) fn list_of<'a>(
-    alloc: Global,
-    object: &BerObject<'a>,
-) -> Result<Option<ListFields<'a>>, OutOfMemory>
+/// The fields of the list that the object is.
+pub(crate) fn list_of<'a>(alloc: Global, object: &BerObject<'a>) -> Result<ListFields<'a>, Stop>
     requires { IsObject 50 (view object.now) }
-    ensures { IfOk result (λ r. MatchOption r (NoList (octets (view object.now)))
-        (λ f. AreListFields (list_view f) × (list_octets (list_view f) ≡ octets (view object.now)))) }
+    ensures { Settles result (λ f. AreListFields (list_view f) × (list_octets (list_view f) ≡ octets (view object.now)))
+        (NoList (octets (view object.now))) }
 {
-    let Some(signed) = signed_list(alloc, object)? else {
-        return Ok(None);
-    };
-    let Some(extensions) = extensions_in(alloc, signed.tbs.extensions)? else {
-        return Ok(None);
-    };
+    let signed = signed_list(alloc, object)?;
+    let extensions = extensions_in(alloc, signed.tbs.extensions)?;
     if !fits_list(signed.tbs.version, &signed.tbs.entries, &extensions) {
-        return Ok(None);
+        return Err(Stop::Other);
     }
-    Ok(Some(ListFields {
+    Ok(ListFields {
         version: signed.tbs.version,
         signature: signed.tbs.signature,
         issuer: signed.tbs.issuer,
@@ -352,5 +277,5 @@ pub(crate) fn list_of<'a>(
         extensions,
         algorithm: signed.algorithm,
         signature_value: signed.signature_value,
-    }))
+    })
 }

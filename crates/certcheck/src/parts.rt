@@ -6,7 +6,7 @@ ghost use Rattle.der_tree.specs.Table.{integer, octet_string, is_negative};
 ghost use Rattle.der_tree.specs.Access.{sequence_at, set_at, plain_at, element_at};
 ghost use Rattle.der_tree.specs.View.{view, views};
 ghost use Rattle.cert_model.specs.View.{any_view, alg_view, attr_view, bit_view, key_view};
-ghost use Rattle.cert_model.specs.Reads.{identifier_at, number_at, bits_at, last_element_at, algorithm_at, attribute_at, key_at, is_tagged, tagged_at};
+ghost use Rattle.cert_model.specs.Reads.{identifier_at, number_at, bits_at, last_element_at, algorithm_at, attribute_at, key_at, is_tagged, tagged_at, next_at};
 
 use asn1_core::{Class, Length};
 use cert_model::fields::{AlgField, AnyField, AttrField, BitField, KeyField};
@@ -194,4 +194,40 @@ pub(crate) fn tagged_of<'b, 'a>(
         }
         None => (None, parts),
     }
+}
+
+pub(crate) fn next_number<'b, 'a>(
+    parts: &'b [BerObject<'a>],
+) -> Option<(&'a [u8], &'b [BerObject<'a>])>
+    ensures { option_map (λ p. (p.0.now, views p.1.now)) result ≡ next_at number_at (views parts.now) }
+{
+    let (first, rest) = first_of(parts)?;
+    Some((number_of(first)?, rest))
+}
+
+pub(crate) fn next_algorithm<'b, 'a>(
+    parts: &'b [BerObject<'a>],
+) -> Option<(AlgField<'a>, &'b [BerObject<'a>])>
+    ensures { option_map (λ p. (alg_view p.0, views p.1.now)) result ≡ next_at algorithm_at (views parts.now) }
+{
+    let (first, rest) = first_of(parts)?;
+    Some((algorithm_of(first)?, rest))
+}
+
+pub(crate) fn next_bits<'b, 'a>(
+    parts: &'b [BerObject<'a>],
+) -> Option<(BitField<'a>, &'b [BerObject<'a>])>
+    ensures { option_map (λ p. (bit_view p.0, views p.1.now)) result ≡ next_at bits_at (views parts.now) }
+{
+    let (first, rest) = first_of(parts)?;
+    Some((bits_of(first)?, rest))
+}
+
+pub(crate) fn next_key<'b, 'a>(
+    parts: &'b [BerObject<'a>],
+) -> Option<(KeyField<'a>, &'b [BerObject<'a>])>
+    ensures { option_map (λ p. (key_view p.0, views p.1.now)) result ≡ next_at key_at (views parts.now) }
+{
+    let (first, rest) = first_of(parts)?;
+    Some((key_of(first)?, rest))
 }

@@ -1,16 +1,19 @@
-//! Items with their classes, read by trees.
+//! Items with their classes, read by trees and judged.
 
-ghost use Rattle.std.specs.Prelude.{◌≡◌, IfOk, map};
+ghost use Rattle.std.specs.Prelude.{◌≡◌, List, IfOk};
 ghost use Rattle.cert_model.specs.Class.{IsCertificateItem, IsListItem, IsClassOf};
-ghost use Rattle.cert_model.specs.View.{certificate_view, list_view};
+ghost use Rattle.cert_model.specs.View.{certificate_view, list_view, time_view};
 ghost use Rattle.cert_judge.specs.Items.{item_of};
 ghost use Rattle.cert_judge.specs.Classed.{AreClassed};
+ghost use Rattle.cert_judge.specs.JudgedItems.{IsJudged, AreJudged};
+ghost use Rattle.cert_judge.specs.Revoking.{Item};
 
 use crate::class::{ItemClass, read_tree};
 use asn1_core::OutOfMemory;
 use cert_framing::Items;
-use cert_judge::{CertificateItem, ListItem, ReadItem};
+use cert_judge::{CertificateItem, JudgedItem, ListItem, ReadItem, judge_item};
 use cert_model::fields::{CertFields, ListFields};
+use jiff::civil::DateTime;
 use std::alloc::Global;
 
 fn certificate_item<'a>(
@@ -50,17 +53,31 @@ fn read_item<'a>(alloc: Global, octets: &'a [u8]) -> Result<ReadItem<'a>, OutOfM
     }
 }
 
-/// Items with their classes, in their order.
-pub(crate) fn read_items<'a>(
+/// An item with its class, judged at a moment.
+fn judged_item<'a>(
+    alloc: Global,
+    octets: &'a [u8],
+    moment: &DateTime,
+) -> Result<JudgedItem<'a>, OutOfMemory>
+    ensures { IfOk result (λ judged. (x : Item) × (x.octets ≡ octets.now) × IsClassOf octets.now x.class × IsJudged (time_view moment.now) x judged) }
+{
+    let item = read_item(alloc, octets)?;
+    let judged = judge_item(alloc, &item, moment)?;
+    Ok(judged)
+}
+
+/// Items with their classes, judged at a moment, in their order. Of what was read no more is kept than is asked for.
+pub(crate) fn judged_items<'a>(
     alloc: Global,
     items: &'a Items,
-) -> Result<Vec<ReadItem<'a>>, OutOfMemory>
-    ensures { IfOk result (λ read. AreClassed items.now.items (map item_of read.items)) }
+    moment: &DateTime,
+) -> Result<Vec<JudgedItem<'a>>, OutOfMemory>
+    ensures { IfOk result (λ judged. (classed : List Item) × AreClassed items.now.items classed × AreJudged (time_view moment.now) classed judged.items) }
 {
-    let mut read = Vec::new(alloc);
+    let mut judged = Vec::with_capacity(alloc, items.len())?;
     for place in 0..items.len() {
-        let item = read_item(alloc, items.get(place))?;
-        read.push(item)?;
+        let item = judged_item(alloc, items.get(place), moment)?;
+        judged.push(item)?;
     }
-    Ok(read)
+    Ok(judged)
 }

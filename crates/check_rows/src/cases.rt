@@ -2,8 +2,11 @@
 
 use crate::answers::{path_of, table_of};
 use crate::octets::octets_of;
+use crate::reports::{report_of, table_text};
 use crate::vouching::{VouchedPair, VouchedPairs};
 use certcheck::{Answer, Bundle, Items, OutOfMemory, Policy, check};
+use certpath_find::find;
+use certpath_run::Settings;
 use jiff::civil::DateTime;
 use std::alloc::{AllocError, Global};
 
@@ -12,6 +15,16 @@ use std::alloc::{AllocError, Global};
 struct Named {
     name: String,
     octets: Vec<u8>,
+}
+
+/// What is said to a line.
+#[derive(Drop)]
+pub enum Said {
+    Nothing,
+    /// What `check` says.
+    Check(bool),
+    /// Lines of their own.
+    Text(String),
 }
 
 #[derive(Drop)]
@@ -25,7 +38,7 @@ pub struct Case {
 }
 
 /// The octets of a name; none where nothing is so named.
-fn find<'a>(named: &'a [Named], name: &str) -> &'a [u8] {
+fn octets_named<'a>(named: &'a [Named], name: &str) -> &'a [u8] {
     for it in named {
         if it.name.as_str() == name {
             return it.octets.as_slice();
@@ -72,11 +85,11 @@ impl Case {
         }
     }
 
-    /// Takes a line; what `check` says where it asks.
-    pub fn take(&mut self, alloc: Global, line: &str) -> Result<Option<bool>, OutOfMemory> {
+    /// Takes a line; what is said to it where it asks.
+    pub fn take(&mut self, alloc: Global, line: &str) -> Result<Said, OutOfMemory> {
         let words = words_of(alloc, line)?;
         let Some((first, rest)) = words.split_first() else {
-            return Ok(None);
+            return Ok(Said::Nothing);
         };
         match *first {
             "octets" => self.name(alloc, rest)?,
@@ -87,9 +100,47 @@ impl Case {
             "anchors" => self.add_anchors(rest)?,
             "vouch" => self.vouch(alloc, rest)?,
             "path" | "none" | "other" => return self.answer(alloc, first, rest),
+            "run" => return self.run(alloc, rest),
+            "find" => return self.find(alloc, rest),
             _ => {}
         }
-        Ok(None)
+        Ok(Said::Nothing)
+    }
+
+    /// What a run on a target writes and answers.
+    fn run(&self, alloc: Global, words: &[&str]) -> Result<Said, OutOfMemory> {
+        let Some(target) = target_of(words) else {
+            return Ok(Said::Nothing);
+        };
+        if self.moment.subsec_nanosecond() != 0 {
+            return Ok(Said::Nothing);
+        }
+        let settings = Settings {
+            target,
+            policy: Policy::new(self.moment, self.demand_lists),
+            limit: u32::MAX,
+        };
+        let text = report_of(alloc, &self.items, &self.anchors, &self.vouched, &settings)?;
+        Ok(Said::Text(text))
+    }
+
+    /// The table of the answer that is found on a target.
+    fn find(&self, alloc: Global, words: &[&str]) -> Result<Said, OutOfMemory> {
+        let Some(target) = target_of(words) else {
+            return Ok(Said::Nothing);
+        };
+        if self.moment.subsec_nanosecond() != 0 {
+            return Ok(Said::Nothing);
+        }
+        let Some(items) = framed(alloc, &self.items) else {
+            return Ok(Said::Nothing);
+        };
+        let Some(anchors) = framed(alloc, &self.anchors) else {
+            return Ok(Said::Nothing);
+        };
+        let policy = Policy::new(self.moment, self.demand_lists);
+        let answer = find(alloc, &items, target, &anchors, &self.vouched, &policy)?;
+        Ok(Said::Text(table_text(alloc, &answer)?))
     }
 
     fn begin(&mut self, alloc: Global) {
@@ -119,14 +170,16 @@ impl Case {
 
     fn add_items(&mut self, names: &[&str]) -> Result<(), AllocError> {
         for name in names {
-            self.items.extend_from_slice(find(&self.named, name))?;
+            self.items
+                .extend_from_slice(octets_named(&self.named, name))?;
         }
         Ok(())
     }
 
     fn add_anchors(&mut self, names: &[&str]) -> Result<(), AllocError> {
         for name in names {
-            self.anchors.extend_from_slice(find(&self.named, name))?;
+            self.anchors
+                .extend_from_slice(octets_named(&self.named, name))?;
         }
         Ok(())
     }
@@ -134,46 +187,36 @@ impl Case {
     fn vouch(&mut self, alloc: Global, names: &[&str]) -> Result<(), AllocError> {
         if let Some((key, items)) = names.split_first() {
             for item in items {
-                let key = Vec::from_slice(alloc, find(&self.named, key))?;
-                let item = Vec::from_slice(alloc, find(&self.named, item))?;
+                let key = Vec::from_slice(alloc, octets_named(&self.named, key))?;
+                let item = Vec::from_slice(alloc, octets_named(&self.named, item))?;
                 self.vouched.pairs.push(VouchedPair { key, item })?;
             }
         }
         Ok(())
     }
 
-    fn answer(
-        &self,
-        alloc: Global,
-        kind: &str,
-        words: &[&str],
-    ) -> Result<Option<bool>, OutOfMemory> {
+    fn answer(&self, alloc: Global, kind: &str, words: &[&str]) -> Result<Said, OutOfMemory> {
         let Some((target, rest)) = words.split_first() else {
-            return Ok(None);
+            return Ok(Said::Nothing);
         };
         let Ok(target) = target.parse::<usize>() else {
-            return Ok(None);
+            return Ok(Said::Nothing);
         };
         let Some(answer) = answer_of(alloc, kind, rest)? else {
-            return Ok(None);
+            return Ok(Said::Nothing);
         };
         self.says(alloc, target, &answer)
     }
 
-    fn says(
-        &self,
-        alloc: Global,
-        target: usize,
-        answer: &Answer,
-    ) -> Result<Option<bool>, OutOfMemory> {
+    fn says(&self, alloc: Global, target: usize, answer: &Answer) -> Result<Said, OutOfMemory> {
         if self.moment.subsec_nanosecond() != 0 {
-            return Ok(None);
+            return Ok(Said::Nothing);
         }
         let Some(items) = framed(alloc, &self.items) else {
-            return Ok(None);
+            return Ok(Said::Nothing);
         };
         let Some(anchors) = framed(alloc, &self.anchors) else {
-            return Ok(None);
+            return Ok(Said::Nothing);
         };
         let policy = Policy::new(self.moment, self.demand_lists);
         let yes = check(
@@ -185,7 +228,14 @@ impl Case {
             &policy,
             answer,
         )?;
-        Ok(Some(yes))
+        Ok(Said::Check(yes))
+    }
+}
+
+fn target_of(words: &[&str]) -> Option<usize> {
+    match words {
+        [target] => target.parse::<usize>().ok(),
+        _ => None,
     }
 }
 

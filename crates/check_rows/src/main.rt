@@ -3,15 +3,17 @@
 //! `octets NAME HEX` names octets. `case` begins a new case, in which nothing is held; `at YEAR MONTH DAY HOUR MINUTE SECOND` sets
 //! its moment, `demand` demands lists, `items NAME..` and `anchors NAME..` add items and anchors, `vouch KEY NAME..` lets a
 //! key vouch for items. The questions are `path TARGET POSITION.. to ANCHOR ROW..`, `none TARGET ROW..` and `other TARGET`; a
-//! row is `No`, `Any` and numbers, with commas between them. Other lines are printed as they stand.
+//! row is `No`, `Any` and numbers, with commas between them. Behind `run TARGET` comes what a run writes and answers, behind `find TARGET` the
+//! table of the answer that is found. Other lines are printed as they stand.
 #![tactic(auto)]
 
 mod answers;
 mod cases;
 mod octets;
+mod reports;
 mod vouching;
 
-use crate::cases::Case;
+use crate::cases::{Case, Said};
 use jiff::civil::DateTime;
 use std::io;
 
@@ -24,8 +26,9 @@ fn main(rt: HostRuntime) -> io::Result<()> {
             return Err(io::Error::from(io::ErrorKind::OutOfMemory));
         };
         match said {
-            Some(yes) => println!(&rt; "{line} = {yes}")?,
-            None => println!(&rt; "{line}")?,
+            Said::Nothing => println!(&rt; "{line}")?,
+            Said::Check(yes) => println!(&rt; "{line} = {yes}")?,
+            Said::Text(text) => print!(&rt; "{line}\n{text}")?,
         }
     }
     Ok(())

@@ -1,23 +1,30 @@
-use Rattle.std.proofs.Common.{map, subst}
+use Rattle.std.proofs.Common.{subst, sym}
 use Rattle.cert_graph.specs.Laws.{Agrees}
 use Rattle.cert_graph.specs.Nodes.{graph_of}
 use Rattle.cert_graph.proofs.Agreeing.{agreed_adequate, agreed_true}
 use Rattle.cert_graph.proofs.NodeFacts.{fit_is_usable}
-use Rattle.cert_judge.specs.Items.{item_of, rules_by}
+use Rattle.cert_model.specs.View.{time_view}
+use Rattle.cert_judge.specs.Items.{rules_by, rules_at}
 use Rattle.cert_judge.specs.ItemGraph.{graph_of_items}
+use Rattle.cert_judge.specs.JudgedItems.{AreJudged}
 use Rattle.certcheck.proofs.judge.check.Goals as goal
 
 pub returns : goal.returns
 returns g c =
-    let r = rules_by c.args.policy.now.moment c.args.policy.now.demand_lists (g.V.Vouch.vouches_for c.args.vouch.now) in
-    let xs = map item_of c.in_ok-items.items.items in
-    let ys = map item_of c.in_ok-anchors.anchors.items in
+    let V = g.V.Vouch.vouches_for c.args.vouch.now in
+    let m = time_view c.args.policy.now.moment in
+    let r = rules_by c.args.policy.now.moment c.args.policy.now.demand_lists V in
+    let items = c.in_ok-items.ensures in
+    let anchors = c.in_ok-anchors.ensures in
+    let xs = items.0 in
+    let ys = anchors.0 in
     let nodes = c.in_ok-nodes.nodes in
-    let agrees : Agrees (graph_of nodes) (graph_of_items r xs ys) =
-    subst (λ l. Agrees (graph_of nodes) (graph_of_items r xs (map item_of l))) c.deref-2.ensures.value (subst (λ l. Agrees (graph_of nodes) (graph_of_items r (map item_of l) (map item_of c.deref-2.result.now))) c.deref.ensures.value c.in_ok-nodes.ensures) in
+    let a = subst (λ t. AreJudged (time_view t) xs c.deref.result.now) c.moment-moment.ensures (subst (AreJudged (time_view c.moment-moment.result) xs) (sym c.deref.ensures.value) items.2) in
+    let b = subst (λ t. AreJudged (time_view t) ys c.deref-2.result.now) c.moment-moment.ensures (subst (AreJudged (time_view c.moment-moment.result) ys) (sym c.deref-2.ensures.value) anchors.2) in
+    let agrees : Agrees (graph_of nodes) (graph_of_items r xs ys) = subst (λ d. Agrees (graph_of nodes) (graph_of_items (rules_at m d V) xs ys)) c.demands_lists.ensures (c.in_ok-nodes.ensures m xs ys a b) in
     let adequate = agreed_adequate (graph_of nodes) (graph_of_items r xs ys) agrees (fit_is_usable nodes) c.args.target c.args.answer.now in
     let true_answer = agreed_true (graph_of nodes) (graph_of_items r xs ys) agrees (fit_is_usable nodes) c.args.target c.args.answer.now in
     record {
-      exact = (xs, ys, c.in_ok-items.ensures, c.in_ok-anchors.ensures, (λ t. adequate.0 (c.check_nodes.ensures.exact.0 t), λ a. c.check_nodes.ensures.exact.1 (adequate.1 a)));
-      holds = (xs, ys, c.in_ok-items.ensures, c.in_ok-anchors.ensures, λ t. true_answer.0 (c.check_nodes.ensures.holds t));
+      exact = (xs, ys, items.1, anchors.1, (λ t. adequate.0 (c.check_nodes.ensures.exact.0 t), λ h. c.check_nodes.ensures.exact.1 (adequate.1 h)));
+      holds = (xs, ys, items.1, anchors.1, λ t. true_answer.0 (c.check_nodes.ensures.holds t));
     }

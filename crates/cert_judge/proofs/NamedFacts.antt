@@ -1,0 +1,187 @@
+-- Links name by name and key by key.
+use Rattle.std.specs.Prelude.{◌↔◌}
+use Rattle.std.proofs.Common.{◌≡◌, sym, subst, ℕ, ◌+◌, ◌<◌, ◌≤◌, Bool, List, [], ◌∷◌, ◌++◌, length, arith, get_or, inl, inr, Some, None}
+use Rattle.std.specs.List.{All, Any, Contains}
+use Rattle.std.specs.List.Sorted.{IsStrictlyIncreasing}
+use Rattle.std.proofs.lemmas.Bool.{cases_lt}
+use Rattle.std.proofs.lemmas.List.Elements.{Contains-append_left, Contains-push, Contains-push_cases, Contains-get_or}
+use Rattle.std.proofs.lemmas.Option.{slice_get_past}
+use Rattle.cert_graph.specs.declared.nodes.Group.{Group}
+use Rattle.cert_groups.specs.declared.buckets.Bucket.{Bucket}
+use Rattle.cert_groups.specs.declared.places.Place.{Place}
+use Rattle.cert_groups.specs.declared.places.Part.TheVariants.{Name, Key}
+use Rattle.cert_groups.specs.declared.places.Part.{Part}
+use Rattle.cert_groups.specs.Places.{shown_at, Shows}
+use Rattle.cert_groups.specs.Buckets.{IsBucket, AreBuckets}
+use Rattle.cert_groups.specs.Links.{Adds, AgreeOnId, IsPlaceLink, IsPlaceAnchor}
+use Rattle.cert_groups.proofs.Sifted.{push_ascends}
+use Rattle.cert_groups.proofs.Adding.{UpTo, up_to_more, adds_then, adds_as}
+use Rattle.cert_judge.specs.declared.judged.JudgedItem.{JudgedItem}
+use Rattle.cert_judge.specs.Standing.{StandsBy, IsIssuedAt}
+use Rattle.cert_judge.specs.NamedLinks.{IsUnder, StandsUnder, IsIssuedFrom, Holds, IsNamedLink, IsNamedAnchor}
+use Rattle.cert_judge.proofs.StandingFacts.{cert_mapped}
+
+pub record AreBelow (k : ℕ) (xs : List ℕ) : Type 0 where
+  pub ascends : IsStrictlyIncreasing xs
+  pub exact : (v : ℕ) → Contains xs v ↔ (v < k)
+
+pub below_none : AreBelow 0 []
+below_none = record { ascends = λ k lt. absurd (omega arith); exact = λ v. (λ h. absurd (omega (arith, h.1)), λ lt. absurd (omega arith)) }
+
+pub below_more : (k : ℕ) (xs : List ℕ) → AreBelow k xs → AreBelow (k + 1) (xs ++ k ∷ [])
+below_more k xs h = record {
+  ascends = push_ascends xs k h.ascends (λ u c. (h.exact u).0 c);
+  exact = λ v. (
+    λ c. elim (Contains-push_cases xs k v c) [ inl x ↦ let lt = (h.exact v).0 x in omega arith | inr e ↦ omega arith ],
+    λ lt. elim (cases_lt v k) [
+      | inl less ↦ Contains-append_left xs (k ∷ []) v ((h.exact v).1 less)
+      | inr past ↦ let same : k ≡ v = omega arith in subst (Contains (xs ++ k ∷ [])) same (Contains-push xs k)
+    ],
+  );
+}
+
+-- a text is shown by a place that is there
+nothing_shown : {q : List ℕ} → None ≡ Some q → ⊥
+nothing_shown e = cc
+
+pub shows_within : (part : Part) (all : List Place) (v : ℕ) (q : List ℕ) → Shows part all v q → v < length all
+shows_within part all v q s = elim (cases_lt v (length all)) [
+  | inl lt ↦ lt
+  | inr past ↦ absurd (nothing_shown (subst (λ o. shown_at part o ≡ Some q) (slice_get_past all v past) s))
+]
+
+-- a bucket's key, under a name
+abbrev pub IsKeyLink : (List ℕ → List ℕ → Type 0) → Bool → List JudgedItem → List Place → List ℕ → Bucket → ℕ → ℕ → Type 0
+IsKeyLink V demand js all name b v w =
+    IsIssuedFrom V demand js all name b.text.now v × Holds all name b.text.now (length js + w) × (w < length js) × AgreeOnId all v (length js + w)
+
+abbrev pub IsKeyAnchor : (List ℕ → List ℕ → Type 0) → Bool → List JudgedItem → List Place → ℕ → List ℕ → Bucket → ℕ → ℕ → Type 0
+IsKeyAnchor V demand js all m name b v a = IsIssuedFrom V demand js all name b.text.now v × Holds all name b.text.now (length js + length js + a) × (a < m)
+
+-- a bucket's name
+abbrev pub IsBucketLink : (List ℕ → List ℕ → Type 0) → Bool → List JudgedItem → List Place → Bucket → ℕ → ℕ → Type 0
+IsBucketLink V demand js all b = IsNamedLink V demand js all b.text.now
+
+abbrev pub IsBucketAnchor : (List ℕ → List ℕ → Type 0) → Bool → List JudgedItem → List Place → ℕ → Bucket → ℕ → ℕ → Type 0
+IsBucketAnchor V demand js all m b = IsNamedAnchor V demand js all m b.text.now
+
+-- what was issued under a name stands by the lists of that name
+module _ (V : List ℕ → List ℕ → Type 0) (demand : Bool) (js : List JudgedItem) (all : List Place) (name : List ℕ) (issued : List ℕ) (under : (v : ℕ) → Contains issued v ↔ IsUnder js all name v) where
+  stands_iff : (key serial : List ℕ) → StandsBy V demand js issued key serial ↔ StandsUnder V demand js all name key serial
+  stands_iff key serial = (
+    λ s. record { kept = λ p u a. s.kept (let c = (under p).1 u in (c.0, p, c.1, c.2, a)); listed = λ d. let l = s.listed d in (l.1, (under l.1).0 (l.0, l.2, l.3), l.4) },
+    λ s. record { kept = λ x. s.kept x.1 ((under x.1).0 (x.0, x.2, x.3)) x.4; listed = λ d. let l = s.listed d in let c = (under l.0).1 l.1 in (c.0, l.0, c.1, c.2, l.2) },
+  )
+
+  pub issued_from : (key : List ℕ) (v : ℕ) → (Contains issued v × IsIssuedAt V demand js issued key v) ↔ IsIssuedFrom V demand js all name key v
+  issued_from key v = (
+    λ h. ((under v).0 h.0, (h.1.0, λ d. cert_mapped _ _ (λ c x. (x.0, (stands_iff key c.serial.now).0 x.1)) (get_or js v d) (h.1.1 d))),
+    λ h. ((under v).1 h.0, (h.1.0, λ d. cert_mapped _ _ (λ c x. (x.0, (stands_iff key c.serial.now).1 x.1)) (get_or js v d) (h.1.1 d))),
+  )
+
+-- the links of one more key
+module _ (V : List ℕ → List ℕ → Type 0) (demand : Bool) (js : List JudgedItem) (all : List Place) (m : ℕ) (name places issued : List ℕ)
+    (named : (v : ℕ) → Contains places v ↔ Shows Name all v name) (under : (v : ℕ) → Contains issued v ↔ IsUnder js all name v) where
+  held : (b : Bucket) → IsBucket (Shows Key all) places b → (p : ℕ) → Contains b.places.items p ↔ Holds all name b.text.now p
+  held b h p = (λ c. let x = (h.exact p).0 c in ((named p).0 x.0, x.1), λ x. (h.exact p).1 ((named p).1 x.0, x.1))
+
+  pub key_more : (old mid new : List Group) (bs : List Bucket) (k : ℕ) (b : Bucket) (linked : List ℕ) → AreBuckets (Shows Key all) places bs → b ≡ get_or bs k b → k < length bs
+      → ((v : ℕ) → Contains linked v ↔ (Contains issued v × IsIssuedAt V demand js issued b.text.now v))
+      → Adds (length js) old mid (UpTo (IsKeyLink V demand js all name) bs k) (UpTo (IsKeyAnchor V demand js all m name) bs k)
+      → Adds (length js) mid new (IsPlaceLink all (length js) linked b.places.items) (IsPlaceAnchor (length js) m linked b.places.items)
+      → Adds (length js) old new (UpTo (IsKeyLink V demand js all name) bs (k + 1)) (UpTo (IsKeyAnchor V demand js all m name) bs (k + 1))
+  key_more old mid new bs k b linked are at lt exact before more =
+      let n = length js in
+      let own : IsBucket (Shows Key all) places b = subst (IsBucket (Shows Key all) places) (sym at) (are.each k b lt) in
+      let from = issued_from V demand js all name issued under b.text.now in
+      let here = held b own in
+      let link : (v w : ℕ) → IsPlaceLink all n linked b.places.items v w ↔ IsKeyLink V demand js all name b v w = λ v w. (
+        λ h. ((from v).0 ((exact v).0 h.0), (here (n + w)).0 h.1, h.2, h.3),
+        λ h. ((exact v).1 ((from v).1 h.0), (here (n + w)).1 h.1, h.2, h.3),
+      ) in
+      let anchor : (v a : ℕ) → IsPlaceAnchor n m linked b.places.items v a ↔ IsKeyAnchor V demand js all m name b v a = λ v a. (
+        λ h. ((from v).0 ((exact v).0 h.0), (here (n + n + a)).0 h.1, h.2),
+        λ h. ((exact v).1 ((from v).1 h.0), (here (n + n + a)).1 h.1, h.2),
+      ) in
+      adds_as n old new _ _ _ _ (adds_then n old mid new _ _ _ _ before (adds_as n mid new _ _ _ _ more link anchor))
+      (up_to_more (IsKeyLink V demand js all name) bs k b at lt) (up_to_more (IsKeyAnchor V demand js all m name) bs k b at lt)
+
+  bucket_for : (bs : List Bucket) → AreBuckets (Shows Key all) places bs → (p : ℕ) (key : List ℕ) → Holds all name key p → Any (λ (b : Bucket). b.text.now ≡ key) bs
+  bucket_for bs are p key h = are.complete p key ((named p).1 h.0) h.1
+
+  pub all_keys : (bs : List Bucket) (k : ℕ) → AreBuckets (Shows Key all) places bs → k ≡ length bs → (v w : ℕ) → UpTo (IsKeyLink V demand js all name) bs k v w ↔ IsNamedLink V demand js all name v w
+  all_keys bs k are end v w = (
+    λ u. (u.1.text.now, u.4.0, u.4.1, u.4.2, u.4.3),
+    λ l.
+        let b = bucket_for bs are (length js + w) l.0 l.2 in
+        let lt = b.2 in
+        (b.0, b.1, omega arith, b.3, subst (λ key. IsIssuedFrom V demand js all name key v × Holds all name key (length js + w) × (w < length js) × AgreeOnId all v (length js + w)) (sym b.4) (l.1, l.2, l.3, l.4)),
+  )
+
+  pub all_anchor_keys : (bs : List Bucket) (k : ℕ) → AreBuckets (Shows Key all) places bs → k ≡ length bs → (v a : ℕ) → UpTo (IsKeyAnchor V demand js all m name) bs k v a ↔ IsNamedAnchor V demand js all m name v a
+  all_anchor_keys bs k are end v a = (
+    λ u. (u.1.text.now, u.4.0, u.4.1, u.4.2),
+    λ l.
+        let b = bucket_for bs are (length js + length js + a) l.0 l.2 in
+        let lt = b.2 in
+        (b.0, b.1, omega arith, b.3, subst (λ key. IsIssuedFrom V demand js all name key v × Holds all name key (length js + length js + a) × (a < m)) (sym b.4) (l.1, l.2, l.3)),
+  )
+
+  pub behind : (b : Bucket) → IsBucket (Shows Key all) places b → ((v : ℕ) (key : List ℕ) → v < length js → Shows Key all v key → ⊥) → All (λ v. length js ≤ v) b.places.items
+  behind b h keyless k d lt =
+      let p = get_or b.places.items k d in
+      elim (cases_lt p (length js)) [
+        | inl low ↦ absurd (keyless p b.text.now low ((h.exact p).0 (Contains-get_or b.places.items k d lt)).1)
+        | inr high ↦ omega arith
+      ]
+
+-- the links of one more name
+pub name_more : (V : List ℕ → List ℕ → Type 0) (demand : Bool) (js : List JudgedItem) (all : List Place) (m : ℕ) (old mid new : List Group) (bs : List Bucket) (k : ℕ) (b : Bucket) → b ≡ get_or bs k b → k < length bs
+    → Adds (length js) old mid (UpTo (IsBucketLink V demand js all) bs k) (UpTo (IsBucketAnchor V demand js all m) bs k) → Adds (length js) mid new (IsNamedLink V demand js all b.text.now) (IsNamedAnchor V demand js all m b.text.now)
+    → Adds (length js) old new (UpTo (IsBucketLink V demand js all) bs (k + 1)) (UpTo (IsBucketAnchor V demand js all m) bs (k + 1))
+name_more V demand js all m old mid new bs k b at lt before more =
+    adds_as (length js) old new _ _ _ _ (adds_then (length js) old mid new _ _ _ _ before more) (up_to_more (IsBucketLink V demand js all) bs k b at lt) (up_to_more (IsBucketAnchor V demand js all m) bs k b at lt)
+
+-- each place that shows a name is in a bucket
+module _ (V : List ℕ → List ℕ → Type 0) (demand : Bool) (js : List JudgedItem) (all : List Place) (m : ℕ) (chosen : List ℕ) (whole : (v : ℕ) → Contains chosen v ↔ (v < length all)) where
+  pub named_by : (b : Bucket) → IsBucket (Shows Name all) chosen b → (v : ℕ) → Contains b.places.items v ↔ Shows Name all v b.text.now
+  named_by b h v = (λ c. ((h.exact v).0 c).1, λ s. (h.exact v).1 ((whole v).1 (shows_within Name all v b.text.now s), s))
+
+  pub all_names : (bs : List Bucket) (k : ℕ) → AreBuckets (Shows Name all) chosen bs → k ≡ length bs → (v w : ℕ) → UpTo (IsBucketLink V demand js all) bs k v w ↔ ((name : List ℕ) × IsNamedLink V demand js all name v w)
+  all_names bs k are end v w = (
+    λ u. (u.1.text.now, u.4),
+    λ l.
+        let s = l.1.2.0 in
+        let b = are.complete (length js + w) l.0 ((whole (length js + w)).1 (shows_within Name all (length js + w) l.0 s)) s in
+        let lt = b.2 in
+        (b.0, b.1, omega arith, b.3, subst (λ name. IsNamedLink V demand js all name v w) (sym b.4) l.1),
+  )
+
+  pub all_anchor_names : (bs : List Bucket) (k : ℕ) → AreBuckets (Shows Name all) chosen bs → k ≡ length bs → (v a : ℕ) → UpTo (IsBucketAnchor V demand js all m) bs k v a ↔ ((name : List ℕ) × IsNamedAnchor V demand js all m name v a)
+  all_anchor_names bs k are end v a = (
+    λ u. (u.1.text.now, u.4),
+    λ l.
+        let s = l.1.2.0 in
+        let p = length js + length js + a in
+        let b = are.complete p l.0 ((whole p).1 (shows_within Name all p l.0 s)) s in
+        let lt = b.2 in
+        (b.0, b.1, omega arith, b.3, subst (λ name. IsNamedAnchor V demand js all m name v a) (sym b.4) l.1),
+  )
+
+added_none : (v : ℕ) → 0 + v ≡ v
+added_none v = omega arith
+
+-- of a name's places, those of what was issued
+pub under_from : (js : List JudgedItem) (all : List Place) (name places issued : List ℕ) → ((v : ℕ) → Contains places v ↔ Shows Name all v name)
+    → ((v : ℕ) → Contains issued v ↔ (Contains places (0 + v) × (v < length js))) → (v : ℕ) → Contains issued v ↔ IsUnder js all name v
+under_from js all name places issued named exact v = (
+  λ c. let x = (exact v).0 c in (x.1, (named v).0 (subst (Contains places) (added_none v) x.0)),
+  λ u. (exact v).1 (subst (Contains places) (sym (added_none v)) ((named v).1 u.1), u.0),
+)
+
+pub bucket_at : (S : ℕ → List ℕ → Type 0) (places : List ℕ) (bs : List Bucket) (k : ℕ) (b : Bucket) → b ≡ get_or bs k b → k < length bs → AreBuckets S places bs → IsBucket S places b
+bucket_at S places bs k b at lt h = subst (IsBucket S places) (sym at) (h.each k b lt)
+
+-- buckets behind references
+pub buckets_of : (part : Part) (all all' : List Place) (chosen chosen' : List ℕ) (bs bs' : List Bucket) → all ≡ all' → chosen ≡ chosen' → bs' ≡ bs → AreBuckets (Shows part all) chosen bs → AreBuckets (Shows part all') chosen' bs'
+buckets_of part all all' chosen chosen' bs bs' a c b h = subst (AreBuckets (Shows part all') chosen') (sym b) (subst (λ l. AreBuckets (Shows part all') l bs) c (subst (λ z. AreBuckets (Shows part z) chosen bs) a h))

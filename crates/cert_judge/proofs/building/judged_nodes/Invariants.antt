@@ -1,0 +1,5 @@
+use Rattle.cert_judge.specs.JudgedItems.{AreNodesFor}
+use Rattle.cert_judge.proofs.building.judged_nodes.Given as goal
+
+abbrev pub invariant-loop-item : goal.invariant-loop-item
+invariant-loop-item l = AreNodesFor l.items l.nodes.items l.item-index

@@ -1,0 +1,209 @@
+//! Items as they are judged: what the building of nodes asks of each.
+
+ghost use Rattle.std.specs.Prelude.{◌≡◌, ◌↔◌, map, IfOk};
+ghost use Rattle.cert_model.specs.View.{time_view, list_view, entry_view};
+ghost use Rattle.cert_judge.specs.ItemGraph.{self_issued_of};
+ghost use Rattle.cert_judge.specs.Items.{certificate_item, list_item, item_of};
+ghost use Rattle.cert_judge.specs.JudgedItems.{IsNodeOf, IsNodeFor, IsJudged, as_issued, as_member, as_anchor};
+
+use crate::items::{CertificateItem, ListItem, ReadItem};
+use crate::judging::judge_certificate;
+use crate::revoking::is_in_force;
+use cert_graph::Node;
+use cert_groups::Place;
+use cert_model::fields::EntryFields;
+use jiff::civil::DateTime;
+use std::alloc::{AllocError, Global};
+
+/// A certificate: its octets, the parts of it that links go by, and what is judged of it by itself.
+#[derive(Drop)]
+pub struct JudgedCertificate<'a> {
+    pub octets: &'a [u8],
+    pub issuer: &'a [u8],
+    pub subject: &'a [u8],
+    pub key: &'a [u8],
+    pub authority_key_id: Option<&'a [u8]>,
+    pub subject_key_id: Option<&'a [u8]>,
+    pub serial: &'a [u8],
+    pub node: Node,
+}
+
+/// A list: its octets, its issuer, and the serial numbers of its entries.
+#[derive(Drop)]
+pub struct JudgedList<'a> {
+    pub octets: &'a [u8],
+    pub issuer: &'a [u8],
+    /// It is current at the moment, and nothing in it says that it must not be read as it is.
+    pub in_force: bool,
+    pub serials: Vec<&'a [u8]>,
+}
+
+/// An item of any class, as it is judged at a moment.
+#[derive(Drop)]
+pub enum JudgedItem<'a> {
+    Certificate(JudgedCertificate<'a>),
+    List(JudgedList<'a>),
+    Other,
+}
+
+impl<'a> JudgedItem<'a> {
+    pub(crate) fn node(&self) -> Node
+        ensures { IsNodeFor self.now result }
+    {
+        match self {
+            JudgedItem::Certificate(certificate) => certificate.node,
+            _ => Node {
+                certificate: false,
+                usable: false,
+                fit: false,
+                self_issued: false,
+                limit: None,
+            },
+        }
+    }
+
+    /// What the item shows as one that was issued.
+    pub(crate) fn as_issued(&self) -> Place<'a>
+        ensures { result ≡ as_issued self.now }
+    {
+        match self {
+            JudgedItem::Certificate(certificate) => Place {
+                name: Some(certificate.issuer),
+                key: None,
+                id: certificate.authority_key_id,
+            },
+            JudgedItem::List(list) => Place {
+                name: Some(list.issuer),
+                key: None,
+                id: None,
+            },
+            JudgedItem::Other => Place {
+                name: None,
+                key: None,
+                id: None,
+            },
+        }
+    }
+
+    /// What it shows as an issuer, where it is fit to be one.
+    pub(crate) fn as_member(&self) -> Place<'a>
+        ensures { result ≡ as_member self.now }
+    {
+        match self {
+            JudgedItem::Certificate(certificate) if certificate.node.fit => Place {
+                name: Some(certificate.subject),
+                key: Some(certificate.key),
+                id: certificate.subject_key_id,
+            },
+            _ => Place {
+                name: None,
+                key: None,
+                id: None,
+            },
+        }
+    }
+
+    /// What it shows as an anchor.
+    pub(crate) fn as_anchor(&self) -> Place<'a>
+        ensures { result ≡ as_anchor self.now }
+    {
+        match self {
+            JudgedItem::Certificate(certificate) => Place {
+                name: Some(certificate.subject),
+                key: Some(certificate.key),
+                id: None,
+            },
+            _ => Place {
+                name: None,
+                key: None,
+                id: None,
+            },
+        }
+    }
+}
+
+fn is_self_issued(item: &CertificateItem<'_>) -> bool
+    ensures { result ≡ self_issued_of (certificate_item item.now).class }
+{
+    item.subject == item.issuer
+}
+
+fn certificate_node(
+    alloc: Global,
+    item: &CertificateItem<'_>,
+    moment: &DateTime,
+) -> Result<Node, AllocError>
+    ensures { IfOk result (IsNodeOf (time_view moment.now) (certificate_item item.now)) }
+{
+    let judged = judge_certificate(alloc, &item.fields, moment)?;
+    let self_issued = is_self_issued(item);
+    Ok(Node {
+        certificate: true,
+        usable: judged.usable,
+        fit: judged.fit,
+        self_issued,
+        limit: judged.limit,
+    })
+}
+
+fn serials_of<'a>(alloc: Global, entries: &[EntryFields<'a>]) -> Result<Vec<&'a [u8]>, AllocError>
+    ensures { IfOk result (λ serials. map (λ s. s.now) serials.items ≡ map (λ e. (entry_view e).serial) entries.now) }
+{
+    let mut serials = Vec::with_capacity(alloc, entries.len())?;
+    for entry in entries {
+        serials.push(entry.serial)?;
+    }
+    Ok(serials)
+}
+
+fn judged_certificate<'a>(
+    alloc: Global,
+    item: &CertificateItem<'a>,
+    moment: &DateTime,
+) -> Result<JudgedItem<'a>, AllocError>
+    ensures { IfOk result (IsJudged (time_view moment.now) (certificate_item item.now)) }
+{
+    let node = certificate_node(alloc, item, moment)?;
+    Ok(JudgedItem::Certificate(JudgedCertificate {
+        octets: item.octets,
+        issuer: item.issuer,
+        subject: item.subject,
+        key: item.key,
+        authority_key_id: item.authority_key_id,
+        subject_key_id: item.subject_key_id,
+        serial: item.fields.serial,
+        node,
+    }))
+}
+
+fn judged_list<'a>(
+    alloc: Global,
+    item: &ListItem<'a>,
+    moment: &DateTime,
+) -> Result<JudgedItem<'a>, AllocError>
+    ensures { IfOk result (IsJudged (time_view moment.now) (list_item item.now)) }
+{
+    let serials = serials_of(alloc, &item.fields.entries)?;
+    let in_force = is_in_force(&item.fields, moment);
+    Ok(JudgedItem::List(JudgedList {
+        octets: item.octets,
+        issuer: item.issuer,
+        in_force,
+        serials,
+    }))
+}
+
+/// Judges an item by itself at a moment.
+pub fn judge_item<'a>(
+    alloc: Global,
+    item: &ReadItem<'a>,
+    moment: &DateTime,
+) -> Result<JudgedItem<'a>, AllocError>
+    ensures { IfOk result (IsJudged (time_view moment.now) (item_of item.now)) }
+{
+    match item {
+        ReadItem::Certificate(item) => judged_certificate(alloc, item, moment),
+        ReadItem::List(item) => judged_list(alloc, item, moment),
+        ReadItem::Other(_) => Ok(JudgedItem::Other),
+    }
+}

@@ -1,0 +1,115 @@
+//! Groups of certificates, name by name and key by key.
+
+ghost use Rattle.std.specs.Prelude.{◌≡◌, ◌↔◌, ◌+◌, ◌++◌, ◌<◌, ℕ, List, [], length, map, Contains, IfOk, OnOk};
+ghost use Rattle.std.specs.List.Sorted.{IsStrictlyIncreasing};
+ghost use Rattle.cert_groups.specs.declared.places.Part.TheVariants.{Name, Key};
+ghost use Rattle.cert_groups.specs.Places.{Shows};
+ghost use Rattle.cert_groups.specs.Links.{Adds};
+ghost use Rattle.cert_judge.specs.JudgedItems.{as_issued, as_member, as_anchor};
+ghost use Rattle.cert_judge.specs.NamedLinks.{IsNamedLink, IsNamedAnchor, IsSomeLink, IsSomeAnchor};
+
+use crate::Vouch;
+use crate::judged::JudgedItem;
+use crate::standing::issued_under;
+use cert_graph::Group;
+use cert_groups::{Part, Place, alike, between, link_places};
+use std::alloc::{AllocError, Global};
+
+/// The places of items as what was issued, then as issuers, and then of anchors.
+fn places_of<'a>(
+    alloc: Global,
+    items: &[JudgedItem<'a>],
+    anchors: &[JudgedItem<'a>],
+) -> Result<Vec<Place<'a>>, AllocError>
+    ensures { IfOk result (λ places. places.items ≡ (map as_issued items.now ++ map as_member items.now) ++ map as_anchor anchors.now) }
+{
+    let mut places = Vec::new(alloc);
+    for item in items {
+        places.push(item.as_issued())?;
+    }
+    for item in items {
+        places.push(item.as_member())?;
+    }
+    for anchor in anchors {
+        places.push(anchor.as_anchor())?;
+    }
+    Ok(places)
+}
+
+fn numbers_below(alloc: Global, count: usize) -> Result<Vec<usize>, AllocError>
+    ensures ascends { IfOk result (λ numbers. IsStrictlyIncreasing numbers.items) }
+    ensures exact { IfOk result (λ numbers. (v : ℕ) → Contains numbers.items v ↔ (v < count)) }
+{
+    let mut numbers = Vec::with_capacity(alloc, count)?;
+    for number in 0..count {
+        numbers.push(number)?;
+    }
+    Ok(numbers)
+}
+
+/// The groups of one name, whose places these are: for each key under it, what that key vouches for.
+fn link_name<V: Vouch>(
+    alloc: Global,
+    groups: &mut Vec<Group>,
+    all: &[Place<'_>],
+    items: &[JudgedItem<'_>],
+    anchors: usize,
+    name: &[u8],
+    places: &[usize],
+    vouch: &V,
+    demand_lists: bool,
+) -> Result<(), AllocError>
+    requires ascends { IsStrictlyIncreasing places.now }
+    requires named { (v : ℕ) → Contains places.now v ↔ Shows Name all.now v name.now }
+    requires keyless { (v : ℕ) (key : List ℕ) → v < length items.now → Shows Key all.now v key → ⊥ }
+    requires counted { length all.now ≡ length items.now + length items.now + anchors }
+    ensures { OnOk result (Adds (length items.now) groups.old.items groups.new.items (IsNamedLink (V.vouches_for vouch.now) demand_lists items.now all.now name.now)
+        (IsNamedAnchor (V.vouches_for vouch.now) demand_lists items.now all.now anchors name.now)) }
+{
+    let issued = between(alloc, places, 0, items.len())?;
+    let buckets = alike(alloc, all, Part::Key, places)?;
+    for bucket in &buckets {
+        let linked = issued_under(alloc, items, &issued, bucket.text, vouch, demand_lists)?;
+        link_places(
+            alloc,
+            groups,
+            all,
+            items.len(),
+            anchors,
+            &linked,
+            &bucket.places,
+        )?;
+    }
+    Ok(())
+}
+
+/// The groups of all items and anchors.
+pub(crate) fn groups_of<'a, V: Vouch>(
+    alloc: Global,
+    items: &[JudgedItem<'a>],
+    anchors: &[JudgedItem<'a>],
+    vouch: &V,
+    demand_lists: bool,
+) -> Result<Vec<Group>, AllocError>
+    ensures { IfOk result (λ groups. Adds (length items.now) [] groups.items (IsSomeLink (V.vouches_for vouch.now) demand_lists items.now anchors.now)
+        (IsSomeAnchor (V.vouches_for vouch.now) demand_lists items.now anchors.now)) }
+{
+    let all = places_of(alloc, items, anchors)?;
+    let chosen = numbers_below(alloc, all.len())?;
+    let buckets = alike(alloc, &all, Part::Name, &chosen)?;
+    let mut groups = Vec::new(alloc);
+    for bucket in &buckets {
+        link_name(
+            alloc,
+            &mut groups,
+            &all,
+            items,
+            anchors.len(),
+            bucket.text,
+            &bucket.places,
+            vouch,
+            demand_lists,
+        )?;
+    }
+    Ok(groups)
+}
