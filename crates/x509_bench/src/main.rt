@@ -1,5 +1,5 @@
-//! Reads a file as one certificate behind the other, and says how many there were. Words: `typed` for
-//! `X509Certificate::from_der` or `tree` for `read_tree`, then the file.
+//! Reads a file as one certificate or revocation list behind the other, and says how many there were. Words: `typed` for
+//! `X509Certificate::from_der`, `list` for `CertificateRevocationList::from_der` or `tree` for `read_tree`, then the file.
 #![tactic(auto)]
 
 use anyhow::{Context, Result, bail};
@@ -9,20 +9,21 @@ use certcheck::{ItemClass, read_tree};
 use std::alloc::Global;
 use std::{env, fs};
 use x509_certs::X509Certificate;
+use x509_lists::CertificateRevocationList;
 
 fn main(rt: HostRuntime) -> Result<()> {
     let mut words = env::args(&rt)?.skip(1);
     let (Some(reader), Some(name)) = (words.next(), words.next()) else {
-        bail!("two words are wanted: typed or tree, and a file");
+        bail!("two words are wanted: typed, list or tree, and a file");
     };
     let octets = fs::read(&rt, name.as_str()).context(format_args!("reading {name:?}"))?;
-    let count = count_certificates(rt.alloc(), reader.as_str(), octets.as_slice())?;
-    println!(&rt; "{name}: {count} certificates in {} octets", octets.len())?;
+    let count = count_items(rt.alloc(), reader.as_str(), octets.as_slice())?;
+    println!(&rt; "{name}: {count} items in {} octets", octets.len())?;
     Ok(())
 }
 
-/// How many certificates the octets are, each behind the other.
-fn count_certificates(alloc: Global, reader: &str, octets: &[u8]) -> Result<usize> {
+/// How many items the octets are, each behind the other.
+fn count_items(alloc: Global, reader: &str, octets: &[u8]) -> Result<usize> {
     let mut rest = octets;
     for count in 0..=octets.len() {
         if rest.is_empty() {
@@ -30,20 +31,29 @@ fn count_certificates(alloc: Global, reader: &str, octets: &[u8]) -> Result<usiz
         }
         let after = match reader {
             "typed" => after_certificate(alloc, rest),
+            "list" => after_list(alloc, rest),
             "tree" => after_item(alloc, rest),
-            _ => bail!("the first word is typed or tree"),
+            _ => bail!("the first word is typed, list or tree"),
         };
         let Some(after) = after else {
-            bail!("no certificate begins {} octets before the end", rest.len());
+            bail!("no item begins {} octets before the end", rest.len());
         };
         rest = after;
     }
-    bail!("more certificates than octets")
+    bail!("more items than octets")
 }
 
 /// What is left behind a certificate, read as its types.
 fn after_certificate(alloc: Global, octets: &[u8]) -> Option<&[u8]> {
     match X509Certificate::from_der(alloc, octets) {
+        Ok((rest, _)) => Some(rest),
+        Err(_) => None,
+    }
+}
+
+/// What is left behind a revocation list, read as its types.
+fn after_list(alloc: Global, octets: &[u8]) -> Option<&[u8]> {
+    match CertificateRevocationList::from_der(alloc, octets) {
         Ok((rest, _)) => Some(rest),
         Err(_) => None,
     }

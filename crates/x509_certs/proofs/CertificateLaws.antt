@@ -19,7 +19,8 @@ use Rattle.x509_names.specs.Leaves.{IsBits}
 use Rattle.x509_names.specs.Names.{AlgorithmParts, AlgorithmIdentifier, NameParts, X509Name, KeyParts, SubjectPublicKeyInfo}
 use Rattle.x509_names.specs.Reading.{algorithm_in, algorithm_at, name_in, name_at, key_in, key_at, bits_in, bits_at}
 use Rattle.x509_names.proofs.KeyLaws.{key_meaning}
-use Rattle.x509_names.proofs.LeafLaws.{content_found, content_only, bits_meaning}
+use Rattle.x509_core.proofs.LeafLaws.{content_found, content_only}
+use Rattle.x509_names.proofs.LeafLaws.{bits_meaning}
 use Rattle.x509_names.proofs.NameLaws.{algorithm_meaning, name_meaning}
 use Rattle.x509_time.specs.Reading.{validity_at}
 use Rattle.x509_time.specs.Times.{Period, Validity}

@@ -1,4 +1,5 @@
 pub mod Certificates
+pub mod Examples
 pub mod Fields
 pub mod Reading
 pub mod View

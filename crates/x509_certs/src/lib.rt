@@ -3,6 +3,7 @@
 #![tactic(auto)]
 
 mod certificate;
+pub mod laws;
 mod parser;
 mod tbs;
 

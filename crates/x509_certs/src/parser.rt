@@ -7,7 +7,7 @@ ghost use Rattle.asn1_traits.specs.Reads.{Reads};
 ghost use Rattle.x509_core.specs.Answers.{Gives, ElseMemory};
 ghost use Rattle.x509_core.specs.Errors.{told};
 ghost use Rattle.x509_core.specs.Grammar.{HoldsWindow, HoldsWhole};
-ghost use Rattle.x509_names.specs.Fronts.{TellsMissing, IsWithin, one_rest};
+ghost use Rattle.x509_core.specs.Fronts.{TellsMissing, one_rest};
 ghost use Rattle.x509_ext.specs.Fields.{IsUnparsed, unread};
 ghost use Rattle.x509_certs.specs.Certificates as grammar;
 ghost use Rattle.x509_certs.specs.Fields.{Tbs, Certificate};
@@ -16,11 +16,10 @@ ghost use Rattle.x509_certs.specs.View.{tbs_view, certificate_view, HasSerial};
 
 use crate::certificate::{X509Certificate, certificate_of};
 use crate::tbs::{TbsCertificate, tbs_of};
-use asn1_core::{Err as Refusal, Error, HeaderCount, Needed};
+use asn1_core::{Err as Refusal, HeaderCount, Needed};
 use asn1_traits::{DerMeaning, FromDer};
 use std::alloc::Global;
-use x509_core::{X509Error, X509Result};
-use x509_names::whole_element;
+use x509_core::{X509Error, X509Result, front_element};
 
 /// A parser of certificates. The values of extensions aren't parsed yet, whatever is asked for.
 #[derive(Clone, Copy, Debug)]
@@ -220,27 +219,16 @@ pub fn parse_x509_der<'a>(alloc: Global, i: &'a [u8]) -> X509Result<'a, X509Cert
     parse_x509_certificate(alloc, i)
 }
 
-// A refusal of a whole element: no octet is missing of one.
-fn of_whole(refusal: Refusal<X509Error>) -> Refusal<X509Error>
-    ensures { IsWithin refusal result }
-{
-    match refusal {
-        Refusal::Incomplete(needed) => { Refusal::Error(X509Error::Der(Error::Incomplete(needed))) }
-        Refusal::Error(e) => Refusal::Error(e),
-        Refusal::Failure(e) => Refusal::Failure(e),
-    }
-}
-
 fn tbs_at_front<'a>(alloc: Global, i: &'a [u8]) -> X509Result<'a, TbsCertificate<'a>>
     ensures exact { Gives (λ r. (tbs_view r.1, r.0.now)) result (tbs_at unread i.now) }
     ensures missing { TellsMissing i.now result }
     ensures serial { IfOk result (λ r. HasSerial r.1) }
 {
     let mut count = HeaderCount::new();
-    let (rest, element) = whole_element(i, &mut count)?;
+    let (rest, element) = front_element(i, &mut count)?;
     match tbs_of(alloc, element, &mut count) {
         Ok(tbs) => Ok((rest, tbs)),
-        Err(refusal) => Err(of_whole(refusal)),
+        Err(refusal) => Err(Refusal::within(refusal)),
     }
 }
 
@@ -270,9 +258,9 @@ fn counted_certificate<'a>(
     if i.is_empty() {
         return Err(Refusal::Incomplete(Needed::Size(1)));
     }
-    let (rest, element) = whole_element(i, count)?;
+    let (rest, element) = front_element(i, count)?;
     match certificate_of(alloc, element, count) {
         Ok(certificate) => Ok((rest, certificate)),
-        Err(refusal) => Err(of_whole(refusal)),
+        Err(refusal) => Err(Refusal::within(refusal)),
     }
 }

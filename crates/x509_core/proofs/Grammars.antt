@@ -1,22 +1,19 @@
 -- A reader reads a grammar: what it gives is so, and what is so it gives.
-use Rattle.std.proofs.Common.{◌≡◌, ◌∙◌, refl, sym, ap, subst, ℕ, ◌+◌, ◌-◌, ◌<◌, ◌==◌, List, [], ◌∷◌, ◌++◌, Bool, true, false, length, take, arith, length-append, Option, Some, None, Result, Ok, Err, option_map, if◌then◌else◌, cond}
+use Rattle.std.proofs.Common.{◌≡◌, ◌∙◌, refl, sym, ap, subst, ℕ, ◌-◌, ◌<◌, List, [], ◌∷◌, ◌++◌, Bool, true, length, take, arith, length-append, Ok, Err, option_map, if◌then◌else◌}
 use Rattle.std.specs.Result.{result_ok}
 use Rattle.std.specs.Int.Digits.{AllBelowBase}
-use Rattle.std.proofs.lemmas.Bool.{ltb-true, lt-ltb}
-use Rattle.std.proofs.lemmas.Bool.Decides.{nat_tests}
+use Rattle.std.proofs.lemmas.Bool.{lt-ltb}
 use Rattle.asn1_core.proofs.Numbers.{append_below}
-use Rattle.asn1_core.proofs.Cases.{chosen}
 use Rattle.asn1_core.specs.Elements.{Element as Any}
 use Rattle.asn1_core.specs.Answers.{Answer as Reads}
-use Rattle.asn1_any.specs.DerElements.{BeginsWithElement}
 use Rattle.asn1_any.specs.Cutting.{Piece, IsPiece}
-use Rattle.asn1_any.specs.Reading.{any_der, der_element_at}
+use Rattle.asn1_any.specs.Reading.{der_element_at}
 use Rattle.asn1_any.proofs.DerLaws.{der_found}
 use Rattle.asn1_any.proofs.Cuts.{front_is}
 use Rattle.x509_core.specs.declared.error.X509Error.{X509Error}
-use Rattle.x509_core.specs.Answers.{Answer, Why, named, unnamed, plain, naming, ◌>>=◌}
-use Rattle.x509_core.specs.Reading.{Reader, piece_at, piece_before, next, content_in, many_of, many_after}
-use Rattle.x509_core.specs.Grammar.{Grammar, NoneBegins, One, Within, Holds, AsMany}
+use Rattle.x509_core.specs.Answers.{Answer, plain, naming, ◌>>=◌}
+use Rattle.x509_core.specs.Reading.{Reader, piece_at, piece_before, next, many_of, many_after}
+use Rattle.x509_core.specs.Grammar.{Grammar, NoneBegins, One, AsMany}
 use Rattle.asn1_any.proofs.Long.{content_long}
 use Rattle.x509_core.proofs.Pieces.{element_read}
 use Rattle.x509_core.proofs.Many.{many_step, many_more, many_stops}
@@ -69,11 +66,11 @@ pub record IsReading {A : Type 0} (P : Grammar A) (p : Reader A) : Type 0 where
   pub found : (i : List ℕ) (v : A) (r : List ℕ) → AllBelowBase 256 i → p i ≡ Ok (v, r) → P i v r × AllBelowBase 256 r
   pub only : (i : List ℕ) (v : A) (r : List ℕ) → AllBelowBase 256 i → P i v r → p i ≡ Ok (v, r)
 
-below_front : (xs ys : List ℕ) → AllBelowBase 256 (xs ++ ys) → AllBelowBase 256 xs
+pub below_front : (xs ys : List ℕ) → AllBelowBase 256 (xs ++ ys) → AllBelowBase 256 xs
 below_front [] ys below = tt
 below_front (x ∷ xs) ys below = (below.0, below_front xs ys below.1)
 
-front_below : (i q r : List ℕ) → i ≡ q ++ r → AllBelowBase 256 i → AllBelowBase 256 q
+pub front_below : (i q r : List ℕ) → i ≡ q ++ r → AllBelowBase 256 i → AllBelowBase 256 q
 front_below i q r whole below = below_front q r (subst (AllBelowBase 256) whole below)
 
 pub next_reading : {A : Type 0} (M : Piece → A → Type 0) (p : Piece → Answer A) → IsMeaning M p → IsReading (One M) (next p)

@@ -1,4 +1,7 @@
+pub mod FrontLaws
 pub mod Grammars
+pub mod Items
+pub mod LeafLaws
 pub mod Many
 pub mod Pieces
 pub mod Public

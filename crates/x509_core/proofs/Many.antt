@@ -1,9 +1,8 @@
 -- Steps of reading as many as begin.
-use Rattle.std.proofs.Common.{◌≡◌, ◌∙◌, sym, ap, refl, ℕ, ◌+◌, ◌-◌, ◌<◌, ◌≤◌, List, [], ◌∷◌, ◌++◌, Bool, true, false, length, arith, nat_lt, Result, Ok, Err, zero, suc, if◌then◌else◌, append_assoc}
+use Rattle.std.proofs.Common.{◌≡◌, ◌∙◌, sym, ap, refl, ℕ, ◌<◌, ◌≤◌, List, [], ◌∷◌, ◌++◌, Bool, true, false, length, arith, nat_lt, Ok, Err, zero, suc, if◌then◌else◌, append_assoc}
 use Rattle.std.proofs.lemmas.List.{append-nil}
-use Rattle.std.proofs.lemmas.Bool.Decides.{nat_tests}
 use Rattle.std.proofs.lemmas.Bool.{ltb-true, le-ltb, lt-ltb}
-use Rattle.std.proofs.Common.{Option, Some, None, option_map}
+use Rattle.std.proofs.Common.{Some, None, option_map}
 use Rattle.std.specs.Result.{result_ok}
 use Rattle.asn1_core.specs.declared.outcome.Err.{Err as Refusal}
 use Rattle.asn1_core.specs.declared.outcome.Err.TheVariants as refusals

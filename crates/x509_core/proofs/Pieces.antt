@@ -1,23 +1,19 @@
 -- The front of octets that were cut.
-use Rattle.std.proofs.Common.{◌≡◌, ◌≢◌, ◌∙◌, refl, sym, ap, subst, ℕ, ◌+◌, ◌-◌, ◌<◌, ◌≤◌, List, [], ◌∷◌, ◌++◌, length, take, drop, get_or, arith, length-append, Option, Some, None, Result, Ok, Err, option_map, map}
+use Rattle.std.proofs.Common.{◌≡◌, ◌∙◌, refl, sym, ap, subst, ℕ, ◌+◌, ◌<◌, ◌≤◌, List, [], ◌∷◌, ◌++◌, length, drop, get_or, arith, length-append, Option, Some, None, Ok, Err, option_map}
 use Rattle.std.specs.Result.{result_ok}
 use Rattle.std.proofs.lemmas.List.{drop_more, drop_at, drop_all}
-use Rattle.asn1_core.specs.declared.error.Error.{Error}
-use Rattle.asn1_core.specs.declared.outcome.Err.{Err as Refusal}
 use Rattle.asn1_core.specs.Elements.{Element as Any}
-use Rattle.asn1_core.specs.Answers.{Answer as Reads}
 use Rattle.asn1_any.specs.declared.cut.Element.{Element}
 use Rattle.asn1_any.specs.Cutting.{Piece, IsCutting}
 use Rattle.asn1_any.specs.CutViews.{piece_of, pieces_of}
-use Rattle.asn1_any.specs.DerElements.{SpellsElement, BeginsWithElement, HasElement}
-use Rattle.asn1_any.specs.Reading.{any_der, der_element_at}
-use Rattle.asn1_any.proofs.DerLaws.{der_only, der_found}
+use Rattle.asn1_any.specs.DerElements.{BeginsWithElement, HasElement}
+use Rattle.asn1_any.specs.Reading.{any_der}
+use Rattle.asn1_any.proofs.DerLaws.{der_only}
 use Rattle.asn1_any.proofs.Cuts.{one_cut, none_cut, none_read as read_none, front_is, element_long}
 use Rattle.asn1_any.proofs.Long.{content_long}
-use Rattle.asn1_core.specs.Strict.{Head}
 use Rattle.std.specs.Int.Digits.{AllBelowBase}
 use Rattle.asn1_core.proofs.Numbers.{append_below}
-use Rattle.x509_core.specs.Answers.{plain, unnamed, Why, Answer}
+use Rattle.x509_core.specs.Answers.{plain, unnamed}
 use Rattle.x509_core.specs.Parts.{IsCut}
 use Rattle.x509_core.specs.Reading.{piece_at, piece_before, first_piece}
 

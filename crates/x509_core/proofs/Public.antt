@@ -1,13 +1,10 @@
 -- From the equation of a reader to what is promised of it.
-use Rattle.std.proofs.Common.{◌≡◌, ◌≢◌, refl, sym, ap, ℕ, List, Result, Ok, Err, Bor, IfOk, ◌⊎◌, inl, inr}
+use Rattle.std.proofs.Common.{◌≡◌, ap, ℕ, List, Result, Ok, Err, Bor, IfOk}
 use Rattle.std.specs.Int.Digits.{AllBelowBase}
-use Rattle.asn1_core.specs.declared.error.Error.{Error}
-use Rattle.asn1_core.specs.declared.error.Error.TheVariants as der
 use Rattle.asn1_core.specs.declared.outcome.Err.{Err as Refusal}
 use Rattle.asn1_core.specs.declared.outcome.Err.TheVariants as refusals
 use Rattle.x509_core.specs.declared.error.X509Error.{X509Error}
-use Rattle.x509_core.specs.declared.error.X509Error.TheVariants as errors
-use Rattle.x509_core.specs.Answers.{Answer, Why, Fails, FailsWith, Gives, OrMemory, ElseMemory}
+use Rattle.x509_core.specs.Answers.{Answer, Fails, Gives, OrMemory, ElseMemory}
 use Rattle.x509_core.specs.Reading.{Reader}
 use Rattle.x509_core.specs.Grammar.{Grammar}
 use Rattle.x509_core.proofs.Grammars.{IsReading}

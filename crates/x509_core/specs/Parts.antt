@@ -1,5 +1,5 @@
 -- What is left of a content that was cut into its elements.
-use Rattle.std.specs.Prelude.{◌≡◌, ℕ, ◌-◌, ◌≤◌, List, length, drop}
+use Rattle.std.specs.Prelude.{ℕ, ◌≤◌, List, length, drop}
 use Rattle.std.specs.Int.Digits.{AllBelowBase}
 use Rattle.asn1_any.specs.declared.cut.Element.{Element}
 use Rattle.asn1_any.specs.Cutting.{IsCutting}

@@ -1,12 +1,12 @@
 -- Reading from the front of octets, element by element.
-use Rattle.std.specs.Prelude.{ℕ, zero, suc, ◌-◌, ◌==◌, nat_lt, ◌||◌, not, if◌then◌else◌, List, [], ◌∷◌, length, take, Option, Some, None, Result, Ok, Err, option_map}
+use Rattle.std.specs.Prelude.{ℕ, zero, suc, ◌-◌, ◌==◌, nat_lt, ◌||◌, not, if◌then◌else◌, List, [], ◌∷◌, length, take, Option, Ok, Err, option_map}
 use Rattle.std.specs.Result.{result_ok}
 use Rattle.asn1_core.specs.Elements.{Element}
 use Rattle.asn1_core.specs.Strict.{Head}
 use Rattle.asn1_core.specs.Reading.{header_at}
 use Rattle.asn1_any.specs.Cutting.{Piece}
 use Rattle.asn1_any.specs.Reading.{any_der}
-use Rattle.x509_core.specs.Answers.{Answer, Why, named, unnamed, plain, naming, ◌>>=◌}
+use Rattle.x509_core.specs.Answers.{Answer, unnamed, plain, ◌>>=◌}
 
 -- a value, and the octets after it
 abbrev pub Reader : Type 0 → Type 0
@@ -31,9 +31,13 @@ front_header_at i = plain (result_ok (header_at i))
 abbrev pub content_in : ℕ → Element → Answer (List ℕ)
 content_in n e = if e.tag == n then Ok e.content else Err unnamed
 
+-- the content of a primitive element of this tag number
+abbrev pub leaf_in : ℕ → Element → Answer (List ℕ)
+leaf_in n e = if not (e.tag == n) || e.constructed then Err unnamed else Ok e.content
+
 -- OBJECT IDENTIFIER: any content
 abbrev pub oid_in : Element → Answer (List ℕ)
-oid_in e = if not (e.tag == 6) || e.constructed then Err unnamed else Ok e.content
+oid_in = leaf_in 6
 
 -- what an element's content begins with, and what is left of it
 abbrev pub inside : {A : Type 0} → ℕ → Reader A → Piece → Answer (A × List ℕ)

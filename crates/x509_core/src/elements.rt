@@ -1,12 +1,15 @@
 //! Single elements: the outermost one, a header alone, and what an element of a tag number holds.
 
-ghost use Rattle.std.specs.Prelude.{◌≡◌, ◌++◌, ◌+◌, ◌*◌, ◌^◌, ◌<◌, ◌≤◌, length, IfOk};
+ghost use Rattle.std.specs.Prelude.{◌≡◌, ◌+◌, ◌^◌, ◌<◌, ◌≤◌, length, IfOk, IfErr};
 ghost use Rattle.asn1_core.specs.Counts.{attempts};
+ghost use Rattle.asn1_core.specs.declared.error.Needed.{Needed};
 ghost use Rattle.asn1_core.specs.Views.{head_of, length_of, IsDefinite};
 ghost use Rattle.asn1_any.specs.CutViews.{piece_of};
 ghost use Rattle.asn1_any.specs.Views.{any_of};
+ghost use Rattle.asn1_traits.specs.Elements.{EndsWithinElement};
 ghost use Rattle.x509_core.specs.Answers.{Gives, IsName, Named, Cuts, renamed};
-ghost use Rattle.x509_core.specs.Reading.{piece_at, front_header_at, content_in, oid_in};
+ghost use Rattle.x509_core.specs.Fronts.{TellsMissing, TakesNoMemory};
+ghost use Rattle.x509_core.specs.Reading.{piece_at, front_header_at, content_in, leaf_in, oid_in};
 
 use crate::error::X509Error;
 use crate::parts::Parts;
@@ -23,6 +26,7 @@ pub fn front_header<'a>(
 ) -> Result<(&'a [u8], Header), Refusal<X509Error>>
     requires { attempts count.old + 1 < 2 ^ 128 }
     ensures read { Gives (λ r. (head_of r.1, r.0.now)) result (front_header_at i.now) }
+    ensures memory { IfErr result TakesNoMemory }
     ensures count { attempts count.new ≡ attempts count.old + 1 }
     ensures shorter { IfOk result (λ r. length r.0.now + 2 ≤ length i.now) }
     ensures definite { IfOk result (λ r. IsDefinite (length_of r.1)) }
@@ -33,7 +37,7 @@ pub fn front_header<'a>(
     }
 }
 
-/// The element that begins the octets, behind those after it.
+/// The element that begins the octets, behind those after it: `Incomplete` exactly where the octets end within it.
 #[tactic(auto, unfolding(crate::specs::Reading::piece_at))]
 pub fn front_element<'a>(
     i: &'a [u8],
@@ -41,6 +45,9 @@ pub fn front_element<'a>(
 ) -> Result<(&'a [u8], Element<'a>), Refusal<X509Error>>
     requires { attempts count.old + 1 < 2 ^ 128 }
     ensures read { Gives (λ r. (piece_of r.1, r.0.now)) result (piece_at i.now) }
+    ensures missing { TellsMissing i.now result }
+    ensures memory { IfErr result TakesNoMemory }
+    ensures whole { IfOk result (λ _. (n : Needed) → EndsWithinElement i.now n → ⊥) }
     ensures count { attempts count.new ≡ attempts count.old + 1 }
     ensures shorter { IfOk result (λ r. length r.1.octets.now + length r.0.now ≡ length i.now) }
     ensures content { IfOk result (λ r. length r.1.any.content.now + 2 ≤ length r.1.octets.now) }
@@ -108,14 +115,24 @@ pub fn renamed(refusal: Refusal<X509Error>, name: X509Error) -> Refusal<X509Erro
     }
 }
 
-/// An OBJECT IDENTIFIER.
-pub fn oid_of<'a>(element: Element<'a>) -> Result<Oid<'a>, Refusal<X509Error>>
-    ensures { Gives (λ o. o) result (oid_in (any_of element.entry.any)) }
+/// The content of a primitive element of this tag number, whatever its class.
+pub fn leaf_of<'a>(tag: u32, any: Any<'a>) -> Result<&'a [u8], Refusal<X509Error>>
+    ensures read { Gives (λ c. c.now) result (leaf_in tag (any_of any.entry)) }
+    ensures memory { IfErr result TakesNoMemory }
 {
-    if element.any.tag().0 != 6 || element.any.header.is_constructed() {
+    if any.tag().0 != tag || any.header.is_constructed() {
         return Err(Refusal::Error(X509Error::Der(Error::InvalidTag)));
     }
-    Ok(Oid::new(element.any.content))
+    Ok(any.content)
+}
+
+/// An OBJECT IDENTIFIER.
+pub fn oid_of<'a>(element: Element<'a>) -> Result<Oid<'a>, Refusal<X509Error>>
+    ensures read { Gives (λ o. o) result (oid_in (any_of element.entry.any)) }
+    ensures memory { IfErr result TakesNoMemory }
+{
+    let content = leaf_of(6, element.any)?;
+    Ok(Oid::new(content))
 }
 
 /// The same refusal by this error, unless memory ran out.

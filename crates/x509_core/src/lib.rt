@@ -6,6 +6,8 @@ mod elements;
 mod error;
 mod parts;
 
-pub use crate::elements::{cut_all, front_element, front_header, named, oid_of, parts_of, renamed};
+pub use crate::elements::{
+    cut_all, front_element, front_header, leaf_of, named, oid_of, parts_of, renamed,
+};
 pub use crate::error::{X509Error, X509Result};
 pub use crate::parts::Parts;

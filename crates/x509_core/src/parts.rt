@@ -5,6 +5,7 @@ ghost use Rattle.asn1_core.specs.Counts.{attempts};
 ghost use Rattle.asn1_any.specs.CutViews.{piece_of};
 ghost use Rattle.asn1_any.specs.Cutting.{Piece};
 ghost use Rattle.x509_core.specs.Answers.{Gives, Fails};
+ghost use Rattle.x509_core.specs.Fronts.{TakesNoMemory};
 ghost use Rattle.x509_core.specs.Reading.{piece_at, first_piece};
 ghost use Rattle.x509_core.specs.Parts.{Left};
 
@@ -64,6 +65,7 @@ impl<'a> Parts<'a> {
         ensures ends { length self.new.octets ≤ length self.old.octets }
         ensures content { IfOk result (λ e. length e.any.content.now + 2 ≤ length e.octets.now) }
         ensures stays { IfErr result (λ _. self.new ≡ self.old) }
+        ensures memory { IfErr result TakesNoMemory }
     {
         if self.at >= self.elements.len() {
             return Err(Refusal::Error(X509Error::Der(Error::InvalidLength)));

@@ -15,11 +15,12 @@ use Rattle.x509_core.specs.Answers.{Answer, plain, naming, ◌>>=◌}
 use Rattle.x509_core.specs.Grammar.{NoneBegins, Header, One, Holds, Maybe, AsMany, ToEnd}
 use Rattle.x509_core.specs.Reading.{piece_at, front_header_at, content_in, oid_in, next, many_of}
 use Rattle.x509_core.specs.declared.error.X509Error.TheVariants as errors
+use Rattle.x509_core.proofs.FrontLaws.{named_reading}
 use Rattle.x509_core.proofs.Grammars.{IsMeaning, IsReading, next_reading, two, was_named, content_below, many_found, many_only}
+use Rattle.x509_core.proofs.LeafLaws.{equal_tags, tags_equal, content_found, content_only, oid_meaning, option_meaning}
 use Rattle.x509_names.specs.Leaves.{IsOid, IsOctets}
 use Rattle.x509_names.specs.Reading.{octets_in, oid_at}
-use Rattle.x509_names.proofs.FrontLaws.{named_reading}
-use Rattle.x509_names.proofs.LeafLaws.{content_found, content_only, oid_meaning, octets_meaning}
+use Rattle.x509_names.proofs.LeafLaws.{octets_meaning}
 use Rattle.x509_ext.specs.Fields.{Extension, ValueMeaning, ValueReading, IsUnparsed, unread}
 use Rattle.x509_ext.specs.Extensions.{IsBoolean, or_false, ExtensionParts, X509Extension, ExtensionList, Wrapped, Extensions, absent, there}
 use Rattle.x509_ext.specs.Reading.{boolean_of, boolean_in, critical_by, critical_from, critical_at, extension_in, extension_at, named_extension_at, to_end, extension_list_in, extension_list_at, wrapped_at, extensions_at}
@@ -53,31 +54,11 @@ boolean_is (x ∷ y ∷ s) b given = cc
 boolean_only : (c : List ℕ) (b : Bool) → BooleanMeans c b → boolean_of c ≡ Some b
 boolean_only c b is = rw is.whole (ap (λ z. Some z) (sym is.value))
 
-equal_tags : (a b : ℕ) → (a == b) ≡ true → a ≡ b
-equal_tags a b e = grind (arith, nat_tests)
-
-tags_equal : (a b : ℕ) → a ≡ b → (a == b) ≡ true
-tags_equal a b e = grind (arith, nat_tests)
-
-leaf_case : (t c : Bool) (r : Option Bool) (v : Bool) → (if not t || c then None else r) ≡ Some v → (t ≡ true) × (c ≡ false) × (r ≡ Some v)
-leaf_case true true r v given = cc
-leaf_case true false r v given = (refl, refl, given)
-leaf_case false c r v given = cc
-
-was_plain : {A : Type 0} (o : Option A) (x : A) → plain o ≡ Ok x → o ≡ Some x
-was_plain (Some y) x given = let same : y ≡ x = cc in ap (λ z. Some z) same
-was_plain None x given = cc
-
 abbrev boolean : Piece → Answer Bool
 boolean q = plain (boolean_in q.element)
 
 boolean_meaning : IsMeaning IsBoolean boolean
-boolean_meaning = record {
-  found = λ q v spells below given.
-      let case = leaf_case (q.element.tag == 1) q.element.constructed (boolean_of q.element.content) v (was_plain (boolean_in q.element) v given) in
-      record { leaf = record { tag_is = equal_tags q.element.tag 1 case.0; primitive = case.1 }; meant = boolean_is q.element.content v case.2 };
-  only = λ q v spells below is. rw (tags_equal q.element.tag 1 is.leaf.tag_is, is.leaf.primitive, boolean_only q.element.content v is.meant) refl;
-}
+boolean_meaning = option_meaning 1 BooleanMeans boolean_of boolean_is boolean_only
 
 abbrev told : List ℕ → Answer (Bool × List ℕ) → Bool × List ℕ
 told i (Err e) = (false, i)

@@ -1,3 +1,2 @@
 pub mod ExtensionLaws
 pub mod PartLaws
-pub mod Public

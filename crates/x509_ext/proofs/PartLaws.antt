@@ -2,66 +2,35 @@
 use Rattle.std.proofs.Common.{◌≡◌, ◌≢◌, ◌∙◌, refl, sym, ap, subst, ℕ, ◌==◌, ◌||◌, not, List, [], ◌∷◌, ◌++◌, Bool, true, false, arith, Option, Some, None, Result, Ok, Err, if◌then◌else◌, inl, inr, append_assoc}
 use Rattle.std.specs.Int.Digits.{AllBelowBase}
 use Rattle.std.specs.Result.{result_ok}
-use Rattle.std.proofs.lemmas.Bool.Decides.{nat_tests}
 use Rattle.asn1_core.proofs.Cases.{chosen}
 use Rattle.asn1_core.specs.Elements.{head_of_element}
 use Rattle.asn1_core.specs.Strict.{Head}
 use Rattle.asn1_core.specs.declared.error.Error.{Error}
 use Rattle.asn1_any.specs.Cutting.{Piece, IsPiece}
-use Rattle.asn1_traits.specs.Integers.{IsShortest}
 use Rattle.asn1_traits.specs.IntegerReading.{is_shortest}
-use Rattle.asn1_values.specs.Readers.{unsigned_at, bits_at as bits_inside, check_bits}
-use Rattle.asn1_values.specs.ReaderLaws.{unsigned_found, unsigned_only, bits_is, check_bits_is}
+use Rattle.asn1_values.specs.Readers.{unsigned_at}
+use Rattle.asn1_values.specs.ReaderLaws.{unsigned_found, unsigned_only}
 use Rattle.x509_core.specs.Answers.{Answer, unnamed, plain}
 use Rattle.x509_core.specs.Grammar.{One}
 use Rattle.x509_core.specs.Reading.{piece_at, front_header_at, content_in, next}
 use Rattle.x509_core.proofs.Pieces.{empty_read}
-use Rattle.x509_core.proofs.Grammars.{IsMeaning, IsReading, next_reading, two, content_below, piece_found, piece_only}
+use Rattle.x509_core.proofs.FrontLaws.{named_reading}
+use Rattle.x509_core.proofs.Grammars.{IsMeaning, IsReading, next_reading, two, content_below, front_below, piece_found, piece_only}
+use Rattle.x509_core.proofs.LeafLaws.{equal_tags, tags_equal, tags_differ, differ_tags, content_found, content_only, option_meaning}
 use Rattle.x509_core.specs.declared.error.X509Error.TheVariants as errors
 use Rattle.x509_names.specs.Fields.{Bits}
 use Rattle.x509_names.specs.Leaves.{AreBits}
 use Rattle.x509_names.specs.Reading.{bits_of}
-use Rattle.x509_names.proofs.FrontLaws.{named_reading}
-use Rattle.x509_names.proofs.LeafLaws.{content_found, content_only}
+use Rattle.x509_names.proofs.LeafLaws.{shortest_is, is_shortest_of, bits_found, bits_only}
 use Rattle.x509_ext.specs.Parts.{IsNumber, IsVersion, X509Version, IsTaggedVersion, IsOtherElement, IsSerial, IsIdentifier, IsOtherHeader, Version, version_at_end, version_absent, version_there, UniqueIdentifier, id_at_end, id_absent, id_there}
 use Rattle.x509_ext.specs.Reading.{number_of, version_in, version_at, tagged_version_in, version_behind, any_version_at, implicit_bits_in, id_behind, id_at}
 use Rattle.x509_ext.proofs.ExtensionLaws.{front_header_found, front_header_only}
 
-equal_tags : (a b : ℕ) → (a == b) ≡ true → a ≡ b
-equal_tags a b e = grind (arith, nat_tests)
-
-tags_equal : (a b : ℕ) → a ≡ b → (a == b) ≡ true
-tags_equal a b e = grind (arith, nat_tests)
-
-tags_differ : (a b : ℕ) → (a == b) ≡ false → a ≢ b
-tags_differ a b e = λ same. let wrong = tags_equal a b same in cc
-
-differ_tags : (a b : ℕ) → a ≢ b → (a == b) ≡ false
-differ_tags a b other = grind (arith, nat_tests)
-
-was_plain : {A : Type 0} (r : Result A Error) (x : A) → plain (result_ok r) ≡ Ok x → r ≡ Ok x
-was_plain (Ok y) x given = let same : y ≡ x = cc in ap (λ z. Ok z) same
-was_plain (Err e) x given = cc
-
 -- ---- versions
-
-shortest_is : (content : List ℕ) → is_shortest content ≡ true → IsShortest content
-shortest_is [] e = cc
-shortest_is (octet ∷ []) e = tt
-shortest_is (octet ∷ next ∷ octets) e = grind (arith, nat_tests)
-
-is_shortest_of : (content : List ℕ) → IsShortest content → is_shortest content ≡ true
-is_shortest_of [] is = absurd is
-is_shortest_of (octet ∷ []) is = refl
-is_shortest_of (octet ∷ next ∷ octets) is = grind (arith, nat_tests)
 
 was_ok : {A : Type 0} (r : Result A Error) (x : A) → result_ok r ≡ Some x → r ≡ Ok x
 was_ok (Ok y) x given = let same : y ≡ x = cc in ap (λ z. Ok z) same
 was_ok (Err e) x given = cc
-
-was_some : {A : Type 0} (o : Option A) (x : A) → plain o ≡ Ok x → o ≡ Some x
-was_some (Some y) x given = let same : y ≡ x = cc in ap (λ z. Some z) same
-was_some None x given = cc
 
 number_found : (c : List ℕ) (n : ℕ) → number_of c ≡ Some n → IsNumber c n
 unfolding number_of
@@ -77,19 +46,9 @@ number_only : (c : List ℕ) (n : ℕ) → IsNumber c n → number_of c ≡ Some
 unfolding number_of
 number_only c n is = rw (is_shortest_of c is.shortest, unsigned_only 32 c n is.value is.small) refl
 
-leaf_case : (t c : Bool) (r : Option ℕ) (v : ℕ) → (if not t || c then None else r) ≡ Some v → (t ≡ true) × (c ≡ false) × (r ≡ Some v)
-leaf_case true true r v given = cc
-leaf_case true false r v given = (refl, refl, given)
-leaf_case false c r v given = cc
-
 pub version_meaning : IsMeaning IsVersion (λ q. plain (version_in q.element))
 unfolding version_in
-version_meaning = record {
-  found = λ q v spells below given.
-      let case = leaf_case (q.element.tag == 2) q.element.constructed (number_of q.element.content) v (was_some (version_in q.element) v given) in
-      record { leaf = record { tag_is = equal_tags q.element.tag 2 case.0; primitive = case.1 }; meant = number_found q.element.content v case.2 };
-  only = λ q v spells below is. rw (tags_equal q.element.tag 2 is.leaf.tag_is, is.leaf.primitive, number_only q.element.content v is.meant) refl;
-}
+version_meaning = option_meaning 2 IsNumber number_of number_found number_only
 
 pub version_reading : IsReading X509Version version_at
 version_reading = named_reading X509Version (next (λ q. plain (version_in q.element))) errors.InvalidVersion (next_reading IsVersion (λ q. plain (version_in q.element)) version_meaning)
@@ -111,13 +70,6 @@ unfolding tagged_version_in
 tagged_only q v below is =
     let number = (next_reading IsVersion (λ p. plain (version_in p.element)) version_meaning).only q.element.content v is.left below is.number in
     rw (tags_equal q.element.class 2 is.class, number) refl
-
-below_front : (xs ys : List ℕ) → AllBelowBase 256 (xs ++ ys) → AllBelowBase 256 xs
-below_front [] ys below = tt
-below_front (x ∷ xs) ys below = (below.0, below_front xs ys below.1)
-
-front_below : (i q r : List ℕ) → i ≡ q ++ r → AllBelowBase 256 i → AllBelowBase 256 q
-front_below i q r whole below = below_front q r (subst (AllBelowBase 256) whole below)
 
 version_case : (x : ℕ) (s : List ℕ) (p : Piece × List ℕ) (v : ℕ) (r : List ℕ) → AllBelowBase 256 (x ∷ s) → piece_at (x ∷ s) ≡ Ok p → version_behind (x ∷ s) p ≡ Ok (v, r) → Version (x ∷ s) v r × AllBelowBase 256 r
 version_case x s p v r below read given =
@@ -181,26 +133,6 @@ serial_meaning = record {
 }
 
 -- ---- unique identifiers
-
-bits_found : (c : List ℕ) (b : Bits) → bits_of c ≡ Ok b → AreBits c b
-unfolding bits_of
-bits_found c b given =
-    let first = two (plain (result_ok (check_bits c))) _ b given in
-    let strict = (check_bits_is c).0 (was_plain (check_bits c) tt first.1) in
-    let second = two (plain (result_ok (bits_inside c))) _ b first.2 in
-    let means = (bits_is c second.0.0 second.0.1).0 (was_plain (bits_inside c) second.0 second.1) in
-    let same : ◌≡◌ {A = Bits} (record { unused = second.0.0; octets = second.0.1 }) b = cc in
-    let both : strict.unused ∷ strict.octets ≡ second.0.0 ∷ second.0.1 = sym strict.whole ∙ means.whole in
-    let unused : strict.unused ≡ second.0.0 = cc in
-    let octets : strict.octets ≡ second.0.1 = cc in
-    subst (AreBits c) same (record { whole = means.whole; strict = rw (sym unused, sym octets) strict.strict })
-
-bits_only : (c : List ℕ) (b : Bits) → AreBits c b → bits_of c ≡ Ok b
-unfolding bits_of
-bits_only c b is =
-    let strict = (check_bits_is c).1 (record { unused = b.unused; octets = b.octets; whole = is.whole; strict = is.strict }) in
-    let means = (bits_is c b.unused b.octets).1 (record { whole = is.whole; bits = is.strict.bits }) in
-    rw (strict, means) refl
 
 implicit_case : (t c : Bool) (r : Answer Bits) (v : Bits) → (if not t || c then Err unnamed else r) ≡ Ok v → (t ≡ true) × (c ≡ false) × (r ≡ Ok v)
 implicit_case true true r v given = cc

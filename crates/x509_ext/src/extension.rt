@@ -16,8 +16,8 @@ use asn1_any::{Any, Element};
 use asn1_core::{Err as Refusal, HeaderCount, OutOfMemory};
 use asn1_oid::Oid;
 use std::alloc::Global;
-use x509_core::{Parts, X509Error, parts_of};
-use x509_names::{leaf_of, next_oid};
+use x509_core::{Parts, X509Error, leaf_of, parts_of};
+use x509_names::next_oid;
 use x509_values::Copies;
 
 /// An extension.

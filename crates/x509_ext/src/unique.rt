@@ -1,9 +1,11 @@
 //! `UniqueIdentifier` (RFC 5280, 4.1.2.8).
 
-ghost use Rattle.std.specs.Prelude.{◌≡◌, ◌+◌, ◌^◌, ◌<◌, ◌≤◌, length, option_map};
+ghost use Rattle.std.specs.Prelude.{◌≡◌, ◌+◌, ◌^◌, ◌<◌, ◌≤◌, length, option_map, IfErr};
 ghost use Rattle.asn1_core.specs.Counts.{attempts};
+ghost use Rattle.asn1_core.specs.declared.outcome.Err.TheVariants as refusals;
 ghost use Rattle.asn1_any.specs.Views.{any_of};
 ghost use Rattle.x509_core.specs.Answers.{Gives, naming};
+ghost use Rattle.x509_core.specs.Fronts.{TakesNoMemory};
 ghost use Rattle.x509_core.specs.declared.error.X509Error.TheVariants.{InvalidIssuerUID, InvalidSubjectUID};
 ghost use Rattle.x509_core.specs.Reading.{next};
 ghost use Rattle.x509_ext.specs.Reading.{implicit_bits_in, id_at};
@@ -25,7 +27,8 @@ fn implicit_bits<'a>(
     alloc: Global,
     any: Any<'a>,
 ) -> Result<UniqueIdentifier<'a>, Refusal<X509Error>>
-    ensures { Gives identifier_view result (implicit_bits_in (any_of any.entry)) }
+    ensures read { Gives identifier_view result (implicit_bits_in (any_of any.entry)) }
+    ensures memory { IfErr result TakesNoMemory }
 {
     if !is_context(any.class()) || any.header.is_constructed() {
         return Err(Refusal::Error(X509Error::Der(Error::InvalidTag)));
@@ -39,6 +42,7 @@ fn next_implicit_bits<'a>(
     parts: &mut Parts<'a>,
 ) -> Result<UniqueIdentifier<'a>, Refusal<X509Error>>
     ensures read { Gives (λ v. (identifier_view v, parts.new.octets)) result (next (λ p. implicit_bits_in p.element) parts.old.octets) }
+    ensures memory { IfErr result TakesNoMemory }
     ensures ends { length parts.new.octets ≤ length parts.old.octets }
 {
     let element = parts.next()?;
@@ -54,6 +58,7 @@ fn next_id<'a>(
 ) -> Result<Option<UniqueIdentifier<'a>>, Refusal<X509Error>>
     requires { attempts count.old + length parts.old.octets < 2 ^ 128 }
     ensures read { Gives (λ v. (option_map identifier_view v, parts.new.octets)) result (id_at tag parts.old.octets) }
+    ensures memory { IfErr result TakesNoMemory }
     ensures grows { attempts count.old ≤ attempts count.new }
     ensures ends { length parts.new.octets ≤ length parts.old.octets }
     ensures most { attempts count.new ≤ attempts count.old + length parts.old.octets }
@@ -78,6 +83,7 @@ pub fn next_issuer_id<'a>(
 ) -> Result<Option<UniqueIdentifier<'a>>, Refusal<X509Error>>
     requires { attempts count.old + length parts.old.octets < 2 ^ 128 }
     ensures read { Gives (λ v. (option_map identifier_view v, parts.new.octets)) result (naming InvalidIssuerUID (id_at 1 parts.old.octets)) }
+    ensures refused { IfErr result (λ e. e ≡ refusals.Error InvalidIssuerUID) }
     ensures grows { attempts count.old ≤ attempts count.new }
     ensures ends { length parts.new.octets ≤ length parts.old.octets }
     ensures most { attempts count.new ≤ attempts count.old + length parts.old.octets }
@@ -94,6 +100,7 @@ pub fn next_subject_id<'a>(
 ) -> Result<Option<UniqueIdentifier<'a>>, Refusal<X509Error>>
     requires { attempts count.old + length parts.old.octets < 2 ^ 128 }
     ensures read { Gives (λ v. (option_map identifier_view v, parts.new.octets)) result (naming InvalidSubjectUID (id_at 2 parts.old.octets)) }
+    ensures refused { IfErr result (λ e. e ≡ refusals.Error InvalidSubjectUID) }
     ensures grows { attempts count.old ≤ attempts count.new }
     ensures ends { length parts.new.octets ≤ length parts.old.octets }
     ensures most { attempts count.new ≤ attempts count.old + length parts.old.octets }

@@ -9,7 +9,7 @@ ghost use Rattle.asn1_traits.specs.Reads.{Reads};
 ghost use Rattle.x509_core.specs.Answers.{Gives, naming};
 ghost use Rattle.x509_core.specs.Errors.{told};
 ghost use Rattle.x509_core.specs.declared.error.X509Error.TheVariants as errors;
-ghost use Rattle.x509_names.specs.Fronts.{one_rest};
+ghost use Rattle.x509_core.specs.Fronts.{one_rest};
 ghost use Rattle.x509_ext.specs.Parts as grammar;
 ghost use Rattle.x509_ext.specs.Reading.{number_of, version_in, version_at, tagged_version_in, any_version_at};
 

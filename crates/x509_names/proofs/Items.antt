@@ -1,53 +1,15 @@
 -- Octets written out by hand are what the relations say.
-use Rattle.std.proofs.Common.{◌≡◌, inl, refl, ap, subst, ℕ, ◌<◌, List, [], ◌∷◌, ◌++◌, Bool, true, false, length, lit<, arith}
-use Rattle.asn1_core.specs.Strict.{lead}
-use Rattle.asn1_any.specs.Cutting.{Piece, IsPiece}
-use Rattle.x509_core.specs.Grammar.{NoneBegins, One, Holds, HoldsWindow, AsMany}
-use Rattle.x509_core.proofs.Grammars.{piece_only, none_at_end}
-use Rattle.x509_names.specs.Examples.{algorithm, algorithm_octets, key, key_octets, stopped_name, stopped_octets, common_name, name, name_octets, rsa_key, rsa_octets}
+use Rattle.std.proofs.Common.{◌≡◌, refl, ℕ, ◌<◌, List, [], ◌∷◌, ◌++◌, true, false, length, lit<}
+use Rattle.x509_core.specs.Grammar.{One, Holds, HoldsWindow, AsMany}
+use Rattle.x509_core.proofs.Grammars.{none_at_end}
+use Rattle.x509_core.proofs.Items.{tlv, piece, spelled, one, none_here}
+use Rattle.x509_names.specs.Examples.{algorithm, algorithm_octets, key, key_octets, empty_name, empty_octets, stopped_name, stopped_octets, common_name, name, name_octets, rsa_key, rsa_octets}
 use Rattle.x509_names.specs.Fields.{Attribute}
 use Rattle.x509_names.specs.Leaves.{IsOid, IsInteger, IsBits, IsAny}
 use Rattle.x509_names.specs.Names.{AlgorithmIdentifier, AlgorithmParts, AttributeParts, RelativeDistinguishedName, RelativeParts, X509Name, NameParts, SubjectPublicKeyInfo, KeyParts}
 use Rattle.x509_names.specs.PublicKeys.{RSAPublicKey, RsaParts}
 
--- an element with a short header
-abbrev pub tlv : ℕ → Bool → ℕ → List ℕ → List ℕ
-tlv class constructed tag content = lead class constructed tag ∷ length content ∷ content
-
-abbrev pub piece : ℕ → Bool → ℕ → List ℕ → Piece
-piece class constructed tag content = record {
-  octets = tlv class constructed tag content;
-  element = record { class = class; constructed = constructed; tag = tag; content = content };
-}
-
-pub spelled : (class : ℕ) (constructed : Bool) (tag : ℕ) (content : List ℕ) → class < 4 → tag < 31 → length content < 128 → IsPiece (piece class constructed tag content)
-spelled class constructed tag content in_class in_tag short = record {
-  header = lead class constructed tag ∷ length content ∷ [];
-  in_range = record { class = in_class; tag = omega (arith, in_tag); size = omega (arith, short) };
-  spells = record {
-    identifier = lead class constructed tag ∷ [];
-    size = length content ∷ [];
-    whole = refl;
-    spells_identifier = inl (in_tag, refl);
-    spells_length = inl (short, refl);
-  };
-  whole = refl;
-}
-
-pub one : {A : Type 0} (M : Piece → A → Type 0) (class : ℕ) (constructed : Bool) (tag : ℕ) (content : List ℕ) (v : A) (rest : List ℕ) → class < 4 → tag < 31 → length content < 128
-    → M (piece class constructed tag content) v → One M (tlv class constructed tag content ++ rest) v rest
-one M class constructed tag content v rest in_class in_tag short means =
-    record { piece = piece class constructed tag content; spells = spelled class constructed tag content in_class in_tag short; whole = refl; means = means }
-
--- what the element at the front doesn't mean doesn't begin there
-pub none_here : {A : Type 0} (M : Piece → A → Type 0) (p : Piece) (rest : List ℕ) → IsPiece p → ((v : A) → M p v → ⊥) → NoneBegins (One M) (p.octets ++ rest)
-none_here M p rest spells none v r is =
-    let mine = piece_only (p.octets ++ rest) p rest spells refl in
-    let other = piece_only (p.octets ++ rest) is.piece r is.spells is.whole in
-    let both : ◌≡◌ {A = Piece × List ℕ} (is.piece, r) (p, rest) = cc in
-    none v (subst (λ z. M z v) (ap (λ (z : Piece × List ℕ). z.0) both) is.means)
-
-oid_is : (content rest : List ℕ) → length content < 128 → One IsOid (tlv 0 false 6 content ++ rest) content rest
+pub oid_is : (content rest : List ℕ) → length content < 128 → One IsOid (tlv 0 false 6 content ++ rest) content rest
 oid_is content rest short = one IsOid 0 false 6 content content rest (lit< tt) (lit< tt) short (record { leaf = record { tag_is = refl; primitive = refl }; meant = refl })
 
 pub algorithm_is : (rest : List ℕ) → AlgorithmIdentifier (algorithm_octets ++ rest) algorithm rest
@@ -57,8 +19,8 @@ algorithm_is rest = one (Holds 16 AlgorithmParts) 0 true 16 (0x06 ∷ 0x02 ∷ 0
 )
 
 -- a BIT STRING of no bits
-bits_are : One IsBits (0x03 ∷ 0x01 ∷ 0x00 ∷ []) key.key []
-bits_are = one IsBits 0 false 3 (0x00 ∷ []) key.key [] (lit< tt) (lit< tt) (lit< tt) (record {
+pub bits_are : (rest : List ℕ) → One IsBits (0x03 ∷ 0x01 ∷ 0x00 ∷ rest) key.key rest
+bits_are rest = one IsBits 0 false 3 (0x00 ∷ []) key.key rest (lit< tt) (lit< tt) (lit< tt) (record {
   leaf = record { tag_is = refl; primitive = refl };
   meant = record { whole = refl; strict = record { bits = record { few = lit< tt; none = λ e. refl }; zero = refl } };
 })
@@ -66,7 +28,15 @@ bits_are = one IsBits 0 false 3 (0x00 ∷ []) key.key [] (lit< tt) (lit< tt) (li
 pub key_is : (rest : List ℕ) → SubjectPublicKeyInfo (key_octets ++ rest) key rest
 key_is rest = one (HoldsWindow 16 KeyParts (λ k. k.raw)) 0 true 16 (algorithm_octets ++ 0x03 ∷ 0x01 ∷ 0x00 ∷ []) key rest (lit< tt) (lit< tt) (lit< tt) (record {
   left = [];
-  inside = record { tag = refl; inner = record { after_algorithm = 0x03 ∷ 0x01 ∷ 0x00 ∷ []; algorithm = algorithm_is (0x03 ∷ 0x01 ∷ 0x00 ∷ []); subject_public_key = bits_are } };
+  inside = record { tag = refl; inner = record { after_algorithm = 0x03 ∷ 0x01 ∷ 0x00 ∷ []; algorithm = algorithm_is (0x03 ∷ 0x01 ∷ 0x00 ∷ []); subject_public_key = bits_are [] } };
+  window = refl;
+})
+
+pub empty_name_is : (rest : List ℕ) → X509Name (empty_octets ++ rest) empty_name rest
+unfolding AsMany
+empty_name_is rest = one (HoldsWindow 16 NameParts (λ n. n.raw)) 0 true 16 [] empty_name rest (lit< tt) (lit< tt) (lit< tt) (record {
+  left = [];
+  inside = record { tag = refl; inner = (refl, none_at_end (Holds 17 RelativeParts)) };
   window = refl;
 })
 

@@ -17,13 +17,13 @@ use Rattle.x509_core.specs.Grammar.{Grammar, One, Holds, HoldsWindow}
 use Rattle.x509_core.proofs.Grammars.{IsMeaning, IsReading, next_reading, two, was_named, content_below}
 use Rattle.x509_core.specs.declared.error.X509Error.TheVariants as errors
 use Rattle.x509_names.specs.Fields.{Key, RsaKey, KeyValue, rsa, dsa, gost, gost_2012, unknown}
-use Rattle.x509_names.specs.Identifiers.{rsa_id, ec_id, dsa_id, gost_id, gost_2012_256_id, gost_2012_512_id}
+use Rattle.x509_objects.specs.Identifiers.{rsa_id, ec_id, dsa_id, gost_id, gost_2012_256_id, gost_2012_512_id}
 use Rattle.x509_names.specs.Reading.{algorithm_in, algorithm_at, bits_in, bits_at, integer_in, integer_at, octets_in, octets_at, key_in, rsa_key_in, rsa_key_at, value_of, key_value_of, window_to}
 use Rattle.x509_names.specs.Leaves.{IsBits, IsInteger, IsOctets}
 use Rattle.x509_names.specs.Names.{AlgorithmParts, KeyParts}
 use Rattle.x509_names.specs.PublicKeys.{RsaParts, RSAPublicKey, IsKeyValue, is_rsa, is_ec, is_dsa, is_gost, is_gost_256, is_gost_512, is_unknown, IsExponent}
 use Rattle.x509_names.proofs.LeafLaws.{content_found, content_only, bits_meaning, integer_meaning, octets_meaning}
-use Rattle.x509_names.proofs.FrontLaws.{named_reading}
+use Rattle.x509_core.proofs.FrontLaws.{named_reading}
 use Rattle.x509_names.proofs.NameLaws.{algorithm_meaning, window_is}
 
 pub key_meaning : IsMeaning (HoldsWindow 16 KeyParts (λ k. k.raw)) key_in

@@ -8,78 +8,29 @@ use Rattle.asn1_core.specs.Elements.{Element}
 use Rattle.asn1_core.specs.declared.error.Error.{Error}
 use Rattle.asn1_any.specs.Cutting.{Piece}
 use Rattle.asn1_any.proofs.Long.{content_long}
-use Rattle.asn1_traits.specs.Leaves.{IsLeaf, MeansOctets}
 use Rattle.asn1_traits.specs.Integers.{IsShortest}
 use Rattle.asn1_traits.specs.IntegerReading.{is_shortest}
 use Rattle.asn1_values.specs.Readers.{bits_at as bits_inside, check_bits}
 use Rattle.asn1_values.specs.ReaderLaws.{bits_is, check_bits_is}
 use Rattle.x509_core.specs.Answers.{Answer, unnamed, plain, ◌>>=◌}
-use Rattle.x509_core.specs.Reading.{piece_at, next, content_in, oid_in}
+use Rattle.x509_core.specs.Reading.{piece_at}
 use Rattle.x509_core.specs.Grammar.{One, UnlessAtEnd}
 use Rattle.x509_core.proofs.Grammars.{IsMeaning, two, piece_found, piece_only}
+use Rattle.x509_core.proofs.LeafLaws.{was_plain, octets_meaning_of, leaf_meaning}
+pub use Rattle.x509_core.proofs.LeafLaws.{content_found, content_only, oid_meaning, any_meaning}
 use Rattle.x509_names.specs.Fields.{Bits}
-use Rattle.x509_names.specs.Leaves.{Leaf, IsOid, IsOctets, IsInteger, IsShortestContent, IsBits, AreBits, IsAny}
-use Rattle.x509_names.specs.Reading.{leaf_in, octets_in, integer_in, shortest_of, bits_of, bits_in, parameters_at}
-
-equal_tags : (a b : ℕ) → (a == b) ≡ true → a ≡ b
-equal_tags a b e = grind (arith, nat_tests)
-
-tags_equal : (a b : ℕ) → a ≡ b → (a == b) ≡ true
-tags_equal a b e = grind (arith, nat_tests)
-
-pub content_found : (n : ℕ) (e : Element) (c : List ℕ) → content_in n e ≡ Ok c → (e.tag ≡ n) × (e.content ≡ c)
-content_found n e c given =
-    elim (chosen (e.tag == n) _ _ _ given) [
-      | inl same ↦ let content : e.content ≡ c = cc in (equal_tags e.tag n same.0, content)
-      | inr other ↦ let impossible = other.1 in cc
-    ]
-
-pub content_only : (n : ℕ) (e : Element) → e.tag ≡ n → content_in n e ≡ Ok e.content
-content_only n e tag = rw (tags_equal e.tag n tag) refl
-
-leaf_case : (t c : Bool) (content v : List ℕ) → (let x : Answer (List ℕ) = if not t || c then Err unnamed else Ok content in x ≡ Ok v) → (t ≡ true) × (c ≡ false) × (v ≡ content)
-leaf_case true true content v given = cc
-leaf_case true false content v given = (refl, refl, cc)
-leaf_case false c content v given = cc
-
-leaf_found : (n : ℕ) (e : Element) (c : List ℕ) → leaf_in n e ≡ Ok c → IsLeaf n e × (c ≡ e.content)
-leaf_found n e c given =
-    let case = leaf_case (e.tag == n) e.constructed e.content c given in
-    (record { tag_is = equal_tags e.tag n case.0; primitive = case.1 }, case.2)
-
-leaf_only : (n : ℕ) (e : Element) → IsLeaf n e → leaf_in n e ≡ Ok e.content
-leaf_only n e is = rw (tags_equal e.tag n is.tag_is, is.primitive) refl
-
--- a leaf of any content
-octets_meaning_of : (n : ℕ) → IsMeaning (Leaf n (MeansOctets (λ v. v))) (λ q. leaf_in n q.element)
-octets_meaning_of n = record {
-  found = λ q v spells below given. let is = leaf_found n q.element v given in record { leaf = is.0; meant = is.1 };
-  only = λ q v spells below is. leaf_only n q.element is.leaf ∙ ap (λ z. Ok z) (sym is.meant);
-}
-
-pub oid_meaning : IsMeaning IsOid (λ q. oid_in q.element)
-oid_meaning = octets_meaning_of 6
+use Rattle.x509_names.specs.Leaves.{IsOctets, IsInteger, IsShortestContent, IsBits, AreBits, IsAny}
+use Rattle.x509_names.specs.Reading.{octets_in, integer_in, shortest_of, bits_of, bits_in, parameters_at}
 
 pub octets_meaning : IsMeaning IsOctets (λ q. octets_in q.element)
 octets_meaning = octets_meaning_of 4
 
--- a leaf whose content is read by a further reader
-leaf_meaning : {A : Type 0} (n : ℕ) (means : List ℕ → A → Type 0) (f : List ℕ → Answer A) → ((c : List ℕ) (v : A) → f c ≡ Ok v → means c v) → ((c : List ℕ) (v : A) → means c v → f c ≡ Ok v)
-    → IsMeaning (Leaf n means) (λ q. leaf_in n q.element >>= f)
-leaf_meaning n means f found only = record {
-  found = λ q v spells below given.
-      let both = two (leaf_in n q.element) f v given in
-      let is = leaf_found n q.element both.0 both.1 in
-      record { leaf = is.0; meant = subst (λ z. means z v) is.1 (found both.0 v both.2) };
-  only = λ q v spells below is. rw (leaf_only n q.element is.leaf) (only q.element.content v is.meant);
-}
-
-shortest_is : (content : List ℕ) → is_shortest content ≡ true → IsShortest content
+pub shortest_is : (content : List ℕ) → is_shortest content ≡ true → IsShortest content
 shortest_is [] e = cc
 shortest_is (octet ∷ []) e = tt
 shortest_is (octet ∷ next ∷ octets) e = grind (arith, nat_tests)
 
-is_shortest_of : (content : List ℕ) → IsShortest content → is_shortest content ≡ true
+pub is_shortest_of : (content : List ℕ) → IsShortest content → is_shortest content ≡ true
 is_shortest_of [] is = absurd is
 is_shortest_of (octet ∷ []) is = refl
 is_shortest_of (octet ∷ next ∷ octets) is = grind (arith, nat_tests)
@@ -97,11 +48,7 @@ shortest_only c v is = rw (is_shortest_of c is.shortest) (ap (λ z. Ok z) (sym i
 pub integer_meaning : IsMeaning IsInteger (λ q. integer_in q.element)
 integer_meaning = leaf_meaning 2 IsShortestContent shortest_of shortest_found shortest_only
 
-was_plain : {A : Type 0} (r : Result A Error) (x : A) → plain (result_ok r) ≡ Ok x → r ≡ Ok x
-was_plain (Ok y) x given = let same : y ≡ x = cc in ap (λ z. Ok z) same
-was_plain (Err e) x given = cc
-
-bits_found : (c : List ℕ) (b : Bits) → bits_of c ≡ Ok b → AreBits c b
+pub bits_found : (c : List ℕ) (b : Bits) → bits_of c ≡ Ok b → AreBits c b
 unfolding bits_of
 bits_found c b given =
     let first = two (plain (result_ok (check_bits c))) _ b given in
@@ -114,7 +61,7 @@ bits_found c b given =
     let octets : strict.octets ≡ second.0.1 = cc in
     subst (AreBits c) same (record { whole = means.whole; strict = rw (sym unused, sym octets) strict.strict })
 
-bits_only : (c : List ℕ) (b : Bits) → AreBits c b → bits_of c ≡ Ok b
+pub bits_only : (c : List ℕ) (b : Bits) → AreBits c b → bits_of c ≡ Ok b
 unfolding bits_of
 bits_only c b is =
     let strict = (check_bits_is c).1 (record { unused = b.unused; octets = b.octets; whole = is.whole; strict = is.strict }) in
@@ -123,12 +70,6 @@ bits_only c b is =
 
 pub bits_meaning : IsMeaning IsBits (λ q. bits_in q.element)
 bits_meaning = leaf_meaning 3 AreBits bits_of bits_found bits_only
-
-pub any_meaning : IsMeaning IsAny (λ q. Ok q.element)
-any_meaning = record {
-  found = λ q v spells below given. cc;
-  only = λ q v spells below is. ap (λ z. Ok z) (sym is);
-}
 
 -- any element that is read
 pub piece_any : (i : List ℕ) (q : Piece) (r : List ℕ) → AllBelowBase 256 i → piece_at i ≡ Ok (q, r) → One IsAny i q.element r

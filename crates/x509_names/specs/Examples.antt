@@ -16,6 +16,12 @@ key_octets = 0x30 ∷ 0x09 ∷ 0x30 ∷ 0x04 ∷ 0x06 ∷ 0x02 ∷ 0x2a ∷ 0x03
 abbrev pub key : Key
 key = record { algorithm = algorithm; key = record { unused = 0; octets = [] }; raw = key_octets }
 
+abbrev pub empty_octets : List ℕ
+empty_octets = 0x30 ∷ 0x00 ∷ []
+
+abbrev pub empty_name : Name
+empty_name = record { sets = []; raw = empty_octets }
+
 -- a name that ends before an empty set, and so does its window
 abbrev pub stopped_octets : List ℕ
 stopped_octets = 0x30 ∷ 0x02 ∷ 0x31 ∷ 0x00 ∷ []

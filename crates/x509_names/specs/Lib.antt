@@ -1,10 +1,10 @@
 pub mod Examples
 pub mod Fields
-pub mod Fronts
-pub mod Identifiers
 pub mod Leaves
 pub mod Names
 pub mod PublicKeys
 pub mod Reading
 pub mod Texts
 pub mod View
+pub use Rattle.x509_core.specs.Fronts
+pub use Rattle.x509_objects.specs.Identifiers

@@ -3,7 +3,7 @@ use Rattle.std.specs.Prelude.{◌≡◌, ◌≢◌, ℕ, pos, ◌-◌, ◌*◌, 
 use Rattle.asn1_traits.specs.Integers.{SpellsInteger}
 use Rattle.x509_core.specs.Grammar.{Grammar, One, Box}
 use Rattle.x509_names.specs.Fields.{RsaKey, KeyValue, rsa, ec, dsa, gost, gost_2012, unknown}
-use Rattle.x509_names.specs.Identifiers.{rsa_id, ec_id, dsa_id, gost_id, gost_2012_256_id, gost_2012_512_id}
+use Rattle.x509_objects.specs.Identifiers.{rsa_id, ec_id, dsa_id, gost_id, gost_2012_256_id, gost_2012_512_id}
 use Rattle.x509_names.specs.Leaves.{IsInteger, IsOctets}
 
 -- RSAPublicKey ::= SEQUENCE { modulus INTEGER, publicExponent INTEGER } (RFC 3279, 2.3.1); what is left of the content is ignored

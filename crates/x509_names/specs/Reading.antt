@@ -1,20 +1,17 @@
 -- The readers of this crate as functions on octets, with the refusals that are promised, in their order. What they read stands
 -- in `Leaves`, `Names` and `PublicKeys`; laws tie each function to it.
-use Rattle.std.specs.Prelude.{ℕ, ◌-◌, ◌==◌, ◌||◌, not, if◌then◌else◌, List, [], ◌∷◌, length, take, Option, Some, None, option_map, Ok, Err, bytes_eq}
+use Rattle.std.specs.Prelude.{ℕ, ◌-◌, ◌||◌, if◌then◌else◌, List, [], ◌∷◌, length, take, Option, Some, None, option_map, Ok, Err, bytes_eq}
 use Rattle.std.specs.Result.{result_ok}
 use Rattle.asn1_core.specs.Elements.{Element}
 use Rattle.asn1_any.specs.Cutting.{Piece}
 use Rattle.asn1_traits.specs.IntegerReading.{is_shortest}
 use Rattle.asn1_values.specs.Readers.{bits_at as bits_within, check_bits}
 use Rattle.x509_core.specs.Answers.{Answer, unnamed, plain, naming, ◌>>=◌}
-use Rattle.x509_core.specs.Reading.{Reader, piece_at, content_in, oid_in, next, many_of}
+use Rattle.x509_core.specs.Reading.{Reader, piece_at, content_in, leaf_in, oid_in, next, many_of}
 use Rattle.x509_core.specs.declared.error.X509Error.TheVariants as errors
+pub use Rattle.x509_core.specs.Reading.{leaf_in}
 use Rattle.x509_names.specs.Fields.{Algorithm, Attribute, Name, Bits, Key, RsaKey, KeyValue, rsa, ec, dsa, gost, gost_2012, unknown}
-use Rattle.x509_names.specs.Identifiers.{rsa_id, ec_id, dsa_id, gost_id, gost_2012_256_id, gost_2012_512_id}
-
--- the content of a primitive element of this tag number
-abbrev pub leaf_in : ℕ → Element → Answer (List ℕ)
-leaf_in n e = if not (e.tag == n) || e.constructed then Err unnamed else Ok e.content
+use Rattle.x509_objects.specs.Identifiers.{rsa_id, ec_id, dsa_id, gost_id, gost_2012_256_id, gost_2012_512_id}
 
 -- an OBJECT IDENTIFIER at the front
 abbrev pub oid_at : Reader (List ℕ)

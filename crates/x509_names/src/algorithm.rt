@@ -9,19 +9,18 @@ ghost use Rattle.x509_core.specs.Answers.{Gives, ElseMemory};
 ghost use Rattle.x509_core.specs.Errors.{told};
 ghost use Rattle.x509_core.specs.Grammar.{Holds};
 ghost use Rattle.x509_names.specs.Fields.{Algorithm};
-ghost use Rattle.x509_names.specs.Fronts.{TellsMissing, one_rest};
+ghost use Rattle.x509_core.specs.Fronts.{TellsMissing, one_rest};
 ghost use Rattle.x509_names.specs.Names as grammar;
 ghost use Rattle.x509_names.specs.Reading.{algorithm_in, algorithm_at, parameters_at};
 ghost use Rattle.x509_names.specs.View.{algorithm_view};
 
-use crate::front::{whole_element, within};
 use crate::leaves::next_oid;
 use asn1_any::{Any, Element};
 use asn1_core::{Err as Refusal, HeaderCount, OutOfMemory};
 use asn1_oid::Oid;
 use asn1_traits::{DerMeaning, FromDer};
 use std::alloc::Global;
-use x509_core::{Parts, X509Error, X509Result, named, parts_of};
+use x509_core::{Parts, X509Error, X509Result, front_element, named, parts_of};
 
 /// An algorithm, and its parameters where an octet is left behind its identifier.
 #[derive(Debug, Drop, PartialEq, Eq)]
@@ -148,9 +147,9 @@ fn algorithm_at_front<'a>(alloc: Global, i: &'a [u8]) -> X509Result<'a, Algorith
     ensures missing { TellsMissing i.now result }
 {
     let mut count = HeaderCount::new();
-    let (rest, element) = whole_element(i, &mut count)?;
+    let (rest, element) = front_element(i, &mut count)?;
     match algorithm_of(alloc, element, &mut count) {
         Ok(algorithm) => Ok((rest, algorithm)),
-        Err(refusal) => Err(within(refusal)),
+        Err(refusal) => Err(Refusal::within(refusal)),
     }
 }

@@ -11,20 +11,19 @@ ghost use Rattle.x509_core.specs.Errors.{told};
 ghost use Rattle.x509_core.specs.Grammar.{Holds};
 ghost use Rattle.x509_core.specs.Reading.{piece_at};
 ghost use Rattle.x509_names.specs.Fields.{Attribute};
-ghost use Rattle.x509_names.specs.Fronts.{TellsMissing, one_rest};
+ghost use Rattle.x509_core.specs.Fronts.{TellsMissing, one_rest};
 ghost use Rattle.x509_names.specs.Names as grammar;
 ghost use Rattle.x509_names.specs.Reading.{attribute_in, attribute_at};
 ghost use Rattle.x509_names.specs.Texts.{IsText, RefusesText};
 ghost use Rattle.x509_names.specs.View.{attribute_view};
 
-use crate::front::{whole_element, within};
 use crate::leaves::next_oid;
 use asn1_any::{Any, Element};
 use asn1_core::{Err as Refusal, Error, HeaderCount, OutOfMemory};
 use asn1_oid::Oid;
 use asn1_traits::{DerMeaning, FromDer};
 use std::alloc::Global;
-use x509_core::{Parts, X509Error, X509Result, named, parts_of};
+use x509_core::{Parts, X509Error, X509Result, front_element, named, parts_of};
 
 /// An attribute of a name: its type and its value.
 #[derive(Debug, Drop, PartialEq, Eq)]
@@ -151,9 +150,9 @@ fn attribute_at_front<'a>(alloc: Global, i: &'a [u8]) -> X509Result<'a, Attribut
     ensures missing { TellsMissing i.now result }
 {
     let mut count = HeaderCount::new();
-    let (rest, element) = whole_element(i, &mut count)?;
+    let (rest, element) = front_element(i, &mut count)?;
     match attribute_of(alloc, element, &mut count) {
         Ok(attribute) => Ok((rest, attribute)),
-        Err(refusal) => Err(within(refusal)),
+        Err(refusal) => Err(Refusal::within(refusal)),
     }
 }

@@ -9,14 +9,13 @@ ghost use Rattle.x509_core.specs.Answers.{Gives, ElseMemory, naming};
 ghost use Rattle.x509_core.specs.Errors.{told};
 ghost use Rattle.x509_core.specs.Grammar.{HoldsWindow};
 ghost use Rattle.x509_names.specs.Fields.{Key, KeyValue};
-ghost use Rattle.x509_names.specs.Fronts.{TellsMissing, IsWindow, one_rest};
+ghost use Rattle.x509_core.specs.Fronts.{TellsMissing, IsWindow, one_rest};
 ghost use Rattle.x509_names.specs.Names as grammar;
 ghost use Rattle.x509_names.specs.PublicKeys.{IsKeyValue};
 ghost use Rattle.x509_names.specs.Reading.{bits_at, key_in, key_at};
 ghost use Rattle.x509_names.specs.View.{bits_view, key_view, public_key_view};
 
 use crate::algorithm::{AlgorithmIdentifier, next_algorithm};
-use crate::front::{whole_element, within};
 use crate::leaves::next_bits;
 use crate::public_key::{PublicKey, key_value};
 use asn1_any::Element;
@@ -24,7 +23,7 @@ use asn1_core::{Err as Refusal, HeaderCount, OutOfMemory};
 use asn1_traits::{DerMeaning, FromDer};
 use asn1_values::BitString;
 use std::alloc::Global;
-use x509_core::{Parts, X509Error, X509Result, named, parts_of};
+use x509_core::{Parts, X509Error, X509Result, front_element, named, parts_of};
 
 /// A key with its algorithm.
 #[derive(Debug, Drop, PartialEq, Eq)]
@@ -150,9 +149,9 @@ fn key_at_front<'a>(alloc: Global, i: &'a [u8]) -> X509Result<'a, SubjectPublicK
     ensures missing { TellsMissing i.now result }
 {
     let mut count = HeaderCount::new();
-    let (rest, element) = whole_element(i, &mut count)?;
+    let (rest, element) = front_element(i, &mut count)?;
     match key_of(alloc, element, &mut count) {
         Ok(key) => Ok((rest, key)),
-        Err(refusal) => Err(within(refusal)),
+        Err(refusal) => Err(Refusal::within(refusal)),
     }
 }

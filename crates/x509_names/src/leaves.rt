@@ -3,8 +3,8 @@
 ghost use Rattle.std.specs.Prelude.{◌≡◌, ◌+◌, ◌≤◌, length, IfOk, IfErr};
 ghost use Rattle.asn1_any.specs.Views.{any_of};
 ghost use Rattle.x509_core.specs.Answers.{Gives};
-ghost use Rattle.x509_names.specs.Fronts.{TakesNoMemory};
-ghost use Rattle.x509_names.specs.Reading.{leaf_in, oid_at, bits_of, bits_at, integer_in, octets_in};
+ghost use Rattle.x509_core.specs.Fronts.{TakesNoMemory};
+ghost use Rattle.x509_names.specs.Reading.{oid_at, bits_of, bits_at, integer_in, octets_in};
 ghost use Rattle.x509_names.specs.View.{bits_view};
 
 use asn1_any::Any;
@@ -13,18 +13,7 @@ use asn1_oid::Oid;
 use asn1_traits::{DerLeaf, FromLeaf, check_shortest};
 use asn1_values::BitString;
 use std::alloc::Global;
-use x509_core::{Parts, X509Error, oid_of};
-
-/// The content of a primitive element of this tag number, whatever its class.
-pub fn leaf_of<'a>(tag: u32, any: Any<'a>) -> Result<&'a [u8], Refusal<X509Error>>
-    ensures read { Gives (λ c. c.now) result (leaf_in tag (any_of any.entry)) }
-    ensures memory { IfErr result TakesNoMemory }
-{
-    if any.tag().0 != tag || any.header.is_constructed() {
-        return Err(Refusal::Error(X509Error::Der(Error::InvalidTag)));
-    }
-    Ok(any.content)
-}
+use x509_core::{Parts, X509Error, leaf_of, oid_of};
 
 /// The content of an OCTET STRING.
 pub(crate) fn octets_of<'a>(any: Any<'a>) -> Result<&'a [u8], Refusal<X509Error>>
@@ -67,6 +56,7 @@ pub fn bits_within<'a>(
 /// An OBJECT IDENTIFIER at the front.
 pub fn next_oid<'a>(parts: &mut Parts<'a>) -> Result<Oid<'a>, Refusal<X509Error>>
     ensures read { Gives (λ o. (o, parts.new.octets)) result (oid_at parts.old.octets) }
+    ensures memory { IfErr result TakesNoMemory }
     ensures elements { IfOk result (λ _. parts.old.elements ≡ parts.new.elements + 1) }
     ensures ends { length parts.new.octets ≤ length parts.old.octets }
 {
@@ -80,6 +70,7 @@ pub fn next_bits<'a>(
     parts: &mut Parts<'a>,
 ) -> Result<BitString<'a>, Refusal<X509Error>>
     ensures read { Gives (λ v. (bits_view v, parts.new.octets)) result (bits_at parts.old.octets) }
+    ensures memory { IfErr result TakesNoMemory }
     ensures elements { IfOk result (λ _. parts.old.elements ≡ parts.new.elements + 1) }
     ensures ends { length parts.new.octets ≤ length parts.old.octets }
 {

@@ -13,14 +13,13 @@ ghost use Rattle.x509_core.specs.Errors.{told};
 ghost use Rattle.x509_core.specs.Grammar.{HoldsWindow};
 ghost use Rattle.x509_core.specs.Reading.{many_of};
 ghost use Rattle.x509_names.specs.Fields.{Name};
-ghost use Rattle.x509_names.specs.Fronts.{TellsMissing, IsWindow, one_rest};
-ghost use Rattle.x509_names.specs.Identifiers.{common_name_id, country_id, organization_id, organizational_unit_id, state_or_province_id, locality_id, email_id};
+ghost use Rattle.x509_core.specs.Fronts.{TellsMissing, IsWindow, one_rest};
+ghost use Rattle.x509_objects.specs.Identifiers.{common_name_id, country_id, organization_id, organizational_unit_id, state_or_province_id, locality_id, email_id};
 ghost use Rattle.x509_names.specs.Names as grammar;
 ghost use Rattle.x509_names.specs.Reading.{relative_name_at, name_in, name_at};
 ghost use Rattle.x509_names.specs.View.{set_view, name_view, attributes_in, attributes_of_set, has_type};
 
 use crate::attributes::{Attributes, AttributesOf};
-use crate::front::{whole_element, within};
 use crate::relative::{RelativeDistinguishedName, relative_name_of};
 use asn1_any::Element;
 use asn1_core::{Err as Refusal, HeaderCount, OutOfMemory};
@@ -28,7 +27,7 @@ use asn1_oid::Oid;
 use asn1_traits::{DerMeaning, FromDer};
 use std::alloc::Global;
 use std::slice;
-use x509_core::{Parts, X509Error, X509Result, parts_of};
+use x509_core::{Parts, X509Error, X509Result, front_element, parts_of};
 
 /// A name: sets of attributes, in the order in which they stand.
 #[derive(Debug, Drop, PartialEq, Eq)]
@@ -268,9 +267,9 @@ fn name_at_front<'a>(alloc: Global, i: &'a [u8]) -> X509Result<'a, X509Name<'a>>
     ensures missing { TellsMissing i.now result }
 {
     let mut count = HeaderCount::new();
-    let (rest, element) = whole_element(i, &mut count)?;
+    let (rest, element) = front_element(i, &mut count)?;
     match name_of(alloc, element, &mut count) {
         Ok(name) => Ok((rest, name)),
-        Err(refusal) => Err(within(refusal)),
+        Err(refusal) => Err(Refusal::within(refusal)),
     }
 }

@@ -9,20 +9,19 @@ ghost use Rattle.x509_core.specs.Errors.{told};
 ghost use Rattle.x509_core.specs.Grammar.{Holds};
 ghost use Rattle.x509_core.specs.Reading.{content_in, next};
 ghost use Rattle.x509_names.specs.Fields.{RsaKey, KeyValue};
-ghost use Rattle.x509_names.specs.Fronts.{TakesNoMemory, one_rest};
+ghost use Rattle.x509_core.specs.Fronts.{TakesNoMemory, one_rest};
 ghost use Rattle.x509_names.specs.PublicKeys as grammar;
 ghost use Rattle.x509_names.specs.PublicKeys.{IsExponent, rsa_bits, ec_bits, key_bits};
 ghost use Rattle.x509_names.specs.Reading.{integer_at, octets_at, rsa_key_in, rsa_key_at, key_value_of};
 ghost use Rattle.x509_names.specs.View.{rsa_view, public_key_view};
 
-use crate::front::whole_element;
 use crate::leaves::{integer_of, octets_of};
 use asn1_any::Element;
 use asn1_core::{Err as Refusal, Error, HeaderCount};
 use asn1_traits::{DerMeaning, FromDer};
 use asn1_values::Integer;
 use std::alloc::Global;
-use x509_core::{X509Error, X509Result};
+use x509_core::{X509Error, X509Result, front_element};
 
 /// 1.2.840.113549.1.1.1
 const RSA_ENCRYPTION: &[u8] = b"\x2a\x86\x48\x86\xf7\x0d\x01\x01\x01";
@@ -177,7 +176,7 @@ fn front_integer<'a>(i: &'a [u8]) -> Result<(&'a [u8], &'a [u8]), Refusal<X509Er
     ensures memory { IfErr result TakesNoMemory }
 {
     let mut count = HeaderCount::new();
-    let (rest, element) = whole_element(i, &mut count)?;
+    let (rest, element) = front_element(i, &mut count)?;
     let content = integer_of(element.any)?;
     Ok((rest, content))
 }
@@ -188,7 +187,7 @@ fn front_octets<'a>(i: &'a [u8]) -> Result<(&'a [u8], &'a [u8]), Refusal<X509Err
     ensures memory { IfErr result TakesNoMemory }
 {
     let mut count = HeaderCount::new();
-    let (rest, element) = whole_element(i, &mut count)?;
+    let (rest, element) = front_element(i, &mut count)?;
     let content = octets_of(element.any)?;
     Ok((rest, content))
 }
@@ -213,7 +212,7 @@ fn front_rsa_key<'a>(i: &'a [u8]) -> Result<(&'a [u8], RSAPublicKey<'a>), Refusa
     ensures memory { IfErr result TakesNoMemory }
 {
     let mut count = HeaderCount::new();
-    let (rest, element) = whole_element(i, &mut count)?;
+    let (rest, element) = front_element(i, &mut count)?;
     let key = rsa_key_of(element)?;
     Ok((rest, key))
 }

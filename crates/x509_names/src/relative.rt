@@ -12,19 +12,18 @@ ghost use Rattle.x509_core.specs.Errors.{told};
 ghost use Rattle.x509_core.specs.Grammar.{Holds};
 ghost use Rattle.x509_core.specs.Reading.{many_of};
 ghost use Rattle.x509_names.specs.Fields.{Attribute};
-ghost use Rattle.x509_names.specs.Fronts.{TellsMissing, one_rest};
+ghost use Rattle.x509_core.specs.Fronts.{TellsMissing, one_rest};
 ghost use Rattle.x509_names.specs.Names as grammar;
 ghost use Rattle.x509_names.specs.Reading.{attribute_at, relative_name_in, relative_name_at};
 ghost use Rattle.x509_names.specs.View.{attribute_view, set_view};
 
 use crate::attribute::{AttributeTypeAndValue, attribute_of};
-use crate::front::{whole_element, within};
 use asn1_any::Element;
 use asn1_core::{Err as Refusal, ErrorKind, HeaderCount, OutOfMemory};
 use asn1_traits::{DerMeaning, FromDer};
 use std::alloc::Global;
 use std::slice;
-use x509_core::{Parts, X509Error, X509Result, parts_of};
+use x509_core::{Parts, X509Error, X509Result, front_element, parts_of};
 
 /// A set of attributes, in the order in which they were read: one or more in one that was read.
 #[derive(Debug, Drop, PartialEq, Eq)]
@@ -155,9 +154,9 @@ fn relative_name_at_front<'a>(
     ensures missing { TellsMissing i.now result }
 {
     let mut count = HeaderCount::new();
-    let (rest, element) = whole_element(i, &mut count)?;
+    let (rest, element) = front_element(i, &mut count)?;
     match relative_name_of(alloc, element, &mut count) {
         Ok(set) => Ok((rest, set)),
-        Err(refusal) => Err(within(refusal)),
+        Err(refusal) => Err(Refusal::within(refusal)),
     }
 }

@@ -19,28 +19,28 @@ plain identifier name = record { identifier = identifier; told = record { short_
 -- attribute types of persons and places
 abbrev pub places : List (Row Entry)
 places =
-    plain ids.state_or_province (codes "stateOrProvinceName")
-    ∷ plain ids.locality (codes "localityName")
-    ∷ plain ids.country (codes "countryName")
-    ∷ plain ids.common_name (codes "commonName")
+    plain ids.state_or_province_id (codes "stateOrProvinceName")
+    ∷ plain ids.locality_id (codes "localityName")
+    ∷ plain ids.country_id (codes "countryName")
+    ∷ plain ids.common_name_id (codes "commonName")
     ∷ []
 
 -- attribute types of organizations, domains and mail
 abbrev pub owners : List (Row Entry)
 owners =
-    plain ids.email_address (codes "emailAddress")
-    ∷ plain ids.domain_component (codes "domainComponent")
-    ∷ plain ids.organizational_unit (codes "organizationalUnit")
-    ∷ plain ids.organization (codes "organizationName")
+    plain ids.email_id (codes "emailAddress")
+    ∷ plain ids.domain_component_id (codes "domainComponent")
+    ∷ plain ids.organizational_unit_id (codes "organizationalUnit")
+    ∷ plain ids.organization_id (codes "organizationName")
     ∷ []
 
 -- the algorithms of keys, and a mask generation function
 abbrev pub algorithms : List (Row Entry)
 algorithms =
-    record { identifier = ids.mgf1; told = record { short_name = codes "id-mgf1"; description = codes "Mask Generator Function 1 (MGF1)" } }
-    ∷ plain ids.dsa (codes "dsa")
-    ∷ plain ids.ec_public_key (codes "ecPublicKey")
-    ∷ plain ids.rsa_encryption (codes "rsaEncryption")
+    record { identifier = ids.mgf1_id; told = record { short_name = codes "id-mgf1"; description = codes "Mask Generator Function 1 (MGF1)" } }
+    ∷ plain ids.dsa_id (codes "dsa")
+    ∷ plain ids.ec_id (codes "ecPublicKey")
+    ∷ plain ids.rsa_id (codes "rsaEncryption")
     ∷ []
 
 -- the registry that is handed out
@@ -53,14 +53,14 @@ short identifier text = record { identifier = identifier; told = text }
 -- abbreviations of attribute types (RFC 4514, 3; the last is common use)
 abbrev pub abbreviations : List (Row (List ℕ))
 abbreviations =
-    short ids.common_name (codes "CN")
-    ∷ short ids.country (codes "C")
-    ∷ short ids.locality (codes "L")
-    ∷ short ids.state_or_province (codes "ST")
-    ∷ short ids.organization (codes "O")
-    ∷ short ids.organizational_unit (codes "OU")
-    ∷ short ids.domain_component (codes "DC")
-    ∷ short ids.email_address (codes "Email")
+    short ids.common_name_id (codes "CN")
+    ∷ short ids.country_id (codes "C")
+    ∷ short ids.locality_id (codes "L")
+    ∷ short ids.state_or_province_id (codes "ST")
+    ∷ short ids.organization_id (codes "O")
+    ∷ short ids.organizational_unit_id (codes "OU")
+    ∷ short ids.domain_component_id (codes "DC")
+    ∷ short ids.email_id (codes "Email")
     ∷ []
 
 -- what the first row of an identifier tells, or else something other

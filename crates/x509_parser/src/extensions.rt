@@ -1,6 +1,9 @@
 //! Extensions by their envelope (RFC 5280, 4.2), and the types of what their values hold.
 
 pub use x509_ext::{ParsedExtension, X509Extension, X509ExtensionParser};
+pub use x509_timestamps::{
+    parse_ct_signed_certificate_timestamp, parse_ct_signed_certificate_timestamp_list,
+};
 pub use x509_values::{
     AccessDescription, AuthorityInfoAccess, AuthorityKeyIdentifier, BasicConstraints,
     CRLDistributionPoint, CRLDistributionPoints, CertificatePolicies, CtExtensions, CtLogID,

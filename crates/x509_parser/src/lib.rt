@@ -1,18 +1,23 @@
-//! Certificates (RFC 5280), read leniently and exactly where their grammar has them.
+//! Certificates, revocation lists (RFC 5280) and certification requests (RFC 2986), read leniently and exactly where their
+//! grammar has them.
 //!
 //! The types stand in crates of their own, each with what is proved of it; this one names them in the Rust crate's modules.
-//! The values of extensions aren't parsed yet, and revocation lists and requests aren't read.
+//! The values of extensions aren't parsed yet.
 #![tactic(auto)]
 
 pub mod certificate;
+pub mod certification_request;
+pub mod cri_attributes;
 pub mod error;
 pub mod extensions;
 pub mod objects;
 pub mod prelude;
 pub mod public_key;
+pub mod revocation_list;
 pub mod time;
 pub mod utils;
 pub mod x509;
 
 pub use asn1_traits::FromDer;
 pub use x509_certs::{parse_x509_certificate, parse_x509_der};
+pub use x509_lists::{parse_crl_der, parse_x509_crl};

@@ -1,13 +1,18 @@
 //! Versions, extensions and certificates.
 
-use crate::words::{Words, bits_text, refusal_text};
+use crate::words::{Words, bits_text, error_text, refusal_text};
 use asn1_core::HeaderCount;
+use asn1_oid::Oid;
 use asn1_traits::FromDer;
-use hex_rows::hex_of;
+use hex_rows::{hex_of, literal, octets_of};
 use std::alloc::Global;
 use std::io;
 use x509_certs::{TbsCertificate, X509Certificate, X509CertificateParser};
-use x509_ext::{UniqueIdentifier, X509Extension, X509Version};
+use x509_core::Parts;
+use x509_ext::{
+    UniqueIdentifier, X509Extension, X509Version, each_extension, find_extension,
+    get_extension_unique, next_version,
+};
 use x509_values::format_serial;
 
 /// The version that begins the octets.
@@ -19,6 +24,65 @@ pub fn version(alloc: Global, octets: &[u8]) -> io::Result<String> {
             Ok(text)
         }
         Err(refusal) => refusal_text(alloc, refusal),
+    }
+}
+
+/// The version that begins a certificate's content, or the first one where none is written; then the octets that are left.
+pub fn version_at(alloc: Global, octets: &[u8]) -> io::Result<String> {
+    let mut count = HeaderCount::new();
+    let Ok(mut parts) = Parts::cut(alloc, octets, &mut count) else {
+        return literal(alloc, "out of memory");
+    };
+    match next_version(alloc, &mut parts, &mut count) {
+        Ok(version) => {
+            let rest = hex_of(alloc, parts.left())?;
+            let text = format!(in alloc; "{version}; rest {rest}")?;
+            Ok(text)
+        }
+        Err(refusal) => refusal_text(alloc, refusal),
+    }
+}
+
+/// The first extension of this identifier among those that the octets are.
+pub fn first_extension(alloc: Global, identifier: &str, octets: &[u8]) -> io::Result<String> {
+    let Some(identifier) = octets_of(alloc, identifier)? else {
+        return literal(alloc, "no identifier");
+    };
+    let Some(extensions) = extensions_of(alloc, octets) else {
+        return literal(alloc, "out of memory");
+    };
+    let oid = Oid::new(identifier.as_slice());
+    match find_extension(extensions.as_slice(), &oid) {
+        Some(extension) => extension.words(alloc),
+        None => literal(alloc, "none"),
+    }
+}
+
+/// The only extension of this identifier among those that the octets are.
+pub fn unique_extension(alloc: Global, identifier: &str, octets: &[u8]) -> io::Result<String> {
+    let Some(identifier) = octets_of(alloc, identifier)? else {
+        return literal(alloc, "no identifier");
+    };
+    let Some(extensions) = extensions_of(alloc, octets) else {
+        return literal(alloc, "out of memory");
+    };
+    let oid = Oid::new(identifier.as_slice());
+    match get_extension_unique(extensions.as_slice(), &oid) {
+        Ok(Some(extension)) => extension.words(alloc),
+        Ok(None) => literal(alloc, "none"),
+        Err(error) => error_text(alloc, error),
+    }
+}
+
+/// The extensions that begin the octets, one behind the other; none where memory ran out.
+fn extensions_of<'a>(alloc: Global, octets: &'a [u8]) -> Option<Vec<X509Extension<'a>>> {
+    let mut count = HeaderCount::new();
+    let Ok(mut parts) = Parts::cut(alloc, octets, &mut count) else {
+        return None;
+    };
+    match each_extension(alloc, &mut parts, &mut count) {
+        Ok(extensions) => Some(extensions),
+        Err(_) => None,
     }
 }
 

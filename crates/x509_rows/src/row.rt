@@ -1,10 +1,12 @@
 //! A row, taken apart.
 
-use crate::certificates::{counted, serial, version};
+use crate::certificates::{
+    counted, first_extension, serial, unique_extension, version, version_at,
+};
 use crate::keys::{exponent, parsed};
 use crate::names::{as_slice, as_str, attributes_of, attributes_under};
 use crate::objects::name_of;
-use crate::times::{from_timestamp, next_update_of, time, validity};
+use crate::times::{from_timestamp, is_valid_at, next_update_of, time, time_left, validity};
 use crate::words::told_of;
 use asn1_traits::FromDer;
 use hex_rows::{literal, octets_of};
@@ -53,13 +55,23 @@ fn called(alloc: Global, call: &str, octets: &[u8]) -> io::Result<String> {
         "iter_attributes" => attributes_of(alloc, octets),
         "try_exponent" => exponent(alloc, octets),
         "parsed" => parsed(alloc, octets),
-        _ => match (
-            call.strip_prefix("iter_"),
-            call.strip_prefix("from_timestamp:"),
-        ) {
+        "next_version" => version_at(alloc, octets),
+        _ => match (call.strip_prefix("iter_"), call.split_once(':')) {
             (Some(name), _) => attributes_under(alloc, name, octets),
-            (None, Some(seconds)) => from_timestamp(alloc, seconds),
+            (None, Some((call, word))) => called_with(alloc, call, word, octets),
             (None, None) => literal(alloc, "no call"),
         },
+    }
+}
+
+/// The same of calls that take a word.
+fn called_with(alloc: Global, call: &str, word: &str, octets: &[u8]) -> io::Result<String> {
+    match call {
+        "from_timestamp" => from_timestamp(alloc, word),
+        "is_valid_at" => is_valid_at(alloc, word, octets),
+        "time_to_expiration" => time_left(alloc, word, octets),
+        "find_extension" => first_extension(alloc, word, octets),
+        "get_extension_unique" => unique_extension(alloc, word, octets),
+        _ => literal(alloc, "no call"),
     }
 }

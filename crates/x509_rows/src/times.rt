@@ -56,6 +56,48 @@ pub fn validity(alloc: Global, octets: &[u8]) -> io::Result<String> {
     }
 }
 
+/// Whether the validity that the octets are holds the moment so many seconds after 1970 began.
+pub fn is_valid_at(alloc: Global, seconds: &str, octets: &[u8]) -> io::Result<String> {
+    let Some(now) = time_after(seconds) else {
+        return literal(alloc, "no time");
+    };
+    match Validity::from_der(alloc, octets) {
+        Ok((_, validity)) => {
+            let text = format!(in alloc; "{}", validity.is_valid_at(now))?;
+            Ok(text)
+        }
+        Err(refusal) => refusal_text(alloc, refusal),
+    }
+}
+
+/// How many seconds the validity that the octets are goes on behind that moment.
+pub fn time_left(alloc: Global, seconds: &str, octets: &[u8]) -> io::Result<String> {
+    let Some(now) = time_after(seconds) else {
+        return literal(alloc, "no time");
+    };
+    match Validity::from_der(alloc, octets) {
+        Ok((_, validity)) => match validity.time_to_expiration(now.to_datetime()) {
+            Some(left) => {
+                let text = format!(in alloc; "{} s", left.as_secs())?;
+                Ok(text)
+            }
+            None => literal(alloc, "none"),
+        },
+        Err(refusal) => refusal_text(alloc, refusal),
+    }
+}
+
+/// The time so many seconds after 1970 began.
+fn time_after(seconds: &str) -> Option<ASN1Time> {
+    let Ok(seconds) = seconds.parse::<i64>() else {
+        return None;
+    };
+    match ASN1Time::from_timestamp(seconds) {
+        Ok(time) => Some(time),
+        Err(_) => None,
+    }
+}
+
 /// The next update that begins a content, and the octets after it.
 pub fn next_update_of(alloc: Global, octets: &[u8]) -> io::Result<String> {
     let mut count = HeaderCount::new();

@@ -15,10 +15,11 @@ use Rattle.x509_core.specs.Answers.{plain}
 use Rattle.x509_core.specs.Grammar.{Holds}
 use Rattle.x509_core.specs.Reading.{next, content_in}
 use Rattle.x509_core.specs.declared.error.X509Error.TheVariants as errors
+use Rattle.x509_core.proofs.FrontLaws.{named_reading}
 use Rattle.x509_core.proofs.Grammars.{IsMeaning, IsReading, next_reading, two, content_below}
+use Rattle.x509_core.proofs.LeafLaws.{equal_tags, was_some, content_found as box_found, content_only as box_only}
 use Rattle.x509_time.specs.Reading.{utc_nanos_at, general_nanos_at, time_of_nanos, time_in, time_at, validity_in, validity_at}
 use Rattle.x509_time.specs.Times.{Time, Period, UtcMoment, GeneralContent, GeneralMoment, IsTime, utc_time, general_time, ASN1Time, ValidityParts, Validity}
-use Rattle.x509_time.proofs.FrontLaws.{named_reading}
 use Rattle.x509_time.proofs.MomentLaws.{moment_found, moment_only}
 use Rattle.x509_time.proofs.RangeLaws.{universal_in, utc_in, zone_shown}
 
@@ -67,26 +68,6 @@ general_only content n is =
 pub general_is : (content : List ℕ) (n : ℤ) → (general_nanos_at content ≡ Some n) ↔ GeneralMoment content n
 general_is content n = (general_found content n, general_only content n)
 
-equal_tags : (a b : ℕ) → (a == b) ≡ true → a ≡ b
-equal_tags a b e = grind (arith, nat_tests)
-
-tags_equal : (a b : ℕ) → a ≡ b → (a == b) ≡ true
-tags_equal a b e = grind (arith, nat_tests)
-
-box_found : (n : ℕ) (e : Element) (c : List ℕ) → content_in n e ≡ Ok c → (e.tag ≡ n) × (e.content ≡ c)
-box_found n e c given =
-    elim (chosen (e.tag == n) _ _ _ given) [
-      | inl same ↦ let content : e.content ≡ c = cc in (equal_tags e.tag n same.0, content)
-      | inr other ↦ let impossible = other.1 in cc
-    ]
-
-box_only : (n : ℕ) (e : Element) → e.tag ≡ n → content_in n e ≡ Ok e.content
-box_only n e tag = rw (tags_equal e.tag n tag) refl
-
-was_plain : {A : Type 0} (o : Option A) (x : A) → plain o ≡ Ok x → o ≡ Some x
-was_plain None x given = cc
-was_plain (Some y) x given = let same : y ≡ x = cc in ap (λ z. Some z) same
-
 was_told : (generalized : Bool) (o : Option ℤ) (v : Time) → option_map (time_of_nanos generalized) o ≡ Some v → (o ≡ Some v.nanoseconds) × (v.generalized ≡ generalized)
 was_told generalized None v given = cc
 was_told generalized (Some n) v given =
@@ -126,7 +107,7 @@ time_is q v = (time_found q v, time_only q v)
 
 pub time_meaning : IsMeaning IsTime (λ q. plain (time_in q.element))
 time_meaning = record {
-  found = λ q v spells below given. time_found q v (was_plain (time_in q.element) v given);
+  found = λ q v spells below given. time_found q v (was_some (time_in q.element) v given);
   only = λ q v spells below is. ap plain (time_only q v is);
 }
 

@@ -1,13 +1,12 @@
 -- What octets are a time or a validity, read leniently (RFC 5280, 4.1.2.5), and the moment that a time stands for.
 use Rattle.std.specs.Prelude.{◌≡◌, ℕ, ℤ, pos, ◌-ℤ◌, ◌*ℤ◌, Bool, true, false, List}
-use Rattle.asn1_any.specs.BerElements.{definite_element}
 use Rattle.asn1_any.specs.Cutting.{Piece}
-use Rattle.asn1_traits.specs.Leaves.{LeafMeans}
 use Rattle.asn1_times.specs.UtcTimes.{UtcMeans}
 use Rattle.asn1_times.specs.GeneralizedTimes.{IsGeneralizedTime, generalized_octets}
 use Rattle.asn1_times.specs.Moments.{HasClock, local_nanos, zone_minutes, full_year}
 use Rattle.asn1_times.specs.declared.datetime.ASN1DateTime.{ASN1DateTime}
 use Rattle.x509_core.specs.Grammar.{Grammar, One, Box}
+use Rattle.x509_core.specs.Leaves.{Leaf}
 
 -- Time (RFC 5280, 4.1.2.5): nanoseconds since 1970 began in universal time, and whether it is a GeneralizedTime
 pub record Time : Type 0 where
@@ -43,8 +42,8 @@ pub record GeneralMoment (content : List ℕ) (nanoseconds : ℤ) : Type 0 where
 -- Time ::= CHOICE { utcTime UTCTime, generalTime GeneralizedTime } (RFC 5280, 4.1). Primitive; the tag number is compared,
 -- the class isn't.
 pub data IsTime (piece : Piece) (v : Time) : Type 0 where
-  utc_time : LeafMeans 23 UtcMoment (definite_element piece.element) v.nanoseconds → v.generalized ≡ false → IsTime piece v
-  general_time : LeafMeans 24 GeneralMoment (definite_element piece.element) v.nanoseconds → v.generalized ≡ true → IsTime piece v
+  utc_time : Leaf 23 UtcMoment piece v.nanoseconds → v.generalized ≡ false → IsTime piece v
+  general_time : Leaf 24 GeneralMoment piece v.nanoseconds → v.generalized ≡ true → IsTime piece v
 
 abbrev pub ASN1Time : Grammar Time
 ASN1Time = One IsTime

@@ -1,17 +1,16 @@
 -- The time of a list's next update, or that none stands there (RFC 5280, 5.1.2.5).
 use Rattle.std.specs.Prelude.{◌≡◌, ◌≢◌, ℕ, ◌+◌, ◌<◌, ◌≤◌, Bool, List, [], ◌∷◌, map, Option, Some, None}
 use Rattle.std.specs.Int.Digits.{AllBelowBase}
-use Rattle.asn1_any.specs.BerElements.{definite_element}
 use Rattle.asn1_any.specs.Cutting.{Piece}
 use Rattle.asn1_core.specs.Strict.{Head, lead}
-use Rattle.asn1_traits.specs.Leaves.{LeafMeans}
 use Rattle.asn1_times.specs.declared.datetime.ASN1DateTime.{ASN1DateTime}
 use Rattle.x509_core.specs.Grammar.{NoneBegins, Header, One}
+use Rattle.x509_core.specs.Leaves.{Leaf}
 use Rattle.x509_time.specs.Times.{Time, GeneralContent, ASN1Time}
 
 -- a GeneralizedTime of DER; whether the calendar has its date isn't asked
 abbrev pub IsGeneralTime : Piece → ASN1DateTime → Type 0
-IsGeneralTime piece t = LeafMeans 24 GeneralContent (definite_element piece.element) t
+IsGeneralTime piece t = Leaf 24 GeneralContent piece t
 
 -- the octets end within a tag number of the high form: none behind the first is below 128 (X.690, 8.1.2.4)
 pub record IsCutTag (octets : List ℕ) : Type 0 where

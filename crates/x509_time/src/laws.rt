@@ -1,14 +1,21 @@
 //! What is so of all octets.
 
-ghost use Rattle.std.specs.Prelude.{◌≡◌, ◌↔◌, ℕ, List, Option, Some, Ok, ℤ, pos, ◌≤ℤ◌, true};
+ghost use Rattle.std.specs.Prelude.{◌≡◌, ◌↔◌, ◌++◌, ℕ, List, Option, Some, Ok, ℤ, pos, ◌≤ℤ◌, true};
 ghost use Rattle.std.specs.Int.Digits.{AllBelowBase};
 ghost use Rattle.asn1_any.specs.Cutting.{Piece};
 ghost use Rattle.jiff.specs.Words.{civil_nanos};
 ghost use Rattle.jiff_core.specs.declared.civil.datetime.DateTime.{DateTime};
 ghost use Rattle.x509_time.specs.Calls.{is_late};
+ghost use Rattle.x509_time.specs.Examples as examples;
 ghost use Rattle.x509_time.specs.Reading.{general_nanos_at, time_in, time_at, validity_at, next_update_at};
 ghost use Rattle.x509_time.specs.Times.{Time, Period, GeneralMoment, IsTime, ASN1Time, Validity};
 ghost use Rattle.x509_time.specs.Updates.{NextUpdate};
+
+/// What some octets are, whatever comes after them.
+pub fn worked_times()
+    ensures time { (rest : List ℕ) → ASN1Time (examples.start_octets ++ rest) examples.start rest }
+    ensures validity { (rest : List ℕ) → Validity (examples.period_octets ++ rest) examples.period rest }
+{}
 
 /// The function of the reader of times finds the times that begin octets, and nothing else.
 pub fn time_function()

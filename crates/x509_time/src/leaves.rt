@@ -10,14 +10,14 @@ ghost use Rattle.x509_core.specs.Answers.{Gives, ElseMemory, plain};
 ghost use Rattle.x509_core.specs.Errors.{told};
 ghost use Rattle.x509_core.specs.Reading.{next};
 ghost use Rattle.x509_core.specs.declared.error.X509Error.TheVariants as errors;
-ghost use Rattle.x509_time.specs.Fronts.{one_rest};
+ghost use Rattle.x509_core.specs.Fronts.{one_rest};
 ghost use Rattle.x509_time.specs.Reading.{utc_nanos_at, general_nanos_at, time_in, time_at, is_general_time, TakesTime};
 ghost use Rattle.x509_time.specs.Times as grammar;
 ghost use Rattle.x509_time.specs.View.{time_view};
 
 use crate::time::ASN1Time;
 use asn1_any::Any;
-use asn1_core::Err as Refusal;
+use asn1_core::{Err as Refusal, Tag};
 use asn1_times::{GeneralizedTime, UtcTime};
 use asn1_traits::{DerLeaf, DerMeaning, FromDer};
 use jiff::civil::DateTime;
@@ -71,11 +71,11 @@ pub fn time_of(any: Any<'_>) -> Option<ASN1Time>
     if any.header.is_constructed() {
         return None;
     }
-    if any.tag().0 == 23 {
+    if any.tag().0 == Tag::UtcTime.0 {
         let moment = utc_moment(any.content)?;
         return Some(ASN1Time::new_utc(moment));
     }
-    if any.tag().0 == 24 {
+    if any.tag().0 == Tag::GeneralizedTime.0 {
         let moment = general_moment(any.content)?;
         return Some(ASN1Time::new_generalized(moment));
     }
@@ -87,7 +87,9 @@ pub fn time_of(any: Any<'_>) -> Option<ASN1Time>
 pub(crate) fn is_general_time(any: Any<'_>) -> bool
     ensures { result ≡ is_general_time (any_of any.entry) }
 {
-    !any.header.is_constructed() && any.tag().0 == 24 && general_time(any.content).is_some()
+    !any.header.is_constructed()
+        && any.tag().0 == Tag::GeneralizedTime.0
+        && general_time(any.content).is_some()
 }
 
 /// The time at the front, taken; the octets stay where none is there. No header is tried, and no memory taken.

@@ -9,12 +9,11 @@ ghost use Rattle.x509_core.specs.Answers.{Gives, ElseMemory};
 ghost use Rattle.x509_core.specs.Errors.{told};
 ghost use Rattle.x509_core.specs.Grammar.{Holds};
 ghost use Rattle.x509_time.specs.Calls.{time_of, IsWithin, GivesLeft};
-ghost use Rattle.x509_time.specs.Fronts.{TellsMissing, one_rest};
+ghost use Rattle.x509_core.specs.Fronts.{TellsMissing, one_rest};
 ghost use Rattle.x509_time.specs.Reading.{validity_in, validity_at};
 ghost use Rattle.x509_time.specs.Times as grammar;
 ghost use Rattle.x509_time.specs.View.{time_view, validity_view};
 
-use crate::front::{whole_element, within};
 use crate::leaves::next_time;
 use crate::time::ASN1Time;
 use asn1_any::Element;
@@ -23,7 +22,7 @@ use asn1_traits::{DerMeaning, FromDer};
 use jiff::SignedDuration;
 use jiff::civil::DateTime;
 use std::alloc::Global;
-use x509_core::{Parts, X509Error, X509Result, parts_of};
+use x509_core::{Parts, X509Error, X509Result, front_element, parts_of};
 
 /// The first and the last moment at which something is valid.
 #[derive(Clone, Debug, Drop, PartialEq, Eq)]
@@ -136,9 +135,9 @@ fn validity_at_front<'a>(alloc: Global, i: &'a [u8]) -> X509Result<'a, Validity>
     ensures missing { TellsMissing i.now result }
 {
     let mut count = HeaderCount::new();
-    let (rest, element) = whole_element(i, &mut count)?;
+    let (rest, element) = front_element(i, &mut count)?;
     match validity_of(alloc, element, &mut count) {
         Ok(validity) => Ok((rest, validity)),
-        Err(refusal) => Err(within(refusal)),
+        Err(refusal) => Err(Refusal::within(refusal)),
     }
 }

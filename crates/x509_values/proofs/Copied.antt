@@ -1,17 +1,2 @@
 -- Copies of names stand for the same.
-use Rattle.std.proofs.Common.{◌≡◌, ◌∙◌, refl, sym, ap, List, [], ◌∷◌, map}
-use Rattle.x509_names.specs.View.{attribute_view, set_view, name_view, attributes_of_set}
-use Rattle.x509_names.specs.declared.attribute.AttributeTypeAndValue.{AttributeTypeAndValue}
-use Rattle.x509_names.specs.declared.relative.RelativeDistinguishedName.{RelativeDistinguishedName}
-use Rattle.x509_names.specs.declared.name.X509Name.{X509Name}
-
-seen_sets : (sets : List RelativeDistinguishedName) → map set_view sets ≡ map (λ (l : List AttributeTypeAndValue). map attribute_view l) (map attributes_of_set sets)
-seen_sets [] = refl
-seen_sets (s ∷ sets) = ap (λ z. set_view s ∷ z) (seen_sets sets)
-
-pub same_name : (a b : X509Name) → map attributes_of_set a.rdn_seq.items ≡ map attributes_of_set b.rdn_seq.items → a.raw ≡ b.raw → name_view a ≡ name_view b
-same_name a b sets raw =
-    let seen : map set_view a.rdn_seq.items ≡ map set_view b.rdn_seq.items =
-    seen_sets a.rdn_seq.items ∙ ap (map (λ (l : List AttributeTypeAndValue). map attribute_view l)) sets ∙ sym (seen_sets b.rdn_seq.items) in
-    let window = ap (λ z. z.now) raw in
-    rw (seen, window) refl
+pub use Rattle.x509_general.proofs.Copied.{same_name}

@@ -1,92 +1,17 @@
 -- What the values of extensions hold, without where it lies in memory. Texts stand as their octets, object identifiers as
 -- their content octets, flags as numbers.
 use Rattle.std.specs.Prelude.{ℕ, Bool, List, Option}
-use Rattle.asn1_core.specs.Elements.{Element}
-use Rattle.x509_names.specs.Fields.{Attribute, Name}
 use Rattle.x509_time.specs.Times.{Time}
-
--- GeneralName (RFC 5280, 4.2.1.6); `invalid` has the tag number and the content of an entry that is none
-pub data GeneralName : Type 0 where
-  other_name : List ℕ → List ℕ → GeneralName
-  rfc822_name : List ℕ → GeneralName
-  dns_name : List ℕ → GeneralName
-  x400_address : Element → GeneralName
-  directory_name : Name → GeneralName
-  edi_party_name : Element → GeneralName
-  uri : List ℕ → GeneralName
-  ip_address : List ℕ → GeneralName
-  registered_id : List ℕ → GeneralName
-  invalid : ℕ → List ℕ → GeneralName
-
--- AuthorityKeyIdentifier (RFC 5280, 4.2.1.1); the serial as its content
-pub record AuthorityKeyIdentifier : Type 0 where
-  pub key_identifier : Option (List ℕ)
-  pub authority_cert_issuer : Option (List GeneralName)
-  pub authority_cert_serial : Option (List ℕ)
-
--- PolicyQualifierInfo, PolicyInformation (RFC 5280, 4.2.1.4)
-pub record PolicyQualifierInfo : Type 0 where
-  pub policy_qualifier_id : List ℕ
-  pub qualifier : List ℕ
-
-pub record PolicyInformation : Type 0 where
-  pub policy_id : List ℕ
-  pub policy_qualifiers : Option (List PolicyQualifierInfo)
-
--- one of the PolicyMappings (RFC 5280, 4.2.1.5)
-pub record PolicyMapping : Type 0 where
-  pub issuer_domain_policy : List ℕ
-  pub subject_domain_policy : List ℕ
+pub use Rattle.x509_flags.specs.Values.{PolicyConstraints}
+pub use Rattle.x509_general.specs.Values.{GeneralName, other_name, rfc822_name, dns_name, x400_address, directory_name, edi_party_name, uri, ip_address, registered_id, invalid}
+pub use Rattle.x509_general.specs.Values.{AuthorityKeyIdentifier, NameConstraints, AccessDescription}
+pub use Rattle.x509_points.specs.Values.{PointName, full_name, relative_name, DistributionPoint, IssuingDistributionPoint}
+pub use Rattle.x509_policies.specs.Values.{PolicyQualifierInfo, PolicyInformation, PolicyMapping, ExtendedKeyUsage}
 
 -- BasicConstraints (RFC 5280, 4.2.1.9)
 pub record BasicConstraints : Type 0 where
   pub ca : Bool
   pub path_len_constraint : Option ℕ
-
--- NameConstraints (RFC 5280, 4.2.1.10); a subtree is its base
-pub record NameConstraints : Type 0 where
-  pub permitted_subtrees : Option (List GeneralName)
-  pub excluded_subtrees : Option (List GeneralName)
-
--- PolicyConstraints (RFC 5280, 4.2.1.11)
-pub record PolicyConstraints : Type 0 where
-  pub require_explicit_policy : Option ℕ
-  pub inhibit_policy_mapping : Option ℕ
-
--- ExtKeyUsageSyntax (RFC 5280, 4.2.1.12), sorted by purpose
-pub record ExtendedKeyUsage : Type 0 where
-  pub any : Bool
-  pub server_auth : Bool
-  pub client_auth : Bool
-  pub code_signing : Bool
-  pub email_protection : Bool
-  pub time_stamping : Bool
-  pub ocsp_signing : Bool
-  pub other : List (List ℕ)
-
--- DistributionPointName, DistributionPoint (RFC 5280, 4.2.1.13)
-pub data PointName : Type 0 where
-  full_name : List GeneralName → PointName
-  relative_name : List Attribute → PointName
-
-pub record DistributionPoint : Type 0 where
-  pub distribution_point : Option PointName
-  pub reasons : Option ℕ
-  pub crl_issuer : Option (List GeneralName)
-
--- IssuingDistributionPoint (RFC 5280, 5.2.5)
-pub record IssuingDistributionPoint : Type 0 where
-  pub distribution_point : Option PointName
-  pub only_contains_user_certs : Bool
-  pub only_contains_ca_certs : Bool
-  pub only_some_reasons : Option ℕ
-  pub indirect_crl : Bool
-  pub only_contains_attribute_certs : Bool
-
--- AccessDescription (RFC 5280, 4.2.2.1)
-pub record AccessDescription : Type 0 where
-  pub access_method : List ℕ
-  pub access_location : GeneralName
 
 -- SignedCertificateTimestamp (RFC 6962, 3.2) with the parts of its signature (RFC 5246, 4.7)
 pub record DigitallySigned : Type 0 where

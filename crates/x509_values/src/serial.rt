@@ -1,7 +1,7 @@
 //! Octets as text.
 
 ghost use Rattle.std.specs.Prelude.{◌≡◌, ◌<◌, false, Some, IfOk, string_bytes};
-ghost use Rattle.std.specs.Fmt.{DisplaysOnOk, digit_glyph};
+ghost use Rattle.std.specs.Fmt.{DisplaysOnOk};
 ghost use Rattle.asn1_oid.specs.Text.{hex_pair};
 ghost use Rattle.asn1_oid.specs.Joining.{separator_text};
 ghost use Rattle.x509_values.specs.Texts.{serial_text};
@@ -54,20 +54,9 @@ fn separate<W: fmt::Write>(begun: bool, f: &mut fmt::Formatter<W>) -> fmt::Resul
     if begun { f.write_char(':') } else { Ok(()) }
 }
 
+#[tactic(auto, using(std::proofs::lemmas::Fmt::hex_byte))]
 fn write_pair<W: fmt::Write>(octet: u8, f: &mut fmt::Formatter<W>) -> fmt::Result
     ensures { DisplaysOnOk W.write_str_gives f.old result (Some (hex_pair octet)) f.new }
 {
-    f.write_char(hex_digit(octet / 16))?;
-    f.write_char(hex_digit(octet % 16))
-}
-
-fn hex_digit(digit: u8) -> char
-    requires { digit < 16 }
-    ensures { result ≡ digit_glyph false digit }
-{
-    if digit < 10 {
-        char::from(b'0' + digit)
-    } else {
-        char::from(b'a' - 10 + digit)
-    }
+    write!(f, "{octet:02x}")
 }

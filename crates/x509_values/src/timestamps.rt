@@ -1,8 +1,8 @@
 //! Promises of logs to publish a certificate (RFC 6962, 3).
 
-use crate::copies::Copies;
 use asn1_core::OutOfMemory;
 use std::alloc::Global;
+use x509_items::Copies;
 
 /// The version of a log's answers (RFC 6962, 3.2).
 #[derive(Clone, Copy, Debug, PartialEq, Eq)]

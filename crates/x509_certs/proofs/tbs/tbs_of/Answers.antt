@@ -1,7 +1,7 @@
 -- How many headers are tried, added up.
 use Rattle.std.proofs.Common.{ap, arith, length}
 use Rattle.asn1_any.specs.Views.{any_of}
-use Rattle.x509_names.proofs.LeafLaws.{content_found}
+use Rattle.x509_core.proofs.LeafLaws.{content_found}
 use Rattle.x509_certs.proofs.tbs.tbs_of.Goals as goal
 
 pub returns-in_err-issuer_uid-clause-most : goal.returns-in_err-issuer_uid-clause-most

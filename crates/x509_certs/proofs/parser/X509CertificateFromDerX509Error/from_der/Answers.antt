@@ -1,7 +1,7 @@
 use Rattle.std.proofs.Common.{arith}
 use Rattle.asn1_core.proofs.Numbers.{octets_below}
 use Rattle.x509_core.specs.Grammar.{HoldsWhole}
-use Rattle.x509_names.proofs.FrontLaws.{gives_reads}
+use Rattle.x509_core.proofs.FrontLaws.{gives_reads}
 use Rattle.x509_ext.specs.Fields.{IsUnparsed, unread}
 use Rattle.x509_ext.proofs.ExtensionLaws.{unread_law}
 use Rattle.x509_certs.specs.Certificates.{CertificateParts}

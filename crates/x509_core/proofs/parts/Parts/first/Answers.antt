@@ -1,9 +1,8 @@
 use Rattle.std.proofs.Common.{◌≡◌, sym, ap, subst, arith, Some, None, option_map, drop, length, refl}
 use Rattle.std.specs.Result.{result_ok}
 use Rattle.asn1_any.specs.CutViews.{piece_of}
-use Rattle.asn1_any.specs.Cutting.{Piece}
 use Rattle.x509_core.specs.Parts.{Left}
-use Rattle.x509_core.specs.Reading.{piece_at, first_piece}
+use Rattle.x509_core.specs.Reading.{first_piece}
 use Rattle.x509_core.proofs.Pieces.{at_end, at_front}
 use Rattle.x509_core.proofs.parts.Parts.first.Goals as goal
 

@@ -1,4 +1,4 @@
-use Rattle.std.proofs.Common.{◌≡◌, sym, ap, subst, arith, Ok, Err}
+use Rattle.std.proofs.Common.{◌≡◌, sym, subst, arith, Ok, Err}
 use Rattle.asn1_any.specs.CutViews.{piece_of}
 use Rattle.x509_core.specs.Answers.{unnamed}
 use Rattle.x509_core.specs.Parts.{Left}

@@ -7,7 +7,7 @@ use Rattle.x509_ext.specs.Fields.{IsUnparsed, unread}
 use Rattle.x509_ext.specs.Reading.{named_extension_at}
 use Rattle.x509_ext.specs.View.{extension_view}
 use Rattle.x509_ext.proofs.ExtensionLaws.{unread_law, named_extension_reading}
-use Rattle.x509_ext.proofs.Public.{gives_only_named}
+use Rattle.x509_core.proofs.FrontLaws.{gives_only_named}
 use Rattle.x509_ext.proofs.parser.X509ExtensionFromDerX509Error.from_der.Goals as goal
 
 pub returns-clause-reads : goal.returns-clause-reads

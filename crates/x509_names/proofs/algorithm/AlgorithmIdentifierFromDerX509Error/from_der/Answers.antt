@@ -6,7 +6,7 @@ use Rattle.x509_core.proofs.Public.{gives_found, gives_only}
 use Rattle.x509_names.specs.Names.{AlgorithmParts, AlgorithmIdentifier}
 use Rattle.x509_names.specs.Reading.{algorithm_in, algorithm_at}
 use Rattle.x509_names.specs.View.{algorithm_view}
-use Rattle.x509_names.proofs.FrontLaws.{gives_reads}
+use Rattle.x509_core.proofs.FrontLaws.{gives_reads}
 use Rattle.x509_names.proofs.NameLaws.{algorithm_meaning}
 use Rattle.x509_names.proofs.algorithm.AlgorithmIdentifierFromDerX509Error.from_der.Goals as goal
 

@@ -6,7 +6,7 @@ use Rattle.x509_core.proofs.Public.{gives_found, gives_only}
 use Rattle.x509_names.specs.Names.{AttributeParts, AttributeTypeAndValue}
 use Rattle.x509_names.specs.Reading.{attribute_in, attribute_at}
 use Rattle.x509_names.specs.View.{attribute_view}
-use Rattle.x509_names.proofs.FrontLaws.{gives_reads}
+use Rattle.x509_core.proofs.FrontLaws.{gives_reads}
 use Rattle.x509_names.proofs.NameLaws.{attribute_meaning}
 use Rattle.x509_names.proofs.attribute.AttributeTypeAndValueFromDerX509Error.from_der.Goals as goal
 

@@ -6,7 +6,7 @@ use Rattle.x509_core.proofs.Public.{gives_found, gives_only}
 use Rattle.x509_names.specs.Names.{KeyParts, SubjectPublicKeyInfo}
 use Rattle.x509_names.specs.Reading.{key_in, key_at}
 use Rattle.x509_names.specs.View.{key_view}
-use Rattle.x509_names.proofs.FrontLaws.{gives_reads, gives_window}
+use Rattle.x509_core.proofs.FrontLaws.{gives_reads, gives_window}
 use Rattle.x509_names.proofs.KeyLaws.{key_meaning}
 use Rattle.x509_names.proofs.key.SubjectPublicKeyInfoFromDerX509Error.from_der.Goals as goal
 

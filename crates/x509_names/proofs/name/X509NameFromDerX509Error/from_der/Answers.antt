@@ -6,7 +6,7 @@ use Rattle.x509_core.proofs.Public.{gives_found, gives_only}
 use Rattle.x509_names.specs.Names.{NameParts, X509Name}
 use Rattle.x509_names.specs.Reading.{name_in, name_at}
 use Rattle.x509_names.specs.View.{name_view}
-use Rattle.x509_names.proofs.FrontLaws.{gives_reads, gives_window}
+use Rattle.x509_core.proofs.FrontLaws.{gives_reads, gives_window}
 use Rattle.x509_names.proofs.NameLaws.{name_meaning}
 use Rattle.x509_names.proofs.name.X509NameFromDerX509Error.from_der.Goals as goal
 

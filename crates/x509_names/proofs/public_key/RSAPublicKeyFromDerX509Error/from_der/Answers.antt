@@ -5,7 +5,7 @@ use Rattle.x509_core.proofs.Public.{gives_found, gives_only}
 use Rattle.x509_names.specs.PublicKeys.{RSAPublicKey}
 use Rattle.x509_names.specs.Reading.{rsa_key_at}
 use Rattle.x509_names.specs.View.{rsa_view}
-use Rattle.x509_names.proofs.FrontLaws.{gives_whole}
+use Rattle.x509_core.proofs.FrontLaws.{gives_whole}
 use Rattle.x509_names.proofs.KeyLaws.{rsa_reading}
 use Rattle.x509_names.proofs.public_key.RSAPublicKeyFromDerX509Error.from_der.Goals as goal
 

@@ -6,7 +6,7 @@ use Rattle.x509_core.proofs.Public.{gives_found, gives_only}
 use Rattle.x509_names.specs.Names.{RelativeParts, RelativeDistinguishedName}
 use Rattle.x509_names.specs.Reading.{relative_name_in, relative_name_at}
 use Rattle.x509_names.specs.View.{set_view}
-use Rattle.x509_names.proofs.FrontLaws.{gives_reads}
+use Rattle.x509_core.proofs.FrontLaws.{gives_reads}
 use Rattle.x509_names.proofs.NameLaws.{relative_meaning}
 use Rattle.x509_names.proofs.relative.RelativeDistinguishedNameFromDerX509Error.from_der.Goals as goal
 

@@ -5,7 +5,7 @@ use Rattle.x509_core.specs.declared.error.X509Error.TheVariants as errors
 use Rattle.x509_time.specs.Reading.{time_at}
 use Rattle.x509_time.specs.Times.{ASN1Time}
 use Rattle.x509_time.specs.View.{time_view}
-use Rattle.x509_time.proofs.FrontLaws.{gives_whole, gives_only_whole}
+use Rattle.x509_core.proofs.FrontLaws.{gives_whole, gives_only_whole}
 use Rattle.x509_time.proofs.TimeLaws.{time_reading}
 use Rattle.x509_time.proofs.leaves.ASN1TimeFromDerX509Error.from_der.Goals as goal
 

@@ -6,7 +6,7 @@ use Rattle.x509_core.proofs.Public.{gives_found, gives_only}
 use Rattle.x509_time.specs.Times.{ValidityParts, Validity}
 use Rattle.x509_time.specs.Reading.{validity_in, validity_at}
 use Rattle.x509_time.specs.View.{validity_view}
-use Rattle.x509_time.proofs.FrontLaws.{gives_reads}
+use Rattle.x509_core.proofs.FrontLaws.{gives_reads}
 use Rattle.x509_time.proofs.TimeLaws.{validity_meaning}
 use Rattle.x509_time.proofs.validity.ValidityFromDerX509Error.from_der.Goals as goal
 

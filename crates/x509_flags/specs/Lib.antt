@@ -1,0 +1,7 @@
+pub mod Extensions
+pub mod Flags
+pub mod Numbers
+pub mod Reading
+pub mod Texts
+pub mod Values
+pub mod View

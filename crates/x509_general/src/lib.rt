@@ -1,0 +1,17 @@
+//! General names, and the extension values that are made of them (RFC 5280, 4.2.1.1, 4.2.1.6, 4.2.1.7, 4.2.1.10 and 4.2.2), with
+//! their readers. What is left of the content of a SEQUENCE is ignored, but where a type says so.
+#![tactic(auto)]
+
+mod access;
+mod alternative;
+mod constraints;
+mod general_name;
+mod identifiers;
+
+pub use crate::access::{AccessDescription, AuthorityInfoAccess, SubjectInfoAccess};
+pub use crate::alternative::{
+    IssuerAlternativeName, SubjectAlternativeName, general_names, next_some_names,
+};
+pub use crate::constraints::{GeneralSubtree, NameConstraints};
+pub use crate::general_name::GeneralName;
+pub use crate::identifiers::AuthorityKeyIdentifier;

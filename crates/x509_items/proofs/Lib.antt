@@ -1,0 +1,4 @@
+pub mod HeaderLaws
+pub mod ManyLaws
+pub mod Readings
+pub mod TakenLaws

@@ -1,0 +1,74 @@
+//! Values one after the other.
+
+ghost use Rattle.std.specs.Prelude.{◌≡◌, map, IfOk};
+ghost use Rattle.x509_core.specs.Reading.{many_of};
+ghost use Rattle.x509_items.specs.Answers.{Takes};
+ghost use Rattle.x509_items.specs.Reading.{some_of, all_of};
+
+use asn1_core::OutOfMemory;
+use std::alloc::Global;
+
+/// A type whose values octets begin with.
+pub trait Begins<'a>: Sized {
+    ghost use Rattle.std.specs.Prelude.{◌<◌, length};
+    ghost use Rattle.x509_core.specs.Reading.{Reader};
+    ghost use Rattle.x509_items.specs.Answers.{Takes, IfTaken};
+
+    /// What a value stands for.
+    ghost Data: { Type 0 };
+
+    /// It, of a value.
+    ghost stands_for: { Self → Data };
+
+    /// What the reader makes of octets.
+    ghost reader: { Reader Data };
+
+    /// The value that begins the octets, behind those after it.
+    fn begin(alloc: Global, i: &'a [u8]) -> Result<Option<(&'a [u8], Self)>, OutOfMemory>
+        ensures read { Takes (λ r. (stands_for r.1, r.0.now)) result (reader i.now) }
+        ensures shorter { IfTaken result (λ r. length r.0.now < length i.now) };
+}
+
+/// As many values as begin there, behind the octets after them.
+pub fn each<'a, T: Begins<'a> + Drop>(
+    alloc: Global,
+    i: &'a [u8],
+) -> Result<(&'a [u8], Vec<T>), OutOfMemory>
+    ensures { IfOk result (λ r. many_of T.reader i.now ≡ (map T.stands_for r.1.items, r.0.now)) }
+{
+    let mut values = Vec::new(alloc);
+    let mut left = i;
+    while let Some((rest, value)) = T::begin(alloc, left)? {
+        values.push(value)?;
+        left = rest;
+    }
+    Ok((left, values))
+}
+
+/// The same; none where none begins there.
+pub fn some<'a, T: Begins<'a> + Drop>(
+    alloc: Global,
+    i: &'a [u8],
+) -> Result<Option<(&'a [u8], Vec<T>)>, OutOfMemory>
+    ensures { Takes (λ r. (map T.stands_for r.1.items, r.0.now)) result (some_of T.reader i.now) }
+{
+    let (rest, values) = each::<T>(alloc, i)?;
+    if values.is_empty() {
+        return Ok(None);
+    }
+    Ok(Some((rest, values)))
+}
+
+/// Values to the end of the octets; none where octets are left.
+pub fn all<'a, T: Begins<'a> + Drop>(
+    alloc: Global,
+    i: &'a [u8],
+) -> Result<Option<Vec<T>>, OutOfMemory>
+    ensures { Takes (λ v. map T.stands_for v.items) result (all_of T.reader i.now) }
+{
+    let (rest, values) = each::<T>(alloc, i)?;
+    if rest.is_empty() {
+        return Ok(Some(values));
+    }
+    Ok(None)
+}

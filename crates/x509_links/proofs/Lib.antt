@@ -1,0 +1,5 @@
+pub mod Strict
+pub mod StrictTimes
+pub mod StrictParts
+pub mod StrictCertificates
+pub mod StrictLists

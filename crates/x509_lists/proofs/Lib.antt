@@ -1,0 +1,3 @@
+pub mod CopyLaws
+pub mod EntryLaws
+pub mod ListLaws

@@ -1,0 +1,5 @@
+pub mod Fields
+pub mod Lists
+pub mod Lookup
+pub mod Reading
+pub mod View

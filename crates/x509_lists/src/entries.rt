@@ -1,0 +1,110 @@
+//! The entries of a list, one after the other (RFC 5280, 5.1.2.6).
+
+ghost use Rattle.std.specs.Prelude.{◌≡◌, ◌+◌, ◌*◌, ◌^◌, ◌<◌, ◌≤◌, length, All, IfOk, map};
+ghost use Rattle.asn1_core.specs.Counts.{attempts};
+ghost use Rattle.asn1_any.specs.Views.{any_of};
+ghost use Rattle.x509_core.specs.Answers.{Gives, ManyGive};
+ghost use Rattle.x509_core.specs.Reading.{many_of};
+ghost use Rattle.x509_ext.specs.Fields.{unread};
+ghost use Rattle.x509_lists.specs.Reading.{entry_at, entries_in, entries_at};
+ghost use Rattle.x509_lists.specs.View.{entry_view, HasSerial};
+
+use crate::entry::{RevokedCertificate, entry_of};
+use asn1_any::Element;
+use asn1_core::{Err as Refusal, Error, HeaderCount, OutOfMemory};
+use std::alloc::Global;
+use x509_core::{Parts, X509Error, parts_of, renamed};
+use x509_values::copy_all;
+
+/// As many entries as begin there.
+fn each_entry<'a>(
+    alloc: Global,
+    parts: &mut Parts<'a>,
+    count: &mut HeaderCount,
+) -> Result<Vec<RevokedCertificate<'a>>, Refusal<X509Error>>
+    requires { attempts count.old + 3 * length parts.old.octets < 2 ^ 128 }
+    ensures read { ManyGive (λ v. map entry_view v.items) result (many_of (entry_at unread) parts.old.octets) parts.new.octets }
+    ensures serials { IfOk result (λ v. All HasSerial v.items) }
+    ensures grows { attempts count.old ≤ attempts count.new }
+    ensures most { attempts count.new ≤ attempts count.old + 3 * length parts.old.octets }
+    ensures shorter { length parts.new.octets ≤ length parts.old.octets }
+{
+    let mut entries = Vec::new(alloc);
+    while let Some(element) = parts.first() {
+        match entry_of(alloc, element, count) {
+            Ok(entry) => {
+                entries.push(entry)?;
+                parts.advance();
+            }
+            Err(refusal) => match refusal {
+                Refusal::Failure(e) => return Err(Refusal::Failure(e)),
+                _ => return Ok(entries),
+            },
+        }
+    }
+    Ok(entries)
+}
+
+/// The entries that an element holds, to its end.
+#[tactic(auto, unfolding(crate::specs::Reading::entries_in))]
+fn entries_of<'a>(
+    alloc: Global,
+    element: Element<'a>,
+    count: &mut HeaderCount,
+) -> Result<Vec<RevokedCertificate<'a>>, Refusal<X509Error>>
+    requires { attempts count.old + 4 * length element.any.content.now < 2 ^ 128 }
+    ensures read { Gives (λ v. map entry_view v.items) result (entries_in unread (any_of element.entry.any)) }
+    ensures serials { IfOk result (λ v. All HasSerial v.items) }
+    ensures grows { attempts count.old ≤ attempts count.new }
+    ensures most { attempts count.new ≤ attempts count.old + 4 * length element.entry.any.content.now }
+{
+    let mut parts = parts_of(alloc, 16, element, count)?;
+    let entries = each_entry(alloc, &mut parts, count)?;
+    if parts.left().is_empty() {
+        Ok(entries)
+    } else {
+        Err(Refusal::Error(X509Error::Der(Error::InvalidLength)))
+    }
+}
+
+/// The entries at the front, none where no SEQUENCE is next. One that holds anything but entries is refused by
+/// `InvalidExtensions`: extensions, which alone may stand there too, have another tag number.
+#[tactic(auto, unfolding(crate::specs::Reading::entries_at))]
+pub(crate) fn next_entries<'a>(
+    alloc: Global,
+    parts: &mut Parts<'a>,
+    count: &mut HeaderCount,
+) -> Result<Vec<RevokedCertificate<'a>>, Refusal<X509Error>>
+    requires { attempts count.old + 4 * length parts.old.octets < 2 ^ 128 }
+    ensures read { Gives (λ v. (map entry_view v.items, parts.new.octets)) result (entries_at unread parts.old.octets) }
+    ensures serials { IfOk result (λ v. All HasSerial v.items) }
+    ensures grows { attempts count.old ≤ attempts count.new }
+    ensures ends { length parts.new.octets ≤ length parts.old.octets }
+    ensures most { attempts count.new ≤ attempts count.old + 4 * length parts.old.octets }
+    ensures taken { IfOk result (λ _. attempts count.new + 4 * length parts.new.octets ≤ attempts count.old + 4 * length parts.old.octets) }
+{
+    let Some(element) = parts.first() else {
+        return Ok(Vec::new(alloc));
+    };
+    if element.any.tag().0 != 16 {
+        return Ok(Vec::new(alloc));
+    }
+    match entries_of(alloc, element, count) {
+        Ok(entries) => {
+            parts.advance();
+            Ok(entries)
+        }
+        Err(refusal) => Err(renamed(refusal, X509Error::InvalidExtensions)),
+    }
+}
+
+/// Copies of entries, in the same order.
+pub(crate) fn copy_entries<'a>(
+    alloc: Global,
+    entries: &[RevokedCertificate<'a>],
+) -> Result<Vec<RevokedCertificate<'a>>, OutOfMemory>
+    ensures value { IfOk result (λ copies. map entry_view copies.items ≡ map entry_view entries.now) }
+    ensures serials { IfOk result (λ copies. map (λ e. e.user_certificate) copies.items ≡ map (λ e. e.user_certificate) entries.now) }
+{
+    copy_all(alloc, entries)
+}

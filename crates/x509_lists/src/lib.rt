@@ -1,0 +1,15 @@
+//! Certificate revocation lists (RFC 5280, 5.1), read leniently: the octets that a reader leaves in a container's content are
+//! ignored. The values of extensions aren't parsed yet.
+#![tactic(auto)]
+
+mod entries;
+mod entry;
+pub mod laws;
+mod list;
+mod parser;
+mod tbs;
+
+pub use crate::entry::RevokedCertificate;
+pub use crate::list::CertificateRevocationList;
+pub use crate::parser::{CertificateRevocationListParser, parse_crl_der, parse_x509_crl};
+pub use crate::tbs::TbsCertList;

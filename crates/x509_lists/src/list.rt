@@ -1,0 +1,164 @@
+//! `CertificateRevocationList` (RFC 5280, 5.1.1).
+
+ghost use Rattle.std.specs.Prelude.{◌≡◌, ◌+◌, ◌*◌, ◌^◌, ◌<◌, ◌≤◌, length, IfOk, map, option_map};
+ghost use Rattle.std.specs.Slice.Iter.{iter_rest};
+ghost use Rattle.asn1_core.specs.Counts.{attempts};
+ghost use Rattle.asn1_any.specs.CutViews.{piece_of};
+ghost use Rattle.x509_core.specs.Answers.{Gives, naming};
+ghost use Rattle.x509_core.specs.declared.error.X509Error.TheVariants.{InvalidSignatureValue};
+ghost use Rattle.x509_names.specs.Reading.{bits_at};
+ghost use Rattle.x509_names.specs.View.{bits_view};
+ghost use Rattle.x509_ext.specs.Fields.{unread};
+ghost use Rattle.x509_lists.specs.Lookup.{crl_number_of};
+ghost use Rattle.x509_lists.specs.Reading.{list_in};
+ghost use Rattle.x509_lists.specs.View.{list_view, HaveSerials};
+
+use crate::entry::RevokedCertificate;
+use crate::tbs::{TbsCertList, next_tbs};
+use asn1_any::Element;
+use asn1_core::{Err as Refusal, HeaderCount, OutOfMemory};
+use asn1_oid::Oid;
+use asn1_unsigned::UnsignedBytes;
+use asn1_values::BitString;
+use std::alloc::Global;
+use std::slice;
+use x509_core::{Parts, X509Error, named, parts_of};
+use x509_ext::{ParsedExtension, X509Extension, X509Version};
+use x509_names::{AlgorithmIdentifier, X509Name, next_algorithm, next_bits};
+use x509_time::ASN1Time;
+
+/// The identifier of a list's number, 2.5.29.20.
+const CRL_NUMBER: &[u8] = b"\x55\x1d\x14";
+
+/// A certificate revocation list.
+#[derive(Debug, Drop)]
+pub struct CertificateRevocationList<'a> {
+    /// The signed part.
+    pub tbs_cert_list: TbsCertList<'a>,
+    /// The algorithm of the signature.
+    pub signature_algorithm: AlgorithmIdentifier<'a>,
+    /// The signature.
+    pub signature_value: BitString<'a>,
+    raw: &'a [u8],
+}
+
+impl<'a> CertificateRevocationList<'a> {
+    /// The version, where one is written.
+    pub fn version(&self) -> Option<X509Version>
+        ensures { result ≡ self.now.tbs_cert_list.version }
+    {
+        self.tbs_cert_list.version
+    }
+
+    /// Who signed.
+    pub fn issuer(&self) -> &X509Name<'a>
+        ensures { result.now ≡ self.now.tbs_cert_list.issuer }
+    {
+        &self.tbs_cert_list.issuer
+    }
+
+    /// When the list was issued.
+    pub fn last_update(&self) -> ASN1Time
+        ensures { result ≡ self.now.tbs_cert_list.this_update }
+    {
+        self.tbs_cert_list.this_update
+    }
+
+    /// By when the next list is issued, where that is told.
+    pub fn next_update(&self) -> Option<ASN1Time>
+        ensures { result ≡ self.now.tbs_cert_list.next_update }
+    {
+        self.tbs_cert_list.next_update
+    }
+
+    /// The certificates that were revoked, in the order in which they stand.
+    pub fn iter_revoked_certificates(&self) -> slice::Iter<'_, RevokedCertificate<'a>>
+        ensures { iter_rest result ≡ self.now.tbs_cert_list.revoked_certificates.items }
+    {
+        self.tbs_cert_list.revoked_certificates.iter()
+    }
+
+    /// The extensions, in the order in which they stand.
+    pub fn extensions(&self) -> &[X509Extension<'a>]
+        ensures { result.now ≡ self.now.tbs_cert_list.extensions.items }
+    {
+        self.tbs_cert_list.extensions()
+    }
+
+    /// The number of the list: of the first extension of this identifier, where its value was parsed as a number (RFC 5280,
+    /// 5.2.3).
+    pub fn crl_number(&self) -> Option<&UnsignedBytes<'a>>
+        ensures { option_map (λ n. n.now) result ≡ crl_number_of self.now.tbs_cert_list.extensions.items }
+    {
+        let extension = self.tbs_cert_list.find_extension(&Oid::new(CRL_NUMBER))?;
+        match extension.parsed_extension() {
+            ParsedExtension::CRLNumber(number) => Some(number),
+            _ => None,
+        }
+    }
+
+    /// All octets of the list.
+    pub fn as_raw(&self) -> &'a [u8]
+        ensures { result ≡ self.now.raw }
+    {
+        self.raw
+    }
+
+    /// All octets of the list.
+    pub fn as_ref(&self) -> &'a [u8]
+        ensures { result ≡ self.now.raw }
+    {
+        self.raw
+    }
+
+    /// A copy: it borrows what the list borrows.
+    pub fn clone(&self, alloc: Global) -> Result<CertificateRevocationList<'a>, OutOfMemory>
+        ensures value { IfOk result (λ copy. list_view copy ≡ list_view self.now) }
+        ensures serials { IfOk result (λ copy. map (λ e. e.user_certificate) copy.tbs_cert_list.revoked_certificates.items ≡ map (λ e. e.user_certificate) self.now.tbs_cert_list.revoked_certificates.items) }
+    {
+        let tbs_cert_list = self.tbs_cert_list.clone(alloc)?;
+        let signature_algorithm = self.signature_algorithm.clone(alloc)?;
+        Ok(CertificateRevocationList {
+            tbs_cert_list,
+            signature_algorithm,
+            signature_value: self.signature_value,
+            raw: self.raw,
+        })
+    }
+}
+
+fn next_signature<'a>(
+    alloc: Global,
+    parts: &mut Parts<'a>,
+) -> Result<BitString<'a>, Refusal<X509Error>>
+    ensures read { Gives (λ v. (bits_view v, parts.new.octets)) result (naming InvalidSignatureValue (bits_at parts.old.octets)) }
+    ensures elements { IfOk result (λ _. parts.old.elements ≡ parts.new.elements + 1) }
+{
+    named(next_bits(alloc, parts), X509Error::InvalidSignatureValue)
+}
+
+/// The list that an element is.
+#[tactic(auto, unfolding(crate::specs::Reading::list_in))]
+pub(crate) fn list_of<'a>(
+    alloc: Global,
+    element: Element<'a>,
+    count: &mut HeaderCount,
+) -> Result<CertificateRevocationList<'a>, Refusal<X509Error>>
+    requires { attempts count.old + 8 * length element.any.content.now < 2 ^ 128 }
+    ensures read { Gives list_view result (list_in unread (piece_of element.entry)) }
+    ensures serials { IfOk result (λ l. HaveSerials l.tbs_cert_list) }
+    ensures least { IfOk result (λ _. attempts count.old + 8 ≤ attempts count.new) }
+    ensures grows { attempts count.old ≤ attempts count.new }
+    ensures most { attempts count.new ≤ attempts count.old + 8 * length element.entry.any.content.now }
+{
+    let mut parts = parts_of(alloc, 16, element, count)?;
+    let tbs_cert_list = next_tbs(alloc, &mut parts, count)?;
+    let signature_algorithm = next_algorithm(alloc, &mut parts, count)?;
+    let signature_value = next_signature(alloc, &mut parts)?;
+    Ok(CertificateRevocationList {
+        tbs_cert_list,
+        signature_algorithm,
+        signature_value,
+        raw: element.octets,
+    })
+}

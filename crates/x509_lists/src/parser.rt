@@ -1,0 +1,272 @@
+//! The parser of revocation lists, and the readers of lists, signed parts and entries.
+
+ghost use Rattle.std.specs.Prelude.{◌≡◌, ◌++◌, ◌+◌, ◌*◌, ◌^◌, ◌<◌, ◌≤◌, ℕ, List, true, length, IfOk};
+ghost use Rattle.asn1_core.specs.Counts.{attempts};
+ghost use Rattle.asn1_traits.specs.Elements.{EndsWithinElement};
+ghost use Rattle.asn1_traits.specs.Reads.{Reads};
+ghost use Rattle.x509_core.specs.Answers.{Gives, ElseMemory};
+ghost use Rattle.x509_core.specs.Errors.{told};
+ghost use Rattle.x509_core.specs.Grammar.{Holds, HoldsWindow, HoldsWhole};
+ghost use Rattle.x509_names.specs.Fronts.{TellsMissing, one_rest};
+ghost use Rattle.x509_ext.specs.Fields.{IsUnparsed, unread};
+ghost use Rattle.x509_lists.specs.Lists as grammar;
+ghost use Rattle.x509_lists.specs.Fields.{Entry, TbsList, RevocationList};
+ghost use Rattle.x509_lists.specs.Reading.{entry_at, tbs_at, list_at};
+ghost use Rattle.x509_lists.specs.View.{entry_view, tbs_view, list_view, HasSerial, HaveSerials};
+
+use crate::entry::{RevokedCertificate, entry_of};
+use crate::list::{CertificateRevocationList, list_of};
+use crate::tbs::{TbsCertList, tbs_of};
+use asn1_core::{Err as Refusal, HeaderCount, Needed};
+use asn1_traits::{DerMeaning, FromDer};
+use std::alloc::Global;
+use x509_core::{X509Error, X509Result};
+use x509_names::whole_element;
+
+/// A parser of revocation lists. The values of extensions aren't parsed yet, whatever is asked for.
+#[derive(Clone, Copy, Debug)]
+pub struct CertificateRevocationListParser {
+    deep_parse_extensions: bool,
+}
+
+impl CertificateRevocationListParser {
+    /// One that parses the values of extensions too.
+    pub fn new() -> CertificateRevocationListParser
+        ensures { result.deep_parse_extensions ≡ true }
+    {
+        CertificateRevocationListParser {
+            deep_parse_extensions: true,
+        }
+    }
+
+    /// One that parses the values of extensions too, or doesn't.
+    pub fn with_deep_parse_extensions(
+        self,
+        deep_parse_extensions: bool,
+    ) -> CertificateRevocationListParser
+        ensures { result.deep_parse_extensions ≡ deep_parse_extensions }
+    {
+        CertificateRevocationListParser {
+            deep_parse_extensions,
+        }
+    }
+
+    /// The list that begins the octets, behind those after it.
+    ///
+    /// By its parts in the order in which they stand: `InvalidAlgorithmIdentifier` of an algorithm without an identifier,
+    /// `InvalidDate` of what is no time, `InvalidExtensions` where a header of another tag number than 0 stands in the place of
+    /// extensions, or what is none, and `InvalidSignatureValue`. Entries that are none stand in that place, so they are
+    /// `InvalidExtensions` too; an entry's extensions that are none are passed over. `Incomplete` exactly where the octets end
+    /// within the list.
+    pub fn parse<'a>(
+        &self,
+        alloc: Global,
+        i: &'a [u8],
+    ) -> X509Result<'a, CertificateRevocationList<'a>>
+        ensures exact { Gives (λ r. (list_view r.1, r.0.now)) result (list_at unread i.now) }
+        ensures missing { TellsMissing i.now result }
+        ensures window { IfOk result (λ r. i.now ≡ r.1.raw.now ++ r.0.now) }
+        ensures serials { IfOk result (λ r. HaveSerials r.1.tbs_cert_list) }
+        ensures found { IfOk result (λ r. grammar.CertificateRevocationList IsUnparsed i.now (list_view r.1) r.0.now) }
+        ensures only { (v : RevocationList) (rest : List ℕ) → grammar.CertificateRevocationList IsUnparsed i.now v rest
+            → ElseMemory result (λ r. (list_view r.1 ≡ v) × (r.0.now ≡ rest)) }
+    {
+        list_at_front(alloc, i)
+    }
+
+    /// The answer of `parse`, and the header attempts that it took, in the count: at most eight for each octet, and at least
+    /// nine where there is a list.
+    pub fn parse_counted<'a>(
+        &self,
+        alloc: Global,
+        i: &'a [u8],
+        count: &mut HeaderCount,
+    ) -> X509Result<'a, CertificateRevocationList<'a>>
+        requires { attempts count.old + 8 * length i.now < 2 ^ 128 }
+        ensures exact { Gives (λ r. (list_view r.1, r.0.now)) result (list_at unread i.now) }
+        ensures missing { TellsMissing i.now result }
+        ensures window { IfOk result (λ r. i.now ≡ r.1.raw.now ++ r.0.now) }
+        ensures serials { IfOk result (λ r. HaveSerials r.1.tbs_cert_list) }
+        ensures found { IfOk result (λ r. grammar.CertificateRevocationList IsUnparsed i.now (list_view r.1) r.0.now) }
+        ensures only { (v : RevocationList) (rest : List ℕ) → grammar.CertificateRevocationList IsUnparsed i.now v rest
+            → ElseMemory result (λ r. (list_view r.1 ≡ v) × (r.0.now ≡ rest)) }
+        ensures least { IfOk result (λ _. attempts count.old + 9 ≤ attempts count.new) }
+        ensures grows { attempts count.old ≤ attempts count.new }
+        ensures most { attempts count.new ≤ attempts count.old + 8 * length i.now }
+    {
+        counted_list(alloc, i, count)
+    }
+}
+
+impl Default for CertificateRevocationListParser {
+    ghost use Rattle.std.specs.Prelude.{◌≡◌, true};
+
+    ghost is_default = { λ parser. parser.deep_parse_extensions ≡ true };
+
+    fn default() -> CertificateRevocationListParser {
+        CertificateRevocationListParser::new()
+    }
+}
+
+impl<'b> DerMeaning for CertificateRevocationList<'b> {
+    ghost der_reads = { λ i v r. grammar.CertificateRevocationList IsUnparsed i (list_view v) r };
+
+    ghost der_cut = { EndsWithinElement };
+
+    ghost der_grows = { Unit {0} };
+
+    ghost one_rest = { λ i v w r s left right. one_rest (HoldsWhole 16 (grammar.ListParts IsUnparsed) (λ l. l.raw)) i (list_view v) (list_view w) r s left right };
+}
+
+impl<'a> FromDer<'a, X509Error> for CertificateRevocationList<'a> {
+    /// The list that begins the octets, behind those after it: `parse` of `CertificateRevocationListParser::new()`.
+    fn from_der(alloc: Global, bytes: &'a [u8]) -> X509Result<'a, CertificateRevocationList<'a>>
+        ensures reads { Reads (λ given e. e ≡ told given) (Unit {0}) EndsWithinElement (λ i. i.now)
+            (λ i v r. grammar.CertificateRevocationList IsUnparsed i (list_view v) r) bytes.now result }
+        ensures exact { Gives (λ r. (list_view r.1, r.0.now)) result (list_at unread bytes.now) }
+        ensures window { IfOk result (λ r. bytes.now ≡ r.1.raw.now ++ r.0.now) }
+        ensures serials { IfOk result (λ r. HaveSerials r.1.tbs_cert_list) }
+        ensures found { IfOk result (λ r. grammar.CertificateRevocationList IsUnparsed bytes.now (list_view r.1) r.0.now) }
+        ensures only { (v : RevocationList) (rest : List ℕ) → grammar.CertificateRevocationList IsUnparsed bytes.now v rest
+            → ElseMemory result (λ r. (list_view r.1 ≡ v) × (r.0.now ≡ rest)) }
+    {
+        CertificateRevocationListParser::new().parse(alloc, bytes)
+    }
+}
+
+impl<'b> DerMeaning for TbsCertList<'b> {
+    ghost der_reads = { λ i v r. grammar.TbsCertList IsUnparsed i (tbs_view v) r };
+
+    ghost der_cut = { EndsWithinElement };
+
+    ghost der_grows = { Unit {0} };
+
+    ghost one_rest = { λ i v w r s left right. one_rest (HoldsWindow 16 (grammar.TbsParts IsUnparsed) (λ t. t.raw)) i (tbs_view v) (tbs_view w) r s left right };
+}
+
+impl<'a> FromDer<'a, X509Error> for TbsCertList<'a> {
+    /// The signed part that begins the octets, behind those after it. It is refused as within a list.
+    fn from_der(alloc: Global, bytes: &'a [u8]) -> X509Result<'a, TbsCertList<'a>>
+        ensures reads { Reads (λ given e. e ≡ told given) (Unit {0}) EndsWithinElement (λ i. i.now)
+            (λ i v r. grammar.TbsCertList IsUnparsed i (tbs_view v) r) bytes.now result }
+        ensures exact { Gives (λ r. (tbs_view r.1, r.0.now)) result (tbs_at unread bytes.now) }
+        ensures window { IfOk result (λ r. bytes.now ≡ r.1.raw.now ++ r.0.now) }
+        ensures serials { IfOk result (λ r. HaveSerials r.1) }
+        ensures found { IfOk result (λ r. grammar.TbsCertList IsUnparsed bytes.now (tbs_view r.1) r.0.now) }
+        ensures only { (v : TbsList) (rest : List ℕ) → grammar.TbsCertList IsUnparsed bytes.now v rest
+            → ElseMemory result (λ r. (tbs_view r.1 ≡ v) × (r.0.now ≡ rest)) }
+    {
+        tbs_at_front(alloc, bytes)
+    }
+}
+
+impl<'b> DerMeaning for RevokedCertificate<'b> {
+    ghost der_reads = { λ i v r. grammar.RevokedCertificate IsUnparsed i (entry_view v) r };
+
+    ghost der_cut = { EndsWithinElement };
+
+    ghost der_grows = { Unit {0} };
+
+    ghost one_rest = { λ i v w r s left right. one_rest (Holds 16 (grammar.EntryParts IsUnparsed)) i (entry_view v) (entry_view w) r s left right };
+}
+
+impl<'a> FromDer<'a, X509Error> for RevokedCertificate<'a> {
+    /// The entry that begins the octets, behind those after it. `InvalidSerial` where it has no serial number, `InvalidDate`
+    /// where no time stands behind that; extensions that are none are passed over.
+    fn from_der(alloc: Global, bytes: &'a [u8]) -> X509Result<'a, RevokedCertificate<'a>>
+        ensures reads { Reads (λ given e. e ≡ told given) (Unit {0}) EndsWithinElement (λ i. i.now)
+            (λ i v r. grammar.RevokedCertificate IsUnparsed i (entry_view v) r) bytes.now result }
+        ensures exact { Gives (λ r. (entry_view r.1, r.0.now)) result (entry_at unread bytes.now) }
+        ensures serial { IfOk result (λ r. HasSerial r.1) }
+        ensures found { IfOk result (λ r. grammar.RevokedCertificate IsUnparsed bytes.now (entry_view r.1) r.0.now) }
+        ensures only { (v : Entry) (rest : List ℕ) → grammar.RevokedCertificate IsUnparsed bytes.now v rest
+            → ElseMemory result (λ r. (entry_view r.1 ≡ v) × (r.0.now ≡ rest)) }
+    {
+        entry_at_front(alloc, bytes)
+    }
+}
+
+/// The list that begins the octets, behind those after it: `CertificateRevocationList::from_der`.
+pub fn parse_x509_crl<'a>(
+    alloc: Global,
+    i: &'a [u8],
+) -> X509Result<'a, CertificateRevocationList<'a>>
+    ensures exact { Gives (λ r. (list_view r.1, r.0.now)) result (list_at unread i.now) }
+    ensures missing { TellsMissing i.now result }
+    ensures window { IfOk result (λ r. i.now ≡ r.1.raw.now ++ r.0.now) }
+    ensures serials { IfOk result (λ r. HaveSerials r.1.tbs_cert_list) }
+{
+    CertificateRevocationListParser::new().parse(alloc, i)
+}
+
+/// The same by its older name.
+pub fn parse_crl_der<'a>(
+    alloc: Global,
+    i: &'a [u8],
+) -> X509Result<'a, CertificateRevocationList<'a>>
+    ensures exact { Gives (λ r. (list_view r.1, r.0.now)) result (list_at unread i.now) }
+    ensures missing { TellsMissing i.now result }
+    ensures window { IfOk result (λ r. i.now ≡ r.1.raw.now ++ r.0.now) }
+    ensures serials { IfOk result (λ r. HaveSerials r.1.tbs_cert_list) }
+{
+    parse_x509_crl(alloc, i)
+}
+
+fn entry_at_front<'a>(alloc: Global, i: &'a [u8]) -> X509Result<'a, RevokedCertificate<'a>>
+    ensures exact { Gives (λ r. (entry_view r.1, r.0.now)) result (entry_at unread i.now) }
+    ensures missing { TellsMissing i.now result }
+    ensures serial { IfOk result (λ r. HasSerial r.1) }
+{
+    let mut count = HeaderCount::new();
+    let (rest, element) = whole_element(i, &mut count)?;
+    match entry_of(alloc, element, &mut count) {
+        Ok(entry) => Ok((rest, entry)),
+        Err(refusal) => Err(Refusal::within(refusal)),
+    }
+}
+
+fn tbs_at_front<'a>(alloc: Global, i: &'a [u8]) -> X509Result<'a, TbsCertList<'a>>
+    ensures exact { Gives (λ r. (tbs_view r.1, r.0.now)) result (tbs_at unread i.now) }
+    ensures missing { TellsMissing i.now result }
+    ensures serials { IfOk result (λ r. HaveSerials r.1) }
+{
+    let mut count = HeaderCount::new();
+    let (rest, element) = whole_element(i, &mut count)?;
+    match tbs_of(alloc, element, &mut count) {
+        Ok(tbs) => Ok((rest, tbs)),
+        Err(refusal) => Err(Refusal::within(refusal)),
+    }
+}
+
+fn list_at_front<'a>(alloc: Global, i: &'a [u8]) -> X509Result<'a, CertificateRevocationList<'a>>
+    ensures exact { Gives (λ r. (list_view r.1, r.0.now)) result (list_at unread i.now) }
+    ensures missing { TellsMissing i.now result }
+    ensures serials { IfOk result (λ r. HaveSerials r.1.tbs_cert_list) }
+{
+    let mut count = HeaderCount::new();
+    counted_list(alloc, i, &mut count)
+}
+
+// Of no octets no header is tried, so that the count may be as high as it gets.
+fn counted_list<'a>(
+    alloc: Global,
+    i: &'a [u8],
+    count: &mut HeaderCount,
+) -> X509Result<'a, CertificateRevocationList<'a>>
+    requires { attempts count.old + 8 * length i.now < 2 ^ 128 }
+    ensures exact { Gives (λ r. (list_view r.1, r.0.now)) result (list_at unread i.now) }
+    ensures missing { TellsMissing i.now result }
+    ensures serials { IfOk result (λ r. HaveSerials r.1.tbs_cert_list) }
+    ensures least { IfOk result (λ _. attempts count.old + 9 ≤ attempts count.new) }
+    ensures grows { attempts count.old ≤ attempts count.new }
+    ensures most { attempts count.new ≤ attempts count.old + 8 * length i.now }
+{
+    if i.is_empty() {
+        return Err(Refusal::Incomplete(Needed::Size(1)));
+    }
+    let (rest, element) = whole_element(i, count)?;
+    match list_of(alloc, element, count) {
+        Ok(list) => Ok((rest, list)),
+        Err(refusal) => Err(Refusal::within(refusal)),
+    }
+}

@@ -1,0 +1,167 @@
+//! The signed part of a revocation list (RFC 5280, 5.1.2).
+
+ghost use Rattle.std.specs.Prelude.{◌≡◌, ◌+◌, ◌*◌, ◌^◌, ◌<◌, ◌≤◌, length, IfOk, map, option_map};
+ghost use Rattle.std.specs.Slice.Iter.{iter_rest};
+ghost use Rattle.asn1_core.specs.Counts.{attempts};
+ghost use Rattle.asn1_any.specs.CutViews.{piece_of};
+ghost use Rattle.x509_core.specs.Answers.{Gives};
+ghost use Rattle.x509_ext.specs.Fields.{unread};
+ghost use Rattle.x509_ext.specs.Lookup.{all_of, first_of};
+ghost use Rattle.x509_lists.specs.Reading.{version_at, tbs_in, tbs_at};
+ghost use Rattle.x509_lists.specs.View.{tbs_view, HaveSerials};
+
+use crate::entries::{copy_entries, next_entries};
+use crate::entry::RevokedCertificate;
+use asn1_any::Element;
+use asn1_core::{Err as Refusal, HeaderCount, OutOfMemory};
+use asn1_oid::Oid;
+use std::alloc::Global;
+use std::slice;
+use x509_core::{Parts, X509Error, parts_of};
+use x509_ext::{X509Extension, X509Version, extensions_of, find_extension, version_of};
+use x509_names::{AlgorithmIdentifier, X509Name, next_algorithm, next_name};
+use x509_time::{ASN1Time, next_time, next_update};
+use x509_values::copy_all;
+
+/// The signed part of a revocation list.
+#[derive(Debug, Drop, PartialEq, Eq)]
+pub struct TbsCertList<'a> {
+    /// The version, where one is written.
+    pub version: Option<X509Version>,
+    /// The algorithm of the signature.
+    pub signature: AlgorithmIdentifier<'a>,
+    /// Who signed.
+    pub issuer: X509Name<'a>,
+    /// When the list was issued.
+    pub this_update: ASN1Time,
+    /// By when the next list is issued, where that is told.
+    pub next_update: Option<ASN1Time>,
+    /// The certificates that were revoked, in the order in which they stand.
+    pub revoked_certificates: Vec<RevokedCertificate<'a>>,
+    extensions: Vec<X509Extension<'a>>,
+    raw: &'a [u8],
+}
+
+impl<'a> TbsCertList<'a> {
+    /// The extensions, in the order in which they stand.
+    pub fn extensions(&self) -> &[X509Extension<'a>]
+        ensures { result.now ≡ self.now.extensions.items }
+    {
+        self.extensions.as_slice()
+    }
+
+    /// The extensions, in the order in which they stand.
+    pub fn iter_extensions(&self) -> slice::Iter<'_, X509Extension<'a>>
+        ensures { iter_rest result ≡ self.now.extensions.items }
+    {
+        self.extensions.iter()
+    }
+
+    /// The first extension of this identifier. Whether others have it too isn't told.
+    pub fn find_extension(&self, oid: &Oid<'_>) -> Option<&X509Extension<'a>>
+        ensures { option_map (λ e. e.now) result ≡ first_of (all_of oid.now self.now.extensions.items) }
+    {
+        find_extension(self.extensions.as_slice(), oid)
+    }
+
+    /// The octets that the signature is of.
+    pub fn as_ref(&self) -> &'a [u8]
+        ensures { result ≡ self.now.raw }
+    {
+        self.raw
+    }
+
+    /// A copy: it borrows what the signed part borrows.
+    #[tactic(auto, using(x509_values::proofs::Copied::same_name))]
+    pub fn clone(&self, alloc: Global) -> Result<TbsCertList<'a>, OutOfMemory>
+        ensures value { IfOk result (λ copy. tbs_view copy ≡ tbs_view self.now) }
+        ensures serials { IfOk result (λ copy. map (λ e. e.user_certificate) copy.revoked_certificates.items ≡ map (λ e. e.user_certificate) self.now.revoked_certificates.items) }
+    {
+        let signature = self.signature.clone(alloc)?;
+        let issuer = self.issuer.clone(alloc)?;
+        let revoked_certificates = copy_entries(alloc, self.revoked_certificates.as_slice())?;
+        let extensions = copy_all(alloc, self.extensions.as_slice())?;
+        Ok(TbsCertList {
+            version: self.version,
+            signature,
+            issuer,
+            this_update: self.this_update,
+            next_update: self.next_update,
+            revoked_certificates,
+            extensions,
+            raw: self.raw,
+        })
+    }
+}
+
+/// The version at the front; none, and nothing read, where none is there.
+#[tactic(auto, unfolding(crate::specs::Reading::version_at))]
+fn next_version(parts: &mut Parts<'_>) -> Option<X509Version>
+    ensures read { (option_map (λ v. v.0) result, parts.new.octets) ≡ version_at parts.old.octets }
+    ensures elements { parts.new.elements ≤ parts.old.elements }
+    ensures ends { length parts.new.octets ≤ length parts.old.octets }
+{
+    let element = parts.first()?;
+    let version = version_of(element.any)?;
+    parts.advance();
+    Some(version)
+}
+
+/// The signed part that an element is.
+#[tactic(auto, unfolding(crate::specs::Reading::tbs_in))]
+pub(crate) fn tbs_of<'a>(
+    alloc: Global,
+    element: Element<'a>,
+    count: &mut HeaderCount,
+) -> Result<TbsCertList<'a>, Refusal<X509Error>>
+    requires { attempts count.old + 7 * length element.any.content.now < 2 ^ 128 }
+    ensures read { Gives tbs_view result (tbs_in unread (piece_of element.entry)) }
+    ensures serials { IfOk result HaveSerials }
+    ensures least { IfOk result (λ _. attempts count.old + 4 ≤ attempts count.new) }
+    ensures grows { attempts count.old ≤ attempts count.new }
+    ensures most { attempts count.new ≤ attempts count.old + 7 * length element.entry.any.content.now }
+{
+    let mut parts = parts_of(alloc, 16, element, count)?;
+    let version = next_version(&mut parts);
+    let signature = next_algorithm(alloc, &mut parts, count)?;
+    let issuer = next_name(alloc, &mut parts, count)?;
+    let this_update = match next_time(&mut parts) {
+        Ok(time) => time,
+        Err(refusal) => return Err(refusal),
+    };
+    let next_update = match next_update(&mut parts, count) {
+        Ok(time) => time,
+        Err(refusal) => return Err(refusal),
+    };
+    let revoked_certificates = next_entries(alloc, &mut parts, count)?;
+    let extensions = extensions_of(alloc, 0, parts.left(), count)?;
+    Ok(TbsCertList {
+        version,
+        signature,
+        issuer,
+        this_update,
+        next_update,
+        revoked_certificates,
+        extensions,
+        raw: element.octets,
+    })
+}
+
+/// The signed part at the front.
+pub(crate) fn next_tbs<'a>(
+    alloc: Global,
+    parts: &mut Parts<'a>,
+    count: &mut HeaderCount,
+) -> Result<TbsCertList<'a>, Refusal<X509Error>>
+    requires { attempts count.old + 7 * length parts.old.octets < 2 ^ 128 }
+    ensures read { Gives (λ v. (tbs_view v, parts.new.octets)) result (tbs_at unread parts.old.octets) }
+    ensures serials { IfOk result HaveSerials }
+    ensures elements { IfOk result (λ _. parts.old.elements ≡ parts.new.elements + 1) }
+    ensures least { IfOk result (λ _. attempts count.old + 4 ≤ attempts count.new) }
+    ensures grows { attempts count.old ≤ attempts count.new }
+    ensures ends { length parts.new.octets ≤ length parts.old.octets }
+    ensures most { attempts count.new + 7 * length parts.new.octets ≤ attempts count.old + 7 * length parts.old.octets }
+{
+    let element = parts.next()?;
+    tbs_of(alloc, element, count)
+}

@@ -1,0 +1,4 @@
+pub mod Points
+pub mod Reading
+pub mod Values
+pub mod View

@@ -1,0 +1,5 @@
+pub mod Policies
+pub mod Purposes
+pub mod Reading
+pub mod Values
+pub mod View

@@ -1,0 +1,13 @@
+//! Policies and purposes, and their readers (RFC 5280, 4.2.1.4, 4.2.1.5 and 4.2.1.12). What is left of the content of a SEQUENCE is
+//! ignored, but where a type says so.
+#![tactic(auto)]
+
+mod mappings;
+mod policies;
+mod purposes;
+
+pub use crate::mappings::{PolicyMapping, PolicyMappings};
+pub use crate::policies::{
+    CertificatePolicies, PolicyInformation, PolicyQualifierInfo, certificate_policies,
+};
+pub use crate::purposes::ExtendedKeyUsage;

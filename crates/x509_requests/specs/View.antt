@@ -1,0 +1,24 @@
+-- What the values of this crate's types are, as the records of `Fields`.
+use Rattle.std.specs.Prelude.{map, string_bytes}
+use Rattle.x509_names.specs.View.{algorithm_view, name_view, key_view, bits_view}
+use Rattle.x509_ext.specs.View.{extension_view}
+use Rattle.x509_requests.specs.Fields.{AttributeValues, extension_request, challenge_password, unsupported_attribute, RequestAttribute, RequestInfo, Request}
+use Rattle.x509_requests.specs.declared.attribute.ParsedCriAttribute.{ParsedCriAttribute}
+use Rattle.x509_requests.specs.declared.attribute.ParsedCriAttribute.TheVariants as cases
+use Rattle.x509_requests.specs.declared.attribute.X509CriAttribute.{X509CriAttribute}
+use Rattle.x509_requests.specs.declared.info.X509CertificationRequestInfo.{X509CertificationRequestInfo}
+use Rattle.x509_requests.specs.declared.request.X509CertificationRequest.{X509CertificationRequest}
+
+abbrev pub values_view : ParsedCriAttribute → AttributeValues
+values_view (cases.ChallengePassword p) = challenge_password (string_bytes p.0)
+values_view (cases.ExtensionRequest r) = extension_request (map extension_view r.extensions.items)
+values_view cases.UnsupportedAttribute = unsupported_attribute
+
+abbrev pub attribute_view : X509CriAttribute → RequestAttribute
+attribute_view a = record { identifier = a.oid; raw = a.value.now; values = values_view a.parsed_attribute }
+
+abbrev pub info_view : X509CertificationRequestInfo → RequestInfo
+info_view r = record { version = r.version.0; subject = name_view r.subject; key = key_view r.subject_pki; attributes = map attribute_view r.attributes.items; raw = r.raw.now }
+
+abbrev pub request_view : X509CertificationRequest → Request
+request_view r = record { info = info_view r.certification_request_info; algorithm = algorithm_view r.signature_algorithm; signature_value = bits_view r.signature_value; raw = r.raw.now }

@@ -1,0 +1,9 @@
+//! Signed certificate timestamps (RFC 6962, 3.2 and 3.3).
+#![tactic(auto)]
+
+mod list;
+mod octets;
+mod timestamp;
+
+pub use crate::list::parse_ct_signed_certificate_timestamp_list;
+pub use crate::timestamp::parse_ct_signed_certificate_timestamp;
