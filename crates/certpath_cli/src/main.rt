@@ -6,25 +6,30 @@ ghost use Rattle.certpath_cli.specs.Outcomes.{IsOfFile};
 
 use asn1_device::{ReadSource, WriteSink};
 use certpath_engine::{
-    Command, Exit, FrameError, FrameOutcome, WordFault, frame, frame_status, read_words,
+    Command, Exit, FrameError, FrameOutcome, PathFiles, PathOutcome, WordFault, frame,
+    frame_status, path_status, read_words,
 };
+use certpath_run::{RunError, Settings};
 use std::alloc::Global;
 use std::process::ExitCode;
 use std::rt::{Files, Runtime};
 use std::{env, fs, io};
 
 fn main(rt: HostRuntime) -> ExitCode {
-    ExitCode::from(run(&rt))
+    ExitCode::from(status_of(&rt))
 }
 
 /// Does what the words ask for, and answers the exit status.
-fn run<R: Runtime + AllocGlobal>(rt: &R) -> u8 {
+fn status_of<R: Runtime + AllocGlobal>(rt: &R) -> u8 {
     let words = match words_given(rt) {
         Ok(words) => words,
         Err(fault) => return tell(rt, frame_status(FrameOutcome::Words(fault))),
     };
     match read_words(rt.alloc(), words.as_slice()) {
         Ok(Command::Frame { file, limit }) => tell(rt, frame_status(frame_file(rt, file, limit))),
+        Ok(Command::Path { files, settings }) => {
+            tell(rt, path_status(run_files(rt, files, &settings)))
+        }
         Err(fault) => tell(rt, frame_status(FrameOutcome::Words(fault))),
     }
 }
@@ -64,6 +69,48 @@ fn frame_file<'a, R: Runtime + AllocGlobal>(rt: &R, file: &'a str, limit: u32) -
             FrameOutcome::Framed(file, Err(FrameError::OutOfMemory))
         }
         Err(_) => FrameOutcome::Unopened(file),
+    }
+}
+
+/// Runs over three files, to standard output. All are opened before one is read.
+fn run_files<'a, R: Runtime + AllocGlobal>(
+    rt: &R,
+    files: PathFiles<'a>,
+    settings: &Settings,
+) -> PathOutcome<'a> {
+    let bundle = match fs::open(rt, files.bundle) {
+        Ok(opened) => opened,
+        Err(error) => return unopened(files, files.bundle, &error),
+    };
+    let anchors = match fs::open(rt, files.anchors) {
+        Ok(opened) => opened,
+        Err(error) => return unopened(files, files.anchors, &error),
+    };
+    let vouchers = match fs::open(rt, files.vouchers) {
+        Ok(opened) => opened,
+        Err(error) => return unopened(files, files.vouchers, &error),
+    };
+    let mut bundle = ReadSource::new(bundle);
+    let mut anchors = ReadSource::new(anchors);
+    let mut vouchers = ReadSource::new(vouchers);
+    let mut writer = WriteSink::new(io::writer(rt));
+    let answer = certpath_run::run(
+        rt.alloc(),
+        &mut bundle,
+        &mut anchors,
+        &mut vouchers,
+        settings,
+        &mut writer,
+    );
+    PathOutcome::Ran(files, answer)
+}
+
+/// How far a run came where one of its files wasn't opened.
+fn unopened<'a>(files: PathFiles<'a>, file: &'a str, error: &io::Error) -> PathOutcome<'a> {
+    if error.kind() == io::ErrorKind::OutOfMemory {
+        PathOutcome::Ran(files, Err(RunError::OutOfMemory))
+    } else {
+        PathOutcome::Unopened(file)
     }
 }
 

@@ -1,5 +1,4 @@
 mod Examples
 mod NumberLemmas
-mod Reading
 mod TextLemmas
 mod WordLemmas

@@ -1,12 +1,21 @@
--- What clap's clauses say of the subcommand `frame`, in the words of `AsksToFrame`.
-use Rattle.std.proofs.Common.{◌≡◌, List, Option, Some, None, true, codes, refl, sym, ap, ◌∙◌}
+-- What clap's clauses say of a subcommand, in the words of `Asks`.
+use Rattle.std.proofs.Common.{◌≡◌, List, Option, Some, None, true, codes, refl, sym, ap, ◌∙◌, Result, Ok, Err}
 use Rattle.std.specs.Option.{option_map}
 use Rattle.clap.specs.Matches.{found_of, first_value, subcommand_name_of}
 use Rattle.clap.specs.Simple.{App, HasMatchesOf, is_simple, subcommand_of, subcommand_rows_of}
-use Rattle.clap.specs.Walk.{Row, Text, rows_of}
-use Rattle.clap.specs.declared.parser.matches.ArgMatches.{ArgMatches}
+use Rattle.clap.specs.Walk.{Row, Text, first_of, rows_of}
+use Rattle.clap.specs.Takes.{takes}
+use Rattle.clap.specs.declared.error.kind.ErrorKind.{ErrorKind}
+use Rattle.clap.specs.declared.error.kind.ErrorKind.TheVariants.{OutOfMemory as NoMemory}
 use Rattle.clap.proofs.WalkLemmas.{first_value-rows}
-use Rattle.certpath_engine.specs.Words.{AsksToFrame, certpath_app}
+use Rattle.clap.specs.declared.parser.matches.ArgMatches.{ArgMatches}
+use Rattle.certpath_engine.specs.Words.{certpath_app}
+use Rattle.certpath_engine.specs.Asking.{AreFrameTexts, ArePathTexts, TellsTexts, AnswersTexts, IsRefusal}
+use Rattle.certpath_engine.specs.declared.words.FrameTexts.{FrameTexts}
+use Rattle.certpath_engine.specs.declared.words.PathTexts.{PathTexts}
+use Rattle.certpath_engine.specs.declared.words.Asked.{Asked}
+use Rattle.certpath_engine.specs.declared.words.WordFault.{WordFault}
+use Rattle.certpath_engine.specs.declared.words.WordFault.TheVariants as faults
 
 -- the two halves of a pair are those of one entry
 pair_of : {B : Type 0} (o : Option B) (f : B → Text) (g : B → List Row) (name : Text) (rows : List Row) → Some name ≡ option_map f o
@@ -17,16 +26,55 @@ pair_of (Some b) f g name rows named given = cc
 is_simple_app : is_simple certpath_app ≡ true
 is_simple_app = refl
 
-pub asks_to_frame : (app : App) (words : List Text) (m frame : ArgMatches) (name file limit : Text) → app ≡ certpath_app → HasMatchesOf app words m
-    → Some name ≡ subcommand_name_of m → Some (rows_of (found_of frame)) ≡ option_map (λ p. p.1) (subcommand_rows_of m) → name ≡ codes "frame"
-    → Some file ≡ first_value (found_of frame) (codes "FILE") → Some limit ≡ first_value (found_of frame) (codes "limit")
-    → AsksToFrame words file limit
-asks_to_frame app words m frame name file limit is_app matches named given is_frame has_file has_limit =
+-- a value of an argument is that of its row
+value : (found : ArgMatches) (id text : Text) → Some text ≡ first_value (found_of found) id → first_of id (rows_of (found_of found)) ≡ Some text
+value found id text is = sym (first_value-rows (found_of found) id) ∙ sym is
+
+-- clap read the words as the subcommand of this name
+entered : (app : App) (words : List Text) (m sub : ArgMatches) (name wanted : Text) → app ≡ certpath_app → HasMatchesOf app words m
+    → Some name ≡ subcommand_name_of m → Some (rows_of (found_of sub)) ≡ option_map (λ p. p.1) (subcommand_rows_of m) → name ≡ wanted
+    → subcommand_of certpath_app words ≡ Some (wanted, rows_of (found_of sub))
+entered app words m sub name wanted is_app matches named given is =
     let found = matches (ap is_simple is_app ∙ is_simple_app) in
-    let entered : subcommand_rows_of m ≡ Some (name, rows_of (found_of frame)) = pair_of _ _ _ name (rows_of (found_of frame)) named given in
-    record {
-      rows = rows_of (found_of frame);
-      command = ap (λ a. subcommand_of a words) (sym is_app) ∙ sym found.1 ∙ entered ∙ ap (λ n. Some (n, rows_of (found_of frame))) is_frame;
-      file_given = sym (first_value-rows (found_of frame) (codes "FILE")) ∙ sym has_file;
-      limit_given = sym (first_value-rows (found_of frame) (codes "limit")) ∙ sym has_limit;
-    }
+    let pair : subcommand_rows_of m ≡ Some (name, rows_of (found_of sub)) = pair_of _ _ _ name (rows_of (found_of sub)) named given in
+    ap (λ a. subcommand_of a words) (sym is_app) ∙ sym found.1 ∙ pair ∙ ap (λ n. Some (n, rows_of (found_of sub))) is
+
+told : (words : List Text) (name : Text) (rows : List Row) (r : Result Asked WordFault) → subcommand_of certpath_app words ≡ Some (name, rows) → TellsTexts name rows r → AnswersTexts words r
+told words name rows (Ok asked) command t = (rows, command ∙ ap (λ n. Some (n, rows)) (sym t.0), t.1)
+told words name rows (Err (faults.Refused said)) command t = absurd t
+told words name rows (Err faults.Number) command t = absurd t
+told words name rows (Err faults.Moment) command t = absurd t
+told words name rows (Err faults.OutOfMemory) command t = tt
+
+pub answers_texts : (app : App) (words : List Text) (m sub : ArgMatches) (name wanted : Text) (r : Result Asked WordFault) → app ≡ certpath_app → HasMatchesOf app words m
+    → Some name ≡ subcommand_name_of m → Some (rows_of (found_of sub)) ≡ option_map (λ p. p.1) (subcommand_rows_of m) → name ≡ wanted
+    → TellsTexts wanted (rows_of (found_of sub)) r → AnswersTexts words r
+answers_texts app words m sub name wanted r is_app matches named given is t =
+    told words wanted (rows_of (found_of sub)) r (entered app words m sub name wanted is_app matches named given is) t
+
+-- words that clap did not take are refused, or memory was
+pub refused_texts : (app : App) (words : List Text) (kind : ErrorKind) (fault : WordFault) → app ≡ certpath_app → (takes app words ≡ true → kind ≡ NoMemory) → IsRefusal kind fault → AnswersTexts words (Err fault)
+refused_texts app words kind (faults.Refused said) is passes n = λ t. n (passes (ap (λ a. takes a words) is ∙ t))
+refused_texts app words kind faults.Number is passes n = absurd n
+refused_texts app words kind faults.Moment is passes n = absurd n
+refused_texts app words kind faults.OutOfMemory is passes n = tt
+
+-- ---- values
+
+pub frame_values : (found : ArgMatches) (t : FrameTexts) → Some t.file.now ≡ first_value (found_of found) (codes "FILE") → Some t.limit.now ≡ first_value (found_of found) (codes "limit")
+    → AreFrameTexts (rows_of (found_of found)) t
+frame_values found t file limit = record { file = value found (codes "FILE") t.file.now file; limit = value found (codes "limit") t.limit.now limit }
+
+pub path_values : (found : ArgMatches) (t : PathTexts) → Some t.bundle.now ≡ first_value (found_of found) (codes "BUNDLE") → Some t.anchors.now ≡ first_value (found_of found) (codes "ANCHORS")
+    → Some t.vouchers.now ≡ first_value (found_of found) (codes "VOUCHERS") → Some t.target.now ≡ first_value (found_of found) (codes "target") → Some t.moment.now ≡ first_value (found_of found) (codes "at")
+    → Some t.demand.now ≡ first_value (found_of found) (codes "demand-lists") → Some t.limit.now ≡ first_value (found_of found) (codes "limit")
+    → ArePathTexts (rows_of (found_of found)) t
+path_values found t bundle anchors vouchers target moment demand limit = record {
+  bundle = value found (codes "BUNDLE") t.bundle.now bundle;
+  anchors = value found (codes "ANCHORS") t.anchors.now anchors;
+  vouchers = value found (codes "VOUCHERS") t.vouchers.now vouchers;
+  target = value found (codes "target") t.target.now target;
+  moment = value found (codes "at") t.moment.now moment;
+  demand = value found (codes "demand-lists") t.demand.now demand;
+  limit = value found (codes "limit") t.limit.now limit;
+}

@@ -1,11 +1,12 @@
 -- What the program ends with: its exit status, and what it says on standard error.
 use Rattle.std.specs.Prelude.{ℕ, List, [], ◌∷◌, ◌++◌, Option, None, Some, Result, Ok, Err, codes, string_bytes}
+use Rattle.std.specs.Fmt.{decimal}
 use Rattle.cert_framing.specs.declared.ending.End.{End}
 use Rattle.cert_framing.specs.declared.ending.End.TheVariants.{Clean, Cut, Fault}
 use Rattle.certpath_engine.specs.declared.exit.FrameOutcome.{FrameOutcome}
 use Rattle.certpath_engine.specs.declared.exit.FrameOutcome.TheVariants.{Words, Unopened, Framed}
 use Rattle.certpath_engine.specs.declared.exit.Message.{Message}
-use Rattle.certpath_engine.specs.declared.exit.Message.TheVariants.{Usage, BadNumber, BadMoment, CannotRead, OutOfMemory as NoMemory, CannotWrite}
+use Rattle.certpath_engine.specs.declared.exit.Message.TheVariants.{Usage, BadNumber, BadMoment, CannotRead, VouchersLine, OutOfMemory as NoMemory, CannotWrite}
 use Rattle.certpath_engine.specs.declared.framing.FrameError.{FrameError}
 use Rattle.certpath_engine.specs.declared.framing.FrameError.TheVariants.{Read, TooLong, OutOfMemory, Write}
 use Rattle.certpath_engine.specs.declared.words.WordFault.{WordFault}
@@ -17,6 +18,9 @@ line text = text ++ 10 ∷ []
 
 abbrev pub cannot_read : List ℕ → List ℕ
 cannot_read word = line (codes "cannot read " ++ word)
+
+abbrev pub vouchers_line : ℕ → List ℕ
+vouchers_line number = line (codes "vouchers line " ++ decimal number)
 
 -- status and text where the words are refused or ask for help
 abbrev pub words_exit_of : WordFault → ℕ × List ℕ
@@ -47,6 +51,7 @@ message_text (Usage text) = string_bytes text
 message_text BadNumber = line (codes "bad number")
 message_text BadMoment = line (codes "bad moment")
 message_text (CannotRead word) = cannot_read word.now
+message_text (VouchersLine number) = vouchers_line number
 message_text NoMemory = line (codes "out of memory")
 message_text CannotWrite = line (codes "cannot write")
 

@@ -1,5 +1,7 @@
 pub mod Exits
+pub mod PathExits
 pub mod Numbers
 pub mod Runs
 pub mod Text
 pub mod Words
+pub mod Asking

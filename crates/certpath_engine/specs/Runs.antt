@@ -1,19 +1,12 @@
 -- What a run of `frame` does to its reader and its writer. Where a device tells no octets, the relations say of some stream.
 use Rattle.std.specs.Prelude.{◌≡◌, ◌⊎◌, ℕ, ◌+◌, List, Option, Result, Ok, Err}
-use Rattle.std.specs.Io.KnownBytes.{Appends, Consumes, IsAtEnd}
+use Rattle.std.specs.Io.KnownBytes.{Appends}
 use Rattle.asn1_device.specs.Counts.{AppendsFront}
 use Rattle.cert_framing.specs.declared.ending.End.{End}
-use Rattle.cert_framing.specs.Framing.{IsFraming}
+use Rattle.certpath_input.specs.Inputs.{ReadsItems}
 use Rattle.certpath_engine.specs.Text.{frame_text}
 use Rattle.certpath_engine.specs.declared.framing.FrameError.{FrameError}
 use Rattle.certpath_engine.specs.declared.framing.FrameError.TheVariants.{Read, TooLong, OutOfMemory, Write}
-
--- the reader gave all that it had, and that stream has these items and this end
-pub record ReadsItems (before after : Option (List ℕ)) (limit : ℕ) (items : List (List ℕ)) (end : End) : Type 0 where
-  pub stream : List ℕ
-  pub took : Consumes before after stream
-  pub all : IsAtEnd after
-  pub framing : IsFraming limit stream items end
 
 -- all was read, and exactly its frame text was written
 pub record Frames (source source' sink sink' : Option (List ℕ)) (limit : ℕ) (end : End) : Type 0 where

@@ -29,6 +29,8 @@ pub enum Message<'a> {
     BadMoment,
     /// This file can't be opened or read, or it is too long.
     CannotRead(&'a str),
+    /// This line of the vouchers is bad.
+    VouchersLine(usize),
     /// Memory was refused.
     OutOfMemory,
     /// Standard output failed.
@@ -53,6 +55,7 @@ impl fmt::Display for Message<'_> {
             Message::BadNumber => f.write_str("bad number\n"),
             Message::BadMoment => f.write_str("bad moment\n"),
             Message::CannotRead(word) => write!(f, "cannot read {word}\n"),
+            Message::VouchersLine(number) => write!(f, "vouchers line {number}\n"),
             Message::OutOfMemory => f.write_str("out of memory\n"),
             Message::CannotWrite => f.write_str("cannot write\n"),
         }
@@ -105,7 +108,7 @@ fn failed_exit<'a>(file: &'a str, error: FrameError) -> Exit<'a>
 }
 
 /// How the program ends where its words were refused.
-fn words_exit<'a>(fault: WordFault) -> Exit<'a>
+pub(crate) fn words_exit<'a>(fault: WordFault) -> Exit<'a>
     ensures status { result.status ≡ (words_exit_of fault).0 }
     ensures words { words_of result.message ≡ (words_exit_of fault).1 }
 {
@@ -118,7 +121,7 @@ fn words_exit<'a>(fault: WordFault) -> Exit<'a>
 }
 
 /// An end that says nothing.
-fn silent<'a>(status: u8) -> Exit<'a>
+pub(crate) fn silent<'a>(status: u8) -> Exit<'a>
     ensures status { result.status ≡ status }
     ensures words { words_of result.message ≡ [] }
 {
@@ -129,7 +132,7 @@ fn silent<'a>(status: u8) -> Exit<'a>
 }
 
 /// An end with a message.
-fn ended<'a>(status: u8, message: Message<'a>) -> Exit<'a>
+pub(crate) fn ended<'a>(status: u8, message: Message<'a>) -> Exit<'a>
     ensures status { result.status ≡ status }
     ensures message { result.message ≡ Some message.entry }
 {

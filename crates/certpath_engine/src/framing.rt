@@ -1,20 +1,16 @@
 //! Framing from a reader to a writer.
-ghost use Rattle.std.specs.Prelude.{◌≡◌, ◌≢◌, ℕ, ◌+◌, ◌≤◌, max, length, vec_len, IfOk, IfErr, OnOk, OnErr, IsErrOf};
+ghost use Rattle.std.specs.Prelude.{◌≡◌, ◌≢◌, ℕ, ◌+◌, ◌≤◌, max, IfOk, IfErr, OnOk, OnErr, IsErrOf};
 ghost use Rattle.std.specs.Io.KnownBytes.{Appends};
 ghost use Rattle.asn1_device.specs.Counts.{AppendsFront};
-ghost use Rattle.certpath_engine.specs.Runs.{ReadsItems, Frames, FramesInPart, MeetsEnd, failed_reads, failed_writes};
+ghost use Rattle.certpath_input.specs.Inputs.{ReadsItems};
+ghost use Rattle.certpath_engine.specs.Runs.{Frames, FramesInPart, MeetsEnd, failed_reads, failed_writes};
 
 use crate::text::text_of;
 use asn1_device::{Sink, Source, write_octets};
-use cert_framing::{Bundle, End, Items};
-use std::alloc::{AllocError, Global};
+use cert_framing::{End, Items};
+use certpath_input::{InputError, MAX_READS, READ_SIZE, read_items};
+use std::alloc::Global;
 use thiserror::Error;
-
-/// The most reads that are asked of one reader.
-pub const MAX_READS: u32 = 16_777_216;
-
-/// The most octets that are asked of one read.
-pub const READ_SIZE: usize = 65_536;
 
 /// Why a stream was not framed.
 #[derive(Clone, Copy, Debug, PartialEq, Eq, Hash, Error)]
@@ -62,7 +58,7 @@ pub fn frame<R: Source, W: Sink>(
     ensures reads { R.reads reader.new ≤ R.reads reader.old + MAX_READS }
     ensures widest { R.widest reader.new ≤ max (R.widest reader.old) READ_SIZE }
 {
-    let items = read_items(alloc, reader, limit)?;
+    let items = items_of(alloc, reader, limit)?;
     let Ok(text) = text_of(alloc, &items) else {
         return Err(FrameError::OutOfMemory);
     };
@@ -70,8 +66,8 @@ pub fn frame<R: Source, W: Sink>(
     Ok(items.end())
 }
 
-/// The items of all that `reader` gives, read by pieces into one buffer.
-fn read_items<R: Source>(alloc: Global, reader: &mut R, limit: u32) -> Result<Items, FrameError>
+/// The items of all that `reader` gives.
+fn items_of<R: Source>(alloc: Global, reader: &mut R, limit: u32) -> Result<Items, FrameError>
     ensures ok { IfOk result (λ items. ReadsItems (R.remaining reader.old) (R.remaining reader.new) limit items.items items.end) }
     ensures only { IfErr result (λ e. e ≢ FrameError.Write) }
     ensures read { R.failures reader.new ≡ R.failures reader.old + failed_reads result }
@@ -80,32 +76,12 @@ fn read_items<R: Source>(alloc: Global, reader: &mut R, limit: u32) -> Result<It
     ensures reads { R.reads reader.new ≤ R.reads reader.old + MAX_READS }
     ensures widest { R.widest reader.new ≤ max (R.widest reader.old) READ_SIZE }
 {
-    let Ok(mut buffer) = zeros(alloc, READ_SIZE) else {
-        return Err(FrameError::OutOfMemory);
-    };
-    let mut bundle = Bundle::new(alloc, limit);
-    for _ in 0..MAX_READS {
-        let Ok(count) = reader.read(&mut buffer) else {
-            return Err(FrameError::Read);
-        };
-        if count == 0 {
-            let Ok(items) = bundle.finish() else {
-                unreachable!()
-            };
-            return Ok(items);
-        }
-        if bundle.feed(&buffer[..count]).is_err() {
-            return Err(FrameError::OutOfMemory);
-        }
+    match read_items(alloc, reader, limit) {
+        Ok(items) => Ok(items),
+        Err(InputError::Read) => Err(FrameError::Read),
+        Err(InputError::TooLong) => Err(FrameError::TooLong),
+        Err(InputError::OutOfMemory) => Err(FrameError::OutOfMemory),
     }
-    Err(FrameError::TooLong)
-}
-
-/// So many zeros.
-fn zeros(alloc: Global, size: usize) -> Result<Vec<u8>, AllocError>
-    ensures { IfOk result (λ v. vec_len v ≡ size) }
-{
-    vec![in alloc; 0; size]
 }
 
 /// Writes the text, and flushes once.

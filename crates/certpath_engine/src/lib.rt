@@ -6,14 +6,14 @@
 mod exit;
 mod framing;
 mod number;
+mod path_exit;
 mod text;
 mod words;
 
 pub use cert_framing::End;
+pub use certpath_input::{MAX_READS, READ_SIZE};
 pub use exit::{Exit, FrameOutcome, Message, frame_status};
-pub use framing::{FrameError, MAX_READS, READ_SIZE, frame};
+pub use framing::{FrameError, frame};
 pub use number::read_number;
+pub use path_exit::{PathFiles, PathOutcome, path_status};
 pub use words::{Command, WordFault, read_words};
-
-#[cfg(test)]
-mod tests;

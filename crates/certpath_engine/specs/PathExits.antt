@@ -1,0 +1,38 @@
+-- What the program ends with after `path`: its exit status, and what it says on standard error.
+use Rattle.std.specs.Prelude.{ℕ, List, [], Result, Ok, Err, codes}
+use Rattle.certpath_run.specs.declared.settings.Input.{Input}
+use Rattle.certpath_run.specs.declared.settings.Input.TheVariants.{Bundle, Anchors, Vouchers}
+use Rattle.certpath_run.specs.declared.settings.Outcome.{Outcome}
+use Rattle.certpath_run.specs.declared.settings.Outcome.TheVariants.{Path, NoPath, NoTarget}
+use Rattle.certpath_run.specs.declared.settings.RunError.{RunError}
+use Rattle.certpath_run.specs.declared.settings.RunError.TheVariants.{Read, TooLong, BadLine, OutOfMemory, Write}
+use Rattle.certpath_engine.specs.declared.path_exit.PathFiles.{PathFiles}
+use Rattle.certpath_engine.specs.declared.path_exit.PathOutcome.{PathOutcome}
+use Rattle.certpath_engine.specs.declared.path_exit.PathOutcome.TheVariants.{Words, Unopened, Ran}
+use Rattle.certpath_engine.specs.Exits.{line, cannot_read, vouchers_line, words_exit_of}
+
+-- the word of an input's file
+abbrev pub word_of : PathFiles → Input → List ℕ
+word_of files Bundle = files.bundle.now
+word_of files Anchors = files.anchors.now
+word_of files Vouchers = files.vouchers.now
+
+abbrev pub status_of : Outcome → ℕ
+status_of Path = 0
+status_of NoPath = 1
+status_of NoTarget = 3
+
+-- status and text where the files were opened
+abbrev pub ran_exit_of : PathFiles → Result Outcome RunError → ℕ × List ℕ
+ran_exit_of files (Ok outcome) = (status_of outcome, [])
+ran_exit_of files (Err (Read input)) = (4, cannot_read (word_of files input))
+ran_exit_of files (Err (TooLong input)) = (4, cannot_read (word_of files input))
+ran_exit_of files (Err (BadLine number)) = (5, vouchers_line number)
+ran_exit_of files (Err OutOfMemory) = (6, line (codes "out of memory"))
+ran_exit_of files (Err Write) = (7, line (codes "cannot write"))
+
+-- status and text of the command `path`
+abbrev pub path_exit : PathOutcome → ℕ × List ℕ
+path_exit (Words fault) = words_exit_of fault
+path_exit (Unopened word) = (4, cannot_read word.now)
+path_exit (Ran files answer) = ran_exit_of files answer

@@ -1,0 +1,87 @@
+//! What the program ends with after `path`.
+ghost use Rattle.std.specs.Prelude.{◌≡◌, Err};
+ghost use Rattle.certpath_engine.specs.Exits.{words_of};
+ghost use Rattle.certpath_engine.specs.PathExits.{path_exit, ran_exit_of, status_of, word_of};
+
+use crate::exit::{Exit, Message, ended, silent, words_exit};
+use crate::words::WordFault;
+use certpath_run::{Input, Outcome, RunError};
+
+/// The files of `path`, by their words.
+#[derive(Clone, Copy, Debug, PartialEq, Eq)]
+pub struct PathFiles<'a> {
+    pub bundle: &'a str,
+    pub anchors: &'a str,
+    pub vouchers: &'a str,
+}
+
+/// How far the command `path` came.
+#[derive(Debug, Drop)]
+pub enum PathOutcome<'a> {
+    /// Its words were refused.
+    Words(WordFault),
+    /// This file can't be opened.
+    Unopened(&'a str),
+    /// These files were opened, and the run over them answered this.
+    Ran(PathFiles<'a>, Result<Outcome, RunError>),
+}
+
+/// The status that `path` ends with, and what it says on standard error.
+pub fn path_status<'a>(outcome: PathOutcome<'a>) -> Exit<'a>
+    ensures status { result.status ≡ (path_exit outcome.entry).0 }
+    ensures words { words_of result.message ≡ (path_exit outcome.entry).1 }
+{
+    match outcome {
+        PathOutcome::Words(fault) => words_exit(fault),
+        PathOutcome::Unopened(file) => ended(4, Message::CannotRead(file)),
+        PathOutcome::Ran(files, answer) => ran_exit(files, answer),
+    }
+}
+
+/// How the program ends where the files were opened.
+fn ran_exit<'a>(files: PathFiles<'a>, answer: Result<Outcome, RunError>) -> Exit<'a>
+    ensures status { result.status ≡ (ran_exit_of files.entry answer).0 }
+    ensures words { words_of result.message ≡ (ran_exit_of files.entry answer).1 }
+{
+    match answer {
+        Ok(outcome) => silent(outcome_status(outcome)),
+        Err(error) => refused_exit(files, error),
+    }
+}
+
+/// The status where the run has an answer.
+fn outcome_status(outcome: Outcome) -> u8
+    ensures { result ≡ status_of outcome }
+{
+    match outcome {
+        Outcome::Path => 0,
+        Outcome::NoPath => 1,
+        Outcome::NoTarget => 3,
+    }
+}
+
+/// The word of an input's file.
+fn file_of<'a>(files: PathFiles<'a>, input: Input) -> &'a str
+    ensures { result.now ≡ word_of files.entry input }
+{
+    match input {
+        Input::Bundle => files.bundle,
+        Input::Anchors => files.anchors,
+        Input::Vouchers => files.vouchers,
+    }
+}
+
+/// How the program ends where it has none.
+fn refused_exit<'a>(files: PathFiles<'a>, error: RunError) -> Exit<'a>
+    ensures status { result.status ≡ (ran_exit_of files.entry (Err error)).0 }
+    ensures words { words_of result.message ≡ (ran_exit_of files.entry (Err error)).1 }
+{
+    match error {
+        RunError::Read(input) | RunError::TooLong(input) => {
+            ended(4, Message::CannotRead(file_of(files, input)))
+        }
+        RunError::BadLine(number) => ended(5, Message::VouchersLine(number)),
+        RunError::OutOfMemory => ended(6, Message::OutOfMemory),
+        RunError::Write => ended(7, Message::CannotWrite),
+    }
+}

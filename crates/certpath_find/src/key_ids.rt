@@ -1,0 +1,103 @@
+//! Key identifiers (RFC 5280, 4.2.1.1 and 4.2.1.2): the elements of values that are DER objects, told by their first octets.
+
+ghost use Rattle.std.specs.Prelude.{◌≡◌, ◌↔◌, ◌≤◌, ℕ, List, All, length, map, IsTrue, IfSome, IsSomeAnd, IfOk};
+ghost use Rattle.der_tree.specs.Object.{IsDerObject};
+ghost use Rattle.cert_model.specs.Extended.{under_ce};
+ghost use Rattle.cert_model.specs.Fields.{Extension};
+ghost use Rattle.cert_model.specs.KeyIds.{IsFirstUnder, IsAuthorityKeyId, IsSubjectKeyId};
+ghost use Rattle.cert_model.specs.View.{ext_view, certificate_view};
+ghost use Rattle.certpath_find.specs.Contents.{HasContent};
+
+use asn1_any::Any;
+use asn1_core::{Err as Refusal, OutOfMemory};
+use cert_model::fields::{CertFields, ExtField};
+use cert_model::identifiers::{AUTHORITY_KEY_IDENTIFIER, SUBJECT_KEY_IDENTIFIER, is_ce};
+use der_tree::{MAX_RECURSION, parse_der_recursive};
+use std::alloc::Global;
+
+/// The first octet of a SEQUENCE, of an OCTET STRING, and of what stands under [0] without parts (X.690, 8.1.2).
+const SEQUENCE: u8 = 0x30;
+
+const OCTET_STRING: u8 = 0x04;
+
+const KEY_IDENTIFIER: u8 = 0x80;
+
+/// The value of the first extension whose identifier is 2.5.29.n.
+fn first_value<'a>(extensions: &[ExtField<'a>], n: u8) -> Option<&'a [u8]>
+    ensures found { IfSome result (λ value. IsFirstUnder (under_ce n) (map ext_view extensions.now) value.now) }
+    ensures only { (value : List ℕ) → IsFirstUnder (under_ce n) (map ext_view extensions.now) value → IsSomeAnd result (λ r. r.now ≡ value) }
+{
+    for extension in extensions {
+        if is_ce(extension.identifier, n) {
+            return Some(extension.value);
+        }
+    }
+    None
+}
+
+/// Whether the octets are one DER object of at most 50 levels.
+fn is_object(alloc: Global, octets: &[u8]) -> Result<bool, OutOfMemory>
+    ensures { IfOk result (λ yes. IsTrue yes ↔ IsDerObject 50 octets.now) }
+{
+    match parse_der_recursive(alloc, octets, MAX_RECURSION) {
+        Ok((rest, _)) => Ok(rest.is_empty()),
+        Err(e) => match e {
+            Refusal::Failure(_) => Err(OutOfMemory),
+            _ => Ok(false),
+        },
+    }
+}
+
+/// The content of the element that begins the octets, where its first octet is this.
+fn content_under<'a>(first: u8, octets: &'a [u8]) -> Option<&'a [u8]>
+    ensures found { IfSome result (λ content. HasContent first octets.now content.now) }
+    ensures only { (content : List ℕ) → HasContent first octets.now content → IsSomeAnd result (λ r. r.now ≡ content) }
+{
+    if !octets.starts_with(&[first]) {
+        return None;
+    }
+    let Ok((_, element)) = Any::from_der(octets) else {
+        return None;
+    };
+    Some(element.content)
+}
+
+/// The key identifier that a certificate names for its issuer (RFC 5280, 4.2.1.1): the content of the first element of the first
+/// authorityKeyIdentifier value, where that value is a DER object and the element is a [0] without parts.
+pub(crate) fn named_key_id<'a>(
+    alloc: Global,
+    fields: &CertFields<'a>,
+) -> Result<Option<&'a [u8]>, OutOfMemory>
+    ensures found { IfOk result (λ r. IfSome r (λ id. IsAuthorityKeyId (certificate_view fields.now) id.now)) }
+    ensures only { IfOk result (λ r. (id : List ℕ) → IsAuthorityKeyId (certificate_view fields.now) id → IsSomeAnd r (λ s. s.now ≡ id)) }
+{
+    let Some(value) = first_value(&fields.extensions, AUTHORITY_KEY_IDENTIFIER) else {
+        return Ok(None);
+    };
+    if !is_object(alloc, value)? {
+        return Ok(None);
+    }
+    let Some(parts) = content_under(SEQUENCE, value) else {
+        return Ok(None);
+    };
+    Ok(content_under(KEY_IDENTIFIER, parts))
+}
+
+/// The key identifier of a certificate's own key (RFC 5280, 4.2.1.2): the content of the OCTET STRING that the first
+/// subjectKeyIdentifier value is.
+pub(crate) fn own_key_id<'a>(
+    alloc: Global,
+    fields: &CertFields<'a>,
+) -> Result<Option<&'a [u8]>, OutOfMemory>
+    requires small { All (λ (e : Extension). length e.value ≤ 4_294_967_295) (certificate_view fields.now).extensions }
+    ensures found { IfOk result (λ r. IfSome r (λ id. IsSubjectKeyId (certificate_view fields.now) id.now)) }
+    ensures only { IfOk result (λ r. (id : List ℕ) → IsSubjectKeyId (certificate_view fields.now) id → IsSomeAnd r (λ s. s.now ≡ id)) }
+{
+    let Some(value) = first_value(&fields.extensions, SUBJECT_KEY_IDENTIFIER) else {
+        return Ok(None);
+    };
+    if !is_object(alloc, value)? {
+        return Ok(None);
+    }
+    Ok(content_under(OCTET_STRING, value))
+}

@@ -1,0 +1,25 @@
+//! Laws of answers on octets. Each is a function that does nothing: its contract is the law.
+
+ghost use Rattle.std.specs.Prelude.{◌≡◌, ◌↔◌, ℕ, Bool, List, IsTrue};
+ghost use Rattle.cert_graph.specs.declared.answer.Answer.{Answer};
+ghost use Rattle.cert_graph.specs.Adequate.{IsAdequate};
+ghost use Rattle.cert_judge.specs.Classed.{AreClassed};
+ghost use Rattle.cert_judge.specs.Items.{rules_by};
+ghost use Rattle.cert_judge.specs.Revoking.{Item};
+ghost use Rattle.certpath_find.specs.Answered.{HoldsOfItems};
+
+use cert_judge::{Policy, Vouch};
+
+/// Octets have one class each: whoever reads them, and by whatever road, reads the same items.
+pub fn one_classing()
+    ensures { (octets : List (List ℕ)) (items others : List Item) → AreClassed octets items → AreClassed octets others → items ≡ others }
+{}
+
+/// `certcheck::check` says yes to each adequate answer, so to each of `find`'s: the premises are the clauses `exact` of the one and
+/// `adequate` of the other.
+pub fn check_says_yes<V: Vouch>(_vouch: &V, _policy: &Policy)
+    ensures { (items anchors : List (List ℕ)) (target : ℕ) (answer : Answer) (said : Bool)
+        → HoldsOfItems (rules_by _policy.now.moment _policy.now.demand_lists (V.vouches_for _vouch.now)) items anchors (λ g. IsTrue said ↔ IsAdequate g target answer)
+        → HoldsOfItems (rules_by _policy.now.moment _policy.now.demand_lists (V.vouches_for _vouch.now)) items anchors (λ g. IsAdequate g target answer)
+        → IsTrue said }
+{}

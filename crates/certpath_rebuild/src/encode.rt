@@ -1,0 +1,247 @@
+//! What parts octets are made of. Each part tells how many octets it has, and writes them.
+ghost use Rattle.std.specs.Prelude.{◌≡◌, ◌<◌, ◌^◌, ℕ, List, [], ◌∷◌, ◌++◌, length};
+ghost use Rattle.std.specs.List.{flat_map};
+ghost use Rattle.asn1_core.specs.Strict.{strict_header};
+ghost use Rattle.asn1_core.specs.Elements.{element_octets};
+ghost use Rattle.asn1_core.specs.Views.{class_number};
+ghost use Rattle.cert_model.specs.Octets.{optional_octets, primitive_octets, sequence_octets, set_octets, explicit_octets};
+ghost use Rattle.certpath_rebuild.specs.Puts.{Sized, Puts};
+
+use asn1_core::{Class, Header, HeaderOctets, Length, Tag};
+use asn1_device::{DeviceFault, Sink, write_octets};
+
+/// What octets are written of.
+pub(crate) trait Encode {
+    /// The octets.
+    ghost octets: { Self → List ℕ };
+
+    /// How many octets there are; none where `usize` can't count them.
+    fn size(&self) -> Option<usize>
+        ensures { Sized (octets self.now) result };
+
+    /// Writes the octets. Where a write fails a front of them was written.
+    fn put<S: Sink>(&self, writer: &mut S) -> Result<(), DeviceFault>
+        requires { length (octets self.now) < 2 ^ 64 }
+        ensures octets { Puts (S.contents writer.old) (S.contents writer.new) (S.failures writer.old) (S.failures writer.new) (octets self.now) result }
+        ensures flushes { S.flushes writer.new ≡ S.flushes writer.old };
+}
+
+/// Octets as they are.
+#[derive(Clone, Copy)]
+pub(crate) struct Octets<'a>(pub &'a [u8]);
+
+impl<'a> Encode for Octets<'a> {
+    ghost octets = { λ o. o.0.now };
+
+    fn size(&self) -> Option<usize> {
+        Some(self.0.len())
+    }
+
+    fn put<S: Sink>(&self, writer: &mut S) -> Result<(), DeviceFault> {
+        write_octets(writer, self.0)
+    }
+}
+
+/// So many octets.
+impl<const N: usize> Encode for [u8; N] {
+    ghost octets = { λ a. a };
+
+    fn size(&self) -> Option<usize> {
+        Some(N)
+    }
+
+    fn put<S: Sink>(&self, writer: &mut S) -> Result<(), DeviceFault> {
+        write_octets(writer, self)
+    }
+}
+
+/// One octet.
+#[derive(Clone, Copy)]
+pub(crate) struct Octet(pub u8);
+
+impl Encode for Octet {
+    ghost octets = { λ o. o.0 ∷ [] };
+
+    fn size(&self) -> Option<usize> {
+        Some(1)
+    }
+
+    fn put<S: Sink>(&self, writer: &mut S) -> Result<(), DeviceFault> {
+        write_octets(writer, &[self.0])
+    }
+}
+
+/// Nothing.
+#[derive(Clone, Copy)]
+pub(crate) struct Nothing;
+
+impl Encode for Nothing {
+    ghost octets = { λ _. [] };
+
+    fn size(&self) -> Option<usize> {
+        Some(0)
+    }
+
+    fn put<S: Sink>(&self, _writer: &mut S) -> Result<(), DeviceFault> {
+        Ok(())
+    }
+}
+
+/// One part behind the other.
+#[derive(Drop)]
+pub(crate) struct Both<A, B>(pub A, pub B);
+
+impl<A: Encode, B: Encode> Encode for Both<A, B> {
+    ghost octets = { λ b. A.octets b.0 ++ B.octets b.1 };
+
+    fn size(&self) -> Option<usize> {
+        let first = self.0.size()?;
+        let second = self.1.size()?;
+        first.checked_add(second)
+    }
+
+    fn put<S: Sink>(&self, writer: &mut S) -> Result<(), DeviceFault> {
+        self.0.put(writer)?;
+        self.1.put(writer)
+    }
+}
+
+/// A part that may be absent.
+impl<A: Encode> Encode for Option<A> {
+    ghost octets = { λ o. optional_octets A.octets o };
+
+    fn size(&self) -> Option<usize> {
+        match self {
+            Some(part) => part.size(),
+            None => Some(0),
+        }
+    }
+
+    fn put<S: Sink>(&self, writer: &mut S) -> Result<(), DeviceFault> {
+        match self {
+            Some(part) => part.put(writer),
+            None => Ok(()),
+        }
+    }
+}
+
+/// An element around its content: a strict header, and the content's octets (X.690, 8.1 and 10.1).
+#[derive(Drop)]
+pub(crate) struct Element<C> {
+    pub class: Class,
+    pub constructed: bool,
+    pub tag: Tag,
+    pub content: C,
+}
+
+/// A primitive element of the universal class.
+pub(crate) fn primitive<C: Encode>(tag: Tag, content: C) -> Element<C>
+    ensures { ⟦<Element<C> as Encode>⟧.octets result ≡ primitive_octets tag.0 (C.octets content) }
+{
+    Element {
+        class: Class::Universal,
+        constructed: false,
+        tag,
+        content,
+    }
+}
+
+/// A SEQUENCE (X.690, 8.9).
+pub(crate) fn sequence<C: Encode>(content: C) -> Element<C>
+    ensures { ⟦<Element<C> as Encode>⟧.octets result ≡ sequence_octets (C.octets content) }
+{
+    Element {
+        class: Class::Universal,
+        constructed: true,
+        tag: Tag::Sequence,
+        content,
+    }
+}
+
+/// A SET OF (X.690, 8.11).
+pub(crate) fn set<C: Encode>(content: C) -> Element<C>
+    ensures { ⟦<Element<C> as Encode>⟧.octets result ≡ set_octets (C.octets content) }
+{
+    Element {
+        class: Class::Universal,
+        constructed: true,
+        tag: Tag::Set,
+        content,
+    }
+}
+
+/// `[n] EXPLICIT` (X.690, 8.14).
+pub(crate) fn explicit<C: Encode>(tag: u32, content: C) -> Element<C>
+    ensures { ⟦<Element<C> as Encode>⟧.octets result ≡ explicit_octets tag (C.octets content) }
+{
+    Element {
+        class: Class::ContextSpecific,
+        constructed: true,
+        tag: Tag(tag),
+        content,
+    }
+}
+
+impl<C> Element<C> {
+    // The strict header before so many content octets.
+    fn header(&self, size: usize) -> HeaderOctets
+        ensures { result ≡ strict_header (record { class = class_number self.now.class; constructed = self.now.constructed; tag = self.now.tag.0; size = size }) }
+    {
+        let header = Header::new(
+            self.class,
+            self.constructed,
+            self.tag,
+            Length::Definite(size),
+        );
+        match header.strict_octets() {
+            Some(octets) => octets,
+            None => unreachable!(),
+        }
+    }
+}
+
+impl<C: Encode> Encode for Element<C> {
+    ghost octets = { λ e. element_octets (record { class = class_number e.class; constructed = e.constructed; tag = e.tag.0; content = C.octets e.content }) };
+
+    fn size(&self) -> Option<usize> {
+        let content = self.content.size()?;
+        self.header(content).as_slice().len().checked_add(content)
+    }
+
+    fn put<S: Sink>(&self, writer: &mut S) -> Result<(), DeviceFault> {
+        match self.content.size() {
+            Some(content) => {
+                write_octets(writer, self.header(content).as_slice())?;
+                self.content.put(writer)
+            }
+            None => unreachable!(),
+        }
+    }
+}
+
+/// Parts one behind the other.
+#[derive(Clone, Copy)]
+pub(crate) struct Each<'a, A>(pub &'a [A]);
+
+impl<'a, A: Encode> Encode for Each<'a, A> {
+    ghost octets = { λ e. flat_map A.octets e.0.now };
+
+    fn size(&self) -> Option<usize> {
+        let mut total = 0usize;
+        let mut rest = self.0;
+        while let Some((part, after)) = rest.split_first() {
+            total = total.checked_add(part.size()?)?;
+            rest = after;
+        }
+        Some(total)
+    }
+
+    fn put<S: Sink>(&self, writer: &mut S) -> Result<(), DeviceFault> {
+        let mut rest = self.0;
+        while let Some((part, after)) = rest.split_first() {
+            part.put(writer)?;
+            rest = after;
+        }
+        Ok(())
+    }
+}

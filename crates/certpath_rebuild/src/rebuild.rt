@@ -1,0 +1,52 @@
+//! Fields written back.
+ghost use Rattle.std.specs.Prelude.{◌≡◌};
+ghost use Rattle.cert_model.specs.Octets.{certificate_octets, list_octets};
+ghost use Rattle.cert_model.specs.View.{certificate_view, list_view};
+ghost use Rattle.certpath_rebuild.specs.Puts.{Rebuilds};
+
+use crate::certificates::certificate;
+use crate::encode::Encode;
+use crate::lists::list;
+use asn1_core::{SerializeError, SerializeResult};
+use asn1_device::Sink;
+use cert_model::fields::{CertFields, ListFields};
+
+/// Appends the octets that these fields write (RFC 5280, 4.1, by the rules of DER), and answers their number. Of fields in
+/// range (`CertFields::in_range`) they are a certificate. No memory is taken, and nothing is flushed.
+///
+/// Refusals: `InvalidLength` where `usize` can't count the octets, before anything is written; `IOError` where the writer
+/// failed, behind a front of the octets.
+pub fn rebuild_certificate<S: Sink>(
+    fields: &CertFields<'_>,
+    writer: &mut S,
+) -> SerializeResult<usize>
+    ensures written { Rebuilds (S.contents writer.old) (S.contents writer.new) (S.failures writer.old) (S.failures writer.new) (certificate_octets (certificate_view fields.now)) result }
+    ensures flushes { S.flushes writer.new ≡ S.flushes writer.old }
+{
+    let whole = certificate(fields);
+    match whole.size() {
+        Some(size) => match whole.put(writer) {
+            Ok(()) => Ok(size),
+            Err(_) => Err(SerializeError::IOError),
+        },
+        None => Err(SerializeError::InvalidLength),
+    }
+}
+
+/// Appends the octets that these fields write (RFC 5280, 5.1, by the rules of DER), and answers their number. Of fields in
+/// range (`ListFields::in_range`) they are a revocation list. No memory is taken, and nothing is flushed.
+///
+/// Refusals as of `rebuild_certificate`.
+pub fn rebuild_list<S: Sink>(fields: &ListFields<'_>, writer: &mut S) -> SerializeResult<usize>
+    ensures written { Rebuilds (S.contents writer.old) (S.contents writer.new) (S.failures writer.old) (S.failures writer.new) (list_octets (list_view fields.now)) result }
+    ensures flushes { S.flushes writer.new ≡ S.flushes writer.old }
+{
+    let whole = list(fields);
+    match whole.size() {
+        Some(size) => match whole.put(writer) {
+            Ok(()) => Ok(size),
+            Err(_) => Err(SerializeError::IOError),
+        },
+        None => Err(SerializeError::InvalidLength),
+    }
+}

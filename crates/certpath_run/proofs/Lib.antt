@@ -1,0 +1,2 @@
+mod InputFacts
+mod ReportFacts

@@ -1,0 +1,38 @@
+-- The report of judged items, as the code writes it.
+use Rattle.std.specs.Prelude.{ℕ, ◌+◌, Bool, List, [], ◌∷◌, ◌++◌, length, codes}
+use Rattle.std.specs.Fmt.{decimal}
+use Rattle.cert_framing.specs.declared.ending.End.{End}
+use Rattle.cert_graph.specs.declared.answer.Answer.{Answer}
+use Rattle.cert_judge.specs.declared.judged.JudgedItem.{JudgedItem}
+use Rattle.cert_judge.specs.declared.judged.JudgedItem.TheVariants.{Certificate as certificate_judged, List as list_judged, Other as other_judged}
+use Rattle.certpath_run.specs.Report.{end_words, end_line, answer_line, check_line}
+
+abbrev pub judged_word : JudgedItem → List ℕ
+judged_word (certificate_judged j) = codes "cert"
+judged_word (list_judged j) = codes "list"
+judged_word other_judged = codes "other"
+
+abbrev pub judged_line : ℕ → JudgedItem → List ℕ
+judged_line k item = decimal k ++ (32 ∷ (judged_word item ++ 10 ∷ []))
+
+abbrev pub judged_lines : ℕ → List JudgedItem → List ℕ
+judged_lines k [] = []
+judged_lines k (item ∷ items) = judged_line k item ++ judged_lines (k + 1) items
+
+abbrev pub one_certificate : JudgedItem → ℕ
+one_certificate (certificate_judged j) = 1
+one_certificate (list_judged j) = 0
+one_certificate other_judged = 0
+
+abbrev pub certificates_of : List JudgedItem → ℕ
+certificates_of [] = 0
+certificates_of (item ∷ items) = one_certificate item + certificates_of items
+
+-- so many certificates of so many anchor items
+abbrev pub counts_line : ℕ → ℕ → End → List ℕ
+counts_line certificates all end =
+    codes "anchors " ++ (decimal certificates ++ (codes " of " ++ (decimal all ++ (codes ", " ++ (end_words end ++ 10 ∷ [])))))
+
+abbrev pub judged_report : List JudgedItem → End → List JudgedItem → End → Answer → Bool → List ℕ
+judged_report items end anchors anchors_end answer said =
+    judged_lines 0 items ++ (end_line end ++ (counts_line (certificates_of anchors) (length anchors) anchors_end ++ (answer_line answer ++ check_line said)))

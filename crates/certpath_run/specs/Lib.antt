@@ -1,0 +1,4 @@
+pub mod JudgedReport
+pub mod Report
+pub mod Runs
+pub mod Uses

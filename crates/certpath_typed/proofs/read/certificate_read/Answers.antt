@@ -1,0 +1,21 @@
+use Rattle.std.proofs.Common.{arith, ◌<◌, length, []}
+use Rattle.std.proofs.lemmas.Grind.{common_steps}
+use Rattle.x509_links.specs.Lenient.{lenient_certificate}
+use Rattle.certpath_typed.proofs.Taken.{certificate_taken, refused, some_left}
+use Rattle.certpath_typed.proofs.read.certificate_read.Goals as goal
+
+pub returns-then-is_empty-clause-read : goal.returns-then-is_empty-clause-read
+returns-then-is_empty-clause-read c = λ d is. (c.in-Ok.ensures.only (lenient_certificate d) [] (certificate_taken c.args.item.now d (omega arith) is)).0
+
+pub returns-in-Ok-clause-read : goal.returns-in-Ok-clause-read
+returns-in-Ok-clause-read c = λ d is.
+    let long : 0 < length c.in-Ok.rest.now = grind (arith, common_steps) in
+    some_left c.in-Ok.rest.now long (c.in-Ok.ensures.only (lenient_certificate d) [] (certificate_taken c.args.item.now d (omega arith) is)).1
+
+pub returns : goal.returns
+returns c = record {
+  read = λ d is. refused c.in-Err.refusal c.in_default.not-Failure (c.in-Err.ensures.only (lenient_certificate d) [] (certificate_taken c.args.item.now d (omega arith) is));
+  least = tt;
+  grows = c.in-Err.ensures.grows;
+  most = c.in-Err.ensures.most;
+}

@@ -1,0 +1,124 @@
+//! What an item is.
+
+ghost use Rattle.std.specs.Prelude.{◌≡◌, ◌↔◌, ◌+◌, ◌*◌, ◌^◌, ◌<◌, ◌≤◌, ℕ, length, IfOk, IfSome, MatchOption, IsTrue};
+ghost use Rattle.asn1_core.specs.Counts.{attempts};
+ghost use Rattle.der_tree.specs.Object.{IsDerObject};
+ghost use Rattle.cert_model.specs.Class.{IsCertificateItem, IsListItem, IsClassOf};
+ghost use Rattle.cert_model.specs.Fields.{Certificate, RevocationList};
+ghost use Rattle.cert_model.specs.View.{certificate_view, list_view};
+ghost use Rattle.certcheck.specs.ClassView.{class_view};
+ghost use Rattle.certpath_typed.specs.Tried.{HasTried, TriesTree};
+
+use crate::certificates::certificate_fields;
+use crate::lists::list_fields;
+use crate::read::{certificate_read, list_read};
+use crate::written::{is_written_certificate, is_written_list};
+use asn1_core::{Err as Refusal, HeaderCount, OutOfMemory};
+use cert_model::fields::{CertFields, ListFields};
+use certcheck::ItemClass;
+use der_tree::{MAX_RECURSION, parse_der_recursive_counted};
+use std::alloc::Global;
+
+/// Reads an item by the lenient readers of certificates and lists, and answers its class: a certificate or a list where it is
+/// an item under the greatest limit, a DER object of at most 50 levels, and exactly the octets that fields in range write;
+/// other in every other case.
+pub fn read_typed<'a>(alloc: Global, item: &'a [u8]) -> Result<ItemClass<'a>, OutOfMemory>
+    ensures class { IfOk result (λ class. IsClassOf item.now (class_view class)) }
+{
+    let mut count = HeaderCount::new();
+    read_typed_counted(alloc, item, &mut count)
+}
+
+/// The answer of `read_typed`, and the header attempts that it took, in the count: at most 17 for each octet, and at least so
+/// many as the item's tree has elements and 17 more where it is a certificate, nine more where it is a list.
+pub fn read_typed_counted<'a>(
+    alloc: Global,
+    item: &'a [u8],
+    count: &mut HeaderCount,
+) -> Result<ItemClass<'a>, OutOfMemory>
+    requires { attempts count.old + 17 * length item.now < 2 ^ 128 }
+    ensures class { IfOk result (λ class. IsClassOf item.now (class_view class)) }
+    ensures least { IfOk result (λ class. HasTried item.now (class_view class) (attempts count.old) (attempts count.new)) }
+    ensures most { attempts count.new ≤ attempts count.old + 17 * length item.now }
+{
+    if !is_object(alloc, item, count)? {
+        return Ok(ItemClass::Other);
+    }
+    if let Some(fields) = certificate_of(alloc, item, count)? {
+        return Ok(ItemClass::Certificate(fields));
+    }
+    if let Some(fields) = list_of(alloc, item, count)? {
+        return Ok(ItemClass::List(fields));
+    }
+    Ok(ItemClass::Other)
+}
+
+/// Whether the item is one DER object of at most 50 levels.
+fn is_object(alloc: Global, item: &[u8], count: &mut HeaderCount) -> Result<bool, OutOfMemory>
+    requires { attempts count.old + length item.now < 2 ^ 128 }
+    ensures object { IfOk result (λ b. IsTrue b ↔ IsDerObject 50 item.now) }
+    ensures each { IfOk result (λ b. IsTrue b → TriesTree item.now (attempts count.old) (attempts count.new)) }
+    ensures most { attempts count.new ≤ attempts count.old + length item.now }
+{
+    match parse_der_recursive_counted(alloc, item, MAX_RECURSION, count) {
+        Ok((rest, _object)) => { if rest.is_empty() { Ok(true) } else { Ok(false) } }
+        Err(refusal) => match refusal {
+            Refusal::Failure(_) => Err(OutOfMemory),
+            _ => Ok(false),
+        },
+    }
+}
+
+/// The fields of the certificate that the item is.
+fn certificate_of<'a>(
+    alloc: Global,
+    item: &'a [u8],
+    count: &mut HeaderCount,
+) -> Result<Option<CertFields<'a>>, OutOfMemory>
+    requires room { attempts count.old + 8 * length item.now < 2 ^ 128 }
+    requires object { IsDerObject 50 item.now }
+    ensures class { IfOk result (λ o. MatchOption o ((c : Certificate) → ¬ IsCertificateItem item.now c)
+        (λ f. IsCertificateItem item.now (certificate_view f))) }
+    ensures least { IfOk result (λ o. IfSome o (λ _. attempts count.old + 17 ≤ attempts count.new)) }
+    ensures grows { attempts count.old ≤ attempts count.new }
+    ensures most { attempts count.new ≤ attempts count.old + 8 * length item.now }
+{
+    let Some(certificate) = certificate_read(alloc, item, count)? else {
+        return Ok(None);
+    };
+    let fields = certificate_fields(alloc, item, &certificate)?;
+    if !fields.in_range() {
+        return Ok(None);
+    }
+    if !is_written_certificate(&fields, item) {
+        return Ok(None);
+    }
+    Ok(Some(fields))
+}
+
+/// The fields of the revocation list that the item is.
+fn list_of<'a>(
+    alloc: Global,
+    item: &'a [u8],
+    count: &mut HeaderCount,
+) -> Result<Option<ListFields<'a>>, OutOfMemory>
+    requires room { attempts count.old + 8 * length item.now < 2 ^ 128 }
+    requires object { IsDerObject 50 item.now }
+    ensures class { IfOk result (λ o. MatchOption o ((l : RevocationList) → ¬ IsListItem item.now l)
+        (λ f. IsListItem item.now (list_view f))) }
+    ensures least { IfOk result (λ o. IfSome o (λ _. attempts count.old + 9 ≤ attempts count.new)) }
+    ensures grows { attempts count.old ≤ attempts count.new }
+    ensures most { attempts count.new ≤ attempts count.old + 8 * length item.now }
+{
+    let Some(list) = list_read(alloc, item, count)? else {
+        return Ok(None);
+    };
+    let fields = list_fields(alloc, item, &list)?;
+    if !fields.in_range() {
+        return Ok(None);
+    }
+    if !is_written_list(&fields, item) {
+        return Ok(None);
+    }
+    Ok(Some(fields))
+}

@@ -1,0 +1,26 @@
+//! Laws of the two roads, and of strict items. Each is a function that does nothing: its contract is the law.
+
+ghost use Rattle.std.specs.Prelude.{◌≡◌, ◌^◌, ◌<◌, ℕ, List, [], length};
+ghost use Rattle.cert_model.specs.Class.{IsCertificateItem, IsListItem, IsClassOf};
+ghost use Rattle.cert_model.specs.Fields.{Certificate, RevocationList};
+ghost use Rattle.certcheck.specs.ClassView.{class_view};
+ghost use Rattle.certcheck.specs.declared.class.ItemClass.{ItemClass};
+ghost use Rattle.x509_certs.specs.Certificates.{X509Certificate};
+ghost use Rattle.x509_ext.specs.Fields.{IsUnparsed};
+ghost use Rattle.x509_lists.specs.Lists.{CertificateRevocationList};
+ghost use Rattle.x509_links.specs.Lenient.{lenient_certificate, lenient_list};
+
+/// What two readers answer of one item, each its class, is one class with the same fields: so the tree road and the typed road
+/// agree, memory aside.
+pub fn two_roads()
+    ensures { (item : List ℕ) (tree typed : ItemClass) → IsClassOf item (class_view tree) → IsClassOf item (class_view typed)
+        → class_view tree ≡ class_view typed }
+{}
+
+/// The readers of certificates and of lists take all of a strict item, with its fields, and it is their window.
+pub fn strict_items()
+    ensures certificate { (item : List ℕ) (c : Certificate) → length item < 2 ^ 64 → IsCertificateItem item c
+        → X509Certificate IsUnparsed item (lenient_certificate c) [] × ((lenient_certificate c).raw ≡ item) }
+    ensures list { (item : List ℕ) (l : RevocationList) → length item < 2 ^ 64 → IsListItem item l
+        → CertificateRevocationList IsUnparsed item (lenient_list l) [] × ((lenient_list l).raw ≡ item) }
+{}

@@ -1,0 +1,19 @@
+//! The typed road: the class of an item by the lenient readers of certificates and revocation lists, whose fields are written
+//! back and compared with the item.
+//!
+//! An item is a certificate where it is a DER object of at most 50 levels, the reader of certificates takes all of it, the
+//! fields that it read are in range, and what they write is the item; a list in the same way; other in every other case.
+#![tactic(auto)]
+
+mod certificates;
+mod class;
+mod comparison;
+mod identifier;
+pub mod laws;
+mod lists;
+mod parts;
+mod read;
+mod written;
+
+pub use crate::class::{read_typed, read_typed_counted};
+pub use asn1_core::HeaderCount;

@@ -1,0 +1,141 @@
+//! The parts of certificates and lists, from what the readers give to fields.
+
+ghost use Rattle.std.specs.Prelude.{◌≡◌, map, option_map, IfOk};
+ghost use Rattle.asn1_any.specs.Views.{any_of};
+ghost use Rattle.cert_model.specs.View.{any_view, alg_view, attr_view, name_view, bit_view, key_view, ext_view};
+ghost use Rattle.x509_names.specs.View.{algorithm_view, attribute_view, set_view, name_view as read_name_view, bits_view, key_view as read_key_view};
+ghost use Rattle.x509_ext.specs.View.{extension_view, identifier_view};
+ghost use Rattle.certpath_typed.specs.Told.{told_algorithm, told_attribute, told_name, told_bits, told_key, told_extension};
+
+use crate::identifier::identifier;
+use asn1_any::Any;
+use asn1_core::OutOfMemory;
+use asn1_values::BitString;
+use cert_model::fields::{AlgField, AnyField, AttrField, BitField, ExtField, KeyField, NameFields};
+use std::alloc::Global;
+use x509_ext::{UniqueIdentifier, X509Extension};
+use x509_names::{
+    AlgorithmIdentifier, AttributeTypeAndValue, RelativeDistinguishedName, SubjectPublicKeyInfo,
+    X509Name,
+};
+
+fn any_field<'a>(any: &Any<'a>) -> AnyField<'a>
+    ensures { any_view result ≡ any_of any.now }
+{
+    AnyField {
+        class: any.class(),
+        constructed: any.header.constructed(),
+        tag: any.tag(),
+        content: any.content,
+    }
+}
+
+/// AlgorithmIdentifier (RFC 5280, 4.1.1.2).
+pub(crate) fn algorithm_field<'a>(
+    item: &'a [u8],
+    algorithm: &AlgorithmIdentifier<'a>,
+) -> AlgField<'a>
+    ensures { alg_view result ≡ told_algorithm item.now (algorithm_view algorithm.now) }
+{
+    let parameters = match &algorithm.parameters {
+        Some(any) => Some(any_field(any)),
+        None => None,
+    };
+    AlgField {
+        identifier: identifier(item, &algorithm.algorithm),
+        parameters,
+    }
+}
+
+fn attribute_field<'a>(item: &'a [u8], attribute: &AttributeTypeAndValue<'a>) -> AttrField<'a>
+    ensures { attr_view result ≡ told_attribute item.now (attribute_view attribute.now) }
+{
+    AttrField {
+        identifier: identifier(item, attribute.attr_type()),
+        value: any_field(attribute.attr_value()),
+    }
+}
+
+fn attribute_fields<'a>(
+    alloc: Global,
+    item: &'a [u8],
+    set: &RelativeDistinguishedName<'a>,
+) -> Result<Vec<AttrField<'a>>, OutOfMemory>
+    ensures { IfOk result (λ v. map attr_view v.items ≡ map (told_attribute item.now) (set_view set.now)) }
+{
+    let mut fields = Vec::new(alloc);
+    for attribute in set.iter() {
+        fields.push(attribute_field(item, attribute))?;
+    }
+    Ok(fields)
+}
+
+/// Name (RFC 5280, 4.1.2.4).
+pub(crate) fn name_fields<'a>(
+    alloc: Global,
+    item: &'a [u8],
+    name: &X509Name<'a>,
+) -> Result<NameFields<'a>, OutOfMemory>
+    ensures { IfOk result (λ f. name_view f ≡ told_name item.now (read_name_view name.now)) }
+{
+    let mut sets = Vec::new(alloc);
+    for set in name.iter() {
+        sets.push(attribute_fields(alloc, item, set)?)?;
+    }
+    Ok(NameFields { sets })
+}
+
+/// BIT STRING (X.690, 8.6).
+pub(crate) fn bit_field<'a>(bits: BitString<'a>) -> BitField<'a>
+    ensures { bit_view result ≡ told_bits (bits_view bits.entry) }
+{
+    BitField {
+        unused: bits.unused_bits,
+        octets: bits.content,
+    }
+}
+
+/// A unique identifier, where it stands (RFC 5280, 4.1.2.8).
+pub(crate) fn id_field<'a>(id: &Option<UniqueIdentifier<'a>>) -> Option<BitField<'a>>
+    ensures { option_map bit_view result ≡ option_map told_bits (option_map identifier_view id.now) }
+{
+    match id {
+        Some(id) => Some(bit_field(id.0)),
+        None => None,
+    }
+}
+
+/// SubjectPublicKeyInfo (RFC 5280, 4.1.2.7).
+pub(crate) fn key_field<'a>(item: &'a [u8], key: &SubjectPublicKeyInfo<'a>) -> KeyField<'a>
+    ensures { key_view result ≡ told_key item.now (read_key_view key.now) }
+{
+    KeyField {
+        algorithm: algorithm_field(item, &key.algorithm),
+        key: bit_field(key.subject_public_key),
+    }
+}
+
+fn extension_field<'a>(item: &'a [u8], extension: &X509Extension<'a>) -> ExtField<'a>
+    ensures { ext_view result ≡ told_extension item.now (extension_view extension.now) }
+{
+    ExtField {
+        identifier: identifier(item, &extension.oid),
+        critical: extension.critical,
+        value: extension.value,
+    }
+}
+
+/// Extensions (RFC 5280, 4.2), in the order in which they stand.
+pub(crate) fn extension_fields<'a>(
+    alloc: Global,
+    item: &'a [u8],
+    extensions: &[X509Extension<'a>],
+) -> Result<Vec<ExtField<'a>>, OutOfMemory>
+    ensures { IfOk result (λ v. map ext_view v.items ≡ map (told_extension item.now) (map extension_view extensions.now)) }
+{
+    let mut fields = Vec::new(alloc);
+    for extension in extensions {
+        fields.push(extension_field(item, extension))?;
+    }
+    Ok(fields)
+}

@@ -1,0 +1,4 @@
+//! A module for each crate.
+
+mod engine;
+mod framing;
