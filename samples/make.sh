@@ -1,11 +1,21 @@
 #!/usr/bin/env bash
-# Makes a small PKI with openssl: a root, an intermediate, a leaf and the intermediate's revocation list (RFC 5280), all DER,
-# the bundle of the four, and the lines that `certpath frame` prints for it, computed from the files' sizes.
-# New keys are made at each run, so the files differ from run to run; those in the repository are of one run.
+# Makes a small PKI with openssl (RFC 5280): a root, an intermediate, a leaf (serial 3), and two lists of the intermediate's, of
+# which list revokes the leaf and other_list another certificate (serial 4). All stand here as DER; of the leaf and the
+# intermediate, of the root and of the lists there are PEM files, too. bundle.der is the leaf, the intermediate, the root and the
+# list that revokes; bundle.frame has the lines that `certpath frame` prints for it, computed from the files' sizes, and
+# vouchers.txt those that `./vouch samples/bundle.der samples/root.der` writes, computed from what signed what.
+#
+#     samples/make.sh [FOLDER]       writes into the folder, samples/ where none is given
+#
+# The keys in samples/keys are kept and the dates are fixed, so each run gives the same octets. Who needs other keys removes
+# these: new ones are made then. They are for all to read: nothing that they sign is to be trusted.
 set -euo pipefail
-cd "$(dirname "$0")"
+samples=$(cd "$(dirname "$0")" && pwd)
+keys=$samples/keys
+cd "${1:-$samples}"
 work=$(mktemp -d)
 trap 'rm -rf "$work"' EXIT
+from=20261122000000Z
 
 cat > "$work/openssl.cnf" <<'CNF'
 [req]
@@ -29,35 +39,50 @@ subjectAltName = DNS:www.example.test
 subjectKeyIdentifier = hash
 authorityKeyIdentifier = keyid
 [ca]
-default_ca = intermediate_ca
-[intermediate_ca]
+default_ca = own
+[own]
 database = index.txt
+serial = serial
 crlnumber = crlnumber
+new_certs_dir = .
 default_md = sha256
+policy = any
+preserve = yes
+[any]
+countryName = supplied
+organizationName = supplied
+commonName = supplied
 CNF
 
-key() { openssl genpkey -algorithm RSA -pkeyopt rsa_keygen_bits:2048 -out "$work/$1.key"; }
-request() { openssl req -new -config "$work/openssl.cnf" -key "$work/$1.key" -subj "$2" -out "$work/$1.csr"; }
-sign() { # name, issuer, section, days, serial
-  openssl x509 -req -in "$work/$1.csr" -CA "$work/$2.pem" -CAkey "$work/$2.key" -set_serial "$5" -days "$4" -sha256 \
-    -extfile "$work/openssl.cnf" -extensions "$3" -out "$work/$1.pem"
+by_openssl() { (cd "$work" && openssl ca -batch -notext -config openssl.cnf "$@"); }
+
+sign() { # name, subject, serial, end, how it is signed
+  openssl req -new -config "$work/openssl.cnf" -key "$keys/$1.pem" -subj "$2" -out "$work/$1.csr"
+  echo "$3" > "$work/serial"
+  : > "$work/index.txt"
+  by_openssl -in "$1.csr" -extensions "$1" -startdate "$from" -enddate "$4" -out "$1.pem" "${@:5}"
 }
 
-for name in root intermediate leaf; do key "$name"; done
-openssl req -new -x509 -config "$work/openssl.cnf" -extensions root -key "$work/root.key" -subj '/C=CZ/O=Example/CN=Example Root' \
-  -set_serial 1 -days 7300 -sha256 -out "$work/root.pem"
-request intermediate '/C=CZ/O=Example/CN=Example Intermediate'
-sign intermediate root intermediate 3650 2
-request leaf '/C=CZ/O=Example/CN=www.example.test'
-sign leaf intermediate leaf 1825 3
+revoke() { # name, number, revoked serial
+  printf 'R\t311121000000Z\t261122000000Z\t%s\tunknown\t/CN=revoked\n' "$3" > "$work/index.txt"
+  echo "$2" > "$work/crlnumber"
+  by_openssl -cert intermediate.pem -keyfile "$keys/intermediate.pem" -gencrl -crl_lastupdate "$from" -crl_nextupdate 20311122000000Z -out "$1.pem"
+}
 
-touch "$work/index.txt"
-echo 01 > "$work/crlnumber"
-(cd "$work" && openssl ca -config openssl.cnf -name intermediate_ca -cert intermediate.pem -keyfile intermediate.key -revoke leaf.pem &&
-  openssl ca -config openssl.cnf -name intermediate_ca -cert intermediate.pem -keyfile intermediate.key -gencrl -crldays 365 -out list.pem)
+mkdir -p "$keys"
+for name in root intermediate leaf; do
+  [ -e "$keys/$name.pem" ] || openssl genpkey -algorithm RSA -pkeyopt rsa_keygen_bits:2048 -out "$keys/$name.pem"
+done
+sign root '/C=CZ/O=Example/CN=Example Root' 01 20461122000000Z -selfsign -keyfile "$keys/root.pem"
+sign intermediate '/C=CZ/O=Example/CN=Example Intermediate' 02 20361122000000Z -cert root.pem -keyfile "$keys/root.pem"
+sign leaf '/C=CZ/O=Example/CN=www.example.test' 03 20311122000000Z -cert intermediate.pem -keyfile "$keys/intermediate.pem"
+revoke list 01 03
+revoke other_list 02 04
 
 for name in root intermediate leaf; do openssl x509 -in "$work/$name.pem" -outform DER -out "$name.der"; done
-openssl crl -in "$work/list.pem" -outform DER -out list.der
+for name in list other_list; do openssl crl -in "$work/$name.pem" -outform DER -out "$name.der"; done
+cat "$work/leaf.pem" "$work/intermediate.pem" > fullchain.pem
+cp "$work/root.pem" "$work/list.pem" "$work/other_list.pem" .
 cat leaf.der intermediate.der root.der list.der > bundle.der
 
 at=0 k=0
@@ -67,3 +92,9 @@ for name in leaf intermediate root list; do
   k=$((k + 1)) at=$((at + size))
 done > bundle.frame
 echo "end clean" >> bundle.frame
+
+digest() { sha256sum | cut -c 1-64; }
+vouch() { # the key's name, the name of an item that it signed
+  echo "$(openssl pkey -in "$keys/$1.pem" -pubout -outform DER | digest) $(digest < "$2.der")"
+}
+{ vouch root root; vouch root intermediate; vouch intermediate leaf; vouch intermediate list; } | LC_ALL=C sort > vouchers.txt

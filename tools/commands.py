@@ -8,6 +8,7 @@ import subprocess
 import sys
 import tempfile
 
+import paths
 import repo
 
 SECONDS = 60
@@ -40,6 +41,11 @@ def table(room):
             file.write(octets)
         return name
 
+    return [*frame_table(room, made), *paths.table(made)]
+
+
+def frame_table(room, made):
+    """Rows of `frame`, and of words that no command takes."""
     samples = [os.path.join(repo.TOP, "samples", f"{it}.der") for it in ("leaf", "intermediate", "root", "list")]
     bundled = subprocess.run([os.path.join(repo.TOP, "bundle"), *samples], stdout=subprocess.PIPE, timeout=SECONDS).stdout
     longest = bytes([0x30, 0x84]) + LARGEST.to_bytes(4, "big") + bytes(LARGEST)

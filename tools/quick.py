@@ -34,7 +34,7 @@ def files():
 
 FILES = files()
 OF_RATTLE = [it for it in FILES if it.endswith((".rt", ".antt"))]
-SCRIPTS = [it for it in FILES if it.endswith((".py", ".sh")) or it in ("test", "certpath", "rows", "bundle", ".ci/run")]
+SCRIPTS = [it for it in FILES if it.endswith((".py", ".sh")) or it in ("test", "certpath", "rows", "bundle", "vouch", ".ci/run")]
 TEXTS = [it for it in FILES if it.endswith((".md", ".edit")) or it == "crates.txt"]
 DOCS = [it for it in FILES if it.endswith(".md")]
 CRATES = repo.crates()
@@ -176,6 +176,24 @@ def crates_listed():
             yield f"README.md: it tells nothing of the crate {name}"
 
 
+def judge_alone():
+    """`certcheck` shares nothing with the search and the typed readers: beside its own crates it stands on parts of `asn1_rs` and `der_parser` alone."""
+    own = {"certcheck", "cert_framing", "cert_graph", "cert_groups", "cert_judge", "cert_model"}
+    for name in sorted({*repo.below(["certcheck"], CRATES)} - own - {*repo.below(["asn1_rs", "der_parser"], CRATES)}):
+        yield f"crates.txt: certcheck stands on {name}"
+
+
+def roads_apart():
+    """The search shares no reading with the check: outside tests no source of a `certpath_` crate names `read_tree`, or the check's
+    calls for key identifiers."""
+    for path in FILES:
+        if not re.match(r"crates/certpath_\w+/src/.*\.rt$", path) or re.search(r"/tests?\b", path):
+            continue
+        code = "\n".join(line.split("//")[0] for line in repo.read(path).splitlines())
+        for name in re.findall(r"\b(?:read_tree|authority_key_id|subject_key_id)\b", code):
+            yield f"{path}: it names {name}"
+
+
 def no_handles():
     """HANDLES allows none."""
     if repo.read("HANDLES") != "Handles allowed: none.\n":
@@ -188,6 +206,16 @@ def short_files():
         count = repo.read(path).count("\n")
         if count > MOST_LINES:
             yield f"{path}: {count} lines, and at most {MOST_LINES} are kept in one file"
+
+
+def worked_causes():
+    """Each worked row that docs/OTHER.md names stands in cert_rows, and is other."""
+    lines = repo.read("crates/cert_rows/stdout").splitlines()
+    answers = {title.removeprefix("# ").partition(": ")[0]: answer for title, answer in zip(lines, lines[1:])}
+    causes = [line.strip("| ").split(" | ") for line in repo.read("docs/OTHER.md").splitlines() if line.startswith("| ")]
+    for title in (it.strip() for row in causes if len(row) == 4 for it in row[3].split(";")):
+        if title != "worked row" and not answers.get(title, "").endswith(" = other"):
+            yield f"docs/OTHER.md: {title} is no worked row that is other"
 
 
 def bundles():
@@ -203,7 +231,7 @@ def items_spelled():
 
 
 def main():
-    checks = (layout, edits_apply, few_edits, all_read, no_labels, no_machine, docs_name_files, crates_listed, no_handles, short_files, items_spelled, bundles)
+    checks = (layout, edits_apply, few_edits, all_read, no_labels, no_machine, docs_name_files, crates_listed, judge_alone, roads_apart, no_handles, short_files, items_spelled, worked_causes, bundles)
     failed = 0
     for check in checks:
         found = [*check()]

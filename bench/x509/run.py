@@ -35,7 +35,7 @@ def main():
                 out.write(item * count)
             for reader in ("typed", "tree"):
                 said = subprocess.run([program, reader, bundle], check=True, capture_output=True, text=True).stdout
-                if not said.endswith(f": {count} certificates in {count * len(item)} octets\n"):
+                if not said.endswith(f": {count} items in {count * len(item)} octets\n"):
                     sys.exit(f"{reader} printed something else: {said[-200:]}")
             typed, tree, touched = (median(it) for it in ([program, "typed", bundle], [program, "tree", bundle], [loop, bundle]))
             times.append(typed)

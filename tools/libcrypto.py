@@ -1,0 +1,126 @@
+"""OpenSSL's own verifying of certificates and revocation lists, called in its library."""
+import ctypes
+import re
+import ssl
+from ctypes import POINTER, c_char_p, c_int, c_long, c_ulong, c_void_p
+from typing import NamedTuple
+
+import shapes
+
+POINTED = POINTER(c_void_p)
+# Each function that is called: what it answers, and what it takes.
+FUNCTIONS = {
+    "d2i_X509": (c_void_p, [c_void_p, POINTED, c_long]),
+    "d2i_X509_CRL": (c_void_p, [c_void_p, POINTED, c_long]),
+    "d2i_PUBKEY": (c_void_p, [c_void_p, POINTED, c_long]),
+    "X509_free": (None, [c_void_p]),
+    "X509_CRL_free": (None, [c_void_p]),
+    "EVP_PKEY_free": (None, [c_void_p]),
+    "X509_verify": (c_int, [c_void_p, c_void_p]),
+    "X509_CRL_verify": (c_int, [c_void_p, c_void_p]),
+    "EVP_PKEY_get_bits": (c_int, [c_void_p]),
+    "EVP_PKEY_get_security_bits": (c_int, [c_void_p]),
+    "EVP_PKEY_get0_type_name": (c_char_p, [c_void_p]),
+    "ERR_clear_error": (None, []),
+    "ERR_get_error": (c_ulong, []),
+    "ERR_reason_error_string": (c_char_p, [c_ulong]),
+}
+# By an item's kind: what reads it, frees it, and verifies it.
+CALLS = {
+    shapes.CERTIFICATE: ("d2i_X509", "X509_free", "X509_verify"),
+    shapes.LIST: ("d2i_X509_CRL", "X509_CRL_free", "X509_CRL_verify"),
+}
+# A key that is worth fewer bits of security is weak: RSA and DSA below 2048 bits, elliptic curves below 224.
+FEWEST_BITS = 112
+
+
+class Missing(ImportError):
+    """There is no libcrypto of OpenSSL 3."""
+
+
+def candidates():
+    """The library that Python itself uses, whatever its name, then the one of OpenSSL 3."""
+    try:
+        with open("/proc/self/maps", encoding="utf-8", errors="surrogateescape") as maps:
+            found = re.findall(r"(?m)(/\S*/libcrypto\.so\S*)$", maps.read())
+    except OSError:
+        found = []
+    return [*found[:1], "libcrypto.so.3"]
+
+
+def loaded():
+    """The library with all functions typed, so that no pointer is cut to an int."""
+    for name in candidates():
+        try:
+            library = ctypes.CDLL(name)
+            for function, (answer, takes) in FUNCTIONS.items():
+                called = getattr(library, function)
+                called.restype, called.argtypes = answer, takes
+            return library
+        except (OSError, AttributeError):
+            continue
+    raise Missing(f"no libcrypto of OpenSSL 3 is there, and Python has {ssl.OPENSSL_VERSION}")
+
+
+class Key(NamedTuple):
+    """A key: its element's octets, the pointer to what OpenSSL made of them, none where it cannot read them, and in which words
+    it is weak, none where it isn't."""
+    octets: bytes
+    handle: int
+    weak: str
+
+
+class Verifier:
+    """Asks OpenSSL. Each key is read once and kept."""
+
+    def __init__(self):
+        self.library, self.keys = loaded(), {}
+
+    def read(self, function, octets):
+        """What a d2i function makes of the octets, if it takes all of them."""
+        held = ctypes.create_string_buffer(octets, len(octets))
+        at = c_void_p(ctypes.addressof(held))
+        made = getattr(self.library, function)(None, ctypes.byref(at), len(octets))
+        return made, made is not None and at.value == ctypes.addressof(held) + len(octets)
+
+    def key(self, octets):
+        """The key of an element's octets."""
+        if octets not in self.keys:
+            handle, is_whole = self.read("d2i_PUBKEY", octets)
+            if handle is not None and not is_whole:
+                self.library.EVP_PKEY_free(handle)
+                handle = None
+            self.keys[octets] = Key(octets, handle, self.weakness(handle) if handle is not None else None)
+            self.library.ERR_clear_error()
+        return self.keys[octets]
+
+    def weakness(self, handle):
+        """In which words a key is weak, none where it isn't."""
+        if self.library.EVP_PKEY_get_security_bits(handle) >= FEWEST_BITS:
+            return None
+        return f"{self.library.EVP_PKEY_get_bits(handle)}-bit {(self.library.EVP_PKEY_get0_type_name(handle) or b'unnamed').decode()} key"
+
+    def reason(self):
+        """The first reason that OpenSSL has noted, and forgets then."""
+        text = self.library.ERR_reason_error_string(self.library.ERR_get_error())
+        self.library.ERR_clear_error()
+        return text.decode(errors="replace") if text else "wrong signature"
+
+    def refusals(self, item, keys):
+        """Why each key doesn't verify the item, none where it does; or nothing at all where OpenSSL cannot read the item."""
+        reader, free, verify = CALLS[item.kind]
+        handle, is_whole = self.read(reader, item.octets)
+        self.library.ERR_clear_error()
+        try:
+            return [self.refusal(getattr(self.library, verify), handle, it) for it in keys] if is_whole else None
+        finally:
+            if handle is not None:
+                getattr(self.library, free)(handle)
+
+    def refusal(self, verify, handle, key):
+        if key.handle is None:
+            return "openssl cannot read the key"
+        # 1 alone is yes: 0 is a wrong signature, -1 a key of another type, unused bits, or a signature in another spelling
+        is_verified = verify(handle, key.handle) == 1
+        reason = self.reason()
+        return None if is_verified else reason

@@ -1,0 +1,97 @@
+"""What ./bundle and ./vouch share: elements of DER and BER with a definite length, and the shapes of certificates and revocation lists."""
+from typing import NamedTuple
+
+LIMIT = 16777216
+SEQUENCE, INTEGER, BIT_STRING, UTC_TIME, GENERALIZED_TIME, VERSION = 0x30, 0x02, 0x03, 0x17, 0x18, 0xA0
+CERTIFICATE, LIST = "certificate", "list"
+
+
+class Part(NamedTuple):
+    """An element: its first identifier octet, its content, and all its octets."""
+    tag: int
+    content: bytes
+    octets: bytes
+
+
+class Item(NamedTuple):
+    """A certificate (RFC 5280, 4.1) or a revocation list (RFC 5280, 5.1) by its shape, each part as the octets that it has there.
+
+    Algorithms, names and the key are whole elements; the signature is its bits, the count of unused ones before them. A list
+    has neither subject nor key.
+    """
+    kind: str
+    octets: bytes
+    signed: bytes
+    inner_algorithm: bytes
+    outer_algorithm: bytes
+    signature: bytes
+    issuer: bytes
+    subject: bytes = None
+    key: bytes = None
+
+
+def counted(number, word):
+    return f"{number} {word}" if number == 1 else f"{number} {word}s"
+
+
+def header_at(octets, at):
+    """The first identifier octet of the element that begins there, where its content begins and ends, and whether its length
+    is in the shortest form; none where there is no header of definite length. The content may end behind the octets."""
+    if len(octets) < at + 2:
+        return None
+    begin = at + 1
+    if octets[at] & 0x1F == 0x1F:
+        while begin < len(octets) and octets[begin] & 0x80:
+            begin += 1
+        begin += 1
+    if begin >= len(octets):
+        return None
+    first, begin = octets[begin], begin + 1
+    if first < 0x80:
+        return octets[at], begin, begin + first, True
+    digits = octets[begin:begin + first - 0x80]
+    if first == 0x80 or first == 0xFF or len(digits) < first - 0x80:
+        return None
+    length, begin = int.from_bytes(digits, "big"), begin + len(digits)
+    return octets[at], begin, begin + length, digits[0] != 0 and length >= 0x80
+
+
+def parts_of(octets):
+    """The elements that the octets are; none where they are no row of them."""
+    parts, at = [], 0
+    while at < len(octets):
+        header = header_at(octets, at)
+        if header is None or header[2] > len(octets):
+            return None
+        tag, begin, end, _ = header
+        parts.append(Part(tag, octets[begin:end], octets[at:end]))
+        at = end
+    return parts
+
+
+def tags_of(parts):
+    return [it.tag for it in parts or []]
+
+
+def without(tag, parts):
+    """The parts without the first one, where that has the tag."""
+    return parts[1:] if tags_of(parts[:1]) == [tag] else parts
+
+
+def item_of(octets):
+    """The certificate or list that a whole element is by its shape, none where it is neither."""
+    whole = parts_of(octets)
+    outer = parts_of(whole[0].content) if whole else None
+    if tags_of(outer) != [SEQUENCE, SEQUENCE, BIT_STRING]:
+        return None
+    signed, algorithm, signature = outer
+    inner = parts_of(signed.content) or []
+    parts = without(VERSION, inner)
+    if tags_of(parts[:6]) == [INTEGER] + [SEQUENCE] * 5:
+        _, own, issuer, _, subject, key = (it.octets for it in parts[:6])
+        return Item(CERTIFICATE, octets, signed.octets, own, algorithm.octets, signature.content, issuer, subject, key)
+    parts = without(INTEGER, inner)
+    if tags_of(parts[:2]) == [SEQUENCE, SEQUENCE] and tags_of(parts[2:3]) in ([UTC_TIME], [GENERALIZED_TIME]):
+        own, issuer = (it.octets for it in parts[:2])
+        return Item(LIST, octets, signed.octets, own, algorithm.octets, signature.content, issuer)
+    return None
