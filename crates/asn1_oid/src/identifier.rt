@@ -52,6 +52,17 @@ impl<'a> Oid<'a> {
         }
     }
 
+    /// The content octets for as long as those that they were borrowed of; none where the identifier holds octets of its own, as
+    /// one that `from` made and its copies do.
+    pub fn borrowed(&self) -> Option<&'a [u8]>
+        ensures { IfSome result (λ octets. octets.now ≡ self.now) }
+    {
+        match &self.octets {
+            Octets::Borrowed(octets) => Some(*octets),
+            Octets::Owned(_) => None,
+        }
+    }
+
     /// Whether the content is one that DER allows (X.690, 8.19.1 and 8.19.2).
     pub fn is_strict(&self) -> bool
         ensures { IsTrue result ↔ IsOidContent self.now }

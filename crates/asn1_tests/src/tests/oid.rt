@@ -139,6 +139,8 @@ fn compares_octets(rt: HostRuntime) -> Result<(), Fail> {
     let made = Oid::from(rt.alloc(), &[1, 2, 3])?;
     let borrowed = Oid::new(&[0x2a, 0x03]);
     assert!(rt; made == borrowed);
+    assert!(rt; made.borrowed().is_none());
+    assert!(rt; borrowed.borrowed().is_some());
     assert!(rt; made.clone(rt.alloc())? == borrowed.clone(rt.alloc())?);
     let longer = Oid::new(&[0x2a, 0x03, 0x01]);
     assert!(rt; borrowed < longer);
