@@ -8,7 +8,7 @@ use Rattle.asn1_core.specs.Elements.{Element, head_of_element, element_octets}
 use Rattle.asn1_core.proofs.StrictLaws.{one_element_lem}
 use Rattle.cert_graph.specs.declared.reach.Reach.TheVariants.{UpTo}
 use Rattle.cert_model.specs.Fields.{Bits, Number, CivilTime, Extension}
-use Rattle.cert_model.specs.Octets.{number_octets, optional_octets, critical_octets}
+use Rattle.cert_model.specs.Octets.{number_octets, optional_octets, flag_octets}
 use Rattle.cert_model.specs.Extended.{basic_constraints, key_usage, name_constraints, policy_constraints, AreDistinct, EachUnder, SomeUnder, IsWithout}
 use Rattle.cert_model.specs.Examples.{new_year, plain, authority_b}
 use Rattle.cert_judge.specs.Moments.{IsNotAfter, IsBetween}
@@ -111,7 +111,7 @@ same_content constructed tag content held below small same =
     let r = one_element_lem e f [] [] (record { class = lit< tt; tag = below; size = omega arith }) (record { class = lit< tt; tag = below; size = omega arith }) (ap (λ s. s ++ []) same) in
     ap (λ (e : Element). e.content) r.0
 
-no_default : (n : Option Number) (ca : Bool) → critical_octets ca ++ optional_octets number_octets n ≡ 1 ∷ 1 ∷ 0 ∷ [] → ⊥
+no_default : (n : Option Number) (ca : Bool) → flag_octets ca ++ optional_octets number_octets n ≡ 1 ∷ 1 ∷ 0 ∷ [] → ⊥
 no_default n true same = let third = ap (λ (s : List ℕ). get_or s 2 0) same in omega arith
 no_default None false same = let first = ap (λ (s : List ℕ). get_or s 0 0) same in omega arith
 no_default (Some n) false same = let first = ap (λ (s : List ℕ). get_or s 0 0) same in omega arith

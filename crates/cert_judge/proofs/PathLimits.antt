@@ -12,7 +12,7 @@ use Rattle.cert_graph.specs.declared.reach.Reach.{Reach}
 use Rattle.cert_graph.specs.declared.reach.Reach.TheVariants.{UpTo, Any}
 use Rattle.cert_graph.specs.Reach.{reach_of}
 use Rattle.cert_model.specs.Fields.{Number, CivilTime, Identifier, Extension, Certificate}
-use Rattle.cert_model.specs.Octets.{sequence_octets, number_octets, optional_octets, critical_octets}
+use Rattle.cert_model.specs.Octets.{sequence_octets, number_octets, optional_octets, flag_octets}
 use Rattle.cert_model.specs.Range.{IfThere}
 use Rattle.cert_model.specs.Extended.{SomeUnder, AreDistinct, basic_constraints}
 use Rattle.cert_judge.specs.Constraints.{BasicConstraints, basic_constraints_octets, IsPathLength, IsBasicConstraints, value_of}
@@ -87,7 +87,7 @@ limit_of_value (Some n) in_range = limit_some n (few_digits n in_range.number.sh
 
 spelled_by : (value : List ℕ) (b : BasicConstraints) → b.ca ≡ true → IsBasicConstraints value b → value ≡ authority_octets (optional_octets number_octets b.path_len)
 unfolding basic_constraints_octets
-spelled_by value b ca h = h.spelled ∙ ap (λ flag. sequence_octets (critical_octets flag ++ optional_octets number_octets b.path_len)) ca
+spelled_by value b ca h = h.spelled ∙ ap (λ flag. sequence_octets (flag_octets flag ++ optional_octets number_octets b.path_len)) ca
 
 -- the limit of a fit issuer is its path length constraint
 pub limit_is : (moment : CivilTime) (c : Certificate) (n : Option ℕ) → IsFitIssuer moment c → SomeUnder basic_constraints (HasPathLen n) c.extensions → path_limit c ≡ reach_of n

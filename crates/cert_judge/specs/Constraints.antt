@@ -2,7 +2,7 @@
 use Rattle.std.specs.Prelude.{◌≡◌, ℕ, ◌^◌, ◌<◌, Bool, List, ◌++◌, Option}
 use Rattle.std.specs.Int.Digits.{number_from_digits}
 use Rattle.cert_model.specs.Fields.{Number}
-use Rattle.cert_model.specs.Octets.{sequence_octets, number_octets, optional_octets, critical_octets}
+use Rattle.cert_model.specs.Octets.{sequence_octets, number_octets, optional_octets, flag_octets}
 use Rattle.cert_model.specs.Range.{IfThere, IsNumber}
 
 -- what a number that is not negative counts: its octets are digits, the first the highest (X.690, 8.3.3)
@@ -15,7 +15,7 @@ pub record BasicConstraints : Type 0 where
 
 -- BasicConstraints ::= SEQUENCE { cA BOOLEAN DEFAULT FALSE, pathLenConstraint INTEGER (0..MAX) OPTIONAL }
 unfoldable pub basic_constraints_octets : BasicConstraints → List ℕ
-basic_constraints_octets b = sequence_octets (critical_octets b.ca ++ optional_octets number_octets b.path_len)
+basic_constraints_octets b = sequence_octets (flag_octets b.ca ++ optional_octets number_octets b.path_len)
 
 -- a path length in the fewest octets, below 2^32
 pub record IsPathLength (n : Number) : Type 0 where

@@ -2,7 +2,7 @@
 
 ghost use Rattle.std.specs.Prelude.{◌≡◌, ◌≢◌, ◌↔◌, ℕ, List, [], ◌∷◌, ◌++◌, Option, option_map, slice_index, Bool, IsTrue, IfSome, IsSomeAnd, SomeIff};
 ghost use Rattle.cert_model.specs.Fields.{Number};
-ghost use Rattle.cert_model.specs.Octets.{number_octets, optional_octets, critical_octets};
+ghost use Rattle.cert_model.specs.Octets.{number_octets, optional_octets, flag_octets};
 ghost use Rattle.cert_model.specs.Range.{IfThere, IsNumber};
 ghost use Rattle.cert_judge.specs.Constraints.{BasicConstraints, IsPathLength, IsBasicConstraints, value_of};
 
@@ -44,8 +44,8 @@ fn is_ff(content: &[u8]) -> bool
 
 /// A boolean that is false where it is not written, and the octets behind it.
 fn flag_of(octets: &[u8]) -> (bool, &[u8])
-    ensures found { octets.now ≡ critical_octets result.0 ++ result.1.now }
-    ensures only { (flag : Bool) (rest : List ℕ) → octets.now ≡ critical_octets flag ++ rest → slice_index rest 0 ≢ 1
+    ensures found { octets.now ≡ flag_octets result.0 ++ result.1.now }
+    ensures only { (flag : Bool) (rest : List ℕ) → octets.now ≡ flag_octets flag ++ rest → slice_index rest 0 ≢ 1
         → (result.0 ≡ flag) × (result.1.now ≡ rest) }
 {
     let Some((content, rest)) = part(Class::Universal, false, 1, octets) else {

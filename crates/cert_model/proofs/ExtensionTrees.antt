@@ -11,7 +11,7 @@ use Rattle.der_tree.specs.Shape.{BeginsWithObject, Holds, IsObject, IsContent, A
 use Rattle.der_tree.specs.Access.{universal}
 use Rattle.der_tree.proofs.Objects.{object_made, object_once, leaf_content}
 use Rattle.cert_model.specs.Fields.{Extension}
-use Rattle.cert_model.specs.Octets.{primitive_octets, sequence_octets, identifier_octets, critical_octets, extension_octets, extensions_octets}
+use Rattle.cert_model.specs.Octets.{primitive_octets, sequence_octets, identifier_octets, flag_octets, extension_octets, extensions_octets}
 use Rattle.cert_model.specs.Range.{IsExtension, AreExtensions}
 use Rattle.cert_model.specs.Assembly.{AreExtensionsOf}
 use Rattle.cert_model.proofs.Extensions.{extensions_only}
@@ -60,7 +60,7 @@ value_trees k v pos small =
     let t = leaf_object k (universal false 4 v) (plain octet_string v) pos cut (record { class = refl; constructed = refl; tag = refl }, refl, tt) in
     record { trees = more (node (head_of_element (universal false 4 v)) (primitive_octets 4 v) (leaf (plain octet_string v))) none; objects = one_object k _ t; spelled = refl }
 
-critical_trees : (k : ℕ) (b : Bool) (r : List ℕ) → 0 < k → IsSmall (critical_octets b) → HasTrees k r → HasTrees k (critical_octets b ++ r)
+critical_trees : (k : ℕ) (b : Bool) (r : List ℕ) → 0 < k → IsSmall (flag_octets b) → HasTrees k r → HasTrees k (flag_octets b ++ r)
 critical_trees k false r pos small p = p
 critical_trees k true r pos small p =
     let e = universal false 1 (255 ∷ []) in
@@ -85,11 +85,11 @@ extension_object : (a : Extension) → IsExtension a → IsSmall (extension_octe
 unfolding extension_octets
 extension_object a is small =
     let value = primitive_octets 4 a.value ++ [] in
-    let rest = critical_octets a.critical ++ value in
+    let rest = flag_octets a.critical ++ value in
     let s = identifier_octets a.identifier ++ rest in
     let inner : IsSmall s = part_small (strict_header (head_of_element (universal true 16 s))) s [] (sequence_octets s) (ap (λ z. strict_header (head_of_element (universal true 16 s)) ++ z) (sym (append-nil s))) small in
-    let v = value_trees 48 a.value (lit< tt) (part_small (identifier_octets a.identifier ++ critical_octets a.critical) (primitive_octets 4 a.value) [] s (sym (append_assoc (identifier_octets a.identifier) (critical_octets a.critical) value)) inner) in
-    let c = critical_trees 48 a.critical value (lit< tt) (part_small (identifier_octets a.identifier) (critical_octets a.critical) value s refl inner) v in
+    let v = value_trees 48 a.value (lit< tt) (part_small (identifier_octets a.identifier ++ flag_octets a.critical) (primitive_octets 4 a.value) [] s (sym (append_assoc (identifier_octets a.identifier) (flag_octets a.critical) value)) inner) in
+    let c = critical_trees 48 a.critical value (lit< tt) (part_small (identifier_octets a.identifier) (flag_octets a.critical) value s refl inner) v in
     let i = identifier_trees 48 a rest (lit< tt) is (part_small [] (identifier_octets a.identifier) rest s refl inner) c in
     let t = sequence_object 49 s i.trees (lit< tt) small (sym i.spelled) i.objects in
     record { tree = node (head_of_element (universal true 16 s)) (sequence_octets s) (sequence i.trees); object = t; spelled = refl }

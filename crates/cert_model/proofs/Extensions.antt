@@ -9,7 +9,7 @@ use Rattle.der_tree.specs.Shape.{IsObject, AreObjects}
 use Rattle.der_tree.specs.Access.{sequence_at, boolean_at, boolean_of, plain_at, plain_of, content_in, first_at, end_at, universal}
 use Rattle.der_tree.proofs.Shapes.{sequence_found, plain_only, plain_found, boolean_only, boolean_found, first_found, end_found}
 use Rattle.cert_model.specs.Fields.{Extension}
-use Rattle.cert_model.specs.Octets.{primitive_octets, sequence_octets, identifier_octets, critical_octets, extension_octets, extensions_octets}
+use Rattle.cert_model.specs.Octets.{primitive_octets, sequence_octets, identifier_octets, flag_octets, extension_octets, extensions_octets}
 use Rattle.cert_model.specs.Range.{IsExtension}
 use Rattle.cert_model.specs.Assembly.{AreExtensionsOf}
 use Rattle.cert_model.specs.Reads.{identifier_at, critical_of, critical_at, extension_at, extensions_at, list_at}
@@ -21,28 +21,28 @@ use Rattle.cert_model.proofs.Lists.{Kind, IsKind, list_found, list_only}
 -- critical or not
 
 critical_step : (k : ℕ) (t : Tree) (ts : Trees) (o : Option Bool) (b : Bool) (us : Trees) → AreObjects k (more t ts) → boolean_at t ≡ o → critical_of o t ts ≡ Some (b, us) →
-    AreObjects k us × (all_octets (more t ts) ≡ critical_octets b ++ all_octets us)
+    AreObjects k us × (all_octets (more t ts) ≡ flag_octets b ++ all_octets us)
 critical_step k t ts None b us p o e =
     let both : ◌≡◌ {A = Bool × Trees} (false, more t ts) (b, us) = cc in
     let flag : false ≡ b = ap (λ (z : Bool × Trees). z.0) both in
     let rest : more t ts ≡ us = ap (λ (z : Bool × Trees). z.1) both in
-    (subst (AreObjects k) rest p, ap (λ z. critical_octets z ++ all_octets (more t ts)) flag ∙ ap (λ z. critical_octets b ++ all_octets z) rest)
+    (subst (AreObjects k) rest p, ap (λ z. flag_octets z ++ all_octets (more t ts)) flag ∙ ap (λ z. flag_octets b ++ all_octets z) rest)
 critical_step k t ts (Some false) b us p o e = cc
 critical_step k t ts (Some true) b us p o e =
     let both : ◌≡◌ {A = Bool × Trees} (true, ts) (b, us) = cc in
     let flag : true ≡ b = ap (λ (z : Bool × Trees). z.0) both in
     let rest : ts ≡ us = ap (λ (z : Bool × Trees). z.1) both in
     let m = first_found k (more t ts) t ts p refl in
-    let is : octets t ≡ critical_octets true = (boolean_found k t true m.0 o).octets in
-    (subst (AreObjects k) rest m.1, ap (λ z. z ++ all_octets ts) is ∙ ap (λ z. critical_octets z ++ all_octets ts) flag ∙ ap (λ z. critical_octets b ++ all_octets z) rest)
+    let is : octets t ≡ flag_octets true = (boolean_found k t true m.0 o).octets in
+    (subst (AreObjects k) rest m.1, ap (λ z. z ++ all_octets ts) is ∙ ap (λ z. flag_octets z ++ all_octets ts) flag ∙ ap (λ z. flag_octets b ++ all_octets z) rest)
 
-critical_found : (k : ℕ) (ts : Trees) (b : Bool) (us : Trees) → AreObjects k ts → critical_at ts ≡ Some (b, us) → AreObjects k us × (all_octets ts ≡ critical_octets b ++ all_octets us)
+critical_found : (k : ℕ) (ts : Trees) (b : Bool) (us : Trees) → AreObjects k ts → critical_at ts ≡ Some (b, us) → AreObjects k us × (all_octets ts ≡ flag_octets b ++ all_octets us)
 unfolding critical_at
 critical_found k none b us p e =
     let both : ◌≡◌ {A = Bool × Trees} (false, none) (b, us) = cc in
     let flag : false ≡ b = ap (λ (z : Bool × Trees). z.0) both in
     let rest : none ≡ us = ap (λ (z : Bool × Trees). z.1) both in
-    (subst (AreObjects k) rest p, ap (λ z. critical_octets z ++ all_octets none) flag ∙ ap (λ z. critical_octets b ++ all_octets z) rest)
+    (subst (AreObjects k) rest p, ap (λ z. flag_octets z ++ all_octets none) flag ∙ ap (λ z. flag_octets b ++ all_octets z) rest)
 critical_found k (more t ts) b us p e = critical_step k t ts (boolean_at t) b us p refl e
 
 -- octets are no truth value
@@ -74,7 +74,7 @@ critical_there (more x xs) t us e n =
     let same : boolean_at x ≡ Some true = ap (λ (z : Tree × Trees). boolean_at z.0) both ∙ n in
     rw same (ap (λ (z : Tree × Trees). Some (true, z.1)) both)
 
-critical_only : (k : ℕ) (ts : Trees) (b : Bool) (v r : List ℕ) → Parts k (critical_octets b ++ (primitive_octets 4 v ++ r)) ts →
+critical_only : (k : ℕ) (ts : Trees) (b : Bool) (v r : List ℕ) → Parts k (flag_octets b ++ (primitive_octets 4 v ++ r)) ts →
     (us : Trees) × (critical_at ts ≡ Some (b, us)) × Parts k (primitive_octets 4 v ++ r) us
 critical_only k ts false v r p =
     let m = first_part k ts (universal false 4 v) r p (lit< tt) (lit< tt) in
@@ -105,15 +105,15 @@ extension_found k t a p e =
     let l = first_found (k - 1) critical.1 last.0 last.1 c.0 e4 in
     let v = plain_found (k - 1) last.0 octet_string value l.0 e5 in
     let tail : all_octets critical.1 ≡ primitive_octets 4 value ++ [] = l.2 ∙ ap (λ z. octets last.0 ++ z) (end_found last.1 e6).1 ∙ ap (λ z. z ++ []) v.0.octets in
-    let whole : all_octets parts ≡ concat (identifier_octets identifier ∷ critical_octets critical.0 ∷ primitive_octets 4 value ∷ []) =
-    n.2 ∙ ap (λ z. z ++ all_octets first.1) o.0.octets ∙ ap (λ z. identifier_octets identifier ++ z) (c.1 ∙ ap (λ z. critical_octets critical.0 ++ z) tail) in
+    let whole : all_octets parts ≡ concat (identifier_octets identifier ∷ flag_octets critical.0 ∷ primitive_octets 4 value ∷ []) =
+    n.2 ∙ ap (λ z. z ++ all_octets first.1) o.0.octets ∙ ap (λ z. identifier_octets identifier ++ z) (c.1 ∙ ap (λ z. flag_octets critical.0 ++ z) tail) in
     rw (← same) (o.1, sym (m.0.octets ∙ ap sequence_octets whole)))))))))
 
 pub extension_only : (k : ℕ) (t : Tree) (a : Extension) → IsObject k t → IsExtension a → extension_octets a ≡ octets t → extension_at t ≡ Some a
 unfolding extension_at extension_octets
 extension_only k t a p q e =
-    let m = in_sequence k t (concat (identifier_octets a.identifier ∷ critical_octets a.critical ∷ primitive_octets 4 a.value ∷ [])) p e in
-    let n = first_part (k - 1) m.0 (universal false 6 a.identifier) (critical_octets a.critical ++ (primitive_octets 4 a.value ++ [])) m.2 (lit< tt) (lit< tt) in
+    let m = in_sequence k t (concat (identifier_octets a.identifier ∷ flag_octets a.critical ∷ primitive_octets 4 a.value ∷ [])) p e in
+    let n = first_part (k - 1) m.0 (universal false 6 a.identifier) (flag_octets a.critical ++ (primitive_octets 4 a.value ++ [])) m.2 (lit< tt) (lit< tt) in
     let o = identifier_only (k - 1) n.tree a.identifier n.object n.in_range n.spelled in
     let c = critical_only (k - 1) n.others a.critical a.value [] n.rest in
     let l = first_part (k - 1) c.0 (universal false 4 a.value) [] c.2 (lit< tt) (lit< tt) in
@@ -128,7 +128,7 @@ extensions = record { bytes = extension_octets; read = extension_at }
 
 extension_element : (a : Extension) → IsExtension a → (e : Element) × (e.class < 4) × (e.tag < 2 ^ 32) × (extension_octets a ≡ element_octets e)
 unfolding extension_octets
-extension_element a p = (universal true 16 (concat (identifier_octets a.identifier ∷ critical_octets a.critical ∷ primitive_octets 4 a.value ∷ [])), lit< tt, lit< tt, refl)
+extension_element a p = (universal true 16 (concat (identifier_octets a.identifier ∷ flag_octets a.critical ∷ primitive_octets 4 a.value ∷ [])), lit< tt, lit< tt, refl)
 
 pub extension_laws : IsKind Extension extensions IsExtension
 extension_laws = record { element = extension_element; found = extension_found; only = extension_only }

@@ -84,12 +84,12 @@ unfoldable pub key_octets : Key → List ℕ
 key_octets k = sequence_octets (algorithm_octets k.algorithm ++ bit_field_octets k.key)
 
 -- BOOLEAN DEFAULT FALSE: written only where true, as ff (X.690, 11.1 and 11.5)
-abbrev pub critical_octets : Bool → List ℕ
-critical_octets critical = if critical then primitive_octets 1 (255 ∷ []) else []
+abbrev pub flag_octets : Bool → List ℕ
+flag_octets flag = if flag then primitive_octets 1 (255 ∷ []) else []
 
 -- Extension ::= SEQUENCE { extnID OBJECT IDENTIFIER, critical BOOLEAN DEFAULT FALSE, extnValue OCTET STRING } (RFC 5280, 4.1)
 unfoldable pub extension_octets : Extension → List ℕ
-extension_octets e = sequence_octets (concat (identifier_octets e.identifier ∷ critical_octets e.critical ∷ primitive_octets 4 e.value ∷ []))
+extension_octets e = sequence_octets (concat (identifier_octets e.identifier ∷ flag_octets e.critical ∷ primitive_octets 4 e.value ∷ []))
 
 -- Extensions ::= SEQUENCE SIZE (1..MAX) OF Extension
 unfoldable pub extensions_octets : List Extension → List ℕ

@@ -7,7 +7,7 @@ use Rattle.asn1_core.specs.Elements.{Element, head_of_element, element_octets}
 use Rattle.asn1_core.proofs.StrictLaws.{one_element_lem}
 use Rattle.der_tree.specs.Object.{IsDerObject}
 use Rattle.cert_model.specs.Fields.{Extension, Certificate}
-use Rattle.cert_model.specs.Octets.{sequence_octets, primitive_octets, identifier_octets, critical_octets, extension_octets, extensions_octets, tagged_extensions_octets, optional_octets, implicit_bits_octets}
+use Rattle.cert_model.specs.Octets.{sequence_octets, primitive_octets, identifier_octets, flag_octets, extension_octets, extensions_octets, tagged_extensions_octets, optional_octets, implicit_bits_octets}
 use Rattle.cert_model.specs.Class.{IsCertificateItem}
 use Rattle.cert_model.proofs.Bounds.{IsShort, cut_short, element_in}
 use Rattle.cert_judge.specs.Windows.{parts_of, tbs_content}
@@ -24,9 +24,9 @@ value_in_extension : (e : Extension) → length e.value ≤ length (extension_oc
 unfolding extension_octets
 value_in_extension e =
     let value = primitive_octets 4 e.value in
-    let parts = concat (identifier_octets e.identifier ∷ critical_octets e.critical ∷ value ∷ []) in
+    let parts = concat (identifier_octets e.identifier ∷ flag_octets e.critical ∷ value ∷ []) in
     let a = within (record { class = 0; constructed = false; tag = 4; content = e.value }) in
-    let b = third_of_three (identifier_octets e.identifier) (critical_octets e.critical) value in
+    let b = third_of_three (identifier_octets e.identifier) (flag_octets e.critical) value in
     let c = within (record { class = 0; constructed = true; tag = 16; content = parts }) in
     omega (arith, a, b, c)
 

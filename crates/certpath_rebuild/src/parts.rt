@@ -1,7 +1,7 @@
 //! The parts of certificates and lists, as what they are written of (RFC 5280, 4.1).
 ghost use Rattle.std.specs.Prelude.{◌≡◌, map, option_map, if◌then◌else◌};
 ghost use Rattle.asn1_core.specs.Elements.{element_octets};
-ghost use Rattle.cert_model.specs.Octets.{primitive_octets, bit_field_octets, implicit_bits_octets, optional_octets, algorithm_octets, attribute_octets, relative_name_octets, name_octets, key_octets, extension_octets, extensions_octets, several_octets, tagged_extensions_octets, critical_octets};
+ghost use Rattle.cert_model.specs.Octets.{primitive_octets, bit_field_octets, implicit_bits_octets, optional_octets, algorithm_octets, attribute_octets, relative_name_octets, name_octets, key_octets, extension_octets, extensions_octets, several_octets, tagged_extensions_octets, flag_octets};
 ghost use Rattle.cert_model.specs.View.{any_view, alg_view, attr_view, name_view, bit_view, key_view, ext_view};
 
 use crate::encode::{
@@ -191,7 +191,7 @@ impl<'a> Encode for Vec<AttrField<'a>> {
 
 // BOOLEAN DEFAULT FALSE: nothing where false (X.690, 11.1 and 11.5)
 fn critical(critical: bool) -> Option<Element<Octet>>
-    ensures { ⟦<Option<Element<Octet>> as Encode>⟧.octets result ≡ critical_octets critical }
+    ensures { ⟦<Option<Element<Octet>> as Encode>⟧.octets result ≡ flag_octets critical }
 {
     if critical {
         Some(primitive(Tag::Boolean, Octet(255)))

@@ -6,7 +6,7 @@ use Rattle.asn1_core.specs.Strict.{strict_header}
 use Rattle.asn1_core.specs.Elements.{Element, head_of_element, element_octets}
 use Rattle.asn1_oid.proofs.Fronts.{test_from_front}
 use Rattle.cert_model.specs.Fields.{Algorithm, Attribute, RelativeName, Name, Bits, Key, Extension}
-use Rattle.cert_model.specs.Octets.{identifier_octets, optional_octets, critical_octets, primitive_octets, bit_field_octets, algorithm_octets, attribute_octets, relative_name_octets, name_octets, key_octets, extension_octets, extensions_octets, tagged_extensions_octets, several_octets}
+use Rattle.cert_model.specs.Octets.{identifier_octets, optional_octets, flag_octets, primitive_octets, bit_field_octets, algorithm_octets, attribute_octets, relative_name_octets, name_octets, key_octets, extension_octets, extensions_octets, tagged_extensions_octets, several_octets}
 use Rattle.x509_links.specs.Lenient.{lenient_algorithm, lenient_attribute, lenient_set, lenient_name, lenient_bits, lenient_key, lenient_extension}
 use Rattle.certpath_typed.specs.Told.{stand_in, told_identifier, told_algorithm, told_attribute, told_set, told_name, told_bits, told_key, told_extension}
 
@@ -117,7 +117,7 @@ key_told item k lift =
 extension_stands : (e : Extension) → Stands e.identifier (extension_octets e)
 unfolding extension_octets
 extension_stands e =
-    let last = critical_octets e.critical ++ (primitive_octets 4 e.value ++ []) in
+    let last = flag_octets e.critical ++ (primitive_octets 4 e.value ++ []) in
     within e.identifier (record { class = 0; constructed = true; tag = 16; content = identifier_octets e.identifier ++ last }) (id_first e.identifier last)
 
 extension_told : (item : List ℕ) (e : Extension) → Lifts item (extension_octets e) → told_extension item (lenient_extension e) ≡ e

@@ -9,7 +9,7 @@ use Rattle.asn1_any.specs.Cutting.{Piece}
 use Rattle.asn1_any.proofs.DerLaws.{strict_spells}
 use Rattle.asn1_traits.specs.Integers.{twos_complement}
 use Rattle.cert_model.specs.Fields.{Bits, Extension}
-use Rattle.cert_model.specs.Octets.{number_octets, identifier_octets, primitive_octets, bits_content, implicit_bits_octets, optional_octets, critical_octets, extension_octets, extensions_octets, tagged_extensions_octets, version_octets}
+use Rattle.cert_model.specs.Octets.{number_octets, identifier_octets, primitive_octets, bits_content, implicit_bits_octets, optional_octets, flag_octets, extension_octets, extensions_octets, tagged_extensions_octets, version_octets}
 use Rattle.cert_model.specs.Range.{IfThere, AreBits, IsExtension, AreExtensions}
 use Rattle.x509_core.specs.Grammar.{Header, NoneBegins, One, Holds, ToEnd}
 use Rattle.x509_core.proofs.Items.{none_here}
@@ -43,12 +43,12 @@ value_is : (v : List ℕ) → length (primitive_octets 4 v) < 2 ^ 64 → One IsO
 value_is v small = one_strict IsOctets (value_element v) v [] (lit< tt) (lit< tt) small (record { leaf = record { tag_is = refl; primitive = refl }; meant = refl })
 
 extension_parts : (b : Bool) (id v : List ℕ) → length (identifier_octets id) < 2 ^ 64 → length (primitive_octets 4 v) < 2 ^ 64 →
-    ExtensionParts IsUnparsed (identifier_octets id ++ (critical_octets b ++ (primitive_octets 4 v ++ []))) (lenient_extension (record { identifier = id; critical = b; value = v })) []
+    ExtensionParts IsUnparsed (identifier_octets id ++ (flag_octets b ++ (primitive_octets 4 v ++ []))) (lenient_extension (record { identifier = id; critical = b; value = v })) []
 extension_parts true id v front back =
     let last = primitive_octets 4 v ++ [] in
     record {
-      after_id = critical_octets true ++ last;
-      extn_id = one_strict IsOid (record { class = 0; constructed = false; tag = 6; content = id }) id (critical_octets true ++ last) (lit< tt) (lit< tt) front oid_is;
+      after_id = flag_octets true ++ last;
+      extn_id = one_strict IsOid (record { class = 0; constructed = false; tag = 6; content = id }) id (flag_octets true ++ last) (lit< tt) (lit< tt) front oid_is;
       written = Some true;
       after_critical = last;
       critical = one_small IsBoolean (record { class = 0; constructed = false; tag = 1; content = 255 ∷ [] }) true last (lit< tt) (lit< tt) (lit< tt)
@@ -75,9 +75,9 @@ unfolding extension_octets
 extension_is e rest range small =
     let first = identifier_octets e.identifier in
     let last = primitive_octets 4 e.value ++ [] in
-    let whole : Element = record { class = 0; constructed = true; tag = 16; content = first ++ (critical_octets e.critical ++ last) } in
-    let both = two_small first (critical_octets e.critical ++ last) (content_small whole small) in
-    let back = two_small (primitive_octets 4 e.value) [] (two_small (critical_octets e.critical) last both.1).1 in
+    let whole : Element = record { class = 0; constructed = true; tag = 16; content = first ++ (flag_octets e.critical ++ last) } in
+    let both = two_small first (flag_octets e.critical ++ last) (content_small whole small) in
+    let back = two_small (primitive_octets 4 e.value) [] (two_small (flag_octets e.critical) last both.1).1 in
     one_strict (Holds 16 (ExtensionParts IsUnparsed)) whole (lenient_extension e) rest (lit< tt) (lit< tt) small
     ([], record { tag = refl; inner = extension_parts e.critical e.identifier e.value both.0 back.0 })
 

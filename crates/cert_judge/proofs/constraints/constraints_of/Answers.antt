@@ -1,6 +1,6 @@
 use Rattle.std.proofs.Common.{ap, ◌∙◌, ◌≢◌, sym, refl, ◌++◌, Some, None, Option, slice_index}
 use Rattle.cert_model.specs.Fields.{Number}
-use Rattle.cert_model.specs.Octets.{sequence_octets, number_octets, optional_octets, critical_octets}
+use Rattle.cert_model.specs.Octets.{sequence_octets, number_octets, optional_octets, flag_octets}
 use Rattle.cert_judge.specs.Constraints.{basic_constraints_octets}
 use Rattle.cert_judge.proofs.constraints.constraints_of.Goals as goal
 
@@ -28,7 +28,7 @@ returns-clause-found c =
       record { ca = c.flag_of-ca.result.0; path_len = r.0 },
       record {
         in_range = r.1;
-        spelled = c.in_ok-content.ensures.found ∙ ap sequence_octets (c.flag_of-ca.ensures.found ∙ ap (λ z. critical_octets c.flag_of-ca.result.0 ++ z) r.2);
+        spelled = c.in_ok-content.ensures.found ∙ ap sequence_octets (c.flag_of-ca.ensures.found ∙ ap (λ z. flag_octets c.flag_of-ca.result.0 ++ z) r.2);
       },
       refl,
       r.3,
