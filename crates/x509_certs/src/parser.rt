@@ -205,6 +205,9 @@ pub fn parse_x509_certificate<'a>(alloc: Global, i: &'a [u8]) -> X509Result<'a, 
     ensures missing { TellsMissing i.now result }
     ensures window { IfOk result (λ r. i.now ≡ r.1.raw.now ++ r.0.now) }
     ensures serial { IfOk result (λ r. HasSerial r.1.tbs_certificate) }
+    ensures found { IfOk result (λ r. grammar.X509Certificate IsUnparsed i.now (certificate_view r.1) r.0.now) }
+    ensures only { (v : Certificate) (rest : List ℕ) → grammar.X509Certificate IsUnparsed i.now v rest
+        → ElseMemory result (λ r. (certificate_view r.1 ≡ v) × (r.0.now ≡ rest)) }
 {
     X509CertificateParser::new().parse(alloc, i)
 }
@@ -215,6 +218,9 @@ pub fn parse_x509_der<'a>(alloc: Global, i: &'a [u8]) -> X509Result<'a, X509Cert
     ensures missing { TellsMissing i.now result }
     ensures window { IfOk result (λ r. i.now ≡ r.1.raw.now ++ r.0.now) }
     ensures serial { IfOk result (λ r. HasSerial r.1.tbs_certificate) }
+    ensures found { IfOk result (λ r. grammar.X509Certificate IsUnparsed i.now (certificate_view r.1) r.0.now) }
+    ensures only { (v : Certificate) (rest : List ℕ) → grammar.X509Certificate IsUnparsed i.now v rest
+        → ElseMemory result (λ r. (certificate_view r.1 ≡ v) × (r.0.now ≡ rest)) }
 {
     parse_x509_certificate(alloc, i)
 }

@@ -195,6 +195,9 @@ pub fn parse_x509_crl<'a>(
     ensures missing { TellsMissing i.now result }
     ensures window { IfOk result (λ r. i.now ≡ r.1.raw.now ++ r.0.now) }
     ensures serials { IfOk result (λ r. HaveSerials r.1.tbs_cert_list) }
+    ensures found { IfOk result (λ r. grammar.CertificateRevocationList IsUnparsed i.now (list_view r.1) r.0.now) }
+    ensures only { (v : RevocationList) (rest : List ℕ) → grammar.CertificateRevocationList IsUnparsed i.now v rest
+        → ElseMemory result (λ r. (list_view r.1 ≡ v) × (r.0.now ≡ rest)) }
 {
     CertificateRevocationListParser::new().parse(alloc, i)
 }
@@ -208,6 +211,9 @@ pub fn parse_crl_der<'a>(
     ensures missing { TellsMissing i.now result }
     ensures window { IfOk result (λ r. i.now ≡ r.1.raw.now ++ r.0.now) }
     ensures serials { IfOk result (λ r. HaveSerials r.1.tbs_cert_list) }
+    ensures found { IfOk result (λ r. grammar.CertificateRevocationList IsUnparsed i.now (list_view r.1) r.0.now) }
+    ensures only { (v : RevocationList) (rest : List ℕ) → grammar.CertificateRevocationList IsUnparsed i.now v rest
+        → ElseMemory result (λ r. (list_view r.1 ≡ v) × (r.0.now ≡ rest)) }
 {
     parse_x509_crl(alloc, i)
 }
