@@ -194,6 +194,25 @@ def roads_apart():
             yield f"{path}: it names {name}"
 
 
+# Readers that try headers and keep no count of their caller's.
+UNCOUNTED = re.compile(r"\b(?:from_ber|from_der|strict|parse|parse_(?:ber|der)(?:_recursive)?|cut_elements|read_tree|read_typed)\b")
+
+
+def headers_counted():
+    """The counted sources of `certpath_typed`, and what writes fields back, name no reader that keeps no count of theirs and make no count of their
+    own, outside tests: what does stands in `uncounted.rt`, and `read_typed_counted` doesn't."""
+    for path in FILES:
+        if not re.match(r"crates/certpath_(?:typed|rebuild)/src/.*\.rt$", path) or re.search(r"/tests?\b", path):
+            continue
+        code = "\n".join(line.split("//")[0] for line in repo.read(path).splitlines() if not line.startswith("pub use "))
+        if path.endswith("/uncounted.rt"):
+            if re.search(r"\bfn \w+_counted\b", code):
+                yield f"{path}: it defines a counted call"
+            continue
+        for name in UNCOUNTED.findall(code) + re.findall(r"\bHeaderCount::new\b", code):
+            yield f"{path}: it names {name}, so its headers aren't counted"
+
+
 def no_handles():
     """HANDLES allows none."""
     if repo.read("HANDLES") != "Handles allowed: none.\n":
@@ -231,7 +250,7 @@ def items_spelled():
 
 
 def main():
-    checks = (layout, edits_apply, few_edits, all_read, no_labels, no_machine, docs_name_files, crates_listed, judge_alone, roads_apart, no_handles, short_files, items_spelled, worked_causes, bundles)
+    checks = (layout, edits_apply, few_edits, all_read, no_labels, no_machine, docs_name_files, crates_listed, judge_alone, roads_apart, headers_counted, no_handles, short_files, items_spelled, worked_causes, bundles)
     failed = 0
     for check in checks:
         found = [*check()]

@@ -1,4 +1,5 @@
 pub mod Places
+pub mod Zipped
 pub mod Standing
 pub mod ToldCertificates
 pub mod ToldLists

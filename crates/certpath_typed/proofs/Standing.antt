@@ -1,14 +1,14 @@
 -- The identifiers of strict parts stand in their octets.
-use Rattle.std.proofs.Common.{◌≡◌, ◌∙◌, refl, sym, ap, ℕ, Bool, true, false, ◌||◌, List, [], ◌∷◌, ◌++◌, append_assoc, append-nil, if◌then◌else◌, Option, Some, None, option_map, map, flat_map}
+use Rattle.std.proofs.Common.{◌≡◌, ◌∙◌, refl, sym, ap, ℕ, Bool, true, false, ◌||◌, inl, inr, List, [], ◌∷◌, ◌++◌, append_assoc, append-nil, Option, Some, None, option_map, map, flat_map}
 use Rattle.std.specs.Prelude.{nat_eq}
-use Rattle.std.specs.List.{starts_with}
+use Rattle.std.specs.List.{starts_with, AllZip}
 use Rattle.asn1_core.specs.Strict.{strict_header}
 use Rattle.asn1_core.specs.Elements.{Element, head_of_element, element_octets}
 use Rattle.asn1_oid.proofs.Fronts.{test_from_front}
 use Rattle.cert_model.specs.Fields.{Algorithm, Attribute, RelativeName, Name, Bits, Key, Extension}
 use Rattle.cert_model.specs.Octets.{identifier_octets, optional_octets, flag_octets, primitive_octets, bit_field_octets, algorithm_octets, attribute_octets, relative_name_octets, name_octets, key_octets, extension_octets, extensions_octets, tagged_extensions_octets, several_octets}
 use Rattle.x509_links.specs.Lenient.{lenient_algorithm, lenient_attribute, lenient_set, lenient_name, lenient_bits, lenient_key, lenient_extension}
-use Rattle.certpath_typed.specs.Told.{stand_in, told_identifier, told_algorithm, told_attribute, told_set, told_name, told_bits, told_key, told_extension}
+use Rattle.certpath_typed.specs.Told.{stand_in, TellsIdentifier, TellsAlgorithm, TellsAttribute, TellsSet, TellsName, told_bits, TellsKey, TellsExtension, TellsExtensions}
 
 -- octets stand somewhere in others
 pub record Stands (octets s : List ℕ) : Type 0 where
@@ -45,11 +45,14 @@ stands_behind [] o back = front_stands (o ++ back) o back refl
 stands_behind (x ∷ front) o back =
     ap (λ b. starts_with nat_eq (x ∷ (front ++ (o ++ back))) o || b) (stands_behind front o back) ∙ or_true (starts_with nat_eq (x ∷ (front ++ (o ++ back))) o)
 
-pub told_there : (item o : List ℕ) → Stands o item → told_identifier item o ≡ o
-unfolding told_identifier
-told_there item o is =
+-- what stands in the item is told as it is
+pub told_there : (item o told : List ℕ) → Stands o item → TellsIdentifier item o told → told ≡ o
+unfolding TellsIdentifier
+told_there item o told is (inl same) = same
+told_there item o told is (inr none) =
     let there : stand_in item o ≡ true = ap (λ z. stand_in z o) is.whole ∙ stands_behind is.front o is.back in
-    ap (λ b. if b then o else []) there
+    let not_there : stand_in item o ≡ false = none.0 in
+    cc
 
 -- what stands in a part stands in the item
 abbrev pub Lifts : List ℕ → List ℕ → Type 0
@@ -69,8 +72,10 @@ algorithm_stands a =
     let last = optional_octets element_octets a.parameters in
     within a.identifier (record { class = 0; constructed = true; tag = 16; content = identifier_octets a.identifier ++ last }) (id_first a.identifier last)
 
-pub algorithm_told : (item : List ℕ) (a : Algorithm) → Lifts item (algorithm_octets a) → told_algorithm item (lenient_algorithm a) ≡ a
-algorithm_told item a lift = ap (λ z. record { identifier = z; parameters = a.parameters }) (told_there item a.identifier (lift a.identifier (algorithm_stands a)))
+pub algorithm_told : (item : List ℕ) (a told : Algorithm) → Lifts item (algorithm_octets a) → TellsAlgorithm item (lenient_algorithm a) told → told ≡ a
+algorithm_told item a told lift tells =
+    let same = told_there item a.identifier told.identifier (lift a.identifier (algorithm_stands a)) tells.0 in
+    λ i. record { identifier = same i; parameters = tells.1 i }
 
 -- ---- names
 
@@ -80,37 +85,43 @@ attribute_stands a =
     let last = element_octets a.value in
     within a.identifier (record { class = 0; constructed = true; tag = 16; content = identifier_octets a.identifier ++ last }) (id_first a.identifier last)
 
-attribute_told : (item : List ℕ) (a : Attribute) → Lifts item (attribute_octets a) → told_attribute item (lenient_attribute a) ≡ a
-attribute_told item a lift = ap (λ z. record { identifier = z; value = a.value }) (told_there item a.identifier (lift a.identifier (attribute_stands a)))
+attribute_told : (item : List ℕ) (a told : Attribute) → Lifts item (attribute_octets a) → TellsAttribute item (lenient_attribute a) told → told ≡ a
+attribute_told item a told lift tells =
+    let same = told_there item a.identifier told.identifier (lift a.identifier (attribute_stands a)) tells.0 in
+    λ i. record { identifier = same i; value = tells.1 i }
 
 -- parts one behind the other, each told as it is
-pub each_told : {X A : Type 0} (item : List ℕ) (write : X → List ℕ) (view : X → A) (tell : A → X) → ((x : X) → Lifts item (write x) → tell (view x) ≡ x) → (xs : List X) → Lifts item (flat_map write xs) → map tell (map view xs) ≡ xs
-each_told item write view tell one [] lift = refl
-each_told item write view tell one (x ∷ xs) lift =
-    let first = one x (λ o is. lift o (left o (write x) (flat_map write xs) is)) in
-    let others = each_told item write view tell one xs (λ o is. lift o (right o (write x) (flat_map write xs) is)) in
-    ap (λ z. z ∷ map tell (map view xs)) first ∙ ap (λ z. x ∷ z) others
+pub each_told : {X A : Type 0} (item : List ℕ) (write : X → List ℕ) (view : X → A) (tells : A → X → Type 0) → ((x told : X) → Lifts item (write x) → tells (view x) told → told ≡ x)
+    → (xs told : List X) → Lifts item (flat_map write xs) → AllZip tells (map view xs) told → told ≡ xs
+each_told item write view tells one [] [] lift all = refl
+each_told item write view tells one [] (y ∷ ys) lift all = absurd all
+each_told item write view tells one (x ∷ xs) [] lift all = absurd all
+each_told item write view tells one (x ∷ xs) (y ∷ ys) lift all =
+    let first = one x y (λ o is. lift o (left o (write x) (flat_map write xs) is)) all.0 in
+    let others = each_told item write view tells one xs ys (λ o is. lift o (right o (write x) (flat_map write xs) is)) all.1 in
+    ap (λ z. z ∷ ys) first ∙ ap (λ z. x ∷ z) others
 
-set_told : (item : List ℕ) (s : RelativeName) → Lifts item (relative_name_octets s) → told_set item (lenient_set s) ≡ s
+set_told : (item : List ℕ) (s told : RelativeName) → Lifts item (relative_name_octets s) → TellsSet item (lenient_set s) told → told ≡ s
 unfolding relative_name_octets
-set_told item s lift =
+set_told item s told lift tells =
     let whole : Element = record { class = 0; constructed = true; tag = 17; content = flat_map attribute_octets s } in
-    each_told item attribute_octets lenient_attribute (told_attribute item) (attribute_told item) s (λ o is. lift o (within o whole is))
+    each_told item attribute_octets lenient_attribute (TellsAttribute item) (attribute_told item) s told (λ o is. lift o (within o whole is)) tells
 
-pub name_told : (item : List ℕ) (n : Name) → Lifts item (name_octets n) → told_name item (lenient_name n) ≡ n
+pub name_told : (item : List ℕ) (n told : Name) → Lifts item (name_octets n) → TellsName item (lenient_name n) told → told ≡ n
 unfolding name_octets
-name_told item n lift =
+name_told item n told lift tells =
     let whole : Element = record { class = 0; constructed = true; tag = 16; content = flat_map relative_name_octets n } in
-    each_told item relative_name_octets lenient_set (told_set item) (set_told item) n (λ o is. lift o (within o whole is))
+    each_told item relative_name_octets lenient_set (TellsSet item) (set_told item) n told (λ o is. lift o (within o whole is)) tells
 
 -- ---- keys
 
-pub key_told : (item : List ℕ) (k : Key) → Lifts item (key_octets k) → told_key item (lenient_key k) ≡ k
+pub key_told : (item : List ℕ) (k told : Key) → Lifts item (key_octets k) → TellsKey item (lenient_key k) told → told ≡ k
 unfolding key_octets
-key_told item k lift =
+key_told item k told lift tells =
     let last = bit_field_octets k.key in
     let whole : Element = record { class = 0; constructed = true; tag = 16; content = algorithm_octets k.algorithm ++ last } in
-    ap (λ z. record { algorithm = z; key = k.key }) (algorithm_told item k.algorithm (λ o is. lift o (within o whole (left o (algorithm_octets k.algorithm) last is))))
+    let same = algorithm_told item k.algorithm told.algorithm (λ o is. lift o (within o whole (left o (algorithm_octets k.algorithm) last is))) tells.0 in
+    λ i. record { algorithm = same i; key = tells.1 i }
 
 -- ---- extensions
 
@@ -120,24 +131,28 @@ extension_stands e =
     let last = flag_octets e.critical ++ (primitive_octets 4 e.value ++ []) in
     within e.identifier (record { class = 0; constructed = true; tag = 16; content = identifier_octets e.identifier ++ last }) (id_first e.identifier last)
 
-extension_told : (item : List ℕ) (e : Extension) → Lifts item (extension_octets e) → told_extension item (lenient_extension e) ≡ e
-extension_told item e lift = ap (λ z. record { identifier = z; critical = e.critical; value = e.value }) (told_there item e.identifier (lift e.identifier (extension_stands e)))
+extension_told : (item : List ℕ) (e told : Extension) → Lifts item (extension_octets e) → TellsExtension item (lenient_extension e) told → told ≡ e
+extension_told item e told lift tells =
+    let same = told_there item e.identifier told.identifier (lift e.identifier (extension_stands e)) tells.0 in
+    λ i. record { identifier = same i; critical = tells.1 i; value = tells.2 i }
 
-extensions_told : (item : List ℕ) (es : List Extension) → Lifts item (extensions_octets es) → map (told_extension item) (map lenient_extension es) ≡ es
+extensions_told : (item : List ℕ) (es told : List Extension) → Lifts item (extensions_octets es) → TellsExtensions item (map lenient_extension es) told → told ≡ es
 unfolding extensions_octets
-extensions_told item es lift =
+extensions_told item es told lift tells =
     let whole : Element = record { class = 0; constructed = true; tag = 16; content = flat_map extension_octets es } in
-    each_told item extension_octets lenient_extension (told_extension item) (extension_told item) es (λ o is. lift o (within o whole is))
+    each_told item extension_octets lenient_extension (TellsExtension item) (extension_told item) es told (λ o is. lift o (within o whole is)) tells
 
-pub several_told : (item : List ℕ) (es : List Extension) → Lifts item (several_octets extensions_octets es) → map (told_extension item) (map lenient_extension es) ≡ es
-several_told item [] lift = refl
-several_told item (e ∷ es) lift = extensions_told item (e ∷ es) lift
+pub several_told : (item : List ℕ) (es told : List Extension) → Lifts item (several_octets extensions_octets es) → TellsExtensions item (map lenient_extension es) told → told ≡ es
+several_told item [] [] lift tells = refl
+several_told item [] (x ∷ told) lift tells = absurd tells
+several_told item (e ∷ es) told lift tells = extensions_told item (e ∷ es) told lift tells
 
-pub tagged_told : (item : List ℕ) (n : ℕ) (es : List Extension) → Lifts item (tagged_extensions_octets n es) → map (told_extension item) (map lenient_extension es) ≡ es
-tagged_told item n [] lift = refl
-tagged_told item n (e ∷ es) lift =
+pub tagged_told : (item : List ℕ) (n : ℕ) (es told : List Extension) → Lifts item (tagged_extensions_octets n es) → TellsExtensions item (map lenient_extension es) told → told ≡ es
+tagged_told item n [] [] lift tells = refl
+tagged_told item n [] (x ∷ told) lift tells = absurd tells
+tagged_told item n (e ∷ es) told lift tells =
     let whole : Element = record { class = 2; constructed = true; tag = n; content = extensions_octets (e ∷ es) } in
-    extensions_told item (e ∷ es) (λ o is. lift o (within o whole is))
+    extensions_told item (e ∷ es) told (λ o is. lift o (within o whole is)) tells
 
 -- ---- unique identifiers
 

@@ -19,7 +19,7 @@ use Rattle.x509_lists.specs.declared.list.CertificateRevocationList.{Certificate
 use Rattle.x509_links.specs.Lenient.{lenient_certificate, lenient_list}
 use Rattle.x509_links.proofs.StrictCertificates.{certificate_is}
 use Rattle.x509_links.proofs.StrictLists.{list_is}
-use Rattle.certpath_typed.specs.ToldItems.{told_certificate, told_list}
+use Rattle.certpath_typed.specs.ToldItems.{TellsCertificate, TellsList}
 use Rattle.certpath_typed.proofs.ToldCertificates.{certificate_told}
 use Rattle.certpath_typed.proofs.ToldLists.{list_told}
 
@@ -45,14 +45,14 @@ pub some_left : (rest : List ℕ) → 0 < length rest → rest ≡ [] → ⊥
 some_left rest long none = omega (arith, long, ap length none)
 
 -- fields that are out of range, or don't write the item, are no certificate's
-pub no_certificate : (item : List ℕ) (r : ReadCertificate) (f : Certificate) → ((c : Certificate) → IsCertificateItem item c → certificate_view r ≡ lenient_certificate c) → f ≡ told_certificate item r
+pub no_certificate : (item : List ℕ) (r : ReadCertificate) (f : Certificate) → ((c : Certificate) → IsCertificateItem item c → certificate_view r ≡ lenient_certificate c) → TellsCertificate item r f
     → (AreCertificateFields f → certificate_octets f ≡ item → ⊥) → (c : Certificate) → ¬ IsCertificateItem item c
-no_certificate item r f read told refuse c is =
-    let same : f ≡ c = told ∙ certificate_told item c r is.in_range is.spelled (read c is) in
+no_certificate item r f read tells refuse c is =
+    let same : f ≡ c = certificate_told item c r f is.in_range is.spelled (read c is) tells in
     refuse (subst AreCertificateFields (sym same) is.in_range) (ap certificate_octets same ∙ is.spelled)
 
-pub no_list : (item : List ℕ) (r : ReadList) (f : RevocationList) → ((l : RevocationList) → IsListItem item l → list_view r ≡ lenient_list l) → f ≡ told_list item r
+pub no_list : (item : List ℕ) (r : ReadList) (f : RevocationList) → ((l : RevocationList) → IsListItem item l → list_view r ≡ lenient_list l) → TellsList item r f
     → (AreListFields f → list_octets f ≡ item → ⊥) → (l : RevocationList) → ¬ IsListItem item l
-no_list item r f read told refuse l is =
-    let same : f ≡ l = told ∙ list_told item l r is.in_range is.spelled (read l is) in
+no_list item r f read tells refuse l is =
+    let same : f ≡ l = list_told item l r f is.in_range is.spelled (read l is) tells in
     refuse (subst AreListFields (sym same) is.in_range) (ap list_octets same ∙ is.spelled)

@@ -1,5 +1,5 @@
 -- A strict certificate that was read leniently tells its own fields.
-use Rattle.std.proofs.Common.{◌≡◌, ◌∙◌, refl, ap, subst, ℕ, zero, suc, ◌≤◌, min, true, List, [], ◌++◌, map, option_map, arith}
+use Rattle.std.proofs.Common.{◌≡◌, ◌∙◌, refl, ap, subst, ℕ, zero, suc, ◌≤◌, min, true, List, [], ◌++◌, option_map, arith}
 use Rattle.asn1_core.specs.Elements.{Element}
 use Rattle.cert_model.specs.Fields.{Certificate}
 use Rattle.cert_model.specs.Octets.{optional_octets, number_octets, implicit_bits_octets, bit_field_octets, algorithm_octets, name_octets, key_octets, validity_octets, version_octets, tagged_extensions_octets, tbs_certificate_octets, certificate_octets}
@@ -8,8 +8,8 @@ use Rattle.x509_certs.specs.View.{certificate_view}
 use Rattle.x509_certs.specs.declared.certificate.X509Certificate.{X509Certificate}
 use Rattle.x509_links.specs.Lenient.{lenient_certificate}
 use Rattle.x509_links.proofs.StrictTimes.{one_time_is}
-use Rattle.certpath_typed.specs.Told.{told_algorithm, told_name, told_bits, told_key, told_extension}
-use Rattle.certpath_typed.specs.ToldItems.{told_certificate}
+use Rattle.certpath_typed.specs.Told.{TellsAlgorithm, TellsName, told_bits, TellsKey, TellsExtensions}
+use Rattle.certpath_typed.specs.ToldItems.{TellsCertificate}
 use Rattle.certpath_typed.proofs.Standing.{Stands, Lifts, left, right, within, algorithm_told, name_told, key_told, tagged_told, ids_told}
 
 -- the same parts are the same certificate
@@ -97,20 +97,20 @@ parts_lift item c lift =
       extensions = λ o h. in9 o (left o p9 [] h);
     }
 
-pub certificate_told : (item : List ℕ) (c : Certificate) (r : X509Certificate) → AreCertificateFields c → certificate_octets c ≡ item → certificate_view r ≡ lenient_certificate c → told_certificate item r ≡ c
-certificate_told item c r range spelled read =
+pub certificate_told : (item : List ℕ) (c : Certificate) (r : X509Certificate) (told : Certificate) → AreCertificateFields c → certificate_octets c ≡ item → certificate_view r ≡ lenient_certificate c → TellsCertificate item r told → told ≡ c
+certificate_told item c r told range spelled read tells =
     let parts = parts_lift item c (tbs_lifts item c spelled) in
-    same_certificate (told_certificate item r) c
-    (ap (λ z. min z.tbs.version 255) read ∙ small_number c.version range.version)
-    (ap (λ z. z.tbs.serial) read)
-    (ap (λ z. told_algorithm item z.tbs.signature) read ∙ algorithm_told item c.signature parts.signature)
-    (ap (λ z. told_name item z.tbs.issuer) read ∙ name_told item c.issuer parts.issuer)
-    (one_time_is c.not_before r.tbs_certificate.validity.not_before.time range.not_before (ap (λ z. z.tbs.validity.not_before.nanoseconds) read))
-    (one_time_is c.not_after r.tbs_certificate.validity.not_after.time range.not_after (ap (λ z. z.tbs.validity.not_after.nanoseconds) read))
-    (ap (λ z. told_name item z.tbs.subject) read ∙ name_told item c.subject parts.subject)
-    (ap (λ z. told_key item z.tbs.key) read ∙ key_told item c.key parts.key)
-    (ap (λ z. option_map told_bits z.tbs.issuer_id) read ∙ ids_told c.issuer_id)
-    (ap (λ z. option_map told_bits z.tbs.subject_id) read ∙ ids_told c.subject_id)
-    (ap (λ z. map (told_extension item) z.tbs.extensions) read ∙ tagged_told item 3 c.extensions parts.extensions)
-    (ap (λ z. told_algorithm item z.algorithm) read ∙ algorithm_told item c.algorithm (algorithm_lifts item c spelled))
-    (ap (λ z. told_bits z.signature_value) read)
+    same_certificate told c
+    (tells.version ∙ ap (λ z. min z.tbs.version 255) read ∙ small_number c.version range.version)
+    (tells.serial ∙ ap (λ z. z.tbs.serial) read)
+    (algorithm_told item c.signature told.signature parts.signature (subst (λ z. TellsAlgorithm item z.tbs.signature told.signature) read tells.signature))
+    (name_told item c.issuer told.issuer parts.issuer (subst (λ z. TellsName item z.tbs.issuer told.issuer) read tells.issuer))
+    (tells.not_before ∙ one_time_is c.not_before r.tbs_certificate.validity.not_before.time range.not_before (ap (λ z. z.tbs.validity.not_before.nanoseconds) read))
+    (tells.not_after ∙ one_time_is c.not_after r.tbs_certificate.validity.not_after.time range.not_after (ap (λ z. z.tbs.validity.not_after.nanoseconds) read))
+    (name_told item c.subject told.subject parts.subject (subst (λ z. TellsName item z.tbs.subject told.subject) read tells.subject))
+    (key_told item c.key told.key parts.key (subst (λ z. TellsKey item z.tbs.key told.key) read tells.key))
+    (tells.issuer_id ∙ ap (λ z. option_map told_bits z.tbs.issuer_id) read ∙ ids_told c.issuer_id)
+    (tells.subject_id ∙ ap (λ z. option_map told_bits z.tbs.subject_id) read ∙ ids_told c.subject_id)
+    (tagged_told item 3 c.extensions told.extensions parts.extensions (subst (λ z. TellsExtensions item z.tbs.extensions told.extensions) read tells.extensions))
+    (algorithm_told item c.algorithm told.algorithm (algorithm_lifts item c spelled) (subst (λ z. TellsAlgorithm item z.algorithm told.algorithm) read tells.algorithm))
+    (tells.signature_value ∙ ap (λ z. told_bits z.signature_value) read)

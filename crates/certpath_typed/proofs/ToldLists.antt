@@ -1,6 +1,6 @@
 -- A strict revocation list that was read leniently tells its own fields.
 use Rattle.std.proofs.Common.{◌≡◌, ◌∙◌, refl, sym, ap, subst, ℕ, min, true, List, [], ◌∷◌, ◌++◌, map, flat_map, Option, Some, None, option_map}
-use Rattle.std.specs.List.{AllByRecursion}
+use Rattle.std.specs.List.{AllByRecursion, AllZip}
 use Rattle.asn1_core.specs.Elements.{Element}
 use Rattle.cert_model.specs.Fields.{CivilTime, Entry, RevocationList}
 use Rattle.cert_model.specs.Octets.{optional_octets, number_octets, bit_field_octets, algorithm_octets, name_octets, time_octets, several_octets, extensions_octets, tagged_extensions_octets, entry_octets, entries_octets, tbs_cert_list_octets, list_octets}
@@ -14,8 +14,8 @@ use Rattle.x509_lists.specs.declared.entry.RevokedCertificate.{RevokedCertificat
 use Rattle.x509_lists.specs.declared.list.CertificateRevocationList.{CertificateRevocationList}
 use Rattle.x509_links.specs.Lenient.{lenient_time, lenient_entry, lenient_list}
 use Rattle.x509_links.proofs.StrictTimes.{one_time_is}
-use Rattle.certpath_typed.specs.Told.{told_algorithm, told_name, told_bits, told_extension}
-use Rattle.certpath_typed.specs.ToldItems.{told_entry, told_list}
+use Rattle.certpath_typed.specs.Told.{TellsAlgorithm, TellsName, told_bits, TellsExtensions}
+use Rattle.certpath_typed.specs.ToldItems.{TellsEntry, TellsList}
 use Rattle.certpath_typed.proofs.Standing.{Stands, Lifts, left, right, within, algorithm_told, name_told, several_told, tagged_told}
 
 -- the same parts are the same list
@@ -47,27 +47,31 @@ entry_lifts item e lift =
     let whole : Element = record { class = 0; constructed = true; tag = 16; content = p0 ++ (p1 ++ (p2 ++ [])) } in
     λ o h. lift o (within o whole (right o p0 (p1 ++ (p2 ++ [])) (right o p1 (p2 ++ []) (left o p2 [] h))))
 
-entry_told : (item : List ℕ) (version : Option ℕ) (e : Entry) (r : RevokedCertificate) → IsEntry version e → Lifts item (entry_octets e) → entry_view r ≡ lenient_entry e → told_entry item r ≡ e
-entry_told item version e r range lift read =
-    same_entry (told_entry item r) e (ap (λ z. z.serial) read) (one_time_is e.date r.revocation_date.time range.date (ap (λ z. z.date.nanoseconds) read))
-    (ap (λ z. map (told_extension item) z.extensions) read ∙ several_told item e.extensions (entry_lifts item e lift))
+entry_told : (item : List ℕ) (version : Option ℕ) (e : Entry) (r : RevokedCertificate) (told : Entry) → IsEntry version e → Lifts item (entry_octets e) → entry_view r ≡ lenient_entry e → TellsEntry item r told → told ≡ e
+entry_told item version e r told range lift read tells =
+    same_entry told e (tells.0 ∙ ap (λ z. z.serial) read) (tells.1 ∙ one_time_is e.date r.revocation_date.time range.date (ap (λ z. z.date.nanoseconds) read))
+    (several_told item e.extensions told.extensions (entry_lifts item e lift) (subst (λ z. TellsExtensions item z.extensions told.extensions) read tells.2))
 
-entries_told : (item : List ℕ) (version : Option ℕ) (es : List Entry) (rs : List RevokedCertificate) → AllByRecursion (IsEntry version) es → Lifts item (flat_map entry_octets es) → map entry_view rs ≡ map lenient_entry es → map (told_entry item) rs ≡ es
-entries_told item version [] [] each lift read = refl
-entries_told item version [] (r ∷ rs) each lift read = cc
-entries_told item version (e ∷ es) [] each lift read = cc
-entries_told item version (e ∷ es) (r ∷ rs) each lift read =
+entries_told : (item : List ℕ) (version : Option ℕ) (es : List Entry) (rs : List RevokedCertificate) (told : List Entry) → AllByRecursion (IsEntry version) es → Lifts item (flat_map entry_octets es) → map entry_view rs ≡ map lenient_entry es
+    → AllZip (TellsEntry item) rs told → told ≡ es
+entries_told item version [] [] [] each lift read tells = refl
+entries_told item version [] [] (t ∷ told) each lift read tells = absurd tells
+entries_told item version [] (r ∷ rs) told each lift read tells = cc
+entries_told item version (e ∷ es) [] told each lift read tells = cc
+entries_told item version (e ∷ es) (r ∷ rs) [] each lift read tells = absurd tells
+entries_told item version (e ∷ es) (r ∷ rs) (t ∷ told) each lift read tells =
     let first : entry_view r ≡ lenient_entry e = cc in
     let others : map entry_view rs ≡ map lenient_entry es = cc in
-    let one = entry_told item version e r each.0 (λ o h. lift o (left o (entry_octets e) (flat_map entry_octets es) h)) first in
-    let more = entries_told item version es rs each.1 (λ o h. lift o (right o (entry_octets e) (flat_map entry_octets es) h)) others in
-    ap (λ z. z ∷ map (told_entry item) rs) one ∙ ap (λ z. e ∷ z) more
+    let one = entry_told item version e r t each.0 (λ o h. lift o (left o (entry_octets e) (flat_map entry_octets es) h)) first tells.0 in
+    let more = entries_told item version es rs told each.1 (λ o h. lift o (right o (entry_octets e) (flat_map entry_octets es) h)) others tells.1 in
+    ap (λ z. z ∷ told) one ∙ ap (λ z. e ∷ z) more
 
-listed_told : (item : List ℕ) (version : Option ℕ) (es : List Entry) (rs : List RevokedCertificate) → AllByRecursion (IsEntry version) es → Lifts item (entries_octets es) → map entry_view rs ≡ map lenient_entry es → map (told_entry item) rs ≡ es
-listed_told item version [] rs each lift read = entries_told item version [] rs each (λ o h. lift o h) read
-listed_told item version (e ∷ es) rs each lift read =
+listed_told : (item : List ℕ) (version : Option ℕ) (es : List Entry) (rs : List RevokedCertificate) (told : List Entry) → AllByRecursion (IsEntry version) es → Lifts item (entries_octets es) → map entry_view rs ≡ map lenient_entry es
+    → AllZip (TellsEntry item) rs told → told ≡ es
+listed_told item version [] rs told each lift read tells = entries_told item version [] rs told each (λ o h. lift o h) read tells
+listed_told item version (e ∷ es) rs told each lift read tells =
     let whole : Element = record { class = 0; constructed = true; tag = 16; content = flat_map entry_octets (e ∷ es) } in
-    entries_told item version (e ∷ es) rs each (λ o h. lift o (within o whole h)) read
+    entries_told item version (e ∷ es) rs told each (λ o h. lift o (within o whole h)) read tells
 
 -- ---- what may be absent
 
@@ -138,17 +142,17 @@ parts_lift item l lift =
       extensions = λ o h. in5 o (right o p5 r6 (left o p6 [] h));
     }
 
-pub list_told : (item : List ℕ) (l : RevocationList) (r : CertificateRevocationList) → AreListFields l → list_octets l ≡ item → list_view r ≡ lenient_list l → told_list item r ≡ l
-list_told item l r range spelled read =
+pub list_told : (item : List ℕ) (l : RevocationList) (r : CertificateRevocationList) (told : RevocationList) → AreListFields l → list_octets l ≡ item → list_view r ≡ lenient_list l → TellsList item r told → told ≡ l
+list_told item l r told range spelled read tells =
     let parts = parts_lift item l (tbs_lifts item l spelled) in
     let t = r.tbs_cert_list in
-    same_list (told_list item r) l
-    (version_told t.version l.version range.version (ap (λ z. z.tbs.version) read))
-    (ap (λ z. told_algorithm item z.tbs.signature) read ∙ algorithm_told item l.signature parts.signature)
-    (ap (λ z. told_name item z.tbs.issuer) read ∙ name_told item l.issuer parts.issuer)
-    (one_time_is l.this_update t.this_update.time range.this_update (ap (λ z. z.tbs.this_update.nanoseconds) read))
-    (update_told t.next_update l.next_update range.next_update (ap (λ z. z.tbs.next_update) read))
-    (listed_told item l.version l.entries t.revoked_certificates.items range.entries parts.entries (ap (λ z. z.tbs.entries) read))
-    (ap (λ z. map (told_extension item) z.tbs.extensions) read ∙ tagged_told item 0 l.extensions parts.extensions)
-    (ap (λ z. told_algorithm item z.algorithm) read ∙ algorithm_told item l.algorithm (algorithm_lifts item l spelled))
-    (ap (λ z. told_bits z.signature_value) read)
+    same_list told l
+    (tells.version ∙ version_told t.version l.version range.version (ap (λ z. z.tbs.version) read))
+    (algorithm_told item l.signature told.signature parts.signature (subst (λ z. TellsAlgorithm item z.tbs.signature told.signature) read tells.signature))
+    (name_told item l.issuer told.issuer parts.issuer (subst (λ z. TellsName item z.tbs.issuer told.issuer) read tells.issuer))
+    (tells.this_update ∙ one_time_is l.this_update t.this_update.time range.this_update (ap (λ z. z.tbs.this_update.nanoseconds) read))
+    (tells.next_update ∙ update_told t.next_update l.next_update range.next_update (ap (λ z. z.tbs.next_update) read))
+    (listed_told item l.version l.entries t.revoked_certificates.items told.entries range.entries parts.entries (ap (λ z. z.tbs.entries) read) tells.entries)
+    (tagged_told item 0 l.extensions told.extensions parts.extensions (subst (λ z. TellsExtensions item z.tbs.extensions told.extensions) read tells.extensions))
+    (algorithm_told item l.algorithm told.algorithm (algorithm_lifts item l spelled) (subst (λ z. TellsAlgorithm item z.algorithm told.algorithm) read tells.algorithm))
+    (tells.signature_value ∙ ap (λ z. told_bits z.signature_value) read)

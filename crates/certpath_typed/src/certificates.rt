@@ -2,7 +2,7 @@
 
 ghost use Rattle.std.specs.Prelude.{◌≡◌, ◌≤◌, min, IfOk};
 ghost use Rattle.cert_model.specs.View.{certificate_view};
-ghost use Rattle.certpath_typed.specs.ToldItems.{told_certificate};
+ghost use Rattle.certpath_typed.specs.ToldItems.{TellsCertificate};
 
 use crate::parts::{
     algorithm_field, bit_field, extension_fields, id_field, key_field, name_fields,
@@ -25,7 +25,7 @@ pub(crate) fn certificate_fields<'a>(
     item: &'a [u8],
     certificate: &X509Certificate<'a>,
 ) -> Result<CertFields<'a>, OutOfMemory>
-    ensures { IfOk result (λ f. certificate_view f ≡ told_certificate item.now certificate.now) }
+    ensures { IfOk result (λ f. TellsCertificate item.now certificate.now (certificate_view f)) }
 {
     let issuer = name_fields(alloc, item, certificate.issuer())?;
     let subject = name_fields(alloc, item, certificate.subject())?;

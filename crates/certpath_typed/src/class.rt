@@ -19,18 +19,9 @@ use certcheck::ItemClass;
 use der_tree::{MAX_RECURSION, parse_der_recursive_counted};
 use std::alloc::Global;
 
-/// Reads an item by the lenient readers of certificates and lists, and answers its class: a certificate or a list where it is
-/// an item under the greatest limit, a DER object of at most 50 levels, and exactly the octets that fields in range write;
-/// other in every other case.
-pub fn read_typed<'a>(alloc: Global, item: &'a [u8]) -> Result<ItemClass<'a>, OutOfMemory>
-    ensures class { IfOk result (λ class. IsClassOf item.now (class_view class)) }
-{
-    let mut count = HeaderCount::new();
-    read_typed_counted(alloc, item, &mut count)
-}
-
-/// The answer of `read_typed`, and the header attempts that it took, in the count: at most 17 for each octet, and at least so
-/// many as the item's tree has elements and 17 more where it is a certificate, nine more where it is a list.
+/// The answer of `read_typed`, and the header attempts that it took, in the count: at most 17 for each octet, so none for no
+/// octets, and at least so many as the item's tree has elements and 17 more where it is a certificate, nine more where it is a
+/// list. The count never falls, and keeps to these bounds where memory is refused too.
 pub fn read_typed_counted<'a>(
     alloc: Global,
     item: &'a [u8],
@@ -39,6 +30,7 @@ pub fn read_typed_counted<'a>(
     requires { attempts count.old + 17 * length item.now < 2 ^ 128 }
     ensures class { IfOk result (λ class. IsClassOf item.now (class_view class)) }
     ensures least { IfOk result (λ class. HasTried item.now (class_view class) (attempts count.old) (attempts count.new)) }
+    ensures grows { attempts count.old ≤ attempts count.new }
     ensures most { attempts count.new ≤ attempts count.old + 17 * length item.now }
 {
     if !is_object(alloc, item, count)? {
@@ -58,6 +50,7 @@ fn is_object(alloc: Global, item: &[u8], count: &mut HeaderCount) -> Result<bool
     requires { attempts count.old + length item.now < 2 ^ 128 }
     ensures object { IfOk result (λ b. IsTrue b ↔ IsDerObject 50 item.now) }
     ensures each { IfOk result (λ b. IsTrue b → TriesTree item.now (attempts count.old) (attempts count.new)) }
+    ensures grows { attempts count.old ≤ attempts count.new }
     ensures most { attempts count.new ≤ attempts count.old + length item.now }
 {
     match parse_der_recursive_counted(alloc, item, MAX_RECURSION, count) {

@@ -13,7 +13,9 @@ pub mod laws;
 mod lists;
 mod parts;
 mod read;
+mod uncounted;
 mod written;
 
-pub use crate::class::{read_typed, read_typed_counted};
+pub use crate::class::read_typed_counted;
+pub use crate::uncounted::read_typed;
 pub use asn1_core::HeaderCount;

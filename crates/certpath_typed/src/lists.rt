@@ -1,8 +1,9 @@
 //! Revocation lists, from what the reader gives to fields (RFC 5280, 5.1).
 
 ghost use Rattle.std.specs.Prelude.{◌≡◌, map, min, option_map, IfOk};
+ghost use Rattle.std.specs.List.{AllZip};
 ghost use Rattle.cert_model.specs.View.{time_view, entry_view, list_view};
-ghost use Rattle.certpath_typed.specs.ToldItems.{told_entry, told_list};
+ghost use Rattle.certpath_typed.specs.ToldItems.{TellsEntry, TellsList};
 
 use crate::certificates::small_version;
 use crate::parts::{algorithm_field, bit_field, extension_fields, name_fields};
@@ -37,7 +38,7 @@ fn entry_fields<'a>(
     item: &'a [u8],
     entry: &RevokedCertificate<'a>,
 ) -> Result<EntryFields<'a>, OutOfMemory>
-    ensures { IfOk result (λ f. entry_view f ≡ told_entry item.now entry.now) }
+    ensures { IfOk result (λ f. TellsEntry item.now entry.now (entry_view f)) }
 {
     let extensions = extension_fields(alloc, item, entry.extensions())?;
     Ok(EntryFields {
@@ -52,7 +53,7 @@ fn entries_fields<'a>(
     item: &'a [u8],
     entries: &[RevokedCertificate<'a>],
 ) -> Result<Vec<EntryFields<'a>>, OutOfMemory>
-    ensures { IfOk result (λ v. map entry_view v.items ≡ map (told_entry item.now) entries.now) }
+    ensures { IfOk result (λ v. AllZip (TellsEntry item.now) entries.now (map entry_view v.items)) }
 {
     let mut fields = Vec::new(alloc);
     for entry in entries {
@@ -67,7 +68,7 @@ pub(crate) fn list_fields<'a>(
     item: &'a [u8],
     list: &CertificateRevocationList<'a>,
 ) -> Result<ListFields<'a>, OutOfMemory>
-    ensures { IfOk result (λ f. list_view f ≡ told_list item.now list.now) }
+    ensures { IfOk result (λ f. TellsList item.now list.now (list_view f)) }
 {
     let tbs = &list.tbs_cert_list;
     let issuer = name_fields(alloc, item, &tbs.issuer)?;

@@ -5,7 +5,7 @@ ghost use Rattle.asn1_any.specs.Views.{any_of};
 ghost use Rattle.cert_model.specs.View.{any_view, alg_view, attr_view, name_view, bit_view, key_view, ext_view};
 ghost use Rattle.x509_names.specs.View.{algorithm_view, attribute_view, set_view, name_view as read_name_view, bits_view, key_view as read_key_view};
 ghost use Rattle.x509_ext.specs.View.{extension_view, identifier_view};
-ghost use Rattle.certpath_typed.specs.Told.{told_algorithm, told_attribute, told_name, told_bits, told_key, told_extension};
+ghost use Rattle.certpath_typed.specs.Told.{TellsAlgorithm, TellsAttribute, TellsSet, TellsName, told_bits, TellsKey, TellsExtension, TellsExtensions};
 
 use crate::identifier::identifier;
 use asn1_any::Any;
@@ -35,7 +35,7 @@ pub(crate) fn algorithm_field<'a>(
     item: &'a [u8],
     algorithm: &AlgorithmIdentifier<'a>,
 ) -> AlgField<'a>
-    ensures { alg_view result ≡ told_algorithm item.now (algorithm_view algorithm.now) }
+    ensures { TellsAlgorithm item.now (algorithm_view algorithm.now) (alg_view result) }
 {
     let parameters = match &algorithm.parameters {
         Some(any) => Some(any_field(any)),
@@ -48,7 +48,7 @@ pub(crate) fn algorithm_field<'a>(
 }
 
 fn attribute_field<'a>(item: &'a [u8], attribute: &AttributeTypeAndValue<'a>) -> AttrField<'a>
-    ensures { attr_view result ≡ told_attribute item.now (attribute_view attribute.now) }
+    ensures { TellsAttribute item.now (attribute_view attribute.now) (attr_view result) }
 {
     AttrField {
         identifier: identifier(item, attribute.attr_type()),
@@ -61,7 +61,7 @@ fn attribute_fields<'a>(
     item: &'a [u8],
     set: &RelativeDistinguishedName<'a>,
 ) -> Result<Vec<AttrField<'a>>, OutOfMemory>
-    ensures { IfOk result (λ v. map attr_view v.items ≡ map (told_attribute item.now) (set_view set.now)) }
+    ensures { IfOk result (λ v. TellsSet item.now (set_view set.now) (map attr_view v.items)) }
 {
     let mut fields = Vec::new(alloc);
     for attribute in set.iter() {
@@ -76,7 +76,7 @@ pub(crate) fn name_fields<'a>(
     item: &'a [u8],
     name: &X509Name<'a>,
 ) -> Result<NameFields<'a>, OutOfMemory>
-    ensures { IfOk result (λ f. name_view f ≡ told_name item.now (read_name_view name.now)) }
+    ensures { IfOk result (λ f. TellsName item.now (read_name_view name.now) (name_view f)) }
 {
     let mut sets = Vec::new(alloc);
     for set in name.iter() {
@@ -107,7 +107,7 @@ pub(crate) fn id_field<'a>(id: &Option<UniqueIdentifier<'a>>) -> Option<BitField
 
 /// SubjectPublicKeyInfo (RFC 5280, 4.1.2.7).
 pub(crate) fn key_field<'a>(item: &'a [u8], key: &SubjectPublicKeyInfo<'a>) -> KeyField<'a>
-    ensures { key_view result ≡ told_key item.now (read_key_view key.now) }
+    ensures { TellsKey item.now (read_key_view key.now) (key_view result) }
 {
     KeyField {
         algorithm: algorithm_field(item, &key.algorithm),
@@ -116,7 +116,7 @@ pub(crate) fn key_field<'a>(item: &'a [u8], key: &SubjectPublicKeyInfo<'a>) -> K
 }
 
 fn extension_field<'a>(item: &'a [u8], extension: &X509Extension<'a>) -> ExtField<'a>
-    ensures { ext_view result ≡ told_extension item.now (extension_view extension.now) }
+    ensures { TellsExtension item.now (extension_view extension.now) (ext_view result) }
 {
     ExtField {
         identifier: identifier(item, &extension.oid),
@@ -131,7 +131,7 @@ pub(crate) fn extension_fields<'a>(
     item: &'a [u8],
     extensions: &[X509Extension<'a>],
 ) -> Result<Vec<ExtField<'a>>, OutOfMemory>
-    ensures { IfOk result (λ v. map ext_view v.items ≡ map (told_extension item.now) (map extension_view extensions.now)) }
+    ensures { IfOk result (λ v. TellsExtensions item.now (map extension_view extensions.now) (map ext_view v.items)) }
 {
     let mut fields = Vec::new(alloc);
     for extension in extensions {

@@ -59,7 +59,7 @@ pub fn parse_der_recursive<'a>(alloc: Global, i: &'a [u8], levels: usize) -> Ber
 }
 
 /// `parse_der_recursive`, which raises the count by one for each header that it tries: for each element of the tree that
-/// it answers, and never by more than one for each octet of `i`.
+/// it answers, and never by more than one for each octet of `i`. The count never falls, also where the octets are refused.
 #[cycle(reading)]
 pub fn parse_der_recursive_counted<'a>(
     alloc: Global,
@@ -75,6 +75,7 @@ pub fn parse_der_recursive_counted<'a>(
     ensures front { 0 < levels → ReadsFront (cut_at i.now) result }
     ensures lengths { IfOk result (λ p. TellsDefinite p.1) }
     ensures each { IfOk result (λ p. attempts count.new ≡ attempts count.old + element_count (view p.1)) }
+    ensures grows { attempts count.old ≤ attempts count.new }
     ensures at_most { attempts count.new ≤ attempts count.old + length i.now }
 {
     if levels == 0 {
@@ -100,6 +101,7 @@ pub(crate) fn content_of<'a>(
 ) -> Result<BerObjectContent<'a>, Refusal<Error>>
     requires { attempts count.old + length content.now < 2 ^ 128 }
     ensures each { IfOk result (λ c. attempts count.new ≡ attempts count.old + part_count (content_view c)) }
+    ensures grows { attempts count.old ≤ attempts count.new }
     ensures at_most { attempts count.new ≤ attempts count.old + length content.now }
     ensures found { IfOk result (λ c. IsContent levels (element_under header content.now) (content_view c)) }
     ensures none { IfErr result (λ e. Refuses e ((c : Content) → IsContent levels (element_under header content.now) c → ⊥)) }
@@ -128,6 +130,7 @@ fn objects_of<'a>(
 ) -> Result<Vec<BerObject<'a>>, Refusal<Error>>
     requires { attempts count.old + length content.now < 2 ^ 128 }
     ensures each { IfOk result (λ v. attempts count.new ≡ attempts count.old + all_count (views v.items)) }
+    ensures grows { attempts count.old ≤ attempts count.new }
     ensures at_most { attempts count.new ≤ attempts count.old + length content.now }
     ensures found { IfOk result (λ v. AreObjects levels (views v.items) × (content.now ≡ all_octets (views v.items))) }
     ensures none { IfErr result (λ e. Refuses e ((ts : Trees) → AreObjects levels ts → content.now ≡ all_octets ts → ⊥)) }

@@ -1,11 +1,13 @@
 //! Reads a file as one certificate or revocation list behind the other, and says how many there were. Words: `typed` for
-//! `X509Certificate::from_der`, `list` for `CertificateRevocationList::from_der` or `tree` for `read_tree`, then the file.
+//! `X509Certificate::from_der`, `list` for `CertificateRevocationList::from_der`, `tree` for `read_tree` or `road` for `read_typed`,
+//! then the file.
 #![tactic(auto)]
 
 use anyhow::{Context, Result, bail};
 use asn1_any::Any;
 use asn1_traits::FromDer;
 use certcheck::{ItemClass, read_tree};
+use certpath_typed::read_typed;
 use std::alloc::Global;
 use std::{env, fs};
 use x509_certs::X509Certificate;
@@ -14,7 +16,7 @@ use x509_lists::CertificateRevocationList;
 fn main(rt: HostRuntime) -> Result<()> {
     let mut words = env::args(&rt)?.skip(1);
     let (Some(reader), Some(name)) = (words.next(), words.next()) else {
-        bail!("two words are wanted: typed, list or tree, and a file");
+        bail!("two words are wanted: typed, list, tree or road, and a file");
     };
     let octets = fs::read(&rt, name.as_str()).context(format_args!("reading {name:?}"))?;
     let count = count_items(rt.alloc(), reader.as_str(), octets.as_slice())?;
@@ -32,8 +34,8 @@ fn count_items(alloc: Global, reader: &str, octets: &[u8]) -> Result<usize> {
         let after = match reader {
             "typed" => after_certificate(alloc, rest),
             "list" => after_list(alloc, rest),
-            "tree" => after_item(alloc, rest),
-            _ => bail!("the first word is typed, list or tree"),
+            "tree" | "road" => after_item(alloc, reader, rest),
+            _ => bail!("the first word is typed, list, tree or road"),
         };
         let Some(after) = after else {
             bail!("no item begins {} octets before the end", rest.len());
@@ -59,13 +61,19 @@ fn after_list(alloc: Global, octets: &[u8]) -> Option<&[u8]> {
     }
 }
 
-/// What is left behind a certificate, read as a tree.
-fn after_item(alloc: Global, octets: &[u8]) -> Option<&[u8]> {
+/// What is left behind an item that is a certificate by `read_tree`, or by `read_typed`.
+fn after_item<'a>(alloc: Global, reader: &str, octets: &'a [u8]) -> Option<&'a [u8]> {
     let Ok((rest, _)) = Any::from_der(octets) else {
         return None;
     };
     let size = octets.len().saturating_sub(rest.len());
-    match read_tree(alloc, &octets[..size]) {
+    let item = &octets[..size];
+    let class = if reader == "tree" {
+        read_tree(alloc, item)
+    } else {
+        read_typed(alloc, item)
+    };
+    match class {
         Ok(ItemClass::Certificate(_)) => Some(rest),
         _ => None,
     }

@@ -29,5 +29,6 @@ returns c =
     record {
       object = (λ no. cc, λ p. absurd (none c.args.item.now begins p));
       each = λ no. cc;
+      grows = c.in-Err.ensures.grows;
       most = c.in-Err.ensures.at_most;
     }

@@ -14,4 +14,4 @@ returns-in-None c =
 pub returns : goal.returns
 returns c =
     let test : starts_with nat_eq c.loop-rest.rest.now c.args.octets.now ≡ true = grind (arith, common_steps) in
-    found c.args.item.now c.loop-rest.rest.now c.args.octets.now c.loop-rest.invariant test
+    found c.args.item.now c.loop-rest.rest.now c.args.octets.now test

@@ -1,8 +1,8 @@
-use Rattle.std.proofs.Common.{◌≡◌, take, map}
+use Rattle.std.proofs.Common.{take, map}
 use Rattle.cert_model.specs.View.{ext_view}
 use Rattle.x509_ext.specs.View.{extension_view}
-use Rattle.certpath_typed.specs.Told.{told_extension}
+use Rattle.certpath_typed.specs.Told.{TellsExtensions}
 use Rattle.certpath_typed.proofs.parts.extension_fields.Given as goal
 
 abbrev pub invariant-loop-extension : goal.invariant-loop-extension
-invariant-loop-extension l = map ext_view l.fields.items ≡ map (told_extension l.item) (map extension_view (take l.extension-index l.extensions))
+invariant-loop-extension l = TellsExtensions l.item (map extension_view (take l.extension-index l.extensions)) (map ext_view l.fields.items)

@@ -1,0 +1,21 @@
+//! What an item is, with a count of headers that nobody reads. The other sources of this crate make no count, and name no reader
+//! that keeps none.
+
+ghost use Rattle.std.specs.Prelude.{IfOk};
+ghost use Rattle.cert_model.specs.Class.{IsClassOf};
+ghost use Rattle.certcheck.specs.ClassView.{class_view};
+
+use crate::class::read_typed_counted;
+use asn1_core::{HeaderCount, OutOfMemory};
+use certcheck::ItemClass;
+use std::alloc::Global;
+
+/// Reads an item by the lenient readers of certificates and lists, and answers its class: a certificate or a list where it is
+/// an item under the greatest limit, a DER object of at most 50 levels, and exactly the octets that fields in range write;
+/// other in every other case.
+pub fn read_typed<'a>(alloc: Global, item: &'a [u8]) -> Result<ItemClass<'a>, OutOfMemory>
+    ensures class { IfOk result (λ class. IsClassOf item.now (class_view class)) }
+{
+    let mut count = HeaderCount::new();
+    read_typed_counted(alloc, item, &mut count)
+}
