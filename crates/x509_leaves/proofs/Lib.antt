@@ -1,0 +1,3 @@
+pub mod BasicLaws
+pub mod Laws
+pub mod Told

@@ -1,0 +1,5 @@
+pub mod Leaves
+pub mod Reading
+pub mod Refusals
+pub mod Values
+pub mod View
