@@ -1,3 +1,4 @@
+pub mod Examples
 pub mod Leaves
 pub mod Reading
 pub mod Refusals

@@ -7,9 +7,11 @@ mod comment;
 mod date;
 mod number;
 mod reason;
+mod worked;
 
 pub use crate::basic::BasicConstraints;
 pub use crate::comment::netscape_comment;
 pub use crate::date::invalidity_date;
 pub use crate::number::crl_number;
 pub use crate::reason::reason_code;
+pub use crate::worked::worked_leaves;
