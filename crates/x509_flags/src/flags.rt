@@ -37,7 +37,7 @@ pub struct ReasonFlags {
 
 /// What a certificate is for, by Netscape's extension: bit i of the flags is bit i of the bit string.
 #[derive(Clone, Copy, Debug, PartialEq, Eq)]
-pub struct NSCertType(u8);
+pub struct NSCertType(pub(crate) u8);
 
 impl KeyUsage {
     /// To verify signatures, but on certificates and revocation lists.

@@ -18,11 +18,25 @@ use asn1_any::Any;
 use asn1_core::{Err as Refusal, HeaderCount};
 use asn1_traits::{DerMeaning, FromDer};
 use std::alloc::Global;
+use std::fmt;
 use x509_core::{X509Error, X509Result, front_element, leaf_of};
+use x509_items::write_octets;
 
 /// The octets by which a key is told from others (RFC 5280, 4.2.1.2).
 #[derive(Clone, Debug, Drop, PartialEq, Eq)]
 pub struct KeyIdentifier<'a>(pub &'a [u8]);
+
+/// The octets in hexadecimal, two lower-case digits each, with a colon between two: `ab:cd`.
+impl<'a> fmt::Display for KeyIdentifier<'a> {
+    ghost use Rattle.std.specs.Prelude.{Some};
+    ghost use Rattle.x509_flags.specs.Texts.{serial_text};
+
+    ghost output = { λ id. Some (serial_text id.0.now) };
+
+    fn fmt<W: fmt::Write>(&self, f: &mut fmt::Formatter<W>) -> fmt::Result {
+        write_octets(self.0, f)
+    }
+}
 
 fn key_identifier_of<'a>(any: Any<'a>) -> Result<KeyIdentifier<'a>, Refusal<X509Error>>
     ensures read { Gives key_identifier_view result (leaf_in 4 (any_of any.entry)) }

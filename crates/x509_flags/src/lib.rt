@@ -5,6 +5,7 @@
 mod bits;
 mod flags;
 mod identifier;
+mod names;
 mod numbers;
 mod policy;
 mod reason;

@@ -1,8 +1,7 @@
 -- The reader of general names takes what the relation says, and no more.
 use Rattle.std.proofs.Common.{◌≡◌, ◌∙◌, refl, sym, ap, subst, ℕ, ◌==◌, List, [], Bool, true, false, Ok, Err, inl, inr, ◌⊎◌, if◌then◌else◌}
-use Rattle.std.specs.Str.{IsUtf8, is_utf8}
+use Rattle.std.specs.Str.{IsUtf8}
 use Rattle.std.specs.Int.Digits.{AllBelowBase}
-use Rattle.std.proofs.lemmas.Str.{IsUtf8-from_is_utf8, is_utf8-from_IsUtf8}
 use Rattle.asn1_core.proofs.Cases.{chosen}
 use Rattle.asn1_core.specs.Elements.{Element}
 use Rattle.x509_core.specs.Answers.{Answer, unnamed}
@@ -14,29 +13,13 @@ use Rattle.x509_names.specs.Fields.{Name}
 use Rattle.x509_names.specs.Names.{X509Name, NameParts}
 use Rattle.x509_names.specs.Reading.{name_in, name_at}
 use Rattle.x509_names.proofs.NameLaws.{name_meaning}
-use Rattle.x509_items.specs.Reading.{oid_at, to_end}
+use Rattle.x509_items.specs.Reading.{oid_at, to_end, text_in}
+use Rattle.x509_items.proofs.TextLaws.{text_found, text_only}
 use Rattle.x509_items.proofs.Readings.{oid_reading, end_case}
 use Rattle.x509_general.specs.Names.{IsEntry, IsNoEntry, IsGeneralName}
 use Rattle.x509_general.specs.Names as entries
-use Rattle.x509_general.specs.Reading.{text_in, other_name_in, text_name_in, directory_name_in, entry_in, or_invalid, general_name_in}
+use Rattle.x509_general.specs.Reading.{other_name_in, text_name_in, directory_name_in, entry_in, or_invalid, general_name_in}
 use Rattle.x509_general.specs.Values as values
-
-text_found : (c t : List ℕ) → text_in c ≡ Ok t → IsUtf8 c × (c ≡ t)
-text_found c t given =
-    elim (chosen (is_utf8 c) _ _ _ given) [
-      | inl is ↦ (IsUtf8-from_is_utf8 c is.0, let same : c ≡ t = cc in same)
-      | inr other ↦ let impossible = other.1 in cc
-    ]
-
-pub text_only : (c : List ℕ) → IsUtf8 c → text_in c ≡ Ok c
-text_only c is = rw (is_utf8-from_IsUtf8 c is) refl
-
-text_case : (b : Bool) (c : List ℕ) → (b ≡ true → ⊥) → (let x : Answer (List ℕ) = if b then Ok c else Err unnamed in x ≡ Err unnamed)
-text_case true c other = absurd (other refl)
-text_case false c other = refl
-
-pub text_refused : (c : List ℕ) → (IsUtf8 c → ⊥) → text_in c ≡ Err unnamed
-text_refused c other = text_case (is_utf8 c) c (λ is. other (IsUtf8-from_is_utf8 c is))
 
 name_reading : IsReading X509Name name_at
 name_reading = next_reading (HoldsWindow 16 NameParts (λ n. n.raw)) name_in name_meaning

@@ -1,18 +1,13 @@
 -- The readers of this crate as functions on octets. What they read stands in `Names` and `Extensions`; laws tie each function to
 -- it. None of their refusals is promised by its error.
 use Rattle.std.specs.Prelude.{ℕ, ◌==◌, if◌then◌else◌, List, Ok, Err}
-use Rattle.std.specs.Str.{is_utf8}
 use Rattle.asn1_core.specs.Elements.{Element}
 use Rattle.asn1_any.specs.Cutting.{Piece}
 use Rattle.x509_core.specs.Answers.{Answer, unnamed, ◌>>=◌}
 use Rattle.x509_core.specs.Reading.{Reader, content_in, next, many_of}
 use Rattle.x509_names.specs.Reading.{name_at, integer_in}
-use Rattle.x509_items.specs.Reading.{held, maybe_of, some_of, to_end, ended, all_of, oid_at}
+use Rattle.x509_items.specs.Reading.{held, maybe_of, some_of, to_end, ended, all_of, oid_at, text_in}
 use Rattle.x509_general.specs.Values as values
-
--- UTF-8
-abbrev pub text_in : List ℕ → Answer (List ℕ)
-text_in content = if is_utf8 content then Ok content else Err unnamed
 
 unfoldable pub other_name_in : List ℕ → Answer values.GeneralName
 other_name_in content = do

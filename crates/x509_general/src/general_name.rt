@@ -10,7 +10,7 @@ ghost use Rattle.x509_core.specs.Errors.{told};
 ghost use Rattle.x509_core.specs.Fronts.{TakesNoMemory, TellsMissing, one_rest};
 ghost use Rattle.x509_general.specs.Names.{IsGeneralName};
 ghost use Rattle.x509_general.specs.Names as grammar;
-ghost use Rattle.x509_general.specs.Reading.{text_in, other_name_in, text_name_in, directory_name_in, entry_in, general_name_of, general_name_at};
+ghost use Rattle.x509_general.specs.Reading.{other_name_in, text_name_in, directory_name_in, entry_in, general_name_of, general_name_at};
 ghost use Rattle.x509_general.specs.Values as values;
 ghost use Rattle.x509_general.specs.View.{general_name_view};
 
@@ -19,9 +19,8 @@ use asn1_core::{Err as Refusal, Error, HeaderCount, OutOfMemory, Tag};
 use asn1_oid::Oid;
 use asn1_traits::{DerMeaning, FromDer};
 use std::alloc::Global;
-use std::str;
 use x509_core::{X509Error, X509Result, front_element};
-use x509_items::{Begins, Copies, first_oid, is_of_class, taken};
+use x509_items::{Begins, Copies, first_oid, is_of_class, taken, text_of};
 use x509_names::X509Name;
 
 /// A name of one of nine kinds (RFC 5280, 4.2.1.6). The form of texts isn't looked at, but that they are UTF-8.
@@ -81,16 +80,6 @@ impl<'a> Copies for GeneralName<'a> {
 
     fn copy(&self, alloc: Global) -> Result<GeneralName<'a>, OutOfMemory> {
         self.clone(alloc)
-    }
-}
-
-// UTF-8.
-fn text_of<'a>(content: &'a [u8]) -> Result<&'a str, Refusal<X509Error>>
-    ensures { Gives (λ t. t.now) result (text_in content.now) }
-{
-    match str::from_utf8(content) {
-        Ok(text) => Ok(text),
-        Err(_) => Err(Refusal::Error(X509Error::Der(Error::StringInvalidCharset))),
     }
 }
 

@@ -1,5 +1,5 @@
 -- Words of grammars beyond those of certificates.
-use Rattle.std.specs.Prelude.{◌≡◌, ◌≢◌, ℕ, List, []}
+use Rattle.std.specs.Prelude.{◌≡◌, ◌≢◌, ℕ, Bool, false, List, [], Option, Some, None}
 use Rattle.asn1_any.specs.Cutting.{Piece}
 use Rattle.asn1_traits.specs.Lists.{IsContainer}
 use Rattle.x509_core.specs.Grammar.{Grammar, One, AsMany}
@@ -21,3 +21,8 @@ pub record HoldsSequence {A : Type 0} (P : Grammar A) (piece : Piece) (v : A) : 
 
 abbrev pub Sequence : {A : Type 0} → Grammar A → Grammar A
 Sequence P = One (HoldsSequence P)
+
+-- DEFAULT FALSE
+abbrev pub or_false : Option Bool → Bool
+or_false None = false
+or_false (Some b) = b

@@ -1,5 +1,6 @@
 -- Readers of several values, and of parts that may be absent, as functions on octets.
 use Rattle.std.specs.Prelude.{ℕ, ◌==◌, ◌&&◌, if◌then◌else◌, List, [], ◌∷◌, Option, Some, None, Ok, Err}
+use Rattle.std.specs.Str.{is_utf8}
 use Rattle.asn1_core.specs.Elements.{Element}
 use Rattle.asn1_any.specs.Cutting.{Piece}
 use Rattle.x509_core.specs.Answers.{Answer, unnamed, ◌>>=◌}
@@ -56,3 +57,7 @@ sequence_of p piece = do
   content ← sequence_in piece.element
   v ← p content
   Ok v.0
+
+-- UTF-8
+abbrev pub text_in : List ℕ → Answer (List ℕ)
+text_in content = if is_utf8 content then Ok content else Err unnamed

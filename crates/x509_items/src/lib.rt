@@ -1,10 +1,12 @@
-//! Values that octets begin with: as many as begin there, or none where none does. And copies of values that hold collections.
+//! Values that octets begin with: as many as begin there, or none where none does. And copies of values that hold collections, and
+//! octets as text.
 #![tactic(auto)]
 
 mod answers;
 mod begins;
 mod copies;
 mod oid;
+mod text;
 
 pub use crate::answers::{
     content_of, is_of_class, optional, sequence_content, taken, told, told_front,
@@ -12,3 +14,4 @@ pub use crate::answers::{
 pub use crate::begins::{Begins, all, each, some};
 pub use crate::copies::{Copies, copy_all, copy_some};
 pub use crate::oid::first_oid;
+pub use crate::text::{format_serial, text_of, write_octets};

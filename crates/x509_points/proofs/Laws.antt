@@ -15,12 +15,13 @@ use Rattle.x509_flags.specs.Flags.{AreSixteen}
 use Rattle.x509_flags.specs.Reading.{sixteen_in}
 use Rattle.x509_flags.proofs.Laws.{sixteen_meaning}
 use Rattle.x509_items.specs.Reading.{held, maybe_of, some_of, ended, all_of}
+use Rattle.x509_items.specs.Grammar.{or_false}
 use Rattle.x509_items.proofs.HeaderLaws.{front_header_found, front_header_only}
 use Rattle.x509_items.proofs.Readings.{held_meaning, all_reading, maybe_reading}
 use Rattle.x509_general.specs.Names.{GeneralNames}
 use Rattle.x509_general.specs.Reading.{general_name_at, some_names_at}
 use Rattle.x509_general.proofs.Laws.{names_reading, some_names_reading}
-use Rattle.x509_points.specs.Points.{BehindHeader, PointName, DistributionPointParts, DistributionPoint, IsTruth, or_false, Flag, IssuingParts, IssuingDistributionPoint}
+use Rattle.x509_points.specs.Points.{BehindHeader, PointName, DistributionPointParts, DistributionPoint, IsTruth, Flag, IssuingParts, IssuingDistributionPoint}
 use Rattle.x509_points.specs.Points as points
 use Rattle.x509_points.specs.Reading.{full_name_at, relative_at, name_behind, point_name_at, boxed_name_at, reasons_at, point_parts_at, point_in, point_at, points_in, truth_of, truth_in, truth_at, flag_at, issuing_parts_at, issuing_in, issuing_at}
 use Rattle.x509_points.specs.Values as values

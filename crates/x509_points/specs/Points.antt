@@ -1,13 +1,14 @@
 -- Distribution points, as they are read leniently (RFC 5280, 4.2.1.13 and 5.2.5). `Box n P` looks at the tag number alone, and what
 -- is left of its content is ignored, but where `ToEnd` stands. `Maybe P` leaves the octets where P doesn't begin them, for whatever
 -- reason.
-use Rattle.std.specs.Prelude.{◌≡◌, ℕ, Bool, false, List, Option, Some, None}
+use Rattle.std.specs.Prelude.{◌≡◌, ℕ, Bool, List, Option}
 use Rattle.asn1_core.specs.Strict.{Head}
 use Rattle.asn1_traits.specs.Booleans.{BooleanMeans, IsStrictBoolean}
 use Rattle.x509_core.specs.Grammar.{Grammar, Header, One, Box, ToEnd, Maybe}
 use Rattle.x509_core.specs.Leaves.{Leaf}
 use Rattle.x509_names.specs.Fields.{Attribute}
 use Rattle.x509_names.specs.Names.{RelativeDistinguishedName}
+use Rattle.x509_items.specs.Grammar.{or_false}
 use Rattle.x509_flags.specs.Flags.{AreSixteen}
 use Rattle.x509_general.specs.Names.{GeneralNames}
 use Rattle.x509_general.specs.Values.{GeneralName}
@@ -51,11 +52,6 @@ CRLDistributionPoints = Box 16 (ToEnd DistributionPoint)
 pub record IsTruth (content : List ℕ) (b : Bool) : Type 0 where
   pub strict : IsStrictBoolean content
   pub means : BooleanMeans content b
-
--- DEFAULT FALSE
-abbrev pub or_false : Option Bool → Bool
-or_false None = false
-or_false (Some b) = b
 
 -- [n] BOOLEAN DEFAULT FALSE: what isn't a strict boolean is left, and counts as false
 pub record Flag (n : ℕ) (octets : List ℕ) (b : Bool) (rest : List ℕ) : Type 0 where

@@ -10,7 +10,7 @@ use Rattle.x509_names.specs.Reading.{relative_name_at}
 use Rattle.x509_flags.specs.Reading.{sixteen_in}
 use Rattle.x509_items.specs.Reading.{held, maybe_of, some_of, ended, all_of}
 use Rattle.x509_general.specs.Reading.{general_name_at, some_names_at}
-use Rattle.x509_points.specs.Points.{or_false}
+use Rattle.x509_items.specs.Grammar.{or_false}
 use Rattle.x509_points.specs.Values as values
 
 abbrev pub full_name_at : Reader values.PointName

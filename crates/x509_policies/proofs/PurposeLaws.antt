@@ -15,6 +15,12 @@ use Rattle.x509_items.proofs.Readings.{sequence_meaning, all_reading}
 use Rattle.x509_policies.specs.Purposes.{any_extended_key_usage, id_kp, named_purposes, IsAmong, Tells, EachOnce, AreSorted, ExtendedKeyUsageParts}
 use Rattle.x509_policies.specs.Reading.{has, once_of, sorted, purposes_parts_at, purposes_in}
 use Rattle.x509_policies.specs.Values as values
+use Rattle.std.proofs.Common.{Bor, Ordering, cond}
+use Rattle.std.specs.Ordering.{on, nat_cmp, eq_by_cmp}
+use Rattle.std.specs.Cmp.Lexicographic.{slice_cmp}
+use Rattle.std.specs.BTreeSet as ordered
+use Rattle.std.specs.BTreeSet.{BTreeSet}
+use Rattle.std.proofs.lemmas.Map.Text.{is_eq-slice_cmp}
 
 either : (a b : Bool) → (a || b) ≡ true → (a ≡ true) ⊎ (b ≡ true)
 either true b e = inl refl
@@ -182,3 +188,37 @@ purposes_parts_reading = record {
 
 pub purposes_meaning : IsMeaning (HoldsSequence ExtendedKeyUsageParts) purposes_in
 purposes_meaning = sequence_meaning ExtendedKeyUsageParts purposes_parts_at purposes_parts_reading
+
+-- ---- those that were kept, as a set
+
+abbrev pub by_octets : Bor (List ℕ) → Bor (List ℕ) → Ordering
+by_octets = on (λ (b : Bor (List ℕ)). b.now) (slice_cmp nat_cmp)
+
+-- the set has the octets of those that were kept
+abbrev pub IsKept : List (List ℕ) → BTreeSet (Bor (List ℕ)) → Type 0
+IsKept kept seen = (s : Bor (List ℕ)) → ordered.contains by_octets seen s ≡ has s.now kept
+
+swap : (a b c : Bool) → (a || (b || c)) ≡ (b || (a || c))
+swap true true c = refl
+swap true false c = refl
+swap false true c = refl
+swap false false c = refl
+
+has_more : (x id : List ℕ) (kept : List (List ℕ)) → has x (kept ++ id ∷ []) ≡ (bytes_eq id x || has x kept)
+has_more x id [] = refl
+has_more x id (y ∷ kept) = ap (λ z. bytes_eq y x || z) (has_more x id kept) ∙ swap (bytes_eq y x) (bytes_eq id x) (has x kept)
+
+either_is : (a b c d : Bool) → a ≡ b → c ≡ d → (let x : Bool = cond a true c in x ≡ (b || d))
+either_is true b c d p q = rw (sym p) refl
+either_is false b c d p q = rw (sym p) q
+
+pub kept_more : (kept : List (List ℕ)) (seen more : BTreeSet (Bor (List ℕ))) (id : Bor (List ℕ)) → IsKept kept seen
+    → ((s : Bor (List ℕ)) → ordered.contains by_octets more s ≡ cond (eq_by_cmp (slice_cmp nat_cmp) id.now s.now) true (ordered.contains by_octets seen s)) → IsKept (kept ++ id.now ∷ []) more
+kept_more kept seen more id is updates s =
+    updates s ∙ either_is _ _ _ _ (is_eq-slice_cmp id.now s.now) (is s) ∙ sym (has_more s.now id.now kept)
+
+-- one more is passed, or kept
+pub passed : (kept : List (List ℕ)) (id : List ℕ) (ids all : List (List ℕ)) (b : Bool) → (has id named_purposes || has id kept) ≡ b → once_of kept (id ∷ ids) ≡ all
+    → (if b then once_of kept ids else once_of (kept ++ id ∷ []) ids) ≡ all
+passed kept id ids all true told is = rw (told) at is
+passed kept id ids all false told is = rw (told) at is

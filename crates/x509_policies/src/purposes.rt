@@ -8,7 +8,8 @@ ghost use Rattle.asn1_traits.specs.Reads.{Reads};
 ghost use Rattle.x509_core.specs.Answers.{Gives, ElseMemory};
 ghost use Rattle.x509_core.specs.Errors.{told};
 ghost use Rattle.x509_core.specs.Fronts.{TakesNoMemory, TellsMissing, one_rest};
-ghost use Rattle.std.specs.Prelude.{[], ◌∷◌, bytes_eq};
+ghost use Rattle.std.specs.Prelude.{[], ◌∷◌, ◌||◌, bytes_eq};
+ghost use Rattle.std.specs.BTreeSet as ordered;
 ghost use Rattle.x509_items.specs.Grammar.{HoldsSequence};
 ghost use Rattle.x509_items.specs.Reading.{all_of, oid_at};
 ghost use Rattle.x509_policies.specs.Purposes as grammar;
@@ -22,6 +23,7 @@ use asn1_core::{Err as Refusal, HeaderCount, OutOfMemory};
 use asn1_oid::Oid;
 use asn1_traits::{DerMeaning, FromDer};
 use std::alloc::Global;
+use std::collections::BTreeSet;
 use x509_core::{X509Error, X509Result, front_element};
 use x509_items::{all, copy_all, sequence_content, told};
 
@@ -102,15 +104,26 @@ fn is_named(octets: &[u8]) -> bool
         || is_late(octets)
 }
 
-// Those that have no flag of their own, each where it stands first.
+// Whether a purpose has a flag of its own, or was seen before.
+fn is_known<'n>(octets: &'n [u8], seen: &BTreeSet<&'n [u8]>) -> bool
+    ensures { result ≡ (has octets.now named_purposes || ordered.contains ⟦<&'n [u8] as Ord>⟧.cmp seen.now octets.entry) }
+{
+    is_named(octets) || seen.contains(octets)
+}
+
+// Those that have no flag of their own, each where it stands first. With n of them of s octets in all, about s times the logarithm
+// of n octets are compared.
 fn others_of<'a>(alloc: Global, ids: &[Oid<'a>]) -> Result<Vec<Oid<'a>>, OutOfMemory>
     ensures { IfOk result (λ v. v.items ≡ once_of [] ids.now) }
 {
+    let mut seen: BTreeSet<&[u8]> = BTreeSet::new(alloc);
     let mut others: Vec<Oid<'a>> = Vec::new(alloc);
     for id in ids {
-        if is_named(id.as_bytes()) || is_among(id.as_bytes(), others.as_slice()) {
+        let octets = id.as_bytes();
+        if is_known(octets, &seen) {
             continue;
         }
+        seen.insert(octets)?;
         others.push(id.clone(alloc)?)?;
     }
     Ok(others)
@@ -163,7 +176,8 @@ impl<'b> DerMeaning for ExtendedKeyUsage<'b> {
 }
 
 impl<'a> FromDer<'a, X509Error> for ExtendedKeyUsage<'a> {
-    /// The purposes of the SEQUENCE that begins the octets, behind those after it: a constructed universal SEQUENCE of identifiers to its end, none too. A further purpose is kept where it stands first.
+    /// The purposes of the SEQUENCE that begins the octets, behind those after it: a constructed universal SEQUENCE of identifiers to its end, none too. A further purpose is kept where it stands first;
+    /// that takes about as many comparisons as n times the logarithm of n, of n further purposes.
     fn from_der(alloc: Global, bytes: &'a [u8]) -> X509Result<'a, ExtendedKeyUsage<'a>>
         ensures reads { Reads (λ given e. e ≡ told given) (Unit {0}) EndsWithinElement (λ i. i.now)
             (λ i v r. grammar.ExtendedKeyUsage i (purposes_view v) r) bytes.now result }

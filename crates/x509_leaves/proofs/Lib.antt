@@ -1,0 +1,4 @@
+pub mod BasicLaws
+pub mod Items
+pub mod Laws
+pub mod Told

@@ -1,0 +1,17 @@
+//! Extension values of one element that stand for a number, a reason, a time, a text or what a subject may issue (RFC 5280, 4.2.1.9,
+//! 5.2.3, 5.3.1 and 5.3.2), and their readers. Classes aren't looked at, and octets behind a value are left.
+#![tactic(auto)]
+
+mod basic;
+mod comment;
+mod date;
+mod number;
+mod reason;
+mod worked;
+
+pub use crate::basic::BasicConstraints;
+pub use crate::comment::netscape_comment;
+pub use crate::date::invalidity_date;
+pub use crate::number::crl_number;
+pub use crate::reason::reason_code;
+pub use crate::worked::worked_leaves;
