@@ -1,17 +1,13 @@
 -- What the values of extensions hold, without where it lies in memory. Texts stand as their octets, object identifiers as
 -- their content octets, flags as numbers.
-use Rattle.std.specs.Prelude.{ℕ, Bool, List, Option}
+use Rattle.std.specs.Prelude.{ℕ, List}
 use Rattle.x509_time.specs.Times.{Time}
 pub use Rattle.x509_flags.specs.Values.{PolicyConstraints}
 pub use Rattle.x509_general.specs.Values.{GeneralName, other_name, rfc822_name, dns_name, x400_address, directory_name, edi_party_name, uri, ip_address, registered_id, invalid}
 pub use Rattle.x509_general.specs.Values.{AuthorityKeyIdentifier, NameConstraints, AccessDescription}
+pub use Rattle.x509_leaves.specs.Values.{BasicConstraints}
 pub use Rattle.x509_points.specs.Values.{PointName, full_name, relative_name, DistributionPoint, IssuingDistributionPoint}
 pub use Rattle.x509_policies.specs.Values.{PolicyQualifierInfo, PolicyInformation, PolicyMapping, ExtendedKeyUsage}
-
--- BasicConstraints (RFC 5280, 4.2.1.9)
-pub record BasicConstraints : Type 0 where
-  pub ca : Bool
-  pub path_len_constraint : Option ℕ
 
 -- SignedCertificateTimestamp (RFC 6962, 3.2) with the parts of its signature (RFC 5246, 4.7)
 pub record DigitallySigned : Type 0 where

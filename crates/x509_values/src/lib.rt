@@ -1,12 +1,8 @@
 //! What the values of extensions hold (RFC 5280, 4.2, 5.2 and 5.3; RFC 6962, 3.3), and octets as text.
 #![tactic(auto)]
 
-mod basic;
-mod serial;
 mod timestamps;
 
-pub use crate::basic::BasicConstraints;
-pub use crate::serial::format_serial;
 pub use crate::timestamps::{
     CtExtensions, CtLogID, CtVersion, DigitallySigned, SignedCertificateTimestamp,
 };
@@ -18,7 +14,8 @@ pub use x509_general::{
     AccessDescription, AuthorityInfoAccess, AuthorityKeyIdentifier, GeneralName, GeneralSubtree,
     IssuerAlternativeName, NameConstraints, SubjectAlternativeName, SubjectInfoAccess,
 };
-pub use x509_items::{Copies, copy_all, copy_some};
+pub use x509_items::{Copies, copy_all, copy_some, format_serial};
+pub use x509_leaves::BasicConstraints;
 pub use x509_points::{
     CRLDistributionPoint, CRLDistributionPoints, DistributionPointName, IssuingDistributionPoint,
     issuing_distribution_point,

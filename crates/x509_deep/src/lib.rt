@@ -1,0 +1,14 @@
+//! What the value of an extension is parsed as, by the extension's identifier (RFC 5280, 4.2, 5.2 and 5.3; RFC 6962, 3.3).
+#![tactic(auto)]
+
+mod flags;
+mod general;
+mod kind;
+mod leaves;
+mod others;
+mod parse;
+mod parsed;
+mod settled;
+
+pub use crate::parse::parse_extension;
+pub use crate::parsed::ParsedExtension;
