@@ -1,13 +1,12 @@
 //! What no contract says: the texts and statuses of whole runs, from words to standard error, and what they do where a
 //! device fails.
-mod devices;
 mod rows;
 
+use crate::devices::{Full, Giver, Repeater, Taker};
 use asn1_device::{ReadSource, WriteSink};
 use certpath_engine::{
     Command, End, FrameError, FrameOutcome, WordFault, frame, frame_status, read_words,
 };
-use devices::{Full, Giver, Repeater, Taker};
 use rows::{ROWS, TWO_CERTIFICATES};
 use std::alloc::AllocError;
 use std::fmt::Debug;
