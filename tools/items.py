@@ -2,7 +2,7 @@
 """Writes the items of crates/cert_rows/stdin anew, each by the comment above it.
 
 A comment `# TITLE: KIND PART=TEXT ..` spells the item below it. KIND is `certificate` or `list`, of which only the parts that are named differ from the plain one;
-or `octets TEXT`. A digit or `keys` before KIND stands before the item too, with a colon. A text is octets in hex; `TAG(TEXT)` is an element, its length counted; `"LETTERS"` their octets; `TEXT*N` what is before it N times over; `-` nothing.
+or `octets TEXT`. A digit, `keys` or a word with commas before KIND stands before the item too, with a colon. A text is octets in hex; `TAG(TEXT)` is an element, its length counted; `"LETTERS"` their octets; `TEXT*N` what is before it N times over; `-` nothing.
 """
 import os
 import re
@@ -81,7 +81,7 @@ def item(spelling):
 def row(spelling):
     """The row that a comment spells."""
     question, _, rest = spelling.partition(" ")
-    return f"{question}:{item(rest).hex()}" if question.isdigit() or question == "keys" else item(spelling).hex() or " "
+    return f"{question}:{item(rest).hex()}" if question.isdigit() or question == "keys" or "," in question else item(spelling).hex() or " "
 
 
 def written(text):

@@ -1,13 +1,16 @@
 //! Reads items in hex from standard input, one a line, and prints each with its class by both roads: `HEX = other`, or `certificate` or
 //! `list` and below it each field in a line of its own, by its name, and what the fields write. `N:HEX` tells whether the item's fields are in range
-//! where their version is the digit N, counted from 0 as it is written. `keys:HEX` tells a certificate's key identifiers.
+//! where their version is the digit N, counted from 0 as it is written. `keys:HEX` tells a certificate's key identifiers. `typed,N,M:HEX` tells
+//! whether `read_typed_counted` tries at least N headers and at most M, `tree,N,M:HEX` whether the reader of trees does.
 //!
 //! Empty lines and those that begin with `#` are printed as they stand.
 #![tactic(auto)]
 
+mod attempts;
 mod fields;
 mod parts;
 
+use crate::attempts::{bounds_of, within_text};
 use crate::fields::{certificate_text, list_text};
 use crate::parts::add_line;
 use asn1_core::SerializeResult;
@@ -52,7 +55,10 @@ fn outcome(alloc: Global, row: &str) -> io::Result<String> {
     }
     match question {
         Some("keys") => keys_text(alloc, &class),
-        Some(version) => literal(alloc, range_text(class, number_of(version))),
+        Some(question) => match bounds_of(question) {
+            Some(bounds) => literal(alloc, within_text(alloc, &bounds, octets.as_slice())?),
+            None => literal(alloc, range_text(class, number_of(question))),
+        },
         None => class_text(alloc, &class, octets.as_slice()),
     }
 }
