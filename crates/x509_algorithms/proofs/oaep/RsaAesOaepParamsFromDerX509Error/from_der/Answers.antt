@@ -1,0 +1,25 @@
+use Rattle.std.proofs.Common.{arith}
+use Rattle.asn1_core.proofs.Numbers.{octets_below}
+use Rattle.x509_core.proofs.Grammars.{next_reading}
+use Rattle.x509_core.proofs.Public.{gives_found, gives_only}
+use Rattle.x509_core.proofs.FrontLaws.{gives_reads}
+use Rattle.x509_algorithms.specs.Parameters as grammar
+use Rattle.x509_algorithms.specs.Reading.{oaep_in, oaep_at}
+use Rattle.x509_algorithms.specs.View.{oaep_view}
+use Rattle.x509_algorithms.proofs.Laws.{oaep_meaning}
+use Rattle.x509_algorithms.proofs.oaep.RsaAesOaepParamsFromDerX509Error.from_der.Goals as goal
+
+pub returns-clause-reads : goal.returns-clause-reads
+returns-clause-reads c =
+    gives_reads (grammar.IsParameters grammar.OaepParts) oaep_in oaep_meaning oaep_view c.args.bytes.now c.value_at_front.result
+    (octets_below c.args.bytes.now (λ k. omega (arith, c.type_inv.bytes k))) c.value_at_front.ensures.exact c.value_at_front.ensures.missing
+
+pub returns-clause-found : goal.returns-clause-found
+returns-clause-found c =
+    gives_found grammar.RsaAesOaepParams oaep_at (next_reading (grammar.IsParameters grammar.OaepParts) oaep_in oaep_meaning) oaep_view c.args.bytes.now c.value_at_front.result
+    (octets_below c.args.bytes.now (λ k. omega (arith, c.type_inv.bytes k))) c.value_at_front.ensures.exact
+
+pub returns-clause-only : goal.returns-clause-only
+returns-clause-only c =
+    gives_only grammar.RsaAesOaepParams oaep_at (next_reading (grammar.IsParameters grammar.OaepParts) oaep_in oaep_meaning) oaep_view c.args.bytes.now c.value_at_front.result
+    (octets_below c.args.bytes.now (λ k. omega (arith, c.type_inv.bytes k))) c.value_at_front.ensures.exact

@@ -1,0 +1,6 @@
+pub mod Identifiers
+pub mod Parameters
+pub mod Reading
+pub mod Signatures
+pub mod Values
+pub mod View

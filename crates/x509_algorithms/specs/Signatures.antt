@@ -1,0 +1,31 @@
+-- Signature values and the algorithms of signatures.
+use Rattle.std.specs.Prelude.{◌≡◌, ◌≢◌, ℕ, List, Option, Some}
+use Rattle.asn1_core.specs.Elements.{Element}
+use Rattle.asn1_oid.specs.Identifier.{IsFront}
+use Rattle.x509_core.specs.Grammar.{Grammar, One}
+use Rattle.x509_items.specs.Grammar.{Sequence}
+use Rattle.x509_names.specs.Fields.{Algorithm}
+use Rattle.x509_names.specs.Leaves.{IsInteger}
+use Rattle.x509_algorithms.specs.Values as values
+use Rattle.x509_algorithms.specs.Identifiers.{pkcs_1, rsassa_pss_id, ansi_x962_signatures, x9_57, ed25519_id}
+use Rattle.x509_algorithms.specs.Parameters.{PssOf}
+
+-- Ecdsa-Sig-Value ::= SEQUENCE { r INTEGER, s INTEGER } (RFC 3279, 2.2.3), constructed and universal; the numbers may be negative,
+-- and what is left of the content is ignored
+pub record EcdsaParts (octets : List ℕ) (v : values.EcdsaSigValue) (rest : List ℕ) : Type 0 where
+  pub after_r : List ℕ
+  pub r : One IsInteger octets v.r after_r
+  pub s : One IsInteger after_r v.s rest
+
+abbrev pub EcdsaSigValue : Grammar values.EcdsaSigValue
+EcdsaSigValue = Sequence EcdsaParts
+
+-- What an algorithm is, by its identifier: of RSA whatever stands under PKCS #1 but RSASSA-PSS (RFC 8017, appendix C), which is told
+-- by parameters that can be read; ECDSA and DSA whatever stands under their arcs (RFC 3279, 2.2.2 and 2.2.3); Ed25519 by itself (RFC
+-- 8410, 3). RSAES-OAEP stands under PKCS #1 too, so it is told as RSA.
+pub data IsSignature (a : Algorithm) (v : values.SignatureAlgorithm) : Type 0 where
+  is_pss : (e : Element) (p : values.RsaSsaPssParams) → a.identifier ≡ rsassa_pss_id → a.parameters ≡ Some e → PssOf e p → v ≡ values.rsassa_pss p → IsSignature a v
+  is_rsa : a.identifier ≢ rsassa_pss_id → IsFront pkcs_1 a.identifier → v ≡ values.rsa → IsSignature a v
+  is_ecdsa : IsFront ansi_x962_signatures a.identifier → v ≡ values.ecdsa → IsSignature a v
+  is_dsa : IsFront x9_57 a.identifier → v ≡ values.dsa → IsSignature a v
+  is_ed25519 : a.identifier ≡ ed25519_id → v ≡ values.ed25519 → IsSignature a v

@@ -1,0 +1,29 @@
+-- What the values of this crate's types are, as the data of `Values`.
+use Rattle.std.specs.Prelude.{option_map}
+use Rattle.x509_names.specs.View.{algorithm_view}
+use Rattle.x509_algorithms.specs.Values as values
+use Rattle.x509_algorithms.specs.declared.ecdsa.EcdsaSigValue.{EcdsaSigValue}
+use Rattle.x509_algorithms.specs.declared.mask.MaskGenAlgorithm.{MaskGenAlgorithm}
+use Rattle.x509_algorithms.specs.declared.oaep.RsaAesOaepParams.{RsaAesOaepParams}
+use Rattle.x509_algorithms.specs.declared.pss.RsaSsaPssParams.{RsaSsaPssParams}
+
+abbrev pub ecdsa_view : EcdsaSigValue → values.EcdsaSigValue
+ecdsa_view v = record { r = v.r.content.now; s = v.s.content.now }
+
+abbrev pub pss_view : RsaSsaPssParams → values.RsaSsaPssParams
+pss_view p = record {
+  hash_alg = option_map algorithm_view p.hash_alg;
+  mask_gen_algorithm = option_map algorithm_view p.mask_gen_algorithm;
+  salt_length = p.salt_length;
+  trailer_field = p.trailer_field;
+}
+
+abbrev pub oaep_view : RsaAesOaepParams → values.RsaAesOaepParams
+oaep_view p = record {
+  hash_alg = option_map algorithm_view p.hash_alg;
+  mask_gen_alg = option_map algorithm_view p.mask_gen_alg;
+  p_source_alg = option_map algorithm_view p.p_source_alg;
+}
+
+abbrev pub mask_view : MaskGenAlgorithm → values.MaskGenAlgorithm
+mask_view m = record { mgf = m.mgf; hash = m.hash }

@@ -1,0 +1,13 @@
+//! Algorithms of signatures with their parameters, and signature values (RFC 3279, 2.2; RFC 8017, A.2), read leniently.
+#![tactic(auto)]
+
+mod ecdsa;
+mod mask;
+mod oaep;
+mod pss;
+mod tagged;
+
+pub use crate::ecdsa::EcdsaSigValue;
+pub use crate::mask::MaskGenAlgorithm;
+pub use crate::oaep::RsaAesOaepParams;
+pub use crate::pss::RsaSsaPssParams;

@@ -1,0 +1,125 @@
+//! Parameters of RSAES-OAEP (RFC 8017, A.2.1).
+
+ghost use Rattle.std.specs.Prelude.{◌≡◌, ◌<◌, ℕ, List, length, IfOk, IfErr, option_map};
+ghost use Rattle.asn1_any.specs.CutViews.{piece_of};
+ghost use Rattle.asn1_any.specs.Views.{any_of};
+ghost use Rattle.asn1_traits.specs.Elements.{EndsWithinElement};
+ghost use Rattle.asn1_traits.specs.Reads.{Reads};
+ghost use Rattle.x509_core.specs.Answers.{Gives, ElseMemory};
+ghost use Rattle.x509_core.specs.Errors.{told};
+ghost use Rattle.x509_core.specs.Fronts.{TellsMissing, one_rest};
+ghost use Rattle.x509_algorithms.specs.Parameters as grammar;
+ghost use Rattle.x509_algorithms.specs.Reading.{parameters_of, oaep_parts_at, oaep_in, oaep_at};
+ghost use Rattle.x509_algorithms.specs.Values as values;
+ghost use Rattle.x509_algorithms.specs.View.{oaep_view};
+
+use crate::tagged::next_algorithm;
+use asn1_any::{Any, Element};
+use asn1_core::{Err as Refusal, Error, HeaderCount};
+use asn1_traits::{DerMeaning, FromDer};
+use std::alloc::Global;
+use x509_core::{X509Error, X509Result, front_element};
+use x509_items::content_of;
+use x509_names::AlgorithmIdentifier;
+
+/// Parameters of RSAES-OAEP. What isn't told has the default of RFC 8017, A.2.1.
+#[derive(Debug, Drop, PartialEq, Eq)]
+pub struct RsaAesOaepParams<'a> {
+    hash_alg: Option<AlgorithmIdentifier<'a>>,
+    mask_gen_alg: Option<AlgorithmIdentifier<'a>>,
+    p_source_alg: Option<AlgorithmIdentifier<'a>>,
+}
+
+impl<'a> RsaAesOaepParams<'a> {
+    /// The hash algorithm, where it is told.
+    pub fn hash_algorithm(&self) -> Option<&AlgorithmIdentifier<'a>>
+        ensures { option_map (λ a. a.now) result ≡ self.now.hash_alg }
+    {
+        self.hash_alg.as_ref()
+    }
+
+    /// The algorithm of the mask, where it is told.
+    pub fn mask_gen_algorithm_raw(&self) -> Option<&AlgorithmIdentifier<'a>>
+        ensures { option_map (λ a. a.now) result ≡ self.now.mask_gen_alg }
+    {
+        self.mask_gen_alg.as_ref()
+    }
+}
+
+#[tactic(auto, unfolding(crate::specs::Reading::oaep_parts_at))]
+fn parts<'a>(alloc: Global, i: &'a [u8]) -> X509Result<'a, RsaAesOaepParams<'a>>
+    ensures { Gives (λ r. (oaep_view r.1, r.0.now)) result (oaep_parts_at i.now) }
+{
+    let (i, hash_alg) = next_algorithm(alloc, 0, i)?;
+    let (i, mask_gen_alg) = next_algorithm(alloc, 1, i)?;
+    let (i, p_source_alg) = next_algorithm(alloc, 2, i)?;
+    Ok((
+        i,
+        RsaAesOaepParams {
+            hash_alg,
+            mask_gen_alg,
+            p_source_alg,
+        },
+    ))
+}
+
+/// The parameters that an element of tag number 16 holds.
+pub(crate) fn oaep_of<'a>(
+    alloc: Global,
+    any: Any<'a>,
+) -> Result<RsaAesOaepParams<'a>, Refusal<X509Error>>
+    ensures { Gives oaep_view result (parameters_of oaep_parts_at (any_of any.entry)) }
+{
+    let content = content_of(16, any)?;
+    let (_, value) = parts(alloc, content)?;
+    Ok(value)
+}
+
+fn value_of<'a>(
+    alloc: Global,
+    element: Element<'a>,
+) -> Result<RsaAesOaepParams<'a>, Refusal<X509Error>>
+    ensures { Gives oaep_view result (oaep_in (piece_of element.entry)) }
+{
+    if !element.any.header.is_constructed() {
+        return Err(Refusal::Error(X509Error::Der(Error::ConstructExpected)));
+    }
+    oaep_of(alloc, element.any)
+}
+
+impl<'b> DerMeaning for RsaAesOaepParams<'b> {
+    ghost der_reads = { λ i v r. grammar.RsaAesOaepParams i (oaep_view v) r };
+
+    ghost der_cut = { EndsWithinElement };
+
+    ghost der_grows = { Unit {0} };
+
+    ghost one_rest = { λ i v w r s left right. one_rest (grammar.IsParameters grammar.OaepParts) i (oaep_view v) (oaep_view w) r s left right };
+}
+
+impl<'a> FromDer<'a, X509Error> for RsaAesOaepParams<'a> {
+    /// The parameters that begin the octets, behind those after them: a constructed element of tag number 16, whatever its class.
+    fn from_der(alloc: Global, bytes: &'a [u8]) -> X509Result<'a, RsaAesOaepParams<'a>>
+        ensures reads { Reads (λ given e. e ≡ told given) (Unit {0}) EndsWithinElement (λ i. i.now)
+            (λ i v r. grammar.RsaAesOaepParams i (oaep_view v) r) bytes.now result }
+        ensures exact { Gives (λ r. (oaep_view r.1, r.0.now)) result (oaep_at bytes.now) }
+        ensures found { IfOk result (λ r. grammar.RsaAesOaepParams bytes.now (oaep_view r.1) r.0.now) }
+        ensures only { (v : values.RsaAesOaepParams) (rest : List ℕ) → grammar.RsaAesOaepParams bytes.now v rest
+            → ElseMemory result (λ r. (oaep_view r.1 ≡ v) × (r.0.now ≡ rest)) }
+    {
+        value_at_front(alloc, bytes)
+    }
+}
+
+fn value_at_front<'a>(alloc: Global, i: &'a [u8]) -> X509Result<'a, RsaAesOaepParams<'a>>
+    ensures exact { Gives (λ r. (oaep_view r.1, r.0.now)) result (oaep_at i.now) }
+    ensures missing { TellsMissing i.now result }
+    ensures shorter { IfOk result (λ r. length r.0.now < length i.now) }
+{
+    let mut count = HeaderCount::new();
+    let (rest, element) = front_element(i, &mut count)?;
+    match value_of(alloc, element) {
+        Ok(value) => Ok((rest, value)),
+        Err(refusal) => Err(Refusal::within(refusal)),
+    }
+}

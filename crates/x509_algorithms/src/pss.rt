@@ -1,0 +1,144 @@
+//! Parameters of RSASSA-PSS (RFC 8017, A.2.3).
+
+ghost use Rattle.std.specs.Prelude.{◌≡◌, ◌<◌, ℕ, List, length, IfOk, IfErr, option_map};
+ghost use Rattle.asn1_any.specs.CutViews.{piece_of};
+ghost use Rattle.asn1_any.specs.Views.{any_of};
+ghost use Rattle.asn1_traits.specs.Elements.{EndsWithinElement};
+ghost use Rattle.asn1_traits.specs.Reads.{Reads};
+ghost use Rattle.x509_core.specs.Answers.{Gives, ElseMemory};
+ghost use Rattle.x509_core.specs.Errors.{told};
+ghost use Rattle.x509_core.specs.Fronts.{TellsMissing, one_rest};
+ghost use Rattle.x509_names.specs.View.{algorithm_view};
+ghost use Rattle.x509_algorithms.specs.Parameters as grammar;
+ghost use Rattle.x509_algorithms.specs.Parameters.{hash_of, salt_length_of, trailer_field_of};
+ghost use Rattle.x509_algorithms.specs.Reading.{parameters_of, pss_parts_at, pss_in, pss_at};
+ghost use Rattle.x509_algorithms.specs.Values as values;
+ghost use Rattle.x509_algorithms.specs.View.{pss_view};
+
+use crate::tagged::{next_algorithm, next_number};
+use asn1_any::{Any, Element};
+use asn1_core::{Err as Refusal, Error, HeaderCount};
+use asn1_traits::{DerMeaning, FromDer};
+use std::alloc::Global;
+use x509_core::{X509Error, X509Result, front_element};
+use x509_items::content_of;
+use x509_names::AlgorithmIdentifier;
+
+/// Parameters of RSASSA-PSS. What isn't told has the default of RFC 8017, A.2.3.
+#[derive(Debug, Drop, PartialEq, Eq)]
+pub struct RsaSsaPssParams<'a> {
+    hash_alg: Option<AlgorithmIdentifier<'a>>,
+    mask_gen_algorithm: Option<AlgorithmIdentifier<'a>>,
+    salt_length: Option<u32>,
+    trailer_field: Option<u32>,
+}
+
+impl<'a> RsaSsaPssParams<'a> {
+    /// The hash algorithm, where it is told.
+    pub fn hash_algorithm(&self) -> Option<&AlgorithmIdentifier<'a>>
+        ensures { option_map (λ a. a.now) result ≡ self.now.hash_alg }
+    {
+        self.hash_alg.as_ref()
+    }
+
+    /// The algorithm of the mask, where it is told.
+    pub fn mask_gen_algorithm_raw(&self) -> Option<&AlgorithmIdentifier<'a>>
+        ensures { option_map (λ a. a.now) result ≡ self.now.mask_gen_algorithm }
+    {
+        self.mask_gen_algorithm.as_ref()
+    }
+
+    /// How long the salt is, in octets: 20 where nothing is told.
+    pub fn salt_length(&self) -> u32
+        ensures { result ≡ salt_length_of (pss_view self.now) }
+    {
+        self.salt_length.unwrap_or(20)
+    }
+
+    /// The trailer field: 1 where nothing is told.
+    pub fn trailer_field(&self) -> u32
+        ensures { result ≡ trailer_field_of (pss_view self.now) }
+    {
+        self.trailer_field.unwrap_or(1)
+    }
+}
+
+#[tactic(auto, unfolding(crate::specs::Reading::pss_parts_at))]
+fn parts<'a>(alloc: Global, i: &'a [u8]) -> X509Result<'a, RsaSsaPssParams<'a>>
+    ensures { Gives (λ r. (pss_view r.1, r.0.now)) result (pss_parts_at i.now) }
+{
+    let (i, hash_alg) = next_algorithm(alloc, 0, i)?;
+    let (i, mask_gen_algorithm) = next_algorithm(alloc, 1, i)?;
+    let (i, salt_length) = next_number(alloc, 2, i)?;
+    let (i, trailer_field) = next_number(alloc, 3, i)?;
+    Ok((
+        i,
+        RsaSsaPssParams {
+            hash_alg,
+            mask_gen_algorithm,
+            salt_length,
+            trailer_field,
+        },
+    ))
+}
+
+/// The parameters that an element of tag number 16 holds.
+pub(crate) fn pss_of<'a>(
+    alloc: Global,
+    any: Any<'a>,
+) -> Result<RsaSsaPssParams<'a>, Refusal<X509Error>>
+    ensures { Gives pss_view result (parameters_of pss_parts_at (any_of any.entry)) }
+{
+    let content = content_of(16, any)?;
+    let (_, value) = parts(alloc, content)?;
+    Ok(value)
+}
+
+fn value_of<'a>(
+    alloc: Global,
+    element: Element<'a>,
+) -> Result<RsaSsaPssParams<'a>, Refusal<X509Error>>
+    ensures { Gives pss_view result (pss_in (piece_of element.entry)) }
+{
+    if !element.any.header.is_constructed() {
+        return Err(Refusal::Error(X509Error::Der(Error::ConstructExpected)));
+    }
+    pss_of(alloc, element.any)
+}
+
+impl<'b> DerMeaning for RsaSsaPssParams<'b> {
+    ghost der_reads = { λ i v r. grammar.RsaSsaPssParams i (pss_view v) r };
+
+    ghost der_cut = { EndsWithinElement };
+
+    ghost der_grows = { Unit {0} };
+
+    ghost one_rest = { λ i v w r s left right. one_rest (grammar.IsParameters grammar.PssParts) i (pss_view v) (pss_view w) r s left right };
+}
+
+impl<'a> FromDer<'a, X509Error> for RsaSsaPssParams<'a> {
+    /// The parameters that begin the octets, behind those after them: a constructed element of tag number 16, whatever its class.
+    fn from_der(alloc: Global, bytes: &'a [u8]) -> X509Result<'a, RsaSsaPssParams<'a>>
+        ensures reads { Reads (λ given e. e ≡ told given) (Unit {0}) EndsWithinElement (λ i. i.now)
+            (λ i v r. grammar.RsaSsaPssParams i (pss_view v) r) bytes.now result }
+        ensures exact { Gives (λ r. (pss_view r.1, r.0.now)) result (pss_at bytes.now) }
+        ensures found { IfOk result (λ r. grammar.RsaSsaPssParams bytes.now (pss_view r.1) r.0.now) }
+        ensures only { (v : values.RsaSsaPssParams) (rest : List ℕ) → grammar.RsaSsaPssParams bytes.now v rest
+            → ElseMemory result (λ r. (pss_view r.1 ≡ v) × (r.0.now ≡ rest)) }
+    {
+        value_at_front(alloc, bytes)
+    }
+}
+
+fn value_at_front<'a>(alloc: Global, i: &'a [u8]) -> X509Result<'a, RsaSsaPssParams<'a>>
+    ensures exact { Gives (λ r. (pss_view r.1, r.0.now)) result (pss_at i.now) }
+    ensures missing { TellsMissing i.now result }
+    ensures shorter { IfOk result (λ r. length r.0.now < length i.now) }
+{
+    let mut count = HeaderCount::new();
+    let (rest, element) = front_element(i, &mut count)?;
+    match value_of(alloc, element) {
+        Ok(value) => Ok((rest, value)),
+        Err(refusal) => Err(Refusal::within(refusal)),
+    }
+}

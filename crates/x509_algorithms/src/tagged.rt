@@ -1,0 +1,125 @@
+//! Parts of parameters that are told by their tag numbers, and may be absent.
+
+ghost use Rattle.std.specs.Prelude.{◌≡◌, option_map};
+ghost use Rattle.asn1_any.specs.Views.{any_of};
+ghost use Rattle.asn1_core.specs.Views.{head_of};
+ghost use Rattle.x509_core.specs.Answers.{Gives};
+ghost use Rattle.x509_names.specs.Reading.{algorithm_at};
+ghost use Rattle.x509_names.specs.View.{algorithm_view};
+ghost use Rattle.x509_algorithms.specs.Reading.{tagged_content, tagged_at, inner_at, explicit_in, explicit_behind, explicit_content, explicit_by, number_at};
+
+use asn1_any::Any;
+use asn1_core::{Err as Refusal, Error, Header, HeaderCount};
+use asn1_traits::FromDer;
+use std::alloc::Global;
+use x509_core::{X509Error, X509Result, front_element, front_header};
+use x509_flags::InhibitAnyPolicy;
+use x509_items::is_of_class;
+use x509_names::AlgorithmIdentifier;
+
+/// The content of an element of the context class and this tag number at the front, behind the octets after it; none where no octet is
+/// left, or an element of another tag number is next.
+#[tactic(auto, unfolding(crate::specs::Reading::tagged_content))]
+fn content_at_front<'a>(tag: u32, i: &'a [u8]) -> X509Result<'a, Option<&'a [u8]>>
+    ensures { Gives (λ r. (option_map (λ c. c.now) r.1, r.0.now)) result (tagged_content tag i.now) }
+{
+    if i.is_empty() {
+        return Ok((i, None));
+    }
+    let mut count = HeaderCount::new();
+    let (rest, element) = front_element(i, &mut count)?;
+    if element.any.tag().0 != tag {
+        return Ok((i, None));
+    }
+    if !is_of_class(element.any.class(), 2) {
+        return Err(Refusal::Error(X509Error::Der(Error::InvalidTag)));
+    }
+    Ok((rest, Some(element.any.content)))
+}
+
+fn inner_algorithm<'a>(
+    alloc: Global,
+    content: Option<&'a [u8]>,
+) -> Result<Option<AlgorithmIdentifier<'a>>, Refusal<X509Error>>
+    ensures { Gives (option_map algorithm_view) result (inner_at algorithm_at (option_map (λ c. c.now) content.entry)) }
+{
+    let Some(content) = content else {
+        return Ok(None);
+    };
+    match AlgorithmIdentifier::from_der(alloc, content) {
+        Ok((_, algorithm)) => Ok(Some(algorithm)),
+        Err(refusal) => Err(Refusal::within(refusal)),
+    }
+}
+
+/// An algorithm under this tag number, behind the octets after it, or none.
+pub(crate) fn next_algorithm<'a>(
+    alloc: Global,
+    tag: u32,
+    i: &'a [u8],
+) -> X509Result<'a, Option<AlgorithmIdentifier<'a>>>
+    ensures { Gives (λ r. (option_map algorithm_view r.1, r.0.now)) result (tagged_at tag algorithm_at i.now) }
+{
+    let (rest, content) = content_at_front(tag, i)?;
+    let algorithm = inner_algorithm(alloc, content)?;
+    Ok((rest, algorithm))
+}
+
+/// The content of a constructed element of the context class and this tag number.
+fn explicit_of<'a>(tag: u32, any: Any<'a>) -> Result<&'a [u8], Refusal<X509Error>>
+    ensures { Gives (λ c. c.now) result (explicit_in tag (any_of any.entry)) }
+{
+    if is_of_class(any.class(), 2) && any.header.is_constructed() && any.tag().0 == tag {
+        return Ok(any.content);
+    }
+    Err(Refusal::Error(X509Error::Der(Error::InvalidTag)))
+}
+
+/// The same of the element whose header was looked at; none where that is of another tag number.
+fn content_behind<'a>(tag: u32, i: &'a [u8], header: Header) -> X509Result<'a, Option<&'a [u8]>>
+    ensures { Gives (λ r. (option_map (λ c. c.now) r.1, r.0.now)) result (explicit_behind tag i.now (head_of header)) }
+{
+    if header.tag().0 != tag {
+        return Ok((i, None));
+    }
+    let mut count = HeaderCount::new();
+    let (rest, element) = front_element(i, &mut count)?;
+    let content = explicit_of(tag, element.any)?;
+    Ok((rest, Some(content)))
+}
+
+#[tactic(auto, unfolding(crate::specs::Reading::explicit_content))]
+fn explicit_at_front<'a>(tag: u32, i: &'a [u8]) -> X509Result<'a, Option<&'a [u8]>>
+    ensures { Gives (λ r. (option_map (λ c. c.now) r.1, r.0.now)) result (explicit_content tag i.now) }
+{
+    if i.is_empty() {
+        return Ok((i, None));
+    }
+    let mut count = HeaderCount::new();
+    let (_, header) = front_header(i, &mut count)?;
+    content_behind(tag, i, header)
+}
+
+fn inner_number<'a>(
+    alloc: Global,
+    content: Option<&'a [u8]>,
+) -> Result<Option<u32>, Refusal<X509Error>>
+    ensures { Gives (λ n. n) result (inner_at number_at (option_map (λ c. c.now) content.entry)) }
+{
+    let Some(content) = content else {
+        return Ok(None);
+    };
+    match InhibitAnyPolicy::from_der(alloc, content) {
+        Ok((_, number)) => Ok(Some(number.skip_certs)),
+        Err(refusal) => Err(Refusal::within(refusal)),
+    }
+}
+
+/// A number of 32 bits under this explicit tag, behind the octets after it, or none.
+pub(crate) fn next_number<'a>(alloc: Global, tag: u32, i: &'a [u8]) -> X509Result<'a, Option<u32>>
+    ensures { Gives (λ r. (r.1, r.0.now)) result (explicit_by tag number_at i.now) }
+{
+    let (rest, content) = explicit_at_front(tag, i)?;
+    let number = inner_number(alloc, content)?;
+    Ok((rest, number))
+}
