@@ -1,0 +1,16 @@
+//! Validators of certificates and their parts: what they say of a value, and to whom (RFC 5280, 4.1).
+#![tactic(auto)]
+
+mod key;
+mod logger;
+mod message;
+mod name;
+mod telling;
+mod validator;
+mod vec_logger;
+
+pub use crate::key::X509PublicKeyValidator;
+pub use crate::logger::{LogError, Logger};
+pub use crate::name::X509NameStructureValidator;
+pub use crate::validator::{ChainValidator, Validator};
+pub use crate::vec_logger::VecLogger;
