@@ -1,3 +1,4 @@
 pub mod Told
 pub mod NameLaws
 pub mod KeyFacts
+pub mod Lines

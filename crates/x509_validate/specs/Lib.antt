@@ -4,4 +4,5 @@ pub mod Kept
 pub mod Names
 pub mod Saying
 pub mod Keys
+pub mod Parts
 pub mod View

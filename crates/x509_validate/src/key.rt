@@ -1,13 +1,12 @@
 //! What is said of keys (RFC 5280, 4.1.2.7).
 
-ghost use Rattle.std.specs.Prelude.{◌≡◌, ◌++◌, [], ◌∷◌, ℕ, List, OnOk, map, codes, string_bytes};
+ghost use Rattle.std.specs.Prelude.{◌≡◌, ◌++◌, OnOk, map};
 ghost use Rattle.x509_names.specs.View.{key_view, public_key_view, rsa_view};
-ghost use Rattle.x509_validate.specs.Messages as messages;
 ghost use Rattle.x509_validate.specs.Keys.{sign_messages, rsa_messages, value_messages, key_messages, AreKeyMessages};
-ghost use Rattle.x509_validate.specs.View.{message_view, weight_view};
+ghost use Rattle.x509_validate.specs.View.{message_view};
 
 use crate::logger::{LogError, Logger};
-use crate::message::{Message, Weight};
+use crate::message::{Message, Weight, push_text};
 use crate::telling::tell_all;
 use crate::validator::Validator;
 use std::alloc::{AllocError, Global};
@@ -22,20 +21,6 @@ impl Default for X509PublicKeyValidator {
     fn default() -> X509PublicKeyValidator {
         X509PublicKeyValidator
     }
-}
-
-/// Adds a message of this text.
-pub(crate) fn push_text(
-    alloc: Global,
-    weight: Weight,
-    text: &str,
-    said: &mut Vec<Message>,
-) -> Result<(), AllocError>
-    ensures { OnOk result (map message_view said.new.items ≡ map message_view said.old.items ++ (messages.message (weight_view weight) text.now ∷ [])) }
-{
-    let text = String::from_str(alloc, text)?;
-    said.push(Message { weight, text })?;
-    Ok(())
 }
 
 /// Adds a warning of this text where the number is negative.

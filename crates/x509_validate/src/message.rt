@@ -1,10 +1,10 @@
 //! What validators say.
 
-ghost use Rattle.std.specs.Prelude.{◌≡◌, IfOk, map};
+ghost use Rattle.std.specs.Prelude.{◌≡◌, [], ◌∷◌, ◌++◌, OnOk, map};
 ghost use Rattle.std.specs.List.{list_all};
 ghost use Rattle.x509_validate.specs.Messages as messages;
 ghost use Rattle.x509_validate.specs.Messages.{all_pass};
-ghost use Rattle.x509_validate.specs.View.{message_view};
+ghost use Rattle.x509_validate.specs.View.{message_view, weight_view};
 
 use std::alloc::{AllocError, Global};
 
@@ -50,4 +50,18 @@ pub(crate) fn all_pass(all: &[Message]) -> bool
     ensures { result ≡ messages.all_pass (map message_view all.now) }
 {
     each_passes(all)
+}
+
+/// Adds a message of this text.
+pub(crate) fn push_text(
+    alloc: Global,
+    weight: Weight,
+    text: &str,
+    said: &mut Vec<Message>,
+) -> Result<(), AllocError>
+    ensures { OnOk result (map message_view said.new.items ≡ map message_view said.old.items ++ (messages.message (weight_view weight) text.now ∷ [])) }
+{
+    let text = String::from_str(alloc, text)?;
+    said.push(Message { weight, text })?;
+    Ok(())
 }
