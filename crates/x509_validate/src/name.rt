@@ -22,7 +22,7 @@ use x509_names::{AttributeTypeAndValue, X509Name};
 pub struct X509NameStructureValidator;
 
 /// Whether an octet is no ASCII.
-fn has_high(octets: &[u8]) -> bool
+pub(crate) fn has_high(octets: &[u8]) -> bool
     ensures { result ≡ list_any is_high octets.now }
 {
     octets.iter().any(|octet| *octet > 127)

@@ -39,6 +39,18 @@ impl VecLogger {
     {
         &self.errors
     }
+
+    /// The warnings and the errors.
+    pub fn into_parts(self) -> (Vec<String>, Vec<String>)
+        ensures { result ≡ (self.warnings, self.errors) }
+    {
+        let VecLogger {
+            warnings,
+            errors,
+            alloc: _,
+        } = self;
+        (warnings, errors)
+    }
 }
 
 fn keep(alloc: Global, message: &str, texts: &mut Vec<String>) -> Result<(), AllocError>
@@ -51,12 +63,11 @@ fn keep(alloc: Global, message: &str, texts: &mut Vec<String>) -> Result<(), All
 }
 
 impl Logger for VecLogger {
-    ghost use Rattle.x509_validate.specs.Kept.{Keeps};
-    ghost use Rattle.std.specs.Prelude.{◌≡◌, map, string_bytes};
+    ghost use Rattle.x509_validate.specs.Kept.{KeepsWarning, KeepsError};
 
-    ghost warns = { λ old text answer new. Keeps (map string_bytes old.warnings.items) (map string_bytes new.warnings.items) text answer × (old.errors.items ≡ new.errors.items) };
+    ghost warns = { KeepsWarning };
 
-    ghost errs = { λ old text answer new. Keeps (map string_bytes old.errors.items) (map string_bytes new.errors.items) text answer × (old.warnings.items ≡ new.warnings.items) };
+    ghost errs = { KeepsError };
 
     fn warn(&mut self, message: &str) -> Result<(), LogError> {
         match keep(self.alloc, message, &mut self.warnings) {

@@ -1,0 +1,166 @@
+//! Validators of lists of extensions.
+
+ghost use Rattle.std.specs.Prelude.{◌≡◌, ◌++◌, IfOk, OnOk, map};
+ghost use Rattle.x509_validate.specs.Repeats.{half_messages, authority_messages, policy_messages, usage_messages, kind_messages, each_kind, list_messages};
+ghost use Rattle.x509_validate.specs.View.{message_view};
+
+use crate::extensions::push_alternative;
+use crate::logger::{LogError, Logger};
+use crate::message::{Message, Weight, push_text};
+use crate::repeats::push_repeats;
+use crate::telling::tell_all;
+use crate::validator::Validator;
+use asn1_oid::Oid;
+use std::alloc::{AllocError, Global};
+use x509_certs::X509Certificate;
+use x509_ext::{ParsedExtension, X509Extension};
+use x509_flags::KeyUsage;
+use x509_general::AuthorityKeyIdentifier;
+use x509_policies::PolicyInformation;
+
+/// Looks at extensions: whether an identifier stands twice, and at what their values are parsed as.
+#[derive(Clone, Copy, Debug)]
+pub struct X509ExtensionsValidator;
+
+/// Looks at the extensions of a certificate likewise.
+#[derive(Clone, Copy, Debug)]
+pub struct X509CertificateValidator;
+
+fn identifiers<'n, 'a>(
+    alloc: Global,
+    extensions: &'n [X509Extension<'a>],
+) -> Result<Vec<&'n Oid<'a>>, AllocError>
+    ensures { IfOk result (λ v. map (λ o. o.now) v.items ≡ map (λ e. e.oid) extensions.now) }
+{
+    extensions.iter().map(|extension| &extension.oid).collect(alloc)
+}
+
+fn policy_identifiers<'n, 'a>(
+    alloc: Global,
+    policies: &'n [PolicyInformation<'a>],
+) -> Result<Vec<&'n Oid<'a>>, AllocError>
+    ensures { IfOk result (λ v. map (λ o. o.now) v.items ≡ map (λ p. p.policy_id) policies.now) }
+{
+    policies.iter().map(|policy| &policy.policy_id).collect(alloc)
+}
+
+fn push_policies(
+    alloc: Global,
+    policies: &[PolicyInformation<'_>],
+    said: &mut Vec<Message>,
+) -> Result<(), AllocError>
+    ensures { OnOk result (map message_view said.new.items ≡ map message_view said.old.items ++ policy_messages policies.now) }
+{
+    let oids = policy_identifiers(alloc, policies)?;
+    push_repeats(alloc, "Certificate Policies: duplicate policy ", &oids, said)
+}
+
+fn push_half(
+    alloc: Global,
+    value: &AuthorityKeyIdentifier<'_>,
+    said: &mut Vec<Message>,
+) -> Result<(), AllocError>
+    ensures { OnOk result (map message_view said.new.items ≡ map message_view said.old.items ++ half_messages value.now.authority_cert_issuer value.now.authority_cert_serial) }
+{
+    match (&value.authority_cert_issuer, &value.authority_cert_serial) {
+        (Some(_), None) | (None, Some(_)) => push_text(alloc, Weight::Warning, "AKI: only one of Issuer and Serial is present", said),
+        _ => Ok(()),
+    }
+}
+
+fn push_authority(
+    alloc: Global,
+    critical: bool,
+    value: &AuthorityKeyIdentifier<'_>,
+    said: &mut Vec<Message>,
+) -> Result<(), AllocError>
+    ensures { OnOk result (map message_view said.new.items ≡ map message_view said.old.items ++ authority_messages critical value.now) }
+{
+    if critical {
+        push_text(alloc, Weight::Fault, "Extension AKI MUST NOT be critical, but is", said)?;
+    }
+    push_half(alloc, value, said)
+}
+
+fn push_usage(alloc: Global, usage: &KeyUsage, said: &mut Vec<Message>) -> Result<(), AllocError>
+    ensures { OnOk result (map message_view said.new.items ≡ map message_view said.old.items ++ usage_messages usage.now.flags) }
+{
+    if usage.flags == 0 {
+        push_text(alloc, Weight::Fault, "KeyUsage: all flags are set to 0", said)
+    } else {
+        Ok(())
+    }
+}
+
+fn push_kind(
+    alloc: Global,
+    critical: bool,
+    parsed: &ParsedExtension<'_>,
+    said: &mut Vec<Message>,
+) -> Result<(), AllocError>
+    ensures { OnOk result (map message_view said.new.items ≡ map message_view said.old.items ++ kind_messages critical parsed.now) }
+{
+    match parsed {
+        ParsedExtension::AuthorityKeyIdentifier(value) => push_authority(alloc, critical, value, said),
+        ParsedExtension::CertificatePolicies(policies) => push_policies(alloc, policies, said),
+        ParsedExtension::KeyUsage(usage) => push_usage(alloc, usage, said),
+        _ => push_alternative(alloc, parsed, said),
+    }
+}
+
+fn push_kinds(
+    alloc: Global,
+    extensions: &[X509Extension<'_>],
+    said: &mut Vec<Message>,
+) -> Result<(), AllocError>
+    ensures { OnOk result (map message_view said.new.items ≡ map message_view said.old.items ++ each_kind extensions.now) }
+{
+    let mut rest = extensions;
+    while let Some((extension, behind)) = rest.split_first() {
+        push_kind(alloc, extension.critical, extension.parsed_extension(), said)?;
+        rest = behind;
+    }
+    Ok(())
+}
+
+fn push_list(
+    alloc: Global,
+    extensions: &[X509Extension<'_>],
+    said: &mut Vec<Message>,
+) -> Result<(), AllocError>
+    ensures { OnOk result (map message_view said.new.items ≡ map message_view said.old.items ++ list_messages extensions.now) }
+{
+    let oids = identifiers(alloc, extensions)?;
+    push_repeats(alloc, "Duplicate extension ", &oids, said)?;
+    push_kinds(alloc, extensions, said)
+}
+
+impl<'a> Validator<'a> for X509ExtensionsValidator {
+    ghost use Rattle.x509_validate.specs.Repeats.{list_messages};
+
+    type Item = &'a [X509Extension<'a>];
+
+    ghost messages = { λ v extensions. list_messages extensions.now };
+
+    #[tactic(auto, using(crate::proofs::Told::untold))]
+    fn validate<L: Logger>(&self, alloc: Global, extensions: &&'a [X509Extension<'a>], l: &mut L) -> Result<bool, LogError> {
+        let mut said = Vec::new(alloc);
+        push_list(alloc, extensions, &mut said)?;
+        tell_all(&said, l)
+    }
+}
+
+impl<'a> Validator<'a> for X509CertificateValidator {
+    ghost use Rattle.x509_validate.specs.Repeats.{list_messages};
+
+    type Item = X509Certificate<'a>;
+
+    ghost messages = { λ v certificate. list_messages certificate.tbs_certificate.extensions.items };
+
+    #[tactic(auto, using(crate::proofs::Told::untold))]
+    fn validate<L: Logger>(&self, alloc: Global, certificate: &X509Certificate<'a>, l: &mut L) -> Result<bool, LogError> {
+        let mut said = Vec::new(alloc);
+        push_list(alloc, certificate.tbs_certificate.extensions(), &mut said)?;
+        tell_all(&said, l)
+    }
+}
