@@ -14,4 +14,4 @@ pub use crate::mask::MaskGenAlgorithm;
 pub use crate::oaep::RsaAesOaepParams;
 pub use crate::pss::RsaSsaPssParams;
 pub use crate::signature::SignatureAlgorithm;
-pub use crate::worked::{worked_algorithms, worked_parameters};
+pub use crate::worked::{one_signature, worked_algorithms, worked_parameters};

@@ -3,7 +3,7 @@
 ghost use Rattle.std.specs.Prelude.{◌≡◌, IfOk, IfErr, IfSome, IsSomeAnd};
 ghost use Rattle.asn1_any.specs.Views.{any_of};
 ghost use Rattle.x509_names.specs.View.{algorithm_view};
-ghost use Rattle.x509_algorithms.specs.Answers.{OkElseMemory, IsOrMemory};
+ghost use Rattle.x509_algorithms.specs.Answers.{OkElseMemory, IsOrMemory, IsUnsigned};
 ghost use Rattle.x509_algorithms.specs.Parameters.{PssOf};
 ghost use Rattle.x509_algorithms.specs.Signatures.{IsPss, IsPlain, IsSignature};
 ghost use Rattle.x509_algorithms.specs.Values as values;
@@ -61,7 +61,7 @@ impl<'a> SignatureAlgorithm<'a> {
         ensures found { IfOk result (λ s. IsSignature (algorithm_view algorithm.now) (signature_view s)) }
         ensures only { (v : values.SignatureAlgorithm) → IsSignature (algorithm_view algorithm.now) v
             → OkElseMemory result (λ s. signature_view s ≡ v) }
-        ensures refused { IfErr result (IsOrMemory X509Error.InvalidSignatureValue) }
+        ensures refused { IfErr result (IsUnsigned (algorithm_view algorithm.now)) }
     {
         match plain_kind(&algorithm.algorithm) {
             Some(kind) => Ok(kind),
@@ -103,7 +103,7 @@ fn pss_kind<'a>(
 ) -> Result<RsaSsaPssParams<'a>, X509Error>
     ensures found { IfOk result (λ p. IsPss (algorithm_view algorithm.now) (pss_view p)) }
     ensures only { (v : values.RsaSsaPssParams) → IsPss (algorithm_view algorithm.now) v → OkElseMemory result (λ p. pss_view p ≡ v) }
-    ensures refused { IfErr result (IsOrMemory X509Error.InvalidSignatureValue) }
+    ensures refused { IfErr result (IsUnsigned (algorithm_view algorithm.now)) }
 {
     if algorithm.algorithm.as_bytes() != RSASSA_PSS {
         return Err(X509Error::InvalidSignatureValue);

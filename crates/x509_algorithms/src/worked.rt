@@ -1,6 +1,9 @@
 //! What some octets and algorithms are.
 
 ghost use Rattle.std.specs.Prelude.{◌≡◌, ◌++◌, ℕ, List, Some};
+ghost use Rattle.std.specs.Int.Digits.{AllBelowBase};
+ghost use Rattle.asn1_core.specs.Elements.{Element};
+ghost use Rattle.x509_names.specs.Fields.{Algorithm};
 ghost use Rattle.x509_algorithms.specs.Examples as examples;
 ghost use Rattle.x509_algorithms.specs.Parameters.{RsaSsaPssParams, RsaAesOaepParams};
 ghost use Rattle.x509_algorithms.specs.Signatures.{EcdsaSigValue, IsSignature};
@@ -23,4 +26,10 @@ pub fn worked_algorithms()
     ensures pss { IsSignature (record { identifier = examples.rsassa_pss; parameters = Some examples.nothing_element }) (values.rsassa_pss examples.no_pss) }
     ensures bare_pss { (v : values.SignatureAlgorithm) → IsSignature (examples.bare examples.rsassa_pss) v → ⊥ }
     ensures ed448 { (v : values.SignatureAlgorithm) → IsSignature (examples.bare examples.ed448) v → ⊥ }
+{}
+
+/// An algorithm is one thing at most.
+pub fn one_signature()
+    ensures { (a : Algorithm) (v w : values.SignatureAlgorithm) → ((e : Element) → a.parameters ≡ Some e → AllBelowBase 256 e.content)
+        → IsSignature a v → IsSignature a w → v ≡ w }
 {}

@@ -14,6 +14,8 @@ pub mod objects;
 pub mod prelude;
 pub mod public_key;
 pub mod revocation_list;
+pub mod signature_algorithm;
+pub mod signature_value;
 pub mod time;
 pub mod utils;
 pub mod x509;
