@@ -1,7 +1,8 @@
 -- Values by identifier.
-use Rattle.std.specs.Prelude.{◌≡◌, ℕ, List, [], ◌∷◌, ◌++◌, map, Option, Some, None, option_map, if◌then◌else◌, bytes_eq, Result, Vec}
+use Rattle.std.specs.Prelude.{◌≡◌, ℕ, List, [], ◌∷◌, map, Option, Some, None, option_map, bytes_eq, Vec}
 use Rattle.std.specs.BTreeMap.{BTreeMap, get}
 use Rattle.std.specs.Cmp.Lexicographic.{slice_cmp}
+use Rattle.std.specs.Global.{Global}
 use Rattle.std.specs.List.{filter}
 use Rattle.std.specs.Ordering.{nat_cmp}
 
@@ -18,10 +19,10 @@ values_or_none (Some xs) = xs
 abbrev pub values_of : {A B : Type 0} → (A → List ℕ) → (A → B) → List A → List ℕ → List B
 values_of key value xs id = map value (filter (λ x. bytes_eq (key x) id) xs)
 
--- what a map by content octets of identifiers holds at one
-abbrev pub held_at : {V B : Type 0} → (V → B) → BTreeMap (List ℕ) (Vec V) → List ℕ → Option (List B)
-held_at see m id = option_map (λ v. map see v.items) (get (slice_cmp nat_cmp) m id)
+-- what a map by identifiers, which stand as their content octets, holds at one
+abbrev pub held_at : {V : Type 0} → BTreeMap (List ℕ) (Vec V Global) → List ℕ → Option (List V)
+held_at m id = option_map (λ v. v.items) (get (slice_cmp nat_cmp) m id)
 
 -- the map holds at each identifier its values, in order, and nothing at others
-abbrev pub Groups : {V A B : Type 0} → (V → B) → (A → List ℕ) → (A → B) → List A → BTreeMap (List ℕ) (Vec V) → Type 0
-Groups see key value xs m = (id : List ℕ) → held_at see m id ≡ some_values (values_of key value xs id)
+abbrev pub Groups : {V A B : Type 0} → (V → B) → (A → List ℕ) → (A → B) → List A → BTreeMap (List ℕ) (Vec V Global) → Type 0
+Groups see key value xs m = (id : List ℕ) → option_map (map see) (held_at m id) ≡ some_values (values_of key value xs id)
