@@ -1,12 +1,8 @@
 -- Readers of extensions take what the relations say, and no more.
 use Rattle.std.proofs.Common.{◌≡◌, ◌∙◌, refl, sym, ap, subst, ℕ, ◌==◌, ◌||◌, not, List, [], ◌∷◌, Bool, true, false, arith, Option, Some, None, Ok, Err, if◌then◌else◌, inl, inr}
 use Rattle.std.specs.Int.Digits.{AllBelowBase}
-use Rattle.std.specs.Result.{result_ok}
 use Rattle.std.proofs.lemmas.Bool.Decides.{nat_tests}
 use Rattle.asn1_core.proofs.Cases.{chosen}
-use Rattle.asn1_core.proofs.Headers.{header_found, header_again}
-use Rattle.asn1_core.proofs.Numbers.{append_below}
-use Rattle.asn1_core.specs.Answers.{Answer as Reads}
 use Rattle.asn1_core.specs.Reading.{header_at, identity_at}
 use Rattle.asn1_core.specs.Strict.{Head}
 use Rattle.asn1_any.specs.Cutting.{Piece}
@@ -16,33 +12,18 @@ use Rattle.x509_core.specs.Grammar.{NoneBegins, Header, One, Holds, Maybe, AsMan
 use Rattle.x509_core.specs.Reading.{piece_at, front_header_at, content_in, oid_in, next, many_of}
 use Rattle.x509_core.specs.declared.error.X509Error.TheVariants as errors
 use Rattle.x509_core.proofs.FrontLaws.{named_reading}
-use Rattle.x509_core.proofs.Grammars.{IsMeaning, IsReading, next_reading, two, was_named, content_below, many_found, many_only}
+use Rattle.x509_core.proofs.Grammars.{IsMeaning, IsReading, next_reading, two, was_named, content_below, front_below, many_found, many_only}
 use Rattle.x509_core.proofs.LeafLaws.{equal_tags, tags_equal, content_found, content_only, oid_meaning, option_meaning}
+pub use Rattle.x509_items.proofs.HeaderLaws.{front_header_found, front_header_only}
 use Rattle.x509_names.specs.Leaves.{IsOid, IsOctets}
 use Rattle.x509_names.specs.Reading.{octets_in, oid_at}
 use Rattle.x509_names.proofs.LeafLaws.{octets_meaning}
-use Rattle.x509_ext.specs.Fields.{Extension, ValueMeaning, ValueReading, IsUnparsed, unread}
+use Rattle.x509_deep.specs.Parsed.{IsParsed}
+use Rattle.x509_deep.specs.Reading.{deeply}
+use Rattle.x509_deep.proofs.Laws.{deep_found, deep_only}
+use Rattle.x509_ext.specs.Fields.{Extension, ValueMeaning, ValueReading, IsUnparsed, unread, meaning_of, reading_of}
 use Rattle.x509_ext.specs.Extensions.{IsBoolean, or_false, ExtensionParts, X509Extension, ExtensionList, Wrapped, Extensions, absent, there}
 use Rattle.x509_ext.specs.Reading.{boolean_of, boolean_in, critical_by, critical_from, critical_at, extension_in, extension_at, named_extension_at, to_end, extension_list_in, extension_list_at, wrapped_at, extensions_at}
-
--- ---- headers
-
-headed_by : (i : List ℕ) (o : Reads Head) (h : Head) (r : List ℕ) → header_at i ≡ o → plain (result_ok o) ≡ Ok (h, r) → header_at i ≡ Ok (h, r)
-headed_by i (Ok x) h r read given = let same : x ≡ (h, r) = cc in read ∙ ap (λ z. Ok z) same
-headed_by i (Err e) h r read given = cc
-
--- a header that was read, and what is left
-pub front_header_found : (i : List ℕ) (h : Head) (r : List ℕ) → AllBelowBase 256 i → front_header_at i ≡ Ok (h, r) → Header i h r × AllBelowBase 256 r
-unfolding front_header_at
-front_header_found i h r below given =
-    let begins = header_found i h r below (headed_by i (header_at i) h r refl given) in
-    (record { front = begins.front; in_range = begins.head; spells = begins.spells; whole = begins.whole }, append_below 256 begins.front r (subst (AllBelowBase 256) begins.whole below))
-
-pub front_header_only : (i : List ℕ) (h : Head) (r : List ℕ) → Header i h r → front_header_at i ≡ Ok (h, r)
-unfolding front_header_at
-front_header_only i h r is =
-    let read : header_at i ≡ Ok (h, r) = ap header_at is.whole ∙ header_again is.front h r is.in_range is.spells in
-    ap (λ z. plain (result_ok z)) read
 
 -- ---- critical
 
@@ -107,13 +88,23 @@ critical_only i (Some v) r below is = critical_is i ∙ ap (told i) ((next_readi
 
 -- ---- an extension
 
--- the reading of a value gives what it means
+-- the reading of a value, which is octets, gives what it means
 pub record IsValueLaw (Means : ValueMeaning) (parse : ValueReading) : Type 0 where
-  pub found : (id value : List ℕ) → Means id value (parse id value)
-  pub only : (id value : List ℕ) (p : _) → Means id value p → parse id value ≡ p
+  pub found : (id value : List ℕ) → AllBelowBase 256 value → Means id value (parse id value)
+  pub only : (id value : List ℕ) (p : _) → AllBelowBase 256 value → Means id value p → parse id value ≡ p
 
 pub unread_law : IsValueLaw IsUnparsed unread
-unread_law = record { found = λ id value. refl; only = λ id value p is. sym is }
+unread_law = record { found = λ id value below. refl; only = λ id value p below is. sym is }
+
+pub deep_law : IsValueLaw IsParsed deeply
+deep_law = record { found = deep_found; only = deep_only }
+
+pub reads_law : (deep : Bool) → IsValueLaw (meaning_of deep) (reading_of deep)
+reads_law false = unread_law
+reads_law true = deep_law
+
+value_below : (i v r : List ℕ) → AllBelowBase 256 i → One IsOctets i v r → AllBelowBase 256 v
+value_below i v r below is = subst (AllBelowBase 256) (sym is.means.meant) (content_below is.piece is.spells (front_below i is.piece.octets r is.whole below))
 
 pub extension_meaning : (Means : ValueMeaning) (parse : ValueReading) → IsValueLaw Means parse → IsMeaning (Holds 16 (ExtensionParts Means)) (λ q. extension_in parse q.element)
 unfolding extension_in
@@ -137,7 +128,7 @@ extension_meaning Means parse law = record {
         critical = critical.read;
         is_critical = critical.value;
         extn_value = value.0;
-        parsed = law.found oid.0.0 last.0.0;
+        parsed = law.found oid.0.0 last.0.0 (value_below (critical_at oid.0.1).1 last.0.0 last.0.1 critical.below value.0);
       } in
       (last.0.1, record { tag = tag.0; inner = subst (λ z. ExtensionParts Means z v last.0.1) (sym tag.1) (subst (λ z. ExtensionParts Means content.0 z last.0.1) same parts) });
   only = λ q v spells below is.
@@ -150,7 +141,8 @@ extension_meaning Means parse law = record {
       let left = critical_found parts.after_id below_id in
       let below_critical : AllBelowBase 256 parts.after_critical = subst (AllBelowBase 256) (ap (λ (z : Bool × List ℕ). z.1) critical) left.below in
       let value = (next_reading IsOctets (λ p. octets_in p.element) octets_meaning).only parts.after_critical v.value is.0 below_critical parts.extn_value in
-      rw (content_only 16 q.element is.1.tag, id, critical, value, law.only v.identifier v.value v.parsed parts.parsed, sym parts.is_critical) refl;
+      let bytes = value_below parts.after_critical v.value is.0 below_critical parts.extn_value in
+      rw (content_only 16 q.element is.1.tag, id, critical, value, law.only v.identifier v.value v.parsed bytes parts.parsed, sym parts.is_critical) refl;
 }
 
 pub named_extension_reading : (Means : ValueMeaning) (parse : ValueReading) → IsValueLaw Means parse → IsReading (X509Extension Means) (named_extension_at parse)

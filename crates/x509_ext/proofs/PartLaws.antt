@@ -1,15 +1,10 @@
 -- Readers of versions, serial numbers and unique identifiers take what the relations say, and no more.
-use Rattle.std.proofs.Common.{◌≡◌, ◌≢◌, ◌∙◌, refl, sym, ap, subst, ℕ, ◌==◌, ◌||◌, not, List, [], ◌∷◌, ◌++◌, Bool, true, false, arith, Option, Some, None, Result, Ok, Err, if◌then◌else◌, inl, inr, append_assoc}
+use Rattle.std.proofs.Common.{◌≡◌, ◌≢◌, ◌∙◌, refl, sym, ap, subst, ℕ, ◌==◌, ◌||◌, not, List, [], ◌∷◌, ◌++◌, Bool, true, false, arith, Option, Some, None, Ok, Err, if◌then◌else◌, inl, inr, append_assoc}
 use Rattle.std.specs.Int.Digits.{AllBelowBase}
-use Rattle.std.specs.Result.{result_ok}
 use Rattle.asn1_core.proofs.Cases.{chosen}
 use Rattle.asn1_core.specs.Elements.{head_of_element}
 use Rattle.asn1_core.specs.Strict.{Head}
-use Rattle.asn1_core.specs.declared.error.Error.{Error}
 use Rattle.asn1_any.specs.Cutting.{Piece, IsPiece}
-use Rattle.asn1_traits.specs.IntegerReading.{is_shortest}
-use Rattle.asn1_values.specs.Readers.{unsigned_at}
-use Rattle.asn1_values.specs.ReaderLaws.{unsigned_found, unsigned_only}
 use Rattle.x509_core.specs.Answers.{Answer, unnamed, plain}
 use Rattle.x509_core.specs.Grammar.{One}
 use Rattle.x509_core.specs.Reading.{piece_at, front_header_at, content_in, next}
@@ -18,37 +13,21 @@ use Rattle.x509_core.proofs.FrontLaws.{named_reading}
 use Rattle.x509_core.proofs.Grammars.{IsMeaning, IsReading, next_reading, two, content_below, front_below, piece_found, piece_only}
 use Rattle.x509_core.proofs.LeafLaws.{equal_tags, tags_equal, tags_differ, differ_tags, content_found, content_only, option_meaning}
 use Rattle.x509_core.specs.declared.error.X509Error.TheVariants as errors
+use Rattle.x509_flags.specs.Reading.{number_in}
+use Rattle.x509_flags.proofs.Laws.{number_found, number_only}
+use Rattle.x509_items.proofs.HeaderLaws.{front_header_found, front_header_only}
 use Rattle.x509_names.specs.Fields.{Bits}
 use Rattle.x509_names.specs.Leaves.{AreBits}
 use Rattle.x509_names.specs.Reading.{bits_of}
-use Rattle.x509_names.proofs.LeafLaws.{shortest_is, is_shortest_of, bits_found, bits_only}
+use Rattle.x509_names.proofs.LeafLaws.{bits_found, bits_only}
 use Rattle.x509_ext.specs.Parts.{IsNumber, IsVersion, X509Version, IsTaggedVersion, IsOtherElement, IsSerial, IsIdentifier, IsOtherHeader, Version, version_at_end, version_absent, version_there, UniqueIdentifier, id_at_end, id_absent, id_there}
-use Rattle.x509_ext.specs.Reading.{number_of, version_in, version_at, tagged_version_in, version_behind, any_version_at, implicit_bits_in, id_behind, id_at}
-use Rattle.x509_ext.proofs.ExtensionLaws.{front_header_found, front_header_only}
+use Rattle.x509_ext.specs.Reading.{version_in, version_at, tagged_version_in, version_behind, any_version_at, implicit_bits_in, id_behind, id_at}
 
 -- ---- versions
 
-was_ok : {A : Type 0} (r : Result A Error) (x : A) → result_ok r ≡ Some x → r ≡ Ok x
-was_ok (Ok y) x given = let same : y ≡ x = cc in ap (λ z. Ok z) same
-was_ok (Err e) x given = cc
-
-number_found : (c : List ℕ) (n : ℕ) → number_of c ≡ Some n → IsNumber c n
-unfolding number_of
-number_found c n given =
-    elim (chosen (is_shortest c) _ _ _ given) [
-      | inl is ↦
-          let means = unsigned_found 32 c n (was_ok (unsigned_at 32 c) n is.1) in
-          record { shortest = shortest_is c is.0; value = means.0; small = means.1 }
-      | inr other ↦ let impossible = other.1 in cc
-    ]
-
-number_only : (c : List ℕ) (n : ℕ) → IsNumber c n → number_of c ≡ Some n
-unfolding number_of
-number_only c n is = rw (is_shortest_of c is.shortest, unsigned_only 32 c n is.value is.small) refl
-
 pub version_meaning : IsMeaning IsVersion (λ q. plain (version_in q.element))
 unfolding version_in
-version_meaning = option_meaning 2 IsNumber number_of number_found number_only
+version_meaning = option_meaning 2 IsNumber number_in number_found number_only
 
 pub version_reading : IsReading X509Version version_at
 version_reading = named_reading X509Version (next (λ q. plain (version_in q.element))) errors.InvalidVersion (next_reading IsVersion (λ q. plain (version_in q.element)) version_meaning)

@@ -1,6 +1,8 @@
 -- What the readers of this crate read, without where it lies in memory.
-use Rattle.std.specs.Prelude.{◌≡◌, ℕ, Bool, List}
+use Rattle.std.specs.Prelude.{◌≡◌, ℕ, Bool, true, false, List}
 use Rattle.x509_values.specs.Values.{Parsed, unparsed}
+use Rattle.x509_deep.specs.Parsed.{IsParsed}
+use Rattle.x509_deep.specs.Reading.{deeply}
 
 -- Extension (RFC 5280, 4.1 and 4.2): identifier and value are content octets
 pub record Extension : Type 0 where
@@ -23,3 +25,12 @@ IsUnparsed identifier value parsed = parsed ≡ unparsed
 
 abbrev pub unread : ValueReading
 unread identifier value = unparsed
+
+-- whether values are looked into
+abbrev pub meaning_of : Bool → ValueMeaning
+meaning_of false = IsUnparsed
+meaning_of true = IsParsed
+
+abbrev pub reading_of : Bool → ValueReading
+reading_of false = unread
+reading_of true = deeply

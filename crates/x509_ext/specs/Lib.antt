@@ -1,4 +1,3 @@
-pub mod Cases
 pub mod Extensions
 pub mod Fields
 pub mod Lookup

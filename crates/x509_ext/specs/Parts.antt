@@ -1,17 +1,11 @@
 -- Version, serial number and unique identifier, as they are read leniently (RFC 5280, 4.1).
-use Rattle.std.specs.Prelude.{◌≡◌, ◌≢◌, ◌<◌, ◌^◌, ℕ, pos, false, List, [], Option, Some, None}
+use Rattle.std.specs.Prelude.{◌≡◌, ◌≢◌, ℕ, false, List, [], Option, Some, None}
 use Rattle.asn1_any.specs.Cutting.{Piece}
 use Rattle.asn1_core.specs.Strict.{Head}
-use Rattle.asn1_traits.specs.Integers.{IsShortest, SpellsInteger}
 use Rattle.x509_core.specs.Grammar.{Grammar, Header, One}
+pub use Rattle.x509_flags.specs.Numbers.{IsNumber}
 use Rattle.x509_names.specs.Fields.{Bits}
 use Rattle.x509_names.specs.Leaves.{Leaf, AreBits}
-
--- a number of 32 bits without a sign, in the fewest octets (X.690, 8.3)
-pub record IsNumber (content : List ℕ) (n : ℕ) : Type 0 where
-  pub shortest : IsShortest content
-  pub value : SpellsInteger content (pos n)
-  pub small : n < 2 ^ 32
 
 -- Version ::= INTEGER { v1(0), v2(1), v3(2) } (RFC 5280, 4.1)
 abbrev pub IsVersion : Piece → ℕ → Type 0

@@ -1,15 +1,13 @@
 -- The readers of this crate as functions on octets, with the refusals that are promised, in their order. What they read stands
 -- in `Extensions` and `Parts`; laws tie each function to it.
-use Rattle.std.specs.Result.{result_ok}
 use Rattle.std.specs.Prelude.{ℕ, ◌==◌, ◌||◌, not, Bool, false, if◌then◌else◌, List, [], ◌∷◌, Option, Some, None, Ok, Err}
 use Rattle.asn1_core.specs.Elements.{Element}
 use Rattle.asn1_core.specs.Strict.{Head}
 use Rattle.asn1_any.specs.Cutting.{Piece}
-use Rattle.asn1_traits.specs.IntegerReading.{is_shortest}
-use Rattle.asn1_values.specs.Readers.{unsigned_at}
 use Rattle.x509_core.specs.Answers.{Answer, named, unnamed, plain, naming, ◌>>=◌}
 use Rattle.x509_core.specs.Reading.{Reader, piece_at, front_header_at, content_in, next, many_of}
 use Rattle.x509_core.specs.declared.error.X509Error.TheVariants as errors
+use Rattle.x509_flags.specs.Reading.{number_in}
 use Rattle.x509_names.specs.Fields.{Bits}
 use Rattle.x509_names.specs.Reading.{octets_in, oid_at, bits_of}
 use Rattle.x509_ext.specs.Fields.{Extension, ValueReading}
@@ -78,11 +76,8 @@ extensions_at parse n [] = Ok []
 extensions_at parse n (x ∷ s) = naming errors.InvalidExtensions (front_header_at (x ∷ s)) >>= wrapped_at parse n
 
 -- an INTEGER of 32 bits without a sign, in the fewest octets
-unfoldable pub number_of : List ℕ → Option ℕ
-number_of content = if is_shortest content then result_ok (unsigned_at 32 content) else None
-
 unfoldable pub version_in : Element → Option ℕ
-version_in e = if not (e.tag == 2) || e.constructed then None else number_of e.content
+version_in e = if not (e.tag == 2) || e.constructed then None else number_in e.content
 
 -- a version by itself
 abbrev pub version_at : Reader ℕ

@@ -6,17 +6,18 @@ ghost use Rattle.asn1_any.specs.Views.{any_of};
 ghost use Rattle.x509_core.specs.Answers.{Gives};
 ghost use Rattle.x509_core.specs.Reading.{next};
 ghost use Rattle.x509_names.specs.Reading.{octets_in};
-ghost use Rattle.x509_ext.specs.Cases.{error_of};
-ghost use Rattle.x509_ext.specs.Fields.{unread};
+ghost use Rattle.x509_deep.specs.Cases.{HoldsNoMemory, error_of};
+ghost use Rattle.x509_deep.specs.View.{parsed_view};
+ghost use Rattle.x509_ext.specs.Fields.{reading_of};
 ghost use Rattle.x509_ext.specs.Reading.{boolean_in, critical_at, extension_in};
-ghost use Rattle.x509_ext.specs.View.{extension_view};
+ghost use Rattle.x509_ext.specs.View.{extension_view, WantsNoMemory};
 
-use crate::parsed::ParsedExtension;
 use asn1_any::{Any, Element};
 use asn1_core::{Err as Refusal, HeaderCount, OutOfMemory};
 use asn1_oid::Oid;
 use std::alloc::Global;
 use x509_core::{Parts, X509Error, leaf_of, parts_of};
+use x509_deep::{ParsedExtension, parse_extension};
 use x509_names::next_oid;
 use x509_values::Copies;
 
@@ -121,15 +122,34 @@ fn next_octets<'a>(parts: &mut Parts<'a>) -> Result<&'a [u8], Refusal<X509Error>
     leaf_of(4, element.any)
 }
 
-/// The extension that an element is, its value not looked into.
+// What the value is parsed as, if it is looked into.
+fn parsed_value<'a>(
+    alloc: Global,
+    oid: &Oid<'a>,
+    value: &'a [u8],
+    deep: bool,
+) -> Result<ParsedExtension<'a>, OutOfMemory>
+    ensures read { IfOk result (λ p. parsed_view p ≡ reading_of deep oid.now value.now) }
+    ensures memory { IfOk result HoldsNoMemory }
+{
+    if deep {
+        parse_extension(alloc, oid, value)
+    } else {
+        Ok(ParsedExtension::Unparsed)
+    }
+}
+
+/// The extension that an element is, its value parsed too where `deep` says so. Headers within the value aren't counted.
 #[tactic(auto, unfolding(crate::specs::Reading::extension_in))]
 pub fn extension_of<'a>(
     alloc: Global,
     element: Element<'a>,
+    deep: bool,
     count: &mut HeaderCount,
 ) -> Result<X509Extension<'a>, Refusal<X509Error>>
     requires { attempts count.old + length element.any.content.now < 2 ^ 128 }
-    ensures read { Gives extension_view result (extension_in unread (any_of element.entry.any)) }
+    ensures read { Gives extension_view result (extension_in (reading_of deep) (any_of element.entry.any)) }
+    ensures memory { IfOk result WantsNoMemory }
     ensures grows { attempts count.old ≤ attempts count.new }
     ensures most { attempts count.new ≤ attempts count.old + length element.entry.any.content.now }
 {
@@ -137,10 +157,11 @@ pub fn extension_of<'a>(
     let oid = next_oid(&mut parts)?;
     let critical = next_critical(&mut parts);
     let value = next_octets(&mut parts)?;
+    let parsed_extension = parsed_value(alloc, &oid, value, deep)?;
     Ok(X509Extension {
         oid,
         critical,
         value,
-        parsed_extension: ParsedExtension::Unparsed,
+        parsed_extension,
     })
 }

@@ -1,12 +1,12 @@
-//! Extensions by their envelope, and the other parts that certificates, revocation lists and requests share (RFC 5280, 4.1 and
-//! 4.2), read leniently. The values of extensions aren't parsed yet: readers leave `ParsedExtension::Unparsed`.
+//! Extensions, and the other parts that certificates, revocation lists and requests share (RFC 5280, 4.1 and 4.2), read
+//! leniently. Each reader of extensions is told whether it looks into their values: where it doesn't, they are
+//! `ParsedExtension::Unparsed`.
 #![tactic(auto)]
 
 mod basic;
 mod extension;
 mod list;
 mod lookup;
-mod parsed;
 mod parser;
 mod serial;
 mod unique;
@@ -16,8 +16,8 @@ pub use crate::basic::BasicExtension;
 pub use crate::extension::{X509Extension, extension_of};
 pub use crate::list::{each_extension, extension_list_of, extensions_of};
 pub use crate::lookup::{find_extension, get_extension_unique};
-pub use crate::parsed::ParsedExtension;
 pub use crate::parser::X509ExtensionParser;
 pub use crate::serial::next_serial;
 pub use crate::unique::{UniqueIdentifier, next_issuer_id, next_subject_id};
 pub use crate::version::{X509Version, next_version, version_of};
+pub use x509_deep::ParsedExtension;

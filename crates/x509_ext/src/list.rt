@@ -1,13 +1,13 @@
 //! Extensions one after the other, and where they stand in certificates and lists (RFC 5280, 4.1.2.9 and 5.1.2.7).
 
-ghost use Rattle.std.specs.Prelude.{◌≡◌, ◌+◌, ◌*◌, ◌^◌, ◌<◌, ◌≤◌, length, IfOk, map};
+ghost use Rattle.std.specs.Prelude.{◌≡◌, ◌+◌, ◌*◌, ◌^◌, ◌<◌, ◌≤◌, length, All, IfOk, map};
 ghost use Rattle.asn1_core.specs.Counts.{attempts};
 ghost use Rattle.asn1_any.specs.Views.{any_of};
 ghost use Rattle.x509_core.specs.Answers.{Gives, ManyGive};
 ghost use Rattle.x509_core.specs.Reading.{many_of};
-ghost use Rattle.x509_ext.specs.Fields.{unread};
+ghost use Rattle.x509_ext.specs.Fields.{reading_of};
 ghost use Rattle.x509_ext.specs.Reading.{extension_at, extension_list_in, extension_list_at, extensions_at};
-ghost use Rattle.x509_ext.specs.View.{extension_view};
+ghost use Rattle.x509_ext.specs.View.{extension_view, WantsNoMemory};
 
 use crate::extension::{X509Extension, extension_of};
 use asn1_any::Element;
@@ -15,21 +15,23 @@ use asn1_core::{Err as Refusal, Error, HeaderCount};
 use std::alloc::Global;
 use x509_core::{Parts, X509Error, cut_all, front_header, parts_of, renamed};
 
-/// As many extensions as begin there.
+/// As many extensions as begin there, their values parsed too where `deep` says so.
 pub fn each_extension<'a>(
     alloc: Global,
     parts: &mut Parts<'a>,
+    deep: bool,
     count: &mut HeaderCount,
 ) -> Result<Vec<X509Extension<'a>>, Refusal<X509Error>>
     requires { attempts count.old + length parts.old.octets < 2 ^ 128 }
-    ensures read { ManyGive (λ v. map extension_view v.items) result (many_of (extension_at unread) parts.old.octets) parts.new.octets }
+    ensures read { ManyGive (λ v. map extension_view v.items) result (many_of (extension_at (reading_of deep)) parts.old.octets) parts.new.octets }
+    ensures memory { IfOk result (λ v. All WantsNoMemory v.items) }
     ensures grows { attempts count.old ≤ attempts count.new }
     ensures most { attempts count.new ≤ attempts count.old + length parts.old.octets }
     ensures shorter { length parts.new.octets ≤ length parts.old.octets }
 {
     let mut extensions = Vec::new(alloc);
     while let Some(element) = parts.first() {
-        match extension_of(alloc, element, count) {
+        match extension_of(alloc, element, deep, count) {
             Ok(extension) => {
                 extensions.push(extension)?;
                 parts.advance();
@@ -43,20 +45,22 @@ pub fn each_extension<'a>(
     Ok(extensions)
 }
 
-/// The extensions that an element holds, to its end.
+/// The extensions that an element holds, to its end, their values parsed too where `deep` says so.
 #[tactic(auto, unfolding(crate::specs::Reading::extension_list_in))]
 pub fn extension_list_of<'a>(
     alloc: Global,
     element: Element<'a>,
+    deep: bool,
     count: &mut HeaderCount,
 ) -> Result<Vec<X509Extension<'a>>, Refusal<X509Error>>
     requires { attempts count.old + 2 * length element.any.content.now < 2 ^ 128 }
-    ensures read { Gives (λ v. map extension_view v.items) result (extension_list_in unread (any_of element.entry.any)) }
+    ensures read { Gives (λ v. map extension_view v.items) result (extension_list_in (reading_of deep) (any_of element.entry.any)) }
+    ensures memory { IfOk result (λ v. All WantsNoMemory v.items) }
     ensures grows { attempts count.old ≤ attempts count.new }
     ensures most { attempts count.new ≤ attempts count.old + 2 * length element.entry.any.content.now }
 {
     let mut parts = parts_of(alloc, 16, element, count)?;
-    let extensions = each_extension(alloc, &mut parts, count)?;
+    let extensions = each_extension(alloc, &mut parts, deep, count)?;
     if parts.left().is_empty() {
         Ok(extensions)
     } else {
@@ -69,16 +73,18 @@ pub fn extension_list_of<'a>(
 fn all_extensions<'a>(
     alloc: Global,
     octets: &'a [u8],
+    deep: bool,
     count: &mut HeaderCount,
 ) -> Result<Vec<X509Extension<'a>>, Refusal<X509Error>>
     requires { attempts count.old + 3 * length octets.now < 2 ^ 128 }
-    ensures read { Gives (λ v. map extension_view v.items) result (extension_list_at unread octets.now) }
+    ensures read { Gives (λ v. map extension_view v.items) result (extension_list_at (reading_of deep) octets.now) }
+    ensures memory { IfOk result (λ v. All WantsNoMemory v.items) }
     ensures grows { attempts count.old ≤ attempts count.new }
     ensures most { attempts count.new ≤ attempts count.old + 3 * length octets.now }
 {
     let mut parts = cut_all(alloc, octets, count)?;
     let element = parts.next()?;
-    let extensions = extension_list_of(alloc, element, count)?;
+    let extensions = extension_list_of(alloc, element, deep, count)?;
     if parts.left().is_empty() {
         Ok(extensions)
     } else {
@@ -86,15 +92,18 @@ fn all_extensions<'a>(
     }
 }
 
-/// Extensions under this tag number, to the end; none where no octet is left. The wrapper's length isn't used.
+/// Extensions under this tag number, to the end, their values parsed too where `deep` says so; none where no octet is left. The
+/// wrapper's length isn't used.
 pub fn extensions_of<'a>(
     alloc: Global,
     tag: u32,
     left: &'a [u8],
+    deep: bool,
     count: &mut HeaderCount,
 ) -> Result<Vec<X509Extension<'a>>, Refusal<X509Error>>
     requires { attempts count.old + 4 * length left.now < 2 ^ 128 }
-    ensures read { Gives (λ v. map extension_view v.items) result (extensions_at unread tag left.now) }
+    ensures read { Gives (λ v. map extension_view v.items) result (extensions_at (reading_of deep) tag left.now) }
+    ensures memory { IfOk result (λ v. All WantsNoMemory v.items) }
     ensures grows { attempts count.old ≤ attempts count.new }
     ensures most { attempts count.new ≤ attempts count.old + 4 * length left.now }
 {
@@ -106,7 +115,7 @@ pub fn extensions_of<'a>(
             if header.tag().0 != tag {
                 return Err(Refusal::Error(X509Error::InvalidExtensions));
             }
-            all_extensions(alloc, after, count)
+            all_extensions(alloc, after, deep, count)
         }
         Err(refusal) => Err(renamed(refusal, X509Error::InvalidExtensions)),
     }

@@ -7,9 +7,11 @@ ghost use Rattle.x509_core.specs.Errors.{told};
 ghost use Rattle.x509_core.specs.Grammar.{Holds};
 ghost use Rattle.x509_core.specs.Fronts.{IsOnly, one_rest};
 ghost use Rattle.x509_ext.specs.Extensions as grammar;
-ghost use Rattle.x509_ext.specs.Fields.{Extension, IsUnparsed, unread};
+ghost use Rattle.x509_deep.specs.Parsed.{IsParsed};
+ghost use Rattle.x509_deep.specs.Reading.{deeply};
+ghost use Rattle.x509_ext.specs.Fields.{Extension, meaning_of, reading_of};
 ghost use Rattle.x509_ext.specs.Reading.{named_extension_at};
-ghost use Rattle.x509_ext.specs.View.{extension_view};
+ghost use Rattle.x509_ext.specs.View.{extension_view, WantsNoMemory};
 ghost use Rattle.x509_core.specs.declared.error.X509Error.TheVariants as errors;
 
 use crate::extension::{X509Extension, extension_of};
@@ -18,7 +20,7 @@ use asn1_traits::{DerMeaning, FromDer};
 use std::alloc::Global;
 use x509_core::{X509Error, X509Result, front_element, renamed};
 
-/// A parser of extensions. Values aren't parsed yet, whatever is asked for.
+/// A parser of extensions.
 #[derive(Clone, Copy, Debug)]
 pub struct X509ExtensionParser {
     deep_parse_extensions: bool,
@@ -44,14 +46,18 @@ impl X509ExtensionParser {
     }
 
     /// The extension that begins the octets, behind those after it. `InvalidExtensions` of all others, cut ones too.
+    ///
+    /// A value of a known identifier that its type refuses is `ParsedExtension::ParseError`, and the extension is read; want of
+    /// memory within a value is a `Failure` of the whole. A parser without deep parsing leaves `ParsedExtension::Unparsed`.
     pub fn parse<'a>(&self, alloc: Global, i: &'a [u8]) -> X509Result<'a, X509Extension<'a>>
-        ensures exact { Gives (λ r. (extension_view r.1, r.0.now)) result (named_extension_at unread i.now) }
+        ensures exact { Gives (λ r. (extension_view r.1, r.0.now)) result (named_extension_at (reading_of self.now.deep_parse_extensions) i.now) }
         ensures refused { IfErr result (IsOnly errors.InvalidExtensions) }
-        ensures found { IfOk result (λ r. grammar.X509Extension IsUnparsed i.now (extension_view r.1) r.0.now) }
-        ensures only { (v : Extension) (rest : List ℕ) → grammar.X509Extension IsUnparsed i.now v rest
+        ensures memory { IfOk result (λ r. WantsNoMemory r.1) }
+        ensures found { IfOk result (λ r. grammar.X509Extension (meaning_of self.now.deep_parse_extensions) i.now (extension_view r.1) r.0.now) }
+        ensures only { (v : Extension) (rest : List ℕ) → grammar.X509Extension (meaning_of self.now.deep_parse_extensions) i.now v rest
             → ElseMemory result (λ r. (extension_view r.1 ≡ v) × (r.0.now ≡ rest)) }
     {
-        extension_at_front(alloc, i)
+        extension_at_front(alloc, i, self.deep_parse_extensions)
     }
 }
 
@@ -66,37 +72,43 @@ impl Default for X509ExtensionParser {
 }
 
 impl<'b> DerMeaning for X509Extension<'b> {
-    ghost der_reads = { λ i v r. grammar.X509Extension IsUnparsed i (extension_view v) r };
+    ghost der_reads = { λ i v r. grammar.X509Extension IsParsed i (extension_view v) r };
 
     ghost der_cut = { λ _ _. ⊥ };
 
     ghost der_grows = { Unit {0} };
 
-    ghost one_rest = { λ i v w r s left right. one_rest (Holds 16 (grammar.ExtensionParts IsUnparsed)) i (extension_view v) (extension_view w) r s left right };
+    ghost one_rest = { λ i v w r s left right. one_rest (Holds 16 (grammar.ExtensionParts IsParsed)) i (extension_view v) (extension_view w) r s left right };
 }
 
 impl<'a> FromDer<'a, X509Error> for X509Extension<'a> {
-    /// The extension that begins the octets, behind those after it. `InvalidExtensions` of all others, cut ones too.
+    /// The extension that begins the octets, behind those after it: `parse` of `X509ExtensionParser::new()`.
     fn from_der(alloc: Global, bytes: &'a [u8]) -> X509Result<'a, X509Extension<'a>>
         ensures reads { Reads (λ given e. e ≡ told given) (Unit {0}) (λ _ _. ⊥) (λ i. i.now)
-            (λ i v r. grammar.X509Extension IsUnparsed i (extension_view v) r) bytes.now result }
-        ensures exact { Gives (λ r. (extension_view r.1, r.0.now)) result (named_extension_at unread bytes.now) }
+            (λ i v r. grammar.X509Extension IsParsed i (extension_view v) r) bytes.now result }
+        ensures exact { Gives (λ r. (extension_view r.1, r.0.now)) result (named_extension_at deeply bytes.now) }
         ensures refused { IfErr result (IsOnly errors.InvalidExtensions) }
-        ensures found { IfOk result (λ r. grammar.X509Extension IsUnparsed bytes.now (extension_view r.1) r.0.now) }
-        ensures only { (v : Extension) (rest : List ℕ) → grammar.X509Extension IsUnparsed bytes.now v rest
+        ensures memory { IfOk result (λ r. WantsNoMemory r.1) }
+        ensures found { IfOk result (λ r. grammar.X509Extension IsParsed bytes.now (extension_view r.1) r.0.now) }
+        ensures only { (v : Extension) (rest : List ℕ) → grammar.X509Extension IsParsed bytes.now v rest
             → ElseMemory result (λ r. (extension_view r.1 ≡ v) × (r.0.now ≡ rest)) }
     {
-        extension_at_front(alloc, bytes)
+        extension_at_front(alloc, bytes, true)
     }
 }
 
-fn extension_at_front<'a>(alloc: Global, i: &'a [u8]) -> X509Result<'a, X509Extension<'a>>
-    ensures exact { Gives (λ r. (extension_view r.1, r.0.now)) result (named_extension_at unread i.now) }
+fn extension_at_front<'a>(
+    alloc: Global,
+    i: &'a [u8],
+    deep: bool,
+) -> X509Result<'a, X509Extension<'a>>
+    ensures exact { Gives (λ r. (extension_view r.1, r.0.now)) result (named_extension_at (reading_of deep) i.now) }
     ensures refused { IfErr result (IsOnly errors.InvalidExtensions) }
+    ensures memory { IfOk result (λ r. WantsNoMemory r.1) }
 {
     let mut count = HeaderCount::new();
     match front_element(i, &mut count) {
-        Ok((rest, element)) => match extension_of(alloc, element, &mut count) {
+        Ok((rest, element)) => match extension_of(alloc, element, deep, &mut count) {
             Ok(extension) => Ok((rest, extension)),
             Err(refusal) => Err(renamed(refusal, X509Error::InvalidExtensions)),
         },

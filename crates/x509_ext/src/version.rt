@@ -11,15 +11,15 @@ ghost use Rattle.x509_core.specs.Errors.{told};
 ghost use Rattle.x509_core.specs.declared.error.X509Error.TheVariants as errors;
 ghost use Rattle.x509_core.specs.Fronts.{one_rest};
 ghost use Rattle.x509_ext.specs.Parts as grammar;
-ghost use Rattle.x509_ext.specs.Reading.{number_of, version_in, version_at, tagged_version_in, any_version_at};
+ghost use Rattle.x509_ext.specs.Reading.{version_in, version_at, tagged_version_in, any_version_at};
 
 use asn1_any::{Any, Element};
 use asn1_core::{Class, Err as Refusal, Error, HeaderCount};
-use asn1_traits::{DerMeaning, FromDer, check_shortest};
-use asn1_values::Integer;
+use asn1_traits::{DerMeaning, FromDer};
 use std::alloc::Global;
 use std::fmt;
 use x509_core::{Parts, X509Error, X509Result, cut_all, named};
+use x509_flags::number_of;
 
 /// The version of a certificate, list or request, as it is written: counted from 0.
 #[derive(Clone, Copy, Debug, PartialEq, Eq)]
@@ -59,20 +59,6 @@ pub(crate) fn is_context(class: Class) -> bool
         Class::Application => false,
         Class::ContextSpecific => true,
         Class::Private => false,
-    }
-}
-
-// The number of a content of 32 bits without a sign, in the fewest octets.
-#[tactic(auto, unfolding(crate::specs::Reading::number_of))]
-fn number_of(content: &[u8]) -> Option<u32>
-    ensures { result ≡ number_of content.now }
-{
-    if check_shortest(content).is_err() {
-        return None;
-    }
-    match Integer::new(content).as_u32() {
-        Ok(number) => Some(number),
-        Err(_) => None,
     }
 }
 

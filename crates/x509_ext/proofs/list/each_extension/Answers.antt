@@ -1,11 +1,13 @@
-use Rattle.std.proofs.Common.{◌≡◌, ◌∙◌, sym, map, arith, Some, None}
+use Rattle.std.proofs.Common.{◌≡◌, ◌∙◌, sym, subst, map, arith, Some, None}
+use Rattle.std.specs.Prelude.{All}
 use Rattle.std.proofs.lemmas.List.{map-append}
+use Rattle.std.proofs.lemmas.List.Elements.{All-push}
 use Rattle.asn1_any.specs.CutViews.{piece_of}
-use Rattle.x509_ext.specs.Fields.{unread}
+use Rattle.x509_ext.specs.Fields.{reading_of}
 use Rattle.x509_core.specs.Reading.{first_piece}
 use Rattle.x509_core.proofs.Many.{next_more, next_stops, next_ends, refused_by}
 use Rattle.x509_ext.specs.Reading.{extension_in}
-use Rattle.x509_ext.specs.View.{extension_view}
+use Rattle.x509_ext.specs.View.{extension_view, WantsNoMemory}
 use Rattle.x509_ext.proofs.list.each_extension.Goals as goal
 
 pub loop-element-preserved : goal.loop-element-preserved
@@ -16,9 +18,10 @@ loop-element-preserved c =
     let content = c.in-Some.ensures.content in
     let most = c.in-Ok.ensures.most in
     let grows = c.in-Ok.ensures.grows in
-    let step = next_more (λ p. extension_in unread p.element) (map extension_view c.loop-element.extensions.items) c.loop-element.parts.octets c.advance.new.self.octets e (extension_view c.in-Ok.extension) front c.advance.ensures.read c.in-Ok.ensures.read (omega (arith, shorter, content)) in
+    let step = next_more (λ p. extension_in (reading_of c.args.deep) p.element) (map extension_view c.loop-element.extensions.items) c.loop-element.parts.octets c.advance.new.self.octets e (extension_view c.in-Ok.extension) front c.advance.ensures.read c.in-Ok.ensures.read (omega (arith, shorter, content)) in
     record {
       read = rw (c.in_ok-push-in-Ok.ensures.items, map-append) (sym step ∙ c.loop-element.invariant.read);
+      memory = subst (All WantsNoMemory) (sym c.in_ok-push-in-Ok.ensures.items) (All-push WantsNoMemory c.loop-element.extensions.items _ c.loop-element.invariant.memory c.in-Ok.ensures.memory);
       grows = omega (arith, grows, c.loop-element.invariant.grows);
       shorter = omega (arith, shorter, c.loop-element.invariant.shorter);
       most = omega (arith, most, shorter, content, c.loop-element.invariant.most);
@@ -27,14 +30,15 @@ loop-element-preserved c =
 pub returns-in_default-refusal : goal.returns-in_default-refusal
 returns-in_default-refusal c =
     let e = piece_of c.in-Some.element in
-    let refused = refused_by c.in-Err.refusal (extension_in unread e.element) c.in-Err.ensures.read (λ x is. c.in_default-refusal.not-Failure x is) in
-    let stop = next_stops (λ p. extension_in unread p.element) (map extension_view c.loop-element.extensions.items) c.loop-element.parts.octets e refused.0 (sym c.in-Some.ensures.read) refused.1 in
+    let refused = refused_by c.in-Err.refusal (extension_in (reading_of c.args.deep) e.element) c.in-Err.ensures.read (λ x is. c.in_default-refusal.not-Failure x is) in
+    let stop = next_stops (λ p. extension_in (reading_of c.args.deep) p.element) (map extension_view c.loop-element.extensions.items) c.loop-element.parts.octets e refused.0 (sym c.in-Some.ensures.read) refused.1 in
     let most = c.in-Err.ensures.most in
     let grows = c.in-Err.ensures.grows in
     let content = c.in-Some.ensures.content in
     let shorter = c.in-Some.ensures.shorter in
     record {
       read = sym c.loop-element.invariant.read ∙ stop;
+      memory = c.loop-element.invariant.memory;
       grows = omega (arith, grows, c.loop-element.invariant.grows);
       shorter = omega (arith, c.loop-element.invariant.shorter);
       most = omega (arith, most, content, shorter, c.loop-element.invariant.most);
@@ -43,4 +47,4 @@ returns-in_default-refusal c =
 pub returns-clause-read : goal.returns-clause-read
 returns-clause-read c =
     let none : first_piece c.loop-element.parts.octets ≡ None = sym c.in_default.ensures.read in
-    sym c.loop-element.invariant.read ∙ next_ends (λ p. extension_in unread p.element) (map extension_view c.loop-element.extensions.items) c.loop-element.parts.octets none
+    sym c.loop-element.invariant.read ∙ next_ends (λ p. extension_in (reading_of c.args.deep) p.element) (map extension_view c.loop-element.extensions.items) c.loop-element.parts.octets none
