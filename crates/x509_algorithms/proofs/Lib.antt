@@ -1,2 +1,5 @@
+pub mod AnswerLaws
+pub mod Items
 pub mod Laws
+pub mod SignatureLaws
 pub mod TaggedLaws

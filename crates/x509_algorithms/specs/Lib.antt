@@ -1,3 +1,5 @@
+pub mod Answers
+pub mod Examples
 pub mod Identifiers
 pub mod Parameters
 pub mod Reading

@@ -20,12 +20,22 @@ pub record EcdsaParts (octets : List ℕ) (v : values.EcdsaSigValue) (rest : Lis
 abbrev pub EcdsaSigValue : Grammar values.EcdsaSigValue
 EcdsaSigValue = Sequence EcdsaParts
 
--- What an algorithm is, by its identifier: of RSA whatever stands under PKCS #1 but RSASSA-PSS (RFC 8017, appendix C), which is told
--- by parameters that can be read; ECDSA and DSA whatever stands under their arcs (RFC 3279, 2.2.2 and 2.2.3); Ed25519 by itself (RFC
--- 8410, 3). RSAES-OAEP stands under PKCS #1 too, so it is told as RSA.
+-- RSASSA-PSS (RFC 8017, A.2.3), of parameters that can be read
+pub record IsPss (a : Algorithm) (p : values.RsaSsaPssParams) : Type 0 where
+  pub identifier : a.identifier ≡ rsassa_pss_id
+  pub element : Element
+  pub parameters : a.parameters ≡ Some element
+  pub means : PssOf element p
+
+-- What an identifier is by itself: of RSA whatever stands under PKCS #1 but RSASSA-PSS (RFC 8017, appendix C), so RSAES-OAEP too;
+-- ECDSA and DSA whatever stands under their arcs (RFC 3279, 2.2.2 and 2.2.3); Ed25519 one alone (RFC 8410, 3).
+pub data IsPlain (identifier : List ℕ) (v : values.SignatureAlgorithm) : Type 0 where
+  is_rsa : identifier ≢ rsassa_pss_id → IsFront pkcs_1 identifier → v ≡ values.rsa → IsPlain identifier v
+  is_ecdsa : IsFront ansi_x962_signatures identifier → v ≡ values.ecdsa → IsPlain identifier v
+  is_dsa : IsFront x9_57 identifier → v ≡ values.dsa → IsPlain identifier v
+  is_ed25519 : identifier ≡ ed25519_id → v ≡ values.ed25519 → IsPlain identifier v
+
+-- What an algorithm of signatures is. Parameters are looked at for RSASSA-PSS alone.
 pub data IsSignature (a : Algorithm) (v : values.SignatureAlgorithm) : Type 0 where
-  is_pss : (e : Element) (p : values.RsaSsaPssParams) → a.identifier ≡ rsassa_pss_id → a.parameters ≡ Some e → PssOf e p → v ≡ values.rsassa_pss p → IsSignature a v
-  is_rsa : a.identifier ≢ rsassa_pss_id → IsFront pkcs_1 a.identifier → v ≡ values.rsa → IsSignature a v
-  is_ecdsa : IsFront ansi_x962_signatures a.identifier → v ≡ values.ecdsa → IsSignature a v
-  is_dsa : IsFront x9_57 a.identifier → v ≡ values.dsa → IsSignature a v
-  is_ed25519 : a.identifier ≡ ed25519_id → v ≡ values.ed25519 → IsSignature a v
+  of_pss : (p : values.RsaSsaPssParams) → IsPss a p → v ≡ values.rsassa_pss p → IsSignature a v
+  of_plain : IsPlain a.identifier v → IsSignature a v

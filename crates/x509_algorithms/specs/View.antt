@@ -6,6 +6,8 @@ use Rattle.x509_algorithms.specs.declared.ecdsa.EcdsaSigValue.{EcdsaSigValue}
 use Rattle.x509_algorithms.specs.declared.mask.MaskGenAlgorithm.{MaskGenAlgorithm}
 use Rattle.x509_algorithms.specs.declared.oaep.RsaAesOaepParams.{RsaAesOaepParams}
 use Rattle.x509_algorithms.specs.declared.pss.RsaSsaPssParams.{RsaSsaPssParams}
+use Rattle.x509_algorithms.specs.declared.signature.SignatureAlgorithm.{SignatureAlgorithm}
+use Rattle.x509_algorithms.specs.declared.signature.SignatureAlgorithm.TheVariants as kinds
 
 abbrev pub ecdsa_view : EcdsaSigValue → values.EcdsaSigValue
 ecdsa_view v = record { r = v.r.content.now; s = v.s.content.now }
@@ -27,3 +29,11 @@ oaep_view p = record {
 
 abbrev pub mask_view : MaskGenAlgorithm → values.MaskGenAlgorithm
 mask_view m = record { mgf = m.mgf; hash = m.hash }
+
+abbrev pub signature_view : SignatureAlgorithm → values.SignatureAlgorithm
+signature_view kinds.RSA = values.rsa
+signature_view (kinds.RSASSA_PSS p) = values.rsassa_pss (pss_view p)
+signature_view (kinds.RSAAES_OAEP p) = values.rsaes_oaep (oaep_view p)
+signature_view kinds.DSA = values.dsa
+signature_view kinds.ECDSA = values.ecdsa
+signature_view kinds.ED25519 = values.ed25519

@@ -5,9 +5,13 @@ mod ecdsa;
 mod mask;
 mod oaep;
 mod pss;
+mod signature;
 mod tagged;
+mod worked;
 
 pub use crate::ecdsa::EcdsaSigValue;
 pub use crate::mask::MaskGenAlgorithm;
 pub use crate::oaep::RsaAesOaepParams;
 pub use crate::pss::RsaSsaPssParams;
+pub use crate::signature::SignatureAlgorithm;
+pub use crate::worked::{one_signature, worked_algorithms, worked_parameters};

@@ -1,6 +1,6 @@
 //! Parameters of RSAES-OAEP (RFC 8017, A.2.1).
 
-ghost use Rattle.std.specs.Prelude.{◌≡◌, ◌<◌, ℕ, List, length, IfOk, IfErr, option_map};
+ghost use Rattle.std.specs.Prelude.{◌≡◌, ◌<◌, ℕ, List, length, None, IfOk, IfErr, IsOkAnd, option_map};
 ghost use Rattle.asn1_any.specs.CutViews.{piece_of};
 ghost use Rattle.asn1_any.specs.Views.{any_of};
 ghost use Rattle.asn1_traits.specs.Elements.{EndsWithinElement};
@@ -8,19 +8,27 @@ ghost use Rattle.asn1_traits.specs.Reads.{Reads};
 ghost use Rattle.x509_core.specs.Answers.{Gives, ElseMemory};
 ghost use Rattle.x509_core.specs.Errors.{told};
 ghost use Rattle.x509_core.specs.Fronts.{TellsMissing, one_rest};
+ghost use Rattle.x509_names.specs.View.{algorithm_view};
+ghost use Rattle.x509_algorithms.specs.Answers.{OkElseMemory};
 ghost use Rattle.x509_algorithms.specs.Parameters as grammar;
+ghost use Rattle.x509_algorithms.specs.Parameters.{hash_of, IsMaskGen, source_of};
 ghost use Rattle.x509_algorithms.specs.Reading.{parameters_of, oaep_parts_at, oaep_in, oaep_at};
 ghost use Rattle.x509_algorithms.specs.Values as values;
-ghost use Rattle.x509_algorithms.specs.View.{oaep_view};
+ghost use Rattle.x509_algorithms.specs.View.{oaep_view, mask_view};
 
+use crate::mask::{MaskGenAlgorithm, hash_identifier, mask_of};
 use crate::tagged::next_algorithm;
 use asn1_any::{Any, Element};
-use asn1_core::{Err as Refusal, Error, HeaderCount};
+use asn1_core::{Err as Refusal, Error, HeaderCount, Tag};
+use asn1_oid::Oid;
 use asn1_traits::{DerMeaning, FromDer};
 use std::alloc::Global;
 use x509_core::{X509Error, X509Result, front_element};
 use x509_items::content_of;
 use x509_names::AlgorithmIdentifier;
+
+/// 1.2.840.113549.1.1.9
+const P_SPECIFIED: &[u8] = b"\x2a\x86\x48\x86\xf7\x0d\x01\x01\x09";
 
 /// Parameters of RSAES-OAEP. What isn't told has the default of RFC 8017, A.2.1.
 #[derive(Debug, Drop, PartialEq, Eq)]
@@ -31,6 +39,29 @@ pub struct RsaAesOaepParams<'a> {
 }
 
 impl<'a> RsaAesOaepParams<'a> {
+    /// The source of the label where none is told: pSpecified, 1.2.840.113549.1.1.9, without parameters.
+    pub fn empty() -> AlgorithmIdentifier<'static>
+        ensures { algorithm_view result ≡ source_of None }
+    {
+        AlgorithmIdentifier::new(Oid::new(P_SPECIFIED), None)
+    }
+
+    /// The parameters that an element of tag number 16 holds, whatever its class and its constructed bit. `OutOfMemory` where memory
+    /// ran out, else an error of an element or of an algorithm.
+    pub fn try_from(alloc: Global, any: Any<'a>) -> Result<RsaAesOaepParams<'a>, X509Error>
+        ensures found { IfOk result (λ p. grammar.OaepOf (any_of any.entry) (oaep_view p)) }
+        ensures only { (v : values.RsaAesOaepParams) → grammar.OaepOf (any_of any.entry) v
+            → OkElseMemory result (λ p. oaep_view p ≡ v) }
+    {
+        if any.tag().0 != 16 {
+            return Err(X509Error::Der(Error::unexpected_tag(Some(Tag(16)), any.tag())));
+        }
+        match held(alloc, any.content) {
+            Ok((_, value)) => Ok(value),
+            Err(refusal) => Err(X509Error::from(refusal)),
+        }
+    }
+
     /// The hash algorithm, where it is told.
     pub fn hash_algorithm(&self) -> Option<&AlgorithmIdentifier<'a>>
         ensures { option_map (λ a. a.now) result ≡ self.now.hash_alg }
@@ -38,11 +69,43 @@ impl<'a> RsaAesOaepParams<'a> {
         self.hash_alg.as_ref()
     }
 
+    /// The identifier of the hash algorithm: SHA-1's where none is told.
+    pub fn hash_algorithm_oid(&self) -> Oid<'_>
+        ensures { result ≡ hash_of (oaep_view self.now).hash_alg }
+    {
+        hash_identifier(&self.hash_alg)
+    }
+
     /// The algorithm of the mask, where it is told.
     pub fn mask_gen_algorithm_raw(&self) -> Option<&AlgorithmIdentifier<'a>>
         ensures { option_map (λ a. a.now) result ≡ self.now.mask_gen_alg }
     {
         self.mask_gen_alg.as_ref()
+    }
+
+    /// The function of the mask, and its hash: MGF1 with SHA-1 where none is told.
+    ///
+    /// `InvalidAlgorithmIdentifier` where the content of the function's parameters begins with no OBJECT IDENTIFIER, or there are
+    /// none.
+    pub fn mask_gen_algorithm(&self) -> Result<MaskGenAlgorithm<'_, 'a>, X509Error>
+        ensures found { IfOk result (λ m. IsMaskGen (oaep_view self.now).mask_gen_alg (mask_view m)) }
+        ensures only { (v : values.MaskGenAlgorithm) → IsMaskGen (oaep_view self.now).mask_gen_alg v
+            → IsOkAnd result (λ m. mask_view m ≡ v) }
+        ensures refused { IfErr result (λ e. e ≡ X509Error.InvalidAlgorithmIdentifier) }
+    {
+        mask_of(&self.mask_gen_alg)
+    }
+
+    /// The source of the label: `empty` where none is told.
+    pub fn p_source_alg(&self) -> AlgorithmIdentifier<'_>
+        ensures { algorithm_view result ≡ source_of (oaep_view self.now).p_source_alg }
+    {
+        match &self.p_source_alg {
+            Some(source) => {
+                AlgorithmIdentifier::new(Oid::new(source.oid().as_bytes()), source.parameters)
+            }
+            None => RsaAesOaepParams::empty(),
+        }
     }
 }
 
@@ -63,11 +126,17 @@ fn parts<'a>(alloc: Global, i: &'a [u8]) -> X509Result<'a, RsaAesOaepParams<'a>>
     ))
 }
 
+/// The parameters that a content begins with, behind what is left of it.
+fn held<'a>(alloc: Global, content: &'a [u8]) -> X509Result<'a, RsaAesOaepParams<'a>>
+    ensures found { IfOk result (λ r. grammar.OaepParts content.now (oaep_view r.1) r.0.now) }
+    ensures only { (v : values.RsaAesOaepParams) (left : List ℕ) → grammar.OaepParts content.now v left
+        → ElseMemory result (λ r. (oaep_view r.1 ≡ v) × (r.0.now ≡ left)) }
+{
+    parts(alloc, content)
+}
+
 /// The parameters that an element of tag number 16 holds.
-pub(crate) fn oaep_of<'a>(
-    alloc: Global,
-    any: Any<'a>,
-) -> Result<RsaAesOaepParams<'a>, Refusal<X509Error>>
+fn oaep_of<'a>(alloc: Global, any: Any<'a>) -> Result<RsaAesOaepParams<'a>, Refusal<X509Error>>
     ensures { Gives oaep_view result (parameters_of oaep_parts_at (any_of any.entry)) }
 {
     let content = content_of(16, any)?;

@@ -1,6 +1,6 @@
 //! Parameters of RSASSA-PSS (RFC 8017, A.2.3).
 
-ghost use Rattle.std.specs.Prelude.{◌≡◌, ◌<◌, ℕ, List, length, IfOk, IfErr, option_map};
+ghost use Rattle.std.specs.Prelude.{◌≡◌, ◌<◌, ℕ, List, length, IfOk, IfErr, IsOkAnd, option_map};
 ghost use Rattle.asn1_any.specs.CutViews.{piece_of};
 ghost use Rattle.asn1_any.specs.Views.{any_of};
 ghost use Rattle.asn1_traits.specs.Elements.{EndsWithinElement};
@@ -9,15 +9,18 @@ ghost use Rattle.x509_core.specs.Answers.{Gives, ElseMemory};
 ghost use Rattle.x509_core.specs.Errors.{told};
 ghost use Rattle.x509_core.specs.Fronts.{TellsMissing, one_rest};
 ghost use Rattle.x509_names.specs.View.{algorithm_view};
+ghost use Rattle.x509_algorithms.specs.Answers.{OkElseMemory};
 ghost use Rattle.x509_algorithms.specs.Parameters as grammar;
-ghost use Rattle.x509_algorithms.specs.Parameters.{hash_of, salt_length_of, trailer_field_of};
+ghost use Rattle.x509_algorithms.specs.Parameters.{hash_of, IsMaskGen, salt_length_of, trailer_field_of};
 ghost use Rattle.x509_algorithms.specs.Reading.{parameters_of, pss_parts_at, pss_in, pss_at};
 ghost use Rattle.x509_algorithms.specs.Values as values;
-ghost use Rattle.x509_algorithms.specs.View.{pss_view};
+ghost use Rattle.x509_algorithms.specs.View.{pss_view, mask_view};
 
+use crate::mask::{MaskGenAlgorithm, hash_identifier, mask_of};
 use crate::tagged::{next_algorithm, next_number};
 use asn1_any::{Any, Element};
-use asn1_core::{Err as Refusal, Error, HeaderCount};
+use asn1_core::{Err as Refusal, Error, HeaderCount, Tag};
+use asn1_oid::Oid;
 use asn1_traits::{DerMeaning, FromDer};
 use std::alloc::Global;
 use x509_core::{X509Error, X509Result, front_element};
@@ -34,6 +37,22 @@ pub struct RsaSsaPssParams<'a> {
 }
 
 impl<'a> RsaSsaPssParams<'a> {
+    /// The parameters that an element of tag number 16 holds, whatever its class and its constructed bit. `OutOfMemory` where memory
+    /// ran out, else an error of an element or of an algorithm.
+    pub fn try_from(alloc: Global, any: Any<'a>) -> Result<RsaSsaPssParams<'a>, X509Error>
+        ensures found { IfOk result (λ p. grammar.PssOf (any_of any.entry) (pss_view p)) }
+        ensures only { (v : values.RsaSsaPssParams) → grammar.PssOf (any_of any.entry) v
+            → OkElseMemory result (λ p. pss_view p ≡ v) }
+    {
+        if any.tag().0 != 16 {
+            return Err(X509Error::Der(Error::unexpected_tag(Some(Tag(16)), any.tag())));
+        }
+        match held(alloc, any.content) {
+            Ok((_, value)) => Ok(value),
+            Err(refusal) => Err(X509Error::from(refusal)),
+        }
+    }
+
     /// The hash algorithm, where it is told.
     pub fn hash_algorithm(&self) -> Option<&AlgorithmIdentifier<'a>>
         ensures { option_map (λ a. a.now) result ≡ self.now.hash_alg }
@@ -41,11 +60,31 @@ impl<'a> RsaSsaPssParams<'a> {
         self.hash_alg.as_ref()
     }
 
+    /// The identifier of the hash algorithm: SHA-1's where none is told.
+    pub fn hash_algorithm_oid(&self) -> Oid<'_>
+        ensures { result ≡ hash_of (pss_view self.now).hash_alg }
+    {
+        hash_identifier(&self.hash_alg)
+    }
+
     /// The algorithm of the mask, where it is told.
     pub fn mask_gen_algorithm_raw(&self) -> Option<&AlgorithmIdentifier<'a>>
         ensures { option_map (λ a. a.now) result ≡ self.now.mask_gen_algorithm }
     {
         self.mask_gen_algorithm.as_ref()
+    }
+
+    /// The function of the mask, and its hash: MGF1 with SHA-1 where none is told.
+    ///
+    /// `InvalidAlgorithmIdentifier` where the content of the function's parameters begins with no OBJECT IDENTIFIER, or there are
+    /// none.
+    pub fn mask_gen_algorithm(&self) -> Result<MaskGenAlgorithm<'_, 'a>, X509Error>
+        ensures found { IfOk result (λ m. IsMaskGen (pss_view self.now).mask_gen_algorithm (mask_view m)) }
+        ensures only { (v : values.MaskGenAlgorithm) → IsMaskGen (pss_view self.now).mask_gen_algorithm v
+            → IsOkAnd result (λ m. mask_view m ≡ v) }
+        ensures refused { IfErr result (λ e. e ≡ X509Error.InvalidAlgorithmIdentifier) }
+    {
+        mask_of(&self.mask_gen_algorithm)
     }
 
     /// How long the salt is, in octets: 20 where nothing is told.
@@ -82,11 +121,17 @@ fn parts<'a>(alloc: Global, i: &'a [u8]) -> X509Result<'a, RsaSsaPssParams<'a>>
     ))
 }
 
+/// The parameters that a content begins with, behind what is left of it.
+fn held<'a>(alloc: Global, content: &'a [u8]) -> X509Result<'a, RsaSsaPssParams<'a>>
+    ensures found { IfOk result (λ r. grammar.PssParts content.now (pss_view r.1) r.0.now) }
+    ensures only { (v : values.RsaSsaPssParams) (left : List ℕ) → grammar.PssParts content.now v left
+        → ElseMemory result (λ r. (pss_view r.1 ≡ v) × (r.0.now ≡ left)) }
+{
+    parts(alloc, content)
+}
+
 /// The parameters that an element of tag number 16 holds.
-pub(crate) fn pss_of<'a>(
-    alloc: Global,
-    any: Any<'a>,
-) -> Result<RsaSsaPssParams<'a>, Refusal<X509Error>>
+fn pss_of<'a>(alloc: Global, any: Any<'a>) -> Result<RsaSsaPssParams<'a>, Refusal<X509Error>>
     ensures { Gives pss_view result (parameters_of pss_parts_at (any_of any.entry)) }
 {
     let content = content_of(16, any)?;

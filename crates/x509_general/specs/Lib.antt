@@ -1,4 +1,5 @@
 pub mod Extensions
+pub mod GeneralTexts
 pub mod Names
 pub mod Reading
 pub mod Values

@@ -7,6 +7,8 @@ mod alternative;
 mod constraints;
 mod general_name;
 mod identifiers;
+mod maps;
+mod text;
 
 pub use crate::access::{AccessDescription, AuthorityInfoAccess, SubjectInfoAccess};
 pub use crate::alternative::{

@@ -2,9 +2,13 @@ pub mod Examples
 pub mod Fields
 pub mod Leaves
 pub mod Names
+pub mod NameTexts
 pub mod PublicKeys
 pub mod Reading
+pub mod TextAnswers
+pub mod TextExamples
 pub mod Texts
 pub mod View
+pub mod Writing
 pub use Rattle.x509_core.specs.Fronts
 pub use Rattle.x509_objects.specs.Identifiers

@@ -6,11 +6,15 @@ mod algorithm;
 mod attribute;
 mod attributes;
 mod key;
+mod labels;
 pub mod laws;
 mod leaves;
 mod name;
 mod public_key;
 mod relative;
+mod text;
+pub mod text_laws;
+mod value_text;
 
 pub use crate::algorithm::{AlgorithmIdentifier, algorithm_of, next_algorithm};
 pub use crate::attribute::{AttributeTypeAndValue, attribute_of};

@@ -1,3 +1,4 @@
+pub mod Grouping
 pub mod Policies
 pub mod Purposes
 pub mod Reading

@@ -2,10 +2,13 @@
 //! ignored, but where a type says so.
 #![tactic(auto)]
 
+mod grouping;
 mod mappings;
+mod maps;
 mod policies;
 mod purposes;
 
+pub use crate::grouping::add_to_group;
 pub use crate::mappings::{PolicyMapping, PolicyMappings};
 pub use crate::policies::{
     CertificatePolicies, PolicyInformation, PolicyQualifierInfo, certificate_policies,

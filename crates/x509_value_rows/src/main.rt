@@ -3,6 +3,8 @@
 //! The octets stand in hex. Empty lines and those that begin with `#` are printed as they stand.
 #![tactic(auto)]
 
+mod algorithms;
+mod leaves;
 mod row;
 mod told;
 

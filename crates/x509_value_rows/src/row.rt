@@ -1,5 +1,6 @@
 //! A row, taken apart.
 
+use crate::leaves::of_leaves;
 use crate::told::told_of;
 use asn1_traits::FromDer;
 use hex_rows::{literal, octets_of};
@@ -53,6 +54,6 @@ fn of_names(alloc: Global, name: &str, octets: &[u8]) -> io::Result<String> {
         "NameConstraints" => told_of(alloc, NameConstraints::from_der(alloc, octets)),
         "AuthorityInfoAccess" => told_of(alloc, AuthorityInfoAccess::from_der(alloc, octets)),
         "SubjectInfoAccess" => told_of(alloc, SubjectInfoAccess::from_der(alloc, octets)),
-        _ => literal(alloc, "no type"),
+        _ => of_leaves(alloc, name, octets),
     }
 }

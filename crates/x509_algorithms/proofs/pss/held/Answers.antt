@@ -1,0 +1,18 @@
+use Rattle.std.proofs.Common.{arith}
+use Rattle.asn1_core.proofs.Numbers.{octets_below}
+use Rattle.x509_core.proofs.Public.{gives_found, gives_only}
+use Rattle.x509_algorithms.specs.Parameters.{PssParts}
+use Rattle.x509_algorithms.specs.Reading.{pss_parts_at}
+use Rattle.x509_algorithms.specs.View.{pss_view}
+use Rattle.x509_algorithms.proofs.Laws.{pss_reading}
+use Rattle.x509_algorithms.proofs.pss.held.Goals as goal
+
+pub returns-clause-found : goal.returns-clause-found
+returns-clause-found c =
+    gives_found PssParts pss_parts_at pss_reading pss_view c.args.content.now c.parts.result
+    (octets_below c.args.content.now (λ k. omega (arith, c.type_inv.content k))) c.parts.ensures
+
+pub returns-clause-only : goal.returns-clause-only
+returns-clause-only c =
+    gives_only PssParts pss_parts_at pss_reading pss_view c.args.content.now c.parts.result
+    (octets_below c.args.content.now (λ k. omega (arith, c.type_inv.content k))) c.parts.ensures

@@ -1,0 +1,5 @@
+//! Algorithms of signatures, and the parameters of RSA's (RFC 3279, 2.2; RFC 8017, A.2).
+
+pub use x509_algorithms::{
+    MaskGenAlgorithm, RsaAesOaepParams, RsaSsaPssParams, SignatureAlgorithm,
+};
