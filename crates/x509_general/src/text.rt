@@ -43,11 +43,7 @@ fn write_address<W: fmt::Write>(octets: &[u8], f: &mut fmt::Formatter<W>) -> fmt
     f.write_str(")")
 }
 
-fn write_invalid<W: fmt::Write>(
-    tag: Tag,
-    octets: &[u8],
-    f: &mut fmt::Formatter<W>,
-) -> fmt::Result
+fn write_invalid<W: fmt::Write>(tag: Tag, octets: &[u8], f: &mut fmt::Formatter<W>) -> fmt::Result
     ensures { DisplaysOnOk W.write_str_gives f.old result
         (Some (codes "Invalid(tag=" ++ decimal tag.0 ++ codes ", data=" ++ serial_text octets.now ++ codes ")")) f.new }
 {

@@ -1,8 +1,12 @@
 //! What is so of texts.
 
-ghost use Rattle.std.specs.Prelude.{◌≡◌, ◌∷◌, [], ℕ, List, Some, None, codes};
+ghost use Rattle.std.specs.Prelude.{◌≡◌, ℕ, List, codes};
+ghost use Rattle.x509_names.specs.Fields.{Name};
 ghost use Rattle.x509_names.specs.NameTexts.{known_label, name_text, shown_name};
 ghost use Rattle.x509_names.specs.TextExamples as examples;
+ghost use Rattle.x509_objects.specs.Registry.{entry_of, abbreviated};
+ghost use Rattle.x509_objects.specs.Table.{known_entry};
+ghost use Rattle.x509_objects.specs.declared.registry.OidRegistry.{OidRegistry};
 
 /// Worked names and their texts.
 pub fn worked_texts()
@@ -11,4 +15,10 @@ pub fn worked_texts()
     ensures hex { shown_name examples.octets ≡ codes "OID(1.2.3)=0AFF" }
     ensures empty { shown_name examples.empty_sets ≡ codes "CN=Az, , CN=Az" }
     ensures fault { shown_name examples.fault ≡ codes "<X509Error: Invalid X.509 name>" }
+{}
+
+/// A name's text by the registry that `oid_registry` hands out is the one that it shows.
+pub fn known_registry()
+    ensures { (r : OidRegistry) → ((id : List ℕ) → entry_of r id ≡ known_entry id) → (n : Name)
+        → name_text (abbreviated r) n ≡ name_text known_label n }
 {}

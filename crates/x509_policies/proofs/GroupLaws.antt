@@ -35,7 +35,7 @@ pub added : {V : Type 0} (held : List ℕ → Option (List V)) (mid new : Option
     → new ≡ (if bytes_eq oid id then Some (values_or_none (held id) ++ x ∷ []) else held id)
 added held mid new oid id x before after was pushed gone put =
     added_by (bytes_eq oid id) mid new (held id) x after
-        (λ is. pushed ∙ ap (λ l. l ++ x ∷ []) was ∙ ap (λ k. values_or_none (held k) ++ x ∷ []) ((bytes_eq-Decides oid id).0 is)) gone put
+    (λ is. pushed ∙ ap (λ l. l ++ x ∷ []) was ∙ ap (λ k. values_or_none (held k) ++ x ∷ []) ((bytes_eq-Decides oid id).0 is)) gone put
 
 -- what is held, and the values that are left
 abbrev pub also_values : {A : Type 0} → Option (List A) → List A → Option (List A)

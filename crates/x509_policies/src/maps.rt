@@ -13,10 +13,7 @@ use std::collections::BTreeMap;
 impl<'a> PolicyMappings<'a> {
     /// The subject's policies by the issuer's: those of one issuer's policy in the order in which they stand. The keys ascend by
     /// their content octets.
-    pub fn as_hashmap(
-        &self,
-        alloc: Global,
-    ) -> Result<BTreeMap<Oid<'a>, Vec<&Oid<'a>>>, OutOfMemory>
+    pub fn as_hashmap(&self, alloc: Global) -> Result<BTreeMap<Oid<'a>, Vec<&Oid<'a>>>, OutOfMemory>
         ensures { IfOk result (Groups (λ o. o.now) (λ m. m.issuer_domain_policy) (λ m. m.subject_domain_policy) self.now.mappings.items) }
     {
         let mut groups = BTreeMap::new(alloc);
@@ -29,10 +26,7 @@ impl<'a> PolicyMappings<'a> {
     }
 
     /// The same of values handed over.
-    pub fn into_hashmap(
-        self,
-        alloc: Global,
-    ) -> Result<BTreeMap<Oid<'a>, Vec<Oid<'a>>>, OutOfMemory>
+    pub fn into_hashmap(self, alloc: Global) -> Result<BTreeMap<Oid<'a>, Vec<Oid<'a>>>, OutOfMemory>
         ensures { IfOk result (Groups (λ o. o) (λ m. m.issuer_domain_policy) (λ m. m.subject_domain_policy) self.entry.mappings.items) }
     {
         let mut groups = BTreeMap::new(alloc);
@@ -42,7 +36,12 @@ impl<'a> PolicyMappings<'a> {
                 issuer_domain_policy,
                 subject_domain_policy,
             } = mapping;
-            add_to_group(alloc, &mut groups, issuer_domain_policy, subject_domain_policy)?;
+            add_to_group(
+                alloc,
+                &mut groups,
+                issuer_domain_policy,
+                subject_domain_policy,
+            )?;
         }
         Ok(groups)
     }

@@ -10,7 +10,7 @@ loop-description-preserved c =
     λ id.
     let e : iter_rest c.loop-description.rest ≡ c.in-Some.description.now ∷ iter_rest c.next.new.self = search rules in
     grouped (λ n. n.now) (λ d. d.access_method) (λ d. d.access_location) c.in-Some.description.now _ c.in_ok-method.method (iter_rest c.next.new.self) id
-        (held_at c.loop-description.groups id) (held_at c.add_to_group.new.groups id) refl c.in_ok-method.ensures (c.in_ok-add_to_group.ensures id)
+    (held_at c.loop-description.groups id) (held_at c.add_to_group.new.groups id) refl c.in_ok-method.ensures (c.in_ok-add_to_group.ensures id)
     ∙ ap (λ l. also_values (option_map (map (λ n. n.now)) (held_at c.loop-description.groups id)) (values_of (λ d. d.access_method) (λ d. d.access_location) l id)) (sym e)
     ∙ c.loop-description.invariant id
 

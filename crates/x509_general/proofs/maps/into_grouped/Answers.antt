@@ -10,7 +10,7 @@ loop-description-preserved c =
     λ id.
     let e : into_iter_items c.loop-description.rest ≡ c.in-Some.description ∷ into_iter_items c.next.new.self = search rules in
     grouped (λ n. n) (λ d. d.access_method) (λ d. d.access_location) c.in-Some.description _ _ (into_iter_items c.next.new.self) id
-        (held_at c.loop-description.groups id) (held_at c.add_to_group.new.groups id) refl refl (c.in_ok-add_to_group.ensures id)
+    (held_at c.loop-description.groups id) (held_at c.add_to_group.new.groups id) refl refl (c.in_ok-add_to_group.ensures id)
     ∙ ap (λ l. also_values (option_map (map (λ n. n)) (held_at c.loop-description.groups id)) (values_of (λ d. d.access_method) (λ d. d.access_location) l id)) (sym e)
     ∙ c.loop-description.invariant id
 

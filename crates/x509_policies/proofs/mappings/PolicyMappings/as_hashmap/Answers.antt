@@ -10,7 +10,7 @@ loop-mapping-preserved c =
     λ id.
     let e : iter_rest c.loop-mapping.rest ≡ c.in-Some.mapping.now ∷ iter_rest c.next.new.self = search rules in
     grouped (λ o. o.now) (λ m. m.issuer_domain_policy) (λ m. m.subject_domain_policy) c.in-Some.mapping.now _ c.in_ok-issuer.issuer (iter_rest c.next.new.self) id
-        (held_at c.loop-mapping.groups id) (held_at c.add_to_group.new.groups id) refl c.in_ok-issuer.ensures (c.in_ok-add_to_group.ensures id)
+    (held_at c.loop-mapping.groups id) (held_at c.add_to_group.new.groups id) refl c.in_ok-issuer.ensures (c.in_ok-add_to_group.ensures id)
     ∙ ap (λ l. also_values (option_map (map (λ o. o.now)) (held_at c.loop-mapping.groups id)) (values_of (λ m. m.issuer_domain_policy) (λ m. m.subject_domain_policy) l id)) (sym e)
     ∙ c.loop-mapping.invariant id
 

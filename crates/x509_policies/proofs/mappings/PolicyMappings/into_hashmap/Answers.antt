@@ -10,7 +10,7 @@ loop-mapping-preserved c =
     λ id.
     let e : into_iter_items c.loop-mapping.rest ≡ c.in-Some.mapping ∷ into_iter_items c.next.new.self = search rules in
     grouped (λ o. o) (λ m. m.issuer_domain_policy) (λ m. m.subject_domain_policy) c.in-Some.mapping _ _ (into_iter_items c.next.new.self) id
-        (held_at c.loop-mapping.groups id) (held_at c.add_to_group.new.groups id) refl refl (c.in_ok-add_to_group.ensures id)
+    (held_at c.loop-mapping.groups id) (held_at c.add_to_group.new.groups id) refl refl (c.in_ok-add_to_group.ensures id)
     ∙ ap (λ l. also_values (option_map (map (λ o. o)) (held_at c.loop-mapping.groups id)) (values_of (λ m. m.issuer_domain_policy) (λ m. m.subject_domain_policy) l id)) (sym e)
     ∙ c.loop-mapping.invariant id
 
