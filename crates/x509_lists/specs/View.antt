@@ -4,7 +4,7 @@ use Rattle.std.specs.Int.Digits.{number_from_digits}
 use Rattle.asn1_unsigned.specs.Numbers.{number_of}
 use Rattle.x509_names.specs.View.{algorithm_view, name_view, bits_view}
 use Rattle.x509_time.specs.View.{time_view}
-use Rattle.x509_ext.specs.View.{extension_view}
+use Rattle.x509_ext.specs.View.{extension_view, WantsNoMemory}
 use Rattle.x509_lists.specs.Fields.{Entry, TbsList, RevocationList}
 use Rattle.x509_lists.specs.declared.entry.RevokedCertificate.{RevokedCertificate}
 use Rattle.x509_lists.specs.declared.tbs.TbsCertList.{TbsCertList}
@@ -16,6 +16,10 @@ entry_view e = record { serial = e.raw_serial.now; date = time_view e.revocation
 -- the serial number is that of its octets in base 256, the highest first, no octet being a sign
 abbrev pub HasSerial : RevokedCertificate → Type 0
 HasSerial e = number_of e.user_certificate ≡ number_from_digits 256 e.raw_serial.now
+
+-- where a value of its extensions is none of its type, why isn't want of memory
+abbrev pub EntryWantsNoMemory : RevokedCertificate → Type 0
+EntryWantsNoMemory e = All WantsNoMemory e.extensions.items
 
 abbrev pub tbs_view : TbsCertList → TbsList
 tbs_view t = record {
@@ -32,6 +36,10 @@ tbs_view t = record {
 -- each entry's is
 abbrev pub HaveSerials : TbsCertList → Type 0
 HaveSerials t = All HasSerial t.revoked_certificates.items
+
+-- nor of any of its entries
+abbrev pub EntriesWantNoMemory : TbsCertList → Type 0
+EntriesWantNoMemory t = All EntryWantsNoMemory t.revoked_certificates.items
 
 abbrev pub list_view : CertificateRevocationList → RevocationList
 list_view l = record { tbs = tbs_view l.tbs_cert_list; algorithm = algorithm_view l.signature_algorithm; signature_value = bits_view l.signature_value; raw = l.raw.now }

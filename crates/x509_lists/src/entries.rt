@@ -5,9 +5,9 @@ ghost use Rattle.asn1_core.specs.Counts.{attempts};
 ghost use Rattle.asn1_any.specs.Views.{any_of};
 ghost use Rattle.x509_core.specs.Answers.{Gives, ManyGive};
 ghost use Rattle.x509_core.specs.Reading.{many_of};
-ghost use Rattle.x509_ext.specs.Fields.{unread};
+ghost use Rattle.x509_ext.specs.Fields.{reading_of};
 ghost use Rattle.x509_lists.specs.Reading.{entry_at, entries_in, entries_at};
-ghost use Rattle.x509_lists.specs.View.{entry_view, HasSerial};
+ghost use Rattle.x509_lists.specs.View.{entry_view, HasSerial, EntryWantsNoMemory};
 
 use crate::entry::{RevokedCertificate, entry_of};
 use asn1_any::Element;
@@ -16,22 +16,24 @@ use std::alloc::Global;
 use x509_core::{Parts, X509Error, parts_of, renamed};
 use x509_values::copy_all;
 
-/// As many entries as begin there.
+/// As many entries as begin there, the values of their extensions parsed too where `deep` says so.
 fn each_entry<'a>(
     alloc: Global,
     parts: &mut Parts<'a>,
+    deep: bool,
     count: &mut HeaderCount,
 ) -> Result<Vec<RevokedCertificate<'a>>, Refusal<X509Error>>
     requires { attempts count.old + 3 * length parts.old.octets < 2 ^ 128 }
-    ensures read { ManyGive (λ v. map entry_view v.items) result (many_of (entry_at unread) parts.old.octets) parts.new.octets }
+    ensures read { ManyGive (λ v. map entry_view v.items) result (many_of (entry_at (reading_of deep)) parts.old.octets) parts.new.octets }
     ensures serials { IfOk result (λ v. All HasSerial v.items) }
+    ensures memory { IfOk result (λ v. All EntryWantsNoMemory v.items) }
     ensures grows { attempts count.old ≤ attempts count.new }
     ensures most { attempts count.new ≤ attempts count.old + 3 * length parts.old.octets }
     ensures shorter { length parts.new.octets ≤ length parts.old.octets }
 {
     let mut entries = Vec::new(alloc);
     while let Some(element) = parts.first() {
-        match entry_of(alloc, element, count) {
+        match entry_of(alloc, element, deep, count) {
             Ok(entry) => {
                 entries.push(entry)?;
                 parts.advance();
@@ -45,21 +47,23 @@ fn each_entry<'a>(
     Ok(entries)
 }
 
-/// The entries that an element holds, to its end.
+/// The entries that an element holds, to its end, read so too.
 #[tactic(auto, unfolding(crate::specs::Reading::entries_in))]
 fn entries_of<'a>(
     alloc: Global,
     element: Element<'a>,
+    deep: bool,
     count: &mut HeaderCount,
 ) -> Result<Vec<RevokedCertificate<'a>>, Refusal<X509Error>>
     requires { attempts count.old + 4 * length element.any.content.now < 2 ^ 128 }
-    ensures read { Gives (λ v. map entry_view v.items) result (entries_in unread (any_of element.entry.any)) }
+    ensures read { Gives (λ v. map entry_view v.items) result (entries_in (reading_of deep) (any_of element.entry.any)) }
     ensures serials { IfOk result (λ v. All HasSerial v.items) }
+    ensures memory { IfOk result (λ v. All EntryWantsNoMemory v.items) }
     ensures grows { attempts count.old ≤ attempts count.new }
     ensures most { attempts count.new ≤ attempts count.old + 4 * length element.entry.any.content.now }
 {
     let mut parts = parts_of(alloc, 16, element, count)?;
-    let entries = each_entry(alloc, &mut parts, count)?;
+    let entries = each_entry(alloc, &mut parts, deep, count)?;
     if parts.left().is_empty() {
         Ok(entries)
     } else {
@@ -67,17 +71,19 @@ fn entries_of<'a>(
     }
 }
 
-/// The entries at the front, none where no SEQUENCE is next. One that holds anything but entries is refused by
+/// The entries at the front, read so too, none where no SEQUENCE is next. One that holds anything but entries is refused by
 /// `InvalidExtensions`: extensions, which alone may stand there too, have another tag number.
 #[tactic(auto, unfolding(crate::specs::Reading::entries_at))]
 pub(crate) fn next_entries<'a>(
     alloc: Global,
     parts: &mut Parts<'a>,
+    deep: bool,
     count: &mut HeaderCount,
 ) -> Result<Vec<RevokedCertificate<'a>>, Refusal<X509Error>>
     requires { attempts count.old + 4 * length parts.old.octets < 2 ^ 128 }
-    ensures read { Gives (λ v. (map entry_view v.items, parts.new.octets)) result (entries_at unread parts.old.octets) }
+    ensures read { Gives (λ v. (map entry_view v.items, parts.new.octets)) result (entries_at (reading_of deep) parts.old.octets) }
     ensures serials { IfOk result (λ v. All HasSerial v.items) }
+    ensures memory { IfOk result (λ v. All EntryWantsNoMemory v.items) }
     ensures grows { attempts count.old ≤ attempts count.new }
     ensures ends { length parts.new.octets ≤ length parts.old.octets }
     ensures most { attempts count.new ≤ attempts count.old + 4 * length parts.old.octets }
@@ -89,7 +95,7 @@ pub(crate) fn next_entries<'a>(
     if element.any.tag().0 != 16 {
         return Ok(Vec::new(alloc));
     }
-    match entries_of(alloc, element, count) {
+    match entries_of(alloc, element, deep, count) {
         Ok(entries) => {
             parts.advance();
             Ok(entries)

@@ -1,18 +1,18 @@
 //! `RevokedCertificate`, an entry of a list (RFC 5280, 5.1.2.6 and 5.3).
 
-ghost use Rattle.std.specs.Prelude.{◌≡◌, ◌+◌, ◌*◌, ◌^◌, ◌<◌, ◌≤◌, length, IfOk, map, option_map, string_bytes};
+ghost use Rattle.std.specs.Prelude.{◌≡◌, ◌+◌, ◌*◌, ◌^◌, ◌<◌, ◌≤◌, length, All, IfOk, map, option_map, string_bytes};
 ghost use Rattle.std.specs.Slice.Iter.{iter_rest};
 ghost use Rattle.asn1_core.specs.Counts.{attempts};
 ghost use Rattle.asn1_any.specs.Views.{any_of};
 ghost use Rattle.x509_core.specs.Answers.{Gives, ManyGive};
 ghost use Rattle.x509_values.specs.Texts.{serial_text};
-ghost use Rattle.x509_ext.specs.Fields.{unread};
+ghost use Rattle.x509_ext.specs.Fields.{reading_of};
 ghost use Rattle.x509_ext.specs.Lookup.{all_of, first_of};
-ghost use Rattle.x509_ext.specs.View.{extension_view};
+ghost use Rattle.x509_ext.specs.View.{extension_view, WantsNoMemory};
 ghost use Rattle.x509_lists.specs.Lists.{or_none};
 ghost use Rattle.x509_lists.specs.Lookup.{reason_code_of, invalidity_date_of};
 ghost use Rattle.x509_lists.specs.Reading.{entry_in, entry_extensions_at};
-ghost use Rattle.x509_lists.specs.View.{entry_view, HasSerial};
+ghost use Rattle.x509_lists.specs.View.{entry_view, HasSerial, EntryWantsNoMemory};
 
 use asn1_any::Element;
 use asn1_core::{Err as Refusal, HeaderCount, OutOfMemory};
@@ -138,22 +138,25 @@ impl<'a> Copies for RevokedCertificate<'a> {
     }
 }
 
-/// The extensions of an entry at the front; none, and nothing read, where they aren't there or can't be read.
+/// The extensions of an entry at the front, their values parsed too where `deep` says so; none, and nothing read, where they aren't
+/// there or can't be read.
 #[tactic(auto, unfolding(crate::specs::Reading::entry_extensions_at))]
 fn entry_extensions<'a>(
     alloc: Global,
     parts: &mut Parts<'a>,
+    deep: bool,
     count: &mut HeaderCount,
 ) -> Result<Vec<X509Extension<'a>>, Refusal<X509Error>>
     requires { attempts count.old + 2 * length parts.old.octets < 2 ^ 128 }
-    ensures read { ManyGive (λ v. map extension_view v.items) result (entry_extensions_at unread parts.old.octets) parts.new.octets }
+    ensures read { ManyGive (λ v. map extension_view v.items) result (entry_extensions_at (reading_of deep) parts.old.octets) parts.new.octets }
+    ensures memory { IfOk result (λ v. All WantsNoMemory v.items) }
     ensures grows { attempts count.old ≤ attempts count.new }
     ensures most { attempts count.new ≤ attempts count.old + 2 * length parts.old.octets }
 {
     let Some(element) = parts.first() else {
         return Ok(Vec::new(alloc));
     };
-    match extension_list_of(alloc, element, count) {
+    match extension_list_of(alloc, element, deep, count) {
         Ok(extensions) => {
             parts.advance();
             Ok(extensions)
@@ -165,16 +168,18 @@ fn entry_extensions<'a>(
     }
 }
 
-/// The entry that an element is.
+/// The entry that an element is, the values of its extensions parsed too where `deep` says so.
 #[tactic(auto, unfolding(crate::specs::Reading::entry_in))]
 pub(crate) fn entry_of<'a>(
     alloc: Global,
     element: Element<'a>,
+    deep: bool,
     count: &mut HeaderCount,
 ) -> Result<RevokedCertificate<'a>, Refusal<X509Error>>
     requires { attempts count.old + 3 * length element.any.content.now < 2 ^ 128 }
-    ensures read { Gives entry_view result (entry_in unread (any_of element.entry.any)) }
+    ensures read { Gives entry_view result (entry_in (reading_of deep) (any_of element.entry.any)) }
     ensures serial { IfOk result HasSerial }
+    ensures memory { IfOk result EntryWantsNoMemory }
     ensures grows { attempts count.old ≤ attempts count.new }
     ensures most { attempts count.new ≤ attempts count.old + 3 * length element.entry.any.content.now }
 {
@@ -184,7 +189,7 @@ pub(crate) fn entry_of<'a>(
         Ok(time) => time,
         Err(refusal) => return Err(refusal),
     };
-    let extensions = entry_extensions(alloc, &mut parts, count)?;
+    let extensions = entry_extensions(alloc, &mut parts, deep, count)?;
     Ok(RevokedCertificate {
         user_certificate: UnsignedBytes::from_bytes_be(raw_serial),
         revocation_date,

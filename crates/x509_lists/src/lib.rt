@@ -1,5 +1,5 @@
 //! Certificate revocation lists (RFC 5280, 5.1), read leniently: the octets that a reader leaves in a container's content are
-//! ignored. The values of extensions aren't parsed yet.
+//! ignored. The values of extensions, of lists and of entries, are parsed by their types, except where a parser is told not to.
 #![tactic(auto)]
 
 mod entries;

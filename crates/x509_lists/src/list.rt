@@ -1,6 +1,6 @@
 //! `CertificateRevocationList` (RFC 5280, 5.1.1).
 
-ghost use Rattle.std.specs.Prelude.{◌≡◌, ◌+◌, ◌*◌, ◌^◌, ◌<◌, ◌≤◌, length, IfOk, map, option_map};
+ghost use Rattle.std.specs.Prelude.{◌≡◌, ◌+◌, ◌*◌, ◌^◌, ◌<◌, ◌≤◌, length, All, IfOk, map, option_map};
 ghost use Rattle.std.specs.Slice.Iter.{iter_rest};
 ghost use Rattle.asn1_core.specs.Counts.{attempts};
 ghost use Rattle.asn1_any.specs.CutViews.{piece_of};
@@ -8,10 +8,11 @@ ghost use Rattle.x509_core.specs.Answers.{Gives, naming};
 ghost use Rattle.x509_core.specs.declared.error.X509Error.TheVariants.{InvalidSignatureValue};
 ghost use Rattle.x509_names.specs.Reading.{bits_at};
 ghost use Rattle.x509_names.specs.View.{bits_view};
-ghost use Rattle.x509_ext.specs.Fields.{unread};
+ghost use Rattle.x509_ext.specs.Fields.{reading_of};
+ghost use Rattle.x509_ext.specs.View.{WantsNoMemory};
 ghost use Rattle.x509_lists.specs.Lookup.{crl_number_of};
 ghost use Rattle.x509_lists.specs.Reading.{list_in};
-ghost use Rattle.x509_lists.specs.View.{list_view, HaveSerials};
+ghost use Rattle.x509_lists.specs.View.{list_view, HaveSerials, EntriesWantNoMemory};
 
 use crate::entry::RevokedCertificate;
 use crate::tbs::{TbsCertList, next_tbs};
@@ -137,22 +138,25 @@ fn next_signature<'a>(
     named(next_bits(alloc, parts), X509Error::InvalidSignatureValue)
 }
 
-/// The list that an element is.
+/// The list that an element is, the values of extensions parsed too where `deep` says so.
 #[tactic(auto, unfolding(crate::specs::Reading::list_in))]
 pub(crate) fn list_of<'a>(
     alloc: Global,
     element: Element<'a>,
+    deep: bool,
     count: &mut HeaderCount,
 ) -> Result<CertificateRevocationList<'a>, Refusal<X509Error>>
     requires { attempts count.old + 8 * length element.any.content.now < 2 ^ 128 }
-    ensures read { Gives list_view result (list_in unread (piece_of element.entry)) }
+    ensures read { Gives list_view result (list_in (reading_of deep) (piece_of element.entry)) }
     ensures serials { IfOk result (λ l. HaveSerials l.tbs_cert_list) }
+    ensures memory { IfOk result (λ l. All WantsNoMemory l.tbs_cert_list.extensions.items) }
+    ensures entries { IfOk result (λ l. EntriesWantNoMemory l.tbs_cert_list) }
     ensures least { IfOk result (λ _. attempts count.old + 8 ≤ attempts count.new) }
     ensures grows { attempts count.old ≤ attempts count.new }
     ensures most { attempts count.new ≤ attempts count.old + 8 * length element.entry.any.content.now }
 {
     let mut parts = parts_of(alloc, 16, element, count)?;
-    let tbs_cert_list = next_tbs(alloc, &mut parts, count)?;
+    let tbs_cert_list = next_tbs(alloc, &mut parts, deep, count)?;
     let signature_algorithm = next_algorithm(alloc, &mut parts, count)?;
     let signature_value = next_signature(alloc, &mut parts)?;
     Ok(CertificateRevocationList {

@@ -1,6 +1,6 @@
 //! The parser of revocation lists, and the readers of lists, signed parts and entries.
 
-ghost use Rattle.std.specs.Prelude.{◌≡◌, ◌++◌, ◌+◌, ◌*◌, ◌^◌, ◌<◌, ◌≤◌, ℕ, List, true, length, IfOk};
+ghost use Rattle.std.specs.Prelude.{◌≡◌, ◌++◌, ◌+◌, ◌*◌, ◌^◌, ◌<◌, ◌≤◌, ℕ, List, true, length, All, IfOk};
 ghost use Rattle.asn1_core.specs.Counts.{attempts};
 ghost use Rattle.asn1_traits.specs.Elements.{EndsWithinElement};
 ghost use Rattle.asn1_traits.specs.Reads.{Reads};
@@ -8,11 +8,14 @@ ghost use Rattle.x509_core.specs.Answers.{Gives, ElseMemory};
 ghost use Rattle.x509_core.specs.Errors.{told};
 ghost use Rattle.x509_core.specs.Grammar.{Holds, HoldsWindow, HoldsWhole};
 ghost use Rattle.x509_names.specs.Fronts.{TellsMissing, one_rest};
-ghost use Rattle.x509_ext.specs.Fields.{IsUnparsed, unread};
+ghost use Rattle.x509_deep.specs.Parsed.{IsParsed};
+ghost use Rattle.x509_deep.specs.Reading.{deeply};
+ghost use Rattle.x509_ext.specs.Fields.{IsUnparsed, unread, meaning_of, reading_of};
+ghost use Rattle.x509_ext.specs.View.{WantsNoMemory};
 ghost use Rattle.x509_lists.specs.Lists as grammar;
 ghost use Rattle.x509_lists.specs.Fields.{Entry, TbsList, RevocationList};
 ghost use Rattle.x509_lists.specs.Reading.{entry_at, tbs_at, list_at};
-ghost use Rattle.x509_lists.specs.View.{entry_view, tbs_view, list_view, HasSerial, HaveSerials};
+ghost use Rattle.x509_lists.specs.View.{entry_view, tbs_view, list_view, HasSerial, HaveSerials, EntryWantsNoMemory, EntriesWantNoMemory};
 
 use crate::entry::{RevokedCertificate, entry_of};
 use crate::list::{CertificateRevocationList, list_of};
@@ -23,7 +26,7 @@ use std::alloc::Global;
 use x509_core::{X509Error, X509Result};
 use x509_names::whole_element;
 
-/// A parser of revocation lists. The values of extensions aren't parsed yet, whatever is asked for.
+/// A parser of revocation lists.
 #[derive(Clone, Copy, Debug)]
 pub struct CertificateRevocationListParser {
     deep_parse_extensions: bool,
@@ -57,25 +60,29 @@ impl CertificateRevocationListParser {
     /// `InvalidDate` of what is no time, `InvalidExtensions` where a header of another tag number than 0 stands in the place of
     /// extensions, or what is none, and `InvalidSignatureValue`. Entries that are none stand in that place, so they are
     /// `InvalidExtensions` too; an entry's extensions that are none are passed over. `Incomplete` exactly where the octets end
-    /// within the list.
+    /// within the list. A value of a known extension that its type refuses, of the list or of an entry, is
+    /// `ParsedExtension::ParseError`, and the list is read; want of memory within a value is a `Failure` of the whole.
     pub fn parse<'a>(
         &self,
         alloc: Global,
         i: &'a [u8],
     ) -> X509Result<'a, CertificateRevocationList<'a>>
-        ensures exact { Gives (λ r. (list_view r.1, r.0.now)) result (list_at unread i.now) }
+        ensures exact { Gives (λ r. (list_view r.1, r.0.now)) result (list_at (reading_of self.now.deep_parse_extensions) i.now) }
         ensures missing { TellsMissing i.now result }
         ensures window { IfOk result (λ r. i.now ≡ r.1.raw.now ++ r.0.now) }
         ensures serials { IfOk result (λ r. HaveSerials r.1.tbs_cert_list) }
-        ensures found { IfOk result (λ r. grammar.CertificateRevocationList IsUnparsed i.now (list_view r.1) r.0.now) }
-        ensures only { (v : RevocationList) (rest : List ℕ) → grammar.CertificateRevocationList IsUnparsed i.now v rest
+        ensures memory { IfOk result (λ r. All WantsNoMemory r.1.tbs_cert_list.extensions.items) }
+        ensures entries { IfOk result (λ r. EntriesWantNoMemory r.1.tbs_cert_list) }
+        ensures found { IfOk result (λ r. grammar.CertificateRevocationList (meaning_of self.now.deep_parse_extensions) i.now (list_view r.1) r.0.now) }
+        ensures only { (v : RevocationList) (rest : List ℕ) → grammar.CertificateRevocationList (meaning_of self.now.deep_parse_extensions) i.now v rest
             → ElseMemory result (λ r. (list_view r.1 ≡ v) × (r.0.now ≡ rest)) }
     {
-        list_at_front(alloc, i)
+        list_at_front(alloc, i, self.deep_parse_extensions)
     }
 
-    /// The answer of `parse`, and the header attempts that it took, in the count: at most eight for each octet, and at least
-    /// nine where there is a list.
+    /// The answer of `parse` of a parser without deep parsing, and the header attempts that it took, in the count: at most eight
+    /// for each octet, and at least nine where there is a list. The count is of the list's own headers: whatever the parser, the
+    /// values of extensions aren't looked into, and stay `ParsedExtension::Unparsed`.
     pub fn parse_counted<'a>(
         &self,
         alloc: Global,
@@ -87,6 +94,8 @@ impl CertificateRevocationListParser {
         ensures missing { TellsMissing i.now result }
         ensures window { IfOk result (λ r. i.now ≡ r.1.raw.now ++ r.0.now) }
         ensures serials { IfOk result (λ r. HaveSerials r.1.tbs_cert_list) }
+        ensures memory { IfOk result (λ r. All WantsNoMemory r.1.tbs_cert_list.extensions.items) }
+        ensures entries { IfOk result (λ r. EntriesWantNoMemory r.1.tbs_cert_list) }
         ensures found { IfOk result (λ r. grammar.CertificateRevocationList IsUnparsed i.now (list_view r.1) r.0.now) }
         ensures only { (v : RevocationList) (rest : List ℕ) → grammar.CertificateRevocationList IsUnparsed i.now v rest
             → ElseMemory result (λ r. (list_view r.1 ≡ v) × (r.0.now ≡ rest)) }
@@ -94,7 +103,7 @@ impl CertificateRevocationListParser {
         ensures grows { attempts count.old ≤ attempts count.new }
         ensures most { attempts count.new ≤ attempts count.old + 8 * length i.now }
     {
-        counted_list(alloc, i, count)
+        counted_list(alloc, i, false, count)
     }
 }
 
@@ -109,65 +118,71 @@ impl Default for CertificateRevocationListParser {
 }
 
 impl<'b> DerMeaning for CertificateRevocationList<'b> {
-    ghost der_reads = { λ i v r. grammar.CertificateRevocationList IsUnparsed i (list_view v) r };
+    ghost der_reads = { λ i v r. grammar.CertificateRevocationList IsParsed i (list_view v) r };
 
     ghost der_cut = { EndsWithinElement };
 
     ghost der_grows = { Unit {0} };
 
-    ghost one_rest = { λ i v w r s left right. one_rest (HoldsWhole 16 (grammar.ListParts IsUnparsed) (λ l. l.raw)) i (list_view v) (list_view w) r s left right };
+    ghost one_rest = { λ i v w r s left right. one_rest (HoldsWhole 16 (grammar.ListParts IsParsed) (λ l. l.raw)) i (list_view v) (list_view w) r s left right };
 }
 
 impl<'a> FromDer<'a, X509Error> for CertificateRevocationList<'a> {
     /// The list that begins the octets, behind those after it: `parse` of `CertificateRevocationListParser::new()`.
     fn from_der(alloc: Global, bytes: &'a [u8]) -> X509Result<'a, CertificateRevocationList<'a>>
         ensures reads { Reads (λ given e. e ≡ told given) (Unit {0}) EndsWithinElement (λ i. i.now)
-            (λ i v r. grammar.CertificateRevocationList IsUnparsed i (list_view v) r) bytes.now result }
-        ensures exact { Gives (λ r. (list_view r.1, r.0.now)) result (list_at unread bytes.now) }
+            (λ i v r. grammar.CertificateRevocationList IsParsed i (list_view v) r) bytes.now result }
+        ensures exact { Gives (λ r. (list_view r.1, r.0.now)) result (list_at deeply bytes.now) }
+        ensures missing { TellsMissing bytes.now result }
         ensures window { IfOk result (λ r. bytes.now ≡ r.1.raw.now ++ r.0.now) }
         ensures serials { IfOk result (λ r. HaveSerials r.1.tbs_cert_list) }
-        ensures found { IfOk result (λ r. grammar.CertificateRevocationList IsUnparsed bytes.now (list_view r.1) r.0.now) }
-        ensures only { (v : RevocationList) (rest : List ℕ) → grammar.CertificateRevocationList IsUnparsed bytes.now v rest
+        ensures memory { IfOk result (λ r. All WantsNoMemory r.1.tbs_cert_list.extensions.items) }
+        ensures entries { IfOk result (λ r. EntriesWantNoMemory r.1.tbs_cert_list) }
+        ensures found { IfOk result (λ r. grammar.CertificateRevocationList IsParsed bytes.now (list_view r.1) r.0.now) }
+        ensures only { (v : RevocationList) (rest : List ℕ) → grammar.CertificateRevocationList IsParsed bytes.now v rest
             → ElseMemory result (λ r. (list_view r.1 ≡ v) × (r.0.now ≡ rest)) }
     {
-        CertificateRevocationListParser::new().parse(alloc, bytes)
+        list_at_front(alloc, bytes, true)
     }
 }
 
 impl<'b> DerMeaning for TbsCertList<'b> {
-    ghost der_reads = { λ i v r. grammar.TbsCertList IsUnparsed i (tbs_view v) r };
+    ghost der_reads = { λ i v r. grammar.TbsCertList IsParsed i (tbs_view v) r };
 
     ghost der_cut = { EndsWithinElement };
 
     ghost der_grows = { Unit {0} };
 
-    ghost one_rest = { λ i v w r s left right. one_rest (HoldsWindow 16 (grammar.TbsParts IsUnparsed) (λ t. t.raw)) i (tbs_view v) (tbs_view w) r s left right };
+    ghost one_rest = { λ i v w r s left right. one_rest (HoldsWindow 16 (grammar.TbsParts IsParsed) (λ t. t.raw)) i (tbs_view v) (tbs_view w) r s left right };
 }
 
 impl<'a> FromDer<'a, X509Error> for TbsCertList<'a> {
     /// The signed part that begins the octets, behind those after it. It is refused as within a list.
     fn from_der(alloc: Global, bytes: &'a [u8]) -> X509Result<'a, TbsCertList<'a>>
         ensures reads { Reads (λ given e. e ≡ told given) (Unit {0}) EndsWithinElement (λ i. i.now)
-            (λ i v r. grammar.TbsCertList IsUnparsed i (tbs_view v) r) bytes.now result }
-        ensures exact { Gives (λ r. (tbs_view r.1, r.0.now)) result (tbs_at unread bytes.now) }
+            (λ i v r. grammar.TbsCertList IsParsed i (tbs_view v) r) bytes.now result }
+        ensures exact { Gives (λ r. (tbs_view r.1, r.0.now)) result (tbs_at deeply bytes.now) }
+        ensures missing { TellsMissing bytes.now result }
         ensures window { IfOk result (λ r. bytes.now ≡ r.1.raw.now ++ r.0.now) }
         ensures serials { IfOk result (λ r. HaveSerials r.1) }
-        ensures found { IfOk result (λ r. grammar.TbsCertList IsUnparsed bytes.now (tbs_view r.1) r.0.now) }
-        ensures only { (v : TbsList) (rest : List ℕ) → grammar.TbsCertList IsUnparsed bytes.now v rest
+        ensures memory { IfOk result (λ r. All WantsNoMemory r.1.extensions.items) }
+        ensures entries { IfOk result (λ r. EntriesWantNoMemory r.1) }
+        ensures found { IfOk result (λ r. grammar.TbsCertList IsParsed bytes.now (tbs_view r.1) r.0.now) }
+        ensures only { (v : TbsList) (rest : List ℕ) → grammar.TbsCertList IsParsed bytes.now v rest
             → ElseMemory result (λ r. (tbs_view r.1 ≡ v) × (r.0.now ≡ rest)) }
     {
-        tbs_at_front(alloc, bytes)
+        tbs_at_front(alloc, bytes, true)
     }
 }
 
 impl<'b> DerMeaning for RevokedCertificate<'b> {
-    ghost der_reads = { λ i v r. grammar.RevokedCertificate IsUnparsed i (entry_view v) r };
+    ghost der_reads = { λ i v r. grammar.RevokedCertificate IsParsed i (entry_view v) r };
 
     ghost der_cut = { EndsWithinElement };
 
     ghost der_grows = { Unit {0} };
 
-    ghost one_rest = { λ i v w r s left right. one_rest (Holds 16 (grammar.EntryParts IsUnparsed)) i (entry_view v) (entry_view w) r s left right };
+    ghost one_rest = { λ i v w r s left right. one_rest (Holds 16 (grammar.EntryParts IsParsed)) i (entry_view v) (entry_view w) r s left right };
 }
 
 impl<'a> FromDer<'a, X509Error> for RevokedCertificate<'a> {
@@ -175,14 +190,16 @@ impl<'a> FromDer<'a, X509Error> for RevokedCertificate<'a> {
     /// where no time stands behind that; extensions that are none are passed over.
     fn from_der(alloc: Global, bytes: &'a [u8]) -> X509Result<'a, RevokedCertificate<'a>>
         ensures reads { Reads (λ given e. e ≡ told given) (Unit {0}) EndsWithinElement (λ i. i.now)
-            (λ i v r. grammar.RevokedCertificate IsUnparsed i (entry_view v) r) bytes.now result }
-        ensures exact { Gives (λ r. (entry_view r.1, r.0.now)) result (entry_at unread bytes.now) }
+            (λ i v r. grammar.RevokedCertificate IsParsed i (entry_view v) r) bytes.now result }
+        ensures exact { Gives (λ r. (entry_view r.1, r.0.now)) result (entry_at deeply bytes.now) }
+        ensures missing { TellsMissing bytes.now result }
         ensures serial { IfOk result (λ r. HasSerial r.1) }
-        ensures found { IfOk result (λ r. grammar.RevokedCertificate IsUnparsed bytes.now (entry_view r.1) r.0.now) }
-        ensures only { (v : Entry) (rest : List ℕ) → grammar.RevokedCertificate IsUnparsed bytes.now v rest
+        ensures memory { IfOk result (λ r. EntryWantsNoMemory r.1) }
+        ensures found { IfOk result (λ r. grammar.RevokedCertificate IsParsed bytes.now (entry_view r.1) r.0.now) }
+        ensures only { (v : Entry) (rest : List ℕ) → grammar.RevokedCertificate IsParsed bytes.now v rest
             → ElseMemory result (λ r. (entry_view r.1 ≡ v) × (r.0.now ≡ rest)) }
     {
-        entry_at_front(alloc, bytes)
+        entry_at_front(alloc, bytes, true)
     }
 }
 
@@ -191,15 +208,17 @@ pub fn parse_x509_crl<'a>(
     alloc: Global,
     i: &'a [u8],
 ) -> X509Result<'a, CertificateRevocationList<'a>>
-    ensures exact { Gives (λ r. (list_view r.1, r.0.now)) result (list_at unread i.now) }
+    ensures exact { Gives (λ r. (list_view r.1, r.0.now)) result (list_at deeply i.now) }
     ensures missing { TellsMissing i.now result }
     ensures window { IfOk result (λ r. i.now ≡ r.1.raw.now ++ r.0.now) }
     ensures serials { IfOk result (λ r. HaveSerials r.1.tbs_cert_list) }
-    ensures found { IfOk result (λ r. grammar.CertificateRevocationList IsUnparsed i.now (list_view r.1) r.0.now) }
-    ensures only { (v : RevocationList) (rest : List ℕ) → grammar.CertificateRevocationList IsUnparsed i.now v rest
+    ensures memory { IfOk result (λ r. All WantsNoMemory r.1.tbs_cert_list.extensions.items) }
+    ensures entries { IfOk result (λ r. EntriesWantNoMemory r.1.tbs_cert_list) }
+    ensures found { IfOk result (λ r. grammar.CertificateRevocationList IsParsed i.now (list_view r.1) r.0.now) }
+    ensures only { (v : RevocationList) (rest : List ℕ) → grammar.CertificateRevocationList IsParsed i.now v rest
         → ElseMemory result (λ r. (list_view r.1 ≡ v) × (r.0.now ≡ rest)) }
 {
-    CertificateRevocationListParser::new().parse(alloc, i)
+    CertificateRevocationList::from_der(alloc, i)
 }
 
 /// The same by its older name.
@@ -207,62 +226,80 @@ pub fn parse_crl_der<'a>(
     alloc: Global,
     i: &'a [u8],
 ) -> X509Result<'a, CertificateRevocationList<'a>>
-    ensures exact { Gives (λ r. (list_view r.1, r.0.now)) result (list_at unread i.now) }
+    ensures exact { Gives (λ r. (list_view r.1, r.0.now)) result (list_at deeply i.now) }
     ensures missing { TellsMissing i.now result }
     ensures window { IfOk result (λ r. i.now ≡ r.1.raw.now ++ r.0.now) }
     ensures serials { IfOk result (λ r. HaveSerials r.1.tbs_cert_list) }
-    ensures found { IfOk result (λ r. grammar.CertificateRevocationList IsUnparsed i.now (list_view r.1) r.0.now) }
-    ensures only { (v : RevocationList) (rest : List ℕ) → grammar.CertificateRevocationList IsUnparsed i.now v rest
+    ensures memory { IfOk result (λ r. All WantsNoMemory r.1.tbs_cert_list.extensions.items) }
+    ensures entries { IfOk result (λ r. EntriesWantNoMemory r.1.tbs_cert_list) }
+    ensures found { IfOk result (λ r. grammar.CertificateRevocationList IsParsed i.now (list_view r.1) r.0.now) }
+    ensures only { (v : RevocationList) (rest : List ℕ) → grammar.CertificateRevocationList IsParsed i.now v rest
         → ElseMemory result (λ r. (list_view r.1 ≡ v) × (r.0.now ≡ rest)) }
 {
     parse_x509_crl(alloc, i)
 }
 
-fn entry_at_front<'a>(alloc: Global, i: &'a [u8]) -> X509Result<'a, RevokedCertificate<'a>>
-    ensures exact { Gives (λ r. (entry_view r.1, r.0.now)) result (entry_at unread i.now) }
+fn entry_at_front<'a>(
+    alloc: Global,
+    i: &'a [u8],
+    deep: bool,
+) -> X509Result<'a, RevokedCertificate<'a>>
+    ensures exact { Gives (λ r. (entry_view r.1, r.0.now)) result (entry_at (reading_of deep) i.now) }
     ensures missing { TellsMissing i.now result }
     ensures serial { IfOk result (λ r. HasSerial r.1) }
+    ensures memory { IfOk result (λ r. EntryWantsNoMemory r.1) }
 {
     let mut count = HeaderCount::new();
     let (rest, element) = whole_element(i, &mut count)?;
-    match entry_of(alloc, element, &mut count) {
+    match entry_of(alloc, element, deep, &mut count) {
         Ok(entry) => Ok((rest, entry)),
         Err(refusal) => Err(Refusal::within(refusal)),
     }
 }
 
-fn tbs_at_front<'a>(alloc: Global, i: &'a [u8]) -> X509Result<'a, TbsCertList<'a>>
-    ensures exact { Gives (λ r. (tbs_view r.1, r.0.now)) result (tbs_at unread i.now) }
+fn tbs_at_front<'a>(alloc: Global, i: &'a [u8], deep: bool) -> X509Result<'a, TbsCertList<'a>>
+    ensures exact { Gives (λ r. (tbs_view r.1, r.0.now)) result (tbs_at (reading_of deep) i.now) }
     ensures missing { TellsMissing i.now result }
     ensures serials { IfOk result (λ r. HaveSerials r.1) }
+    ensures memory { IfOk result (λ r. All WantsNoMemory r.1.extensions.items) }
+    ensures entries { IfOk result (λ r. EntriesWantNoMemory r.1) }
 {
     let mut count = HeaderCount::new();
     let (rest, element) = whole_element(i, &mut count)?;
-    match tbs_of(alloc, element, &mut count) {
+    match tbs_of(alloc, element, deep, &mut count) {
         Ok(tbs) => Ok((rest, tbs)),
         Err(refusal) => Err(Refusal::within(refusal)),
     }
 }
 
-fn list_at_front<'a>(alloc: Global, i: &'a [u8]) -> X509Result<'a, CertificateRevocationList<'a>>
-    ensures exact { Gives (λ r. (list_view r.1, r.0.now)) result (list_at unread i.now) }
+fn list_at_front<'a>(
+    alloc: Global,
+    i: &'a [u8],
+    deep: bool,
+) -> X509Result<'a, CertificateRevocationList<'a>>
+    ensures exact { Gives (λ r. (list_view r.1, r.0.now)) result (list_at (reading_of deep) i.now) }
     ensures missing { TellsMissing i.now result }
     ensures serials { IfOk result (λ r. HaveSerials r.1.tbs_cert_list) }
+    ensures memory { IfOk result (λ r. All WantsNoMemory r.1.tbs_cert_list.extensions.items) }
+    ensures entries { IfOk result (λ r. EntriesWantNoMemory r.1.tbs_cert_list) }
 {
     let mut count = HeaderCount::new();
-    counted_list(alloc, i, &mut count)
+    counted_list(alloc, i, deep, &mut count)
 }
 
 // Of no octets no header is tried, so that the count may be as high as it gets.
 fn counted_list<'a>(
     alloc: Global,
     i: &'a [u8],
+    deep: bool,
     count: &mut HeaderCount,
 ) -> X509Result<'a, CertificateRevocationList<'a>>
     requires { attempts count.old + 8 * length i.now < 2 ^ 128 }
-    ensures exact { Gives (λ r. (list_view r.1, r.0.now)) result (list_at unread i.now) }
+    ensures exact { Gives (λ r. (list_view r.1, r.0.now)) result (list_at (reading_of deep) i.now) }
     ensures missing { TellsMissing i.now result }
     ensures serials { IfOk result (λ r. HaveSerials r.1.tbs_cert_list) }
+    ensures memory { IfOk result (λ r. All WantsNoMemory r.1.tbs_cert_list.extensions.items) }
+    ensures entries { IfOk result (λ r. EntriesWantNoMemory r.1.tbs_cert_list) }
     ensures least { IfOk result (λ _. attempts count.old + 9 ≤ attempts count.new) }
     ensures grows { attempts count.old ≤ attempts count.new }
     ensures most { attempts count.new ≤ attempts count.old + 8 * length i.now }
@@ -271,7 +308,7 @@ fn counted_list<'a>(
         return Err(Refusal::Incomplete(Needed::Size(1)));
     }
     let (rest, element) = whole_element(i, count)?;
-    match list_of(alloc, element, count) {
+    match list_of(alloc, element, deep, count) {
         Ok(list) => Ok((rest, list)),
         Err(refusal) => Err(Refusal::within(refusal)),
     }

@@ -1,14 +1,15 @@
 //! The signed part of a revocation list (RFC 5280, 5.1.2).
 
-ghost use Rattle.std.specs.Prelude.{◌≡◌, ◌+◌, ◌*◌, ◌^◌, ◌<◌, ◌≤◌, length, IfOk, map, option_map};
+ghost use Rattle.std.specs.Prelude.{◌≡◌, ◌+◌, ◌*◌, ◌^◌, ◌<◌, ◌≤◌, length, All, IfOk, map, option_map};
 ghost use Rattle.std.specs.Slice.Iter.{iter_rest};
 ghost use Rattle.asn1_core.specs.Counts.{attempts};
 ghost use Rattle.asn1_any.specs.CutViews.{piece_of};
 ghost use Rattle.x509_core.specs.Answers.{Gives};
-ghost use Rattle.x509_ext.specs.Fields.{unread};
+ghost use Rattle.x509_ext.specs.Fields.{reading_of};
 ghost use Rattle.x509_ext.specs.Lookup.{all_of, first_of};
+ghost use Rattle.x509_ext.specs.View.{WantsNoMemory};
 ghost use Rattle.x509_lists.specs.Reading.{version_at, tbs_in, tbs_at};
-ghost use Rattle.x509_lists.specs.View.{tbs_view, HaveSerials};
+ghost use Rattle.x509_lists.specs.View.{tbs_view, HaveSerials, EntriesWantNoMemory};
 
 use crate::entries::{copy_entries, next_entries};
 use crate::entry::RevokedCertificate;
@@ -107,16 +108,19 @@ fn next_version(parts: &mut Parts<'_>) -> Option<X509Version>
     Some(version)
 }
 
-/// The signed part that an element is.
+/// The signed part that an element is, the values of extensions parsed too where `deep` says so.
 #[tactic(auto, unfolding(crate::specs::Reading::tbs_in))]
 pub(crate) fn tbs_of<'a>(
     alloc: Global,
     element: Element<'a>,
+    deep: bool,
     count: &mut HeaderCount,
 ) -> Result<TbsCertList<'a>, Refusal<X509Error>>
     requires { attempts count.old + 7 * length element.any.content.now < 2 ^ 128 }
-    ensures read { Gives tbs_view result (tbs_in unread (piece_of element.entry)) }
+    ensures read { Gives tbs_view result (tbs_in (reading_of deep) (piece_of element.entry)) }
     ensures serials { IfOk result HaveSerials }
+    ensures memory { IfOk result (λ t. All WantsNoMemory t.extensions.items) }
+    ensures entries { IfOk result EntriesWantNoMemory }
     ensures least { IfOk result (λ _. attempts count.old + 4 ≤ attempts count.new) }
     ensures grows { attempts count.old ≤ attempts count.new }
     ensures most { attempts count.new ≤ attempts count.old + 7 * length element.entry.any.content.now }
@@ -133,8 +137,8 @@ pub(crate) fn tbs_of<'a>(
         Ok(time) => time,
         Err(refusal) => return Err(refusal),
     };
-    let revoked_certificates = next_entries(alloc, &mut parts, count)?;
-    let extensions = extensions_of(alloc, 0, parts.left(), count)?;
+    let revoked_certificates = next_entries(alloc, &mut parts, deep, count)?;
+    let extensions = extensions_of(alloc, 0, parts.left(), deep, count)?;
     Ok(TbsCertList {
         version,
         signature,
@@ -147,15 +151,18 @@ pub(crate) fn tbs_of<'a>(
     })
 }
 
-/// The signed part at the front.
+/// The signed part at the front, read so too.
 pub(crate) fn next_tbs<'a>(
     alloc: Global,
     parts: &mut Parts<'a>,
+    deep: bool,
     count: &mut HeaderCount,
 ) -> Result<TbsCertList<'a>, Refusal<X509Error>>
     requires { attempts count.old + 7 * length parts.old.octets < 2 ^ 128 }
-    ensures read { Gives (λ v. (tbs_view v, parts.new.octets)) result (tbs_at unread parts.old.octets) }
+    ensures read { Gives (λ v. (tbs_view v, parts.new.octets)) result (tbs_at (reading_of deep) parts.old.octets) }
     ensures serials { IfOk result HaveSerials }
+    ensures memory { IfOk result (λ t. All WantsNoMemory t.extensions.items) }
+    ensures entries { IfOk result EntriesWantNoMemory }
     ensures elements { IfOk result (λ _. parts.old.elements ≡ parts.new.elements + 1) }
     ensures least { IfOk result (λ _. attempts count.old + 4 ≤ attempts count.new) }
     ensures grows { attempts count.old ≤ attempts count.new }
@@ -163,5 +170,5 @@ pub(crate) fn next_tbs<'a>(
     ensures most { attempts count.new + 7 * length parts.new.octets ≤ attempts count.old + 7 * length parts.old.octets }
 {
     let element = parts.next()?;
-    tbs_of(alloc, element, count)
+    tbs_of(alloc, element, deep, count)
 }
