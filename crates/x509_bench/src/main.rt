@@ -1,6 +1,6 @@
 //! Reads a file as one certificate or revocation list behind the other, and says how many there were. Words: `typed` for
-//! `X509Certificate::from_der`, `list` for `CertificateRevocationList::from_der`, `tree` for `read_tree` or `road` for `read_typed`,
-//! then the file.
+//! `X509Certificate::from_der`, `plain` for a parser that leaves the values of extensions unparsed, `list` for
+//! `CertificateRevocationList::from_der`, `tree` for `read_tree` or `road` for `read_typed`, then the file.
 #![tactic(auto)]
 
 use anyhow::{Context, Result, bail};
@@ -10,13 +10,13 @@ use certcheck::{ItemClass, read_tree};
 use certpath_typed::read_typed;
 use std::alloc::Global;
 use std::{env, fs};
-use x509_certs::X509Certificate;
+use x509_certs::{X509Certificate, X509CertificateParser};
 use x509_lists::CertificateRevocationList;
 
 fn main(rt: HostRuntime) -> Result<()> {
     let mut words = env::args(&rt)?.skip(1);
     let (Some(reader), Some(name)) = (words.next(), words.next()) else {
-        bail!("two words are wanted: typed, list, tree or road, and a file");
+        bail!("two words are wanted: typed, plain, list, tree or road, and a file");
     };
     let octets = fs::read(&rt, name.as_str()).context(format_args!("reading {name:?}"))?;
     let count = count_items(rt.alloc(), reader.as_str(), octets.as_slice())?;
@@ -33,9 +33,10 @@ fn count_items(alloc: Global, reader: &str, octets: &[u8]) -> Result<usize> {
         }
         let after = match reader {
             "typed" => after_certificate(alloc, rest),
+            "plain" => after_plain(alloc, rest),
             "list" => after_list(alloc, rest),
             "tree" | "road" => after_item(alloc, reader, rest),
-            _ => bail!("the first word is typed, list, tree or road"),
+            _ => bail!("the first word is typed, plain, list, tree or road"),
         };
         let Some(after) = after else {
             bail!("no item begins {} octets before the end", rest.len());
@@ -48,6 +49,15 @@ fn count_items(alloc: Global, reader: &str, octets: &[u8]) -> Result<usize> {
 /// What is left behind a certificate, read as its types.
 fn after_certificate(alloc: Global, octets: &[u8]) -> Option<&[u8]> {
     match X509Certificate::from_der(alloc, octets) {
+        Ok((rest, _)) => Some(rest),
+        Err(_) => None,
+    }
+}
+
+/// What is left behind a certificate, read as its types, the values of its extensions unparsed.
+fn after_plain(alloc: Global, octets: &[u8]) -> Option<&[u8]> {
+    let parser = X509CertificateParser::new().with_deep_parse_extensions(false);
+    match parser.parse(alloc, octets) {
         Ok((rest, _)) => Some(rest),
         Err(_) => None,
     }
