@@ -1,5 +1,5 @@
 -- Key identifiers by the first octets of their elements.
-use Rattle.std.proofs.Common.{◌≡◌, ◌∙◌, sym, ap, refl, subst, ℕ, ◌+◌, ◌/◌, ◌%◌, ◌==◌, ◌<◌, ◌≤◌, List, [], ◌∷◌, ◌++◌, Bool, true, false, length, arith, nat_lt, if◌then◌else◌, length-append, append_assoc, inl, inr, ◌⊎◌, lit<, get_or, Option, Some, None, IfSome}
+use Rattle.std.proofs.Common.{◌≡◌, ◌∙◌, sym, ap, refl, subst, ℕ, ◌+◌, ◌^◌, ◌/◌, ◌%◌, ◌==◌, ◌<◌, ◌≤◌, List, [], ◌∷◌, ◌++◌, Bool, true, false, length, arith, nat_lt, if◌then◌else◌, length-append, append_assoc, inl, inr, ◌⊎◌, lit<, get_or, Option, Some, None, IfSome}
 use Rattle.std.specs.List.{All, flat_map, AllByRecursion}
 use Rattle.std.proofs.Math.Seq.{get_or-append_seam}
 use Rattle.std.proofs.lemmas.Bool.{ltb-true}
@@ -18,6 +18,10 @@ use Rattle.cert_model.specs.Octets.{sequence_octets, primitive_octets}
 use Rattle.cert_model.specs.Fields.{Identifier, Extension}
 use Rattle.cert_model.specs.KeyIds.{IsFirstUnder, key_identifier_octets, BeginsWithKeyId}
 use Rattle.cert_model.proofs.Bounds.{IsShort, cut_short, element_in}
+use Rattle.asn1_traits.specs.Leaves.{LeafMeans}
+use Rattle.x509_core.specs.Grammar.{One}
+use Rattle.x509_core.specs.Leaves.{IsOctets}
+use Rattle.x509_links.proofs.Strict.{one_strict}
 use Rattle.certpath_find.specs.Contents.{HasContent}
 
 -- an element is what its first octet says
@@ -171,6 +175,25 @@ own_only s id small is =
       (e, cut, table.plain table.octet_string (record { class = refl; constructed = refl; tag = refl }) tt),
       reads s [] 4 (behind_first (length id) id []) e fits.0 whole (whole ∙ spelled_first 0 false 4 id [] refl),
     )
+
+-- what the lenient reader takes under the first octet of an octet string, and that it takes each strict one
+pub octets_found : (s content rest after : List ℕ) → One IsOctets s content rest → s ≡ 4 ∷ after → HasContent 4 s content
+octets_found s content rest after is under = record {
+  element = is.piece.element;
+  rest = rest;
+  begins = record { front = is.piece.octets; spells = is.spells; whole = is.whole };
+  holds = sym is.means.meant;
+  after = after;
+  under = under;
+}
+
+pub octets_only : (s content : List ℕ) → length s ≤ 4_294_967_295 → s ≡ primitive_octets 4 content → One IsOctets s content []
+octets_only s content small is =
+    let e = element 0 false 4 content in
+    let short : length (element_octets e) < 2 ^ 64 = omega (arith, small, ap length is) in
+    let whole : element_octets e ++ [] ≡ s = append-nil (element_octets e) ∙ sym is in
+    subst (λ (z : List ℕ). One IsOctets z content []) whole
+    (one_strict IsOctets e content [] (lit< tt) (lit< tt) short (record { leaf = record { tag_is = refl; primitive = refl }; meant = refl }))
 
 -- a value of short extensions is short
 pub first_small : (identifier : Identifier) (es : List Extension) (value : List ℕ) → All (λ (e : Extension). length e.value ≤ 4_294_967_295) es → IsFirstUnder identifier es value → length value ≤ 4_294_967_295

@@ -5,15 +5,18 @@ ghost use Rattle.der_tree.specs.Object.{IsDerObject};
 ghost use Rattle.cert_model.specs.Extended.{under_ce};
 ghost use Rattle.cert_model.specs.Fields.{Extension};
 ghost use Rattle.cert_model.specs.KeyIds.{IsFirstUnder, IsAuthorityKeyId, IsSubjectKeyId};
+ghost use Rattle.cert_model.specs.Octets.{primitive_octets};
 ghost use Rattle.cert_model.specs.View.{ext_view, certificate_view};
 ghost use Rattle.certpath_find.specs.Contents.{HasContent};
 
 use asn1_any::Any;
 use asn1_core::{Err as Refusal, OutOfMemory};
+use asn1_traits::FromDer;
 use cert_model::fields::{CertFields, ExtField};
 use cert_model::identifiers::{AUTHORITY_KEY_IDENTIFIER, SUBJECT_KEY_IDENTIFIER, is_ce};
 use der_tree::{MAX_RECURSION, parse_der_recursive};
 use std::alloc::Global;
+use x509_flags::KeyIdentifier;
 
 /// The first octet of a SEQUENCE, of an OCTET STRING, and of what stands under [0] without parts (X.690, 8.1.2).
 const SEQUENCE: u8 = 0x30;
@@ -62,6 +65,20 @@ fn content_under<'a>(first: u8, octets: &'a [u8]) -> Option<&'a [u8]>
     Some(element.content)
 }
 
+/// The content of the OCTET STRING that begins the octets, where its first octet is that of a universal one without parts.
+fn octets_at<'a>(alloc: Global, octets: &'a [u8]) -> Option<&'a [u8]>
+    ensures found { IfSome result (λ content. HasContent 4 octets.now content.now) }
+    ensures only { (content : List ℕ) → length octets.now ≤ 4_294_967_295 → octets.now ≡ primitive_octets 4 content → IsSomeAnd result (λ r. r.now ≡ content) }
+{
+    if !octets.starts_with(&[OCTET_STRING]) {
+        return None;
+    }
+    let Ok((_, id)) = KeyIdentifier::from_der(alloc, octets) else {
+        return None;
+    };
+    Some(id.0)
+}
+
 /// The key identifier that a certificate names for its issuer (RFC 5280, 4.2.1.1): the content of the first element of the first
 /// authorityKeyIdentifier value, where that value is a DER object and the element is a [0] without parts.
 pub(crate) fn named_key_id<'a>(
@@ -99,5 +116,5 @@ pub(crate) fn own_key_id<'a>(
     if !is_object(alloc, value)? {
         return Ok(None);
     }
-    Ok(content_under(OCTET_STRING, value))
+    Ok(octets_at(alloc, value))
 }

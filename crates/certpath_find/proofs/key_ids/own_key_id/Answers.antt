@@ -1,4 +1,4 @@
-use Rattle.std.proofs.Common.{subst, sym}
+use Rattle.std.proofs.Common.{ℕ, List, length, ◌≤◌, ◌∙◌, subst, sym}
 use Rattle.der_tree.specs.Object.{IsDerObject}
 use Rattle.cert_model.specs.KeyIds.{IsSubjectKeyId}
 use Rattle.cert_model.specs.View.{certificate_view}
@@ -22,15 +22,15 @@ returns-then-not-branch-clause-only c = λ id a.
 pub returns-clause-found : goal.returns-clause-found
 returns-clause-found c =
     let object = c.in_ok-is_object.ensures.0 (cc c.if-not-branch.false) in
-    some_weaker c.content_under.result (λ id. HasContent 4 c.in-Some.value.now id.now) (λ id. IsSubjectKeyId (certificate_view c.args.fields.now) id.now)
+    some_weaker c.octets_at.result (λ id. HasContent 4 c.in-Some.value.now id.now) (λ id. IsSubjectKeyId (certificate_view c.args.fields.now) id.now)
     (λ id h. record {
       value = c.in-Some.value.now;
       stands = rw c.deref.ensures.value at c.in-Some.ensures.found;
       spelled = own_found c.in-Some.value.now id.now object h;
-    }) c.content_under.ensures.found
+    }) c.octets_at.ensures.found
 
 pub returns-clause-only : goal.returns-clause-only
 returns-clause-only c = λ id a.
     let same = one_value subject_key_identifier _ _ _ c.in-Some.ensures.found (rw c.deref.ensures.value a.stands) in
-    let own = own_only a.value id (first_small subject_key_identifier _ a.value c.requires.small a.stands) a.spelled in
-    c.content_under.ensures.only id (subst (λ z. HasContent 4 z id) (sym same) own.1)
+    let small = first_small subject_key_identifier _ a.value c.requires.small a.stands in
+    c.octets_at.ensures.only id (subst (λ (z : List ℕ). length z ≤ 4_294_967_295) (sym same) small) (same ∙ a.spelled)
