@@ -1,5 +1,6 @@
 pub mod Certificates
 pub mod Examples
 pub mod Fields
+pub mod Getters
 pub mod Reading
 pub mod View

@@ -1,6 +1,6 @@
 //! `X509Certificate` (RFC 5280, 4.1.1).
 
-ghost use Rattle.std.specs.Prelude.{◌≡◌, ◌+◌, ◌*◌, ◌^◌, ◌<◌, ◌≤◌, length, IfOk, option_map, string_bytes};
+ghost use Rattle.std.specs.Prelude.{◌≡◌, ◌+◌, ◌*◌, ◌^◌, ◌<◌, ◌≤◌, length, All, IfOk, option_map, string_bytes};
 ghost use Rattle.std.specs.Slice.Iter.{iter_rest};
 ghost use Rattle.asn1_core.specs.Counts.{attempts};
 ghost use Rattle.asn1_any.specs.CutViews.{piece_of};
@@ -9,8 +9,9 @@ ghost use Rattle.x509_core.specs.declared.error.X509Error.TheVariants.{InvalidSi
 ghost use Rattle.x509_names.specs.Reading.{bits_at};
 ghost use Rattle.x509_names.specs.View.{bits_view};
 ghost use Rattle.x509_values.specs.Texts.{serial_text};
-ghost use Rattle.x509_ext.specs.Fields.{unread};
+ghost use Rattle.x509_ext.specs.Fields.{reading_of};
 ghost use Rattle.x509_ext.specs.Lookup.{all_of, first_of, only_of, seen};
+ghost use Rattle.x509_ext.specs.View.{WantsNoMemory};
 ghost use Rattle.x509_certs.specs.Reading.{certificate_in};
 ghost use Rattle.x509_certs.specs.View.{certificate_view, HasSerial};
 
@@ -159,22 +160,24 @@ fn next_signature<'a>(
     named(next_bits(alloc, parts), X509Error::InvalidSignatureValue)
 }
 
-/// The certificate that an element is.
+/// The certificate that an element is, the values of extensions parsed too where `deep` says so.
 #[tactic(auto, unfolding(crate::specs::Reading::certificate_in))]
 pub(crate) fn certificate_of<'a>(
     alloc: Global,
     element: Element<'a>,
+    deep: bool,
     count: &mut HeaderCount,
 ) -> Result<X509Certificate<'a>, Refusal<X509Error>>
     requires { attempts count.old + 8 * length element.any.content.now < 2 ^ 128 }
-    ensures read { Gives certificate_view result (certificate_in unread (piece_of element.entry)) }
+    ensures read { Gives certificate_view result (certificate_in (reading_of deep) (piece_of element.entry)) }
     ensures serial { IfOk result (λ c. HasSerial c.tbs_certificate) }
+    ensures memory { IfOk result (λ c. All WantsNoMemory c.tbs_certificate.extensions.items) }
     ensures least { IfOk result (λ _. attempts count.old + 16 ≤ attempts count.new) }
     ensures grows { attempts count.old ≤ attempts count.new }
     ensures most { attempts count.new ≤ attempts count.old + 8 * length element.entry.any.content.now }
 {
     let mut parts = parts_of(alloc, 16, element, count)?;
-    let tbs_certificate = next_tbs(alloc, &mut parts, count)?;
+    let tbs_certificate = next_tbs(alloc, &mut parts, deep, count)?;
     let signature_algorithm = next_algorithm(alloc, &mut parts, count)?;
     let signature_value = next_signature(alloc, &mut parts)?;
     Ok(X509Certificate {

@@ -1,8 +1,8 @@
-//! Certificates (RFC 5280, 4.1), read leniently: the octets that a reader leaves in a container's content are ignored. The
-//! values of extensions aren't parsed yet.
+//! Certificates (RFC 5280, 4.1), read leniently: the octets that a reader leaves in a container's content are ignored.
 #![tactic(auto)]
 
 mod certificate;
+mod getters;
 pub mod laws;
 mod parser;
 mod tbs;

@@ -1,6 +1,6 @@
 //! The parsers of certificates and of their signed parts.
 
-ghost use Rattle.std.specs.Prelude.{◌≡◌, ◌++◌, ◌+◌, ◌*◌, ◌^◌, ◌<◌, ◌≤◌, ℕ, List, true, length, IfOk};
+ghost use Rattle.std.specs.Prelude.{◌≡◌, ◌++◌, ◌+◌, ◌*◌, ◌^◌, ◌<◌, ◌≤◌, ℕ, List, true, length, All, IfOk};
 ghost use Rattle.asn1_core.specs.Counts.{attempts};
 ghost use Rattle.asn1_traits.specs.Elements.{EndsWithinElement};
 ghost use Rattle.asn1_traits.specs.Reads.{Reads};
@@ -8,7 +8,10 @@ ghost use Rattle.x509_core.specs.Answers.{Gives, ElseMemory};
 ghost use Rattle.x509_core.specs.Errors.{told};
 ghost use Rattle.x509_core.specs.Grammar.{HoldsWindow, HoldsWhole};
 ghost use Rattle.x509_core.specs.Fronts.{TellsMissing, one_rest};
-ghost use Rattle.x509_ext.specs.Fields.{IsUnparsed, unread};
+ghost use Rattle.x509_deep.specs.Parsed.{IsParsed};
+ghost use Rattle.x509_deep.specs.Reading.{deeply};
+ghost use Rattle.x509_ext.specs.Fields.{IsUnparsed, unread, meaning_of, reading_of};
+ghost use Rattle.x509_ext.specs.View.{WantsNoMemory};
 ghost use Rattle.x509_certs.specs.Certificates as grammar;
 ghost use Rattle.x509_certs.specs.Fields.{Tbs, Certificate};
 ghost use Rattle.x509_certs.specs.Reading.{tbs_at, certificate_at};
@@ -21,7 +24,7 @@ use asn1_traits::{DerMeaning, FromDer};
 use std::alloc::Global;
 use x509_core::{X509Error, X509Result, front_element};
 
-/// A parser of certificates. The values of extensions aren't parsed yet, whatever is asked for.
+/// A parser of certificates.
 #[derive(Clone, Copy, Debug)]
 pub struct X509CertificateParser {
     deep_parse_extensions: bool,
@@ -52,20 +55,24 @@ impl X509CertificateParser {
     /// algorithm without an identifier, `InvalidDate`, `InvalidSPKI` of a key without bits, `InvalidIssuerUID`,
     /// `InvalidSubjectUID`, `InvalidExtensions` where a header of another tag number than 3 stands in the place of extensions,
     /// or what is none, and `InvalidSignatureValue`; `Incomplete` exactly where the octets end within the certificate.
+    /// A value of a known extension that its type refuses is `ParsedExtension::ParseError`, and the certificate is read; want of
+    /// memory within a value is a `Failure` of the whole.
     pub fn parse<'a>(&self, alloc: Global, i: &'a [u8]) -> X509Result<'a, X509Certificate<'a>>
-        ensures exact { Gives (λ r. (certificate_view r.1, r.0.now)) result (certificate_at unread i.now) }
+        ensures exact { Gives (λ r. (certificate_view r.1, r.0.now)) result (certificate_at (reading_of self.now.deep_parse_extensions) i.now) }
         ensures missing { TellsMissing i.now result }
         ensures window { IfOk result (λ r. i.now ≡ r.1.raw.now ++ r.0.now) }
         ensures serial { IfOk result (λ r. HasSerial r.1.tbs_certificate) }
-        ensures found { IfOk result (λ r. grammar.X509Certificate IsUnparsed i.now (certificate_view r.1) r.0.now) }
-        ensures only { (v : Certificate) (rest : List ℕ) → grammar.X509Certificate IsUnparsed i.now v rest
+        ensures memory { IfOk result (λ r. All WantsNoMemory r.1.tbs_certificate.extensions.items) }
+        ensures found { IfOk result (λ r. grammar.X509Certificate (meaning_of self.now.deep_parse_extensions) i.now (certificate_view r.1) r.0.now) }
+        ensures only { (v : Certificate) (rest : List ℕ) → grammar.X509Certificate (meaning_of self.now.deep_parse_extensions) i.now v rest
             → ElseMemory result (λ r. (certificate_view r.1 ≡ v) × (r.0.now ≡ rest)) }
     {
-        certificate_at_front(alloc, i)
+        certificate_at_front(alloc, i, self.deep_parse_extensions)
     }
 
-    /// The answer of `parse`, and the header attempts that it took, in the count: at most eight for each octet, and at least
-    /// 17 where there is a certificate.
+    /// The answer of `parse` of a parser without deep parsing, and the header attempts that it took, in the count: at most eight
+    /// for each octet, and at least 17 where there is a certificate. The count is of the certificate's own headers: whatever the
+    /// parser, the values of extensions aren't looked into, and stay `ParsedExtension::Unparsed`.
     pub fn parse_counted<'a>(
         &self,
         alloc: Global,
@@ -77,6 +84,7 @@ impl X509CertificateParser {
         ensures missing { TellsMissing i.now result }
         ensures window { IfOk result (λ r. i.now ≡ r.1.raw.now ++ r.0.now) }
         ensures serial { IfOk result (λ r. HasSerial r.1.tbs_certificate) }
+        ensures memory { IfOk result (λ r. All WantsNoMemory r.1.tbs_certificate.extensions.items) }
         ensures found { IfOk result (λ r. grammar.X509Certificate IsUnparsed i.now (certificate_view r.1) r.0.now) }
         ensures only { (v : Certificate) (rest : List ℕ) → grammar.X509Certificate IsUnparsed i.now v rest
             → ElseMemory result (λ r. (certificate_view r.1 ≡ v) × (r.0.now ≡ rest)) }
@@ -84,7 +92,7 @@ impl X509CertificateParser {
         ensures grows { attempts count.old ≤ attempts count.new }
         ensures most { attempts count.new ≤ attempts count.old + 8 * length i.now }
     {
-        counted_certificate(alloc, i, count)
+        counted_certificate(alloc, i, false, count)
     }
 }
 
@@ -98,7 +106,7 @@ impl Default for X509CertificateParser {
     }
 }
 
-/// A parser of the signed parts of certificates. The values of extensions aren't parsed yet, whatever is asked for.
+/// A parser of the signed parts of certificates.
 #[derive(Clone, Copy, Debug)]
 pub struct TbsCertificateParser {
     deep_parse_extensions: bool,
@@ -125,15 +133,16 @@ impl TbsCertificateParser {
 
     /// The signed part that begins the octets, behind those after it. It is refused as within a certificate.
     pub fn parse<'a>(&self, alloc: Global, i: &'a [u8]) -> X509Result<'a, TbsCertificate<'a>>
-        ensures exact { Gives (λ r. (tbs_view r.1, r.0.now)) result (tbs_at unread i.now) }
+        ensures exact { Gives (λ r. (tbs_view r.1, r.0.now)) result (tbs_at (reading_of self.now.deep_parse_extensions) i.now) }
         ensures missing { TellsMissing i.now result }
         ensures window { IfOk result (λ r. i.now ≡ r.1.raw.now ++ r.0.now) }
         ensures serial { IfOk result (λ r. HasSerial r.1) }
-        ensures found { IfOk result (λ r. grammar.TbsCertificate IsUnparsed i.now (tbs_view r.1) r.0.now) }
-        ensures only { (v : Tbs) (rest : List ℕ) → grammar.TbsCertificate IsUnparsed i.now v rest
+        ensures memory { IfOk result (λ r. All WantsNoMemory r.1.extensions.items) }
+        ensures found { IfOk result (λ r. grammar.TbsCertificate (meaning_of self.now.deep_parse_extensions) i.now (tbs_view r.1) r.0.now) }
+        ensures only { (v : Tbs) (rest : List ℕ) → grammar.TbsCertificate (meaning_of self.now.deep_parse_extensions) i.now v rest
             → ElseMemory result (λ r. (tbs_view r.1 ≡ v) × (r.0.now ≡ rest)) }
     {
-        tbs_at_front(alloc, i)
+        tbs_at_front(alloc, i, self.deep_parse_extensions)
     }
 }
 
@@ -148,115 +157,129 @@ impl Default for TbsCertificateParser {
 }
 
 impl<'b> DerMeaning for X509Certificate<'b> {
-    ghost der_reads = { λ i v r. grammar.X509Certificate IsUnparsed i (certificate_view v) r };
+    ghost der_reads = { λ i v r. grammar.X509Certificate IsParsed i (certificate_view v) r };
 
     ghost der_cut = { EndsWithinElement };
 
     ghost der_grows = { Unit {0} };
 
-    ghost one_rest = { λ i v w r s left right. one_rest (HoldsWhole 16 (grammar.CertificateParts IsUnparsed) (λ c. c.raw)) i (certificate_view v) (certificate_view w) r s left right };
+    ghost one_rest = { λ i v w r s left right. one_rest (HoldsWhole 16 (grammar.CertificateParts IsParsed) (λ c. c.raw)) i (certificate_view v) (certificate_view w) r s left right };
 }
 
 impl<'a> FromDer<'a, X509Error> for X509Certificate<'a> {
     /// The certificate that begins the octets, behind those after it: `parse` of `X509CertificateParser::new()`.
     fn from_der(alloc: Global, bytes: &'a [u8]) -> X509Result<'a, X509Certificate<'a>>
         ensures reads { Reads (λ given e. e ≡ told given) (Unit {0}) EndsWithinElement (λ i. i.now)
-            (λ i v r. grammar.X509Certificate IsUnparsed i (certificate_view v) r) bytes.now result }
-        ensures exact { Gives (λ r. (certificate_view r.1, r.0.now)) result (certificate_at unread bytes.now) }
+            (λ i v r. grammar.X509Certificate IsParsed i (certificate_view v) r) bytes.now result }
+        ensures exact { Gives (λ r. (certificate_view r.1, r.0.now)) result (certificate_at deeply bytes.now) }
+        ensures missing { TellsMissing bytes.now result }
         ensures window { IfOk result (λ r. bytes.now ≡ r.1.raw.now ++ r.0.now) }
         ensures serial { IfOk result (λ r. HasSerial r.1.tbs_certificate) }
-        ensures found { IfOk result (λ r. grammar.X509Certificate IsUnparsed bytes.now (certificate_view r.1) r.0.now) }
-        ensures only { (v : Certificate) (rest : List ℕ) → grammar.X509Certificate IsUnparsed bytes.now v rest
+        ensures memory { IfOk result (λ r. All WantsNoMemory r.1.tbs_certificate.extensions.items) }
+        ensures found { IfOk result (λ r. grammar.X509Certificate IsParsed bytes.now (certificate_view r.1) r.0.now) }
+        ensures only { (v : Certificate) (rest : List ℕ) → grammar.X509Certificate IsParsed bytes.now v rest
             → ElseMemory result (λ r. (certificate_view r.1 ≡ v) × (r.0.now ≡ rest)) }
     {
-        X509CertificateParser::new().parse(alloc, bytes)
+        certificate_at_front(alloc, bytes, true)
     }
 }
 
 impl<'b> DerMeaning for TbsCertificate<'b> {
-    ghost der_reads = { λ i v r. grammar.TbsCertificate IsUnparsed i (tbs_view v) r };
+    ghost der_reads = { λ i v r. grammar.TbsCertificate IsParsed i (tbs_view v) r };
 
     ghost der_cut = { EndsWithinElement };
 
     ghost der_grows = { Unit {0} };
 
-    ghost one_rest = { λ i v w r s left right. one_rest (HoldsWindow 16 (grammar.TbsParts IsUnparsed) (λ t. t.raw)) i (tbs_view v) (tbs_view w) r s left right };
+    ghost one_rest = { λ i v w r s left right. one_rest (HoldsWindow 16 (grammar.TbsParts IsParsed) (λ t. t.raw)) i (tbs_view v) (tbs_view w) r s left right };
 }
 
 impl<'a> FromDer<'a, X509Error> for TbsCertificate<'a> {
     /// The signed part that begins the octets, behind those after it: `parse` of `TbsCertificateParser::new()`.
     fn from_der(alloc: Global, bytes: &'a [u8]) -> X509Result<'a, TbsCertificate<'a>>
         ensures reads { Reads (λ given e. e ≡ told given) (Unit {0}) EndsWithinElement (λ i. i.now)
-            (λ i v r. grammar.TbsCertificate IsUnparsed i (tbs_view v) r) bytes.now result }
-        ensures exact { Gives (λ r. (tbs_view r.1, r.0.now)) result (tbs_at unread bytes.now) }
+            (λ i v r. grammar.TbsCertificate IsParsed i (tbs_view v) r) bytes.now result }
+        ensures exact { Gives (λ r. (tbs_view r.1, r.0.now)) result (tbs_at deeply bytes.now) }
+        ensures missing { TellsMissing bytes.now result }
         ensures window { IfOk result (λ r. bytes.now ≡ r.1.raw.now ++ r.0.now) }
         ensures serial { IfOk result (λ r. HasSerial r.1) }
-        ensures found { IfOk result (λ r. grammar.TbsCertificate IsUnparsed bytes.now (tbs_view r.1) r.0.now) }
-        ensures only { (v : Tbs) (rest : List ℕ) → grammar.TbsCertificate IsUnparsed bytes.now v rest
+        ensures memory { IfOk result (λ r. All WantsNoMemory r.1.extensions.items) }
+        ensures found { IfOk result (λ r. grammar.TbsCertificate IsParsed bytes.now (tbs_view r.1) r.0.now) }
+        ensures only { (v : Tbs) (rest : List ℕ) → grammar.TbsCertificate IsParsed bytes.now v rest
             → ElseMemory result (λ r. (tbs_view r.1 ≡ v) × (r.0.now ≡ rest)) }
     {
-        TbsCertificateParser::new().parse(alloc, bytes)
+        tbs_at_front(alloc, bytes, true)
     }
 }
 
 /// The certificate that begins the octets, behind those after it: `X509Certificate::from_der`.
 pub fn parse_x509_certificate<'a>(alloc: Global, i: &'a [u8]) -> X509Result<'a, X509Certificate<'a>>
-    ensures exact { Gives (λ r. (certificate_view r.1, r.0.now)) result (certificate_at unread i.now) }
+    ensures exact { Gives (λ r. (certificate_view r.1, r.0.now)) result (certificate_at deeply i.now) }
     ensures missing { TellsMissing i.now result }
     ensures window { IfOk result (λ r. i.now ≡ r.1.raw.now ++ r.0.now) }
     ensures serial { IfOk result (λ r. HasSerial r.1.tbs_certificate) }
-    ensures found { IfOk result (λ r. grammar.X509Certificate IsUnparsed i.now (certificate_view r.1) r.0.now) }
-    ensures only { (v : Certificate) (rest : List ℕ) → grammar.X509Certificate IsUnparsed i.now v rest
+    ensures memory { IfOk result (λ r. All WantsNoMemory r.1.tbs_certificate.extensions.items) }
+    ensures found { IfOk result (λ r. grammar.X509Certificate IsParsed i.now (certificate_view r.1) r.0.now) }
+    ensures only { (v : Certificate) (rest : List ℕ) → grammar.X509Certificate IsParsed i.now v rest
         → ElseMemory result (λ r. (certificate_view r.1 ≡ v) × (r.0.now ≡ rest)) }
 {
-    X509CertificateParser::new().parse(alloc, i)
+    X509Certificate::from_der(alloc, i)
 }
 
 /// The same by its older name.
 pub fn parse_x509_der<'a>(alloc: Global, i: &'a [u8]) -> X509Result<'a, X509Certificate<'a>>
-    ensures exact { Gives (λ r. (certificate_view r.1, r.0.now)) result (certificate_at unread i.now) }
+    ensures exact { Gives (λ r. (certificate_view r.1, r.0.now)) result (certificate_at deeply i.now) }
     ensures missing { TellsMissing i.now result }
     ensures window { IfOk result (λ r. i.now ≡ r.1.raw.now ++ r.0.now) }
     ensures serial { IfOk result (λ r. HasSerial r.1.tbs_certificate) }
-    ensures found { IfOk result (λ r. grammar.X509Certificate IsUnparsed i.now (certificate_view r.1) r.0.now) }
-    ensures only { (v : Certificate) (rest : List ℕ) → grammar.X509Certificate IsUnparsed i.now v rest
+    ensures memory { IfOk result (λ r. All WantsNoMemory r.1.tbs_certificate.extensions.items) }
+    ensures found { IfOk result (λ r. grammar.X509Certificate IsParsed i.now (certificate_view r.1) r.0.now) }
+    ensures only { (v : Certificate) (rest : List ℕ) → grammar.X509Certificate IsParsed i.now v rest
         → ElseMemory result (λ r. (certificate_view r.1 ≡ v) × (r.0.now ≡ rest)) }
 {
     parse_x509_certificate(alloc, i)
 }
 
-fn tbs_at_front<'a>(alloc: Global, i: &'a [u8]) -> X509Result<'a, TbsCertificate<'a>>
-    ensures exact { Gives (λ r. (tbs_view r.1, r.0.now)) result (tbs_at unread i.now) }
+fn tbs_at_front<'a>(alloc: Global, i: &'a [u8], deep: bool) -> X509Result<'a, TbsCertificate<'a>>
+    ensures exact { Gives (λ r. (tbs_view r.1, r.0.now)) result (tbs_at (reading_of deep) i.now) }
     ensures missing { TellsMissing i.now result }
     ensures serial { IfOk result (λ r. HasSerial r.1) }
+    ensures memory { IfOk result (λ r. All WantsNoMemory r.1.extensions.items) }
 {
     let mut count = HeaderCount::new();
     let (rest, element) = front_element(i, &mut count)?;
-    match tbs_of(alloc, element, &mut count) {
+    match tbs_of(alloc, element, deep, &mut count) {
         Ok(tbs) => Ok((rest, tbs)),
         Err(refusal) => Err(Refusal::within(refusal)),
     }
 }
 
-fn certificate_at_front<'a>(alloc: Global, i: &'a [u8]) -> X509Result<'a, X509Certificate<'a>>
-    ensures exact { Gives (λ r. (certificate_view r.1, r.0.now)) result (certificate_at unread i.now) }
+fn certificate_at_front<'a>(
+    alloc: Global,
+    i: &'a [u8],
+    deep: bool,
+) -> X509Result<'a, X509Certificate<'a>>
+    ensures exact { Gives (λ r. (certificate_view r.1, r.0.now)) result (certificate_at (reading_of deep) i.now) }
     ensures missing { TellsMissing i.now result }
     ensures serial { IfOk result (λ r. HasSerial r.1.tbs_certificate) }
+    ensures memory { IfOk result (λ r. All WantsNoMemory r.1.tbs_certificate.extensions.items) }
 {
     let mut count = HeaderCount::new();
-    counted_certificate(alloc, i, &mut count)
+    counted_certificate(alloc, i, deep, &mut count)
 }
 
 // Of no octets no header is tried, so that the count may be as high as it gets.
 fn counted_certificate<'a>(
     alloc: Global,
     i: &'a [u8],
+    deep: bool,
     count: &mut HeaderCount,
 ) -> X509Result<'a, X509Certificate<'a>>
     requires { attempts count.old + 8 * length i.now < 2 ^ 128 }
-    ensures exact { Gives (λ r. (certificate_view r.1, r.0.now)) result (certificate_at unread i.now) }
+    ensures exact { Gives (λ r. (certificate_view r.1, r.0.now)) result (certificate_at (reading_of deep) i.now) }
     ensures missing { TellsMissing i.now result }
     ensures serial { IfOk result (λ r. HasSerial r.1.tbs_certificate) }
+    ensures memory { IfOk result (λ r. All WantsNoMemory r.1.tbs_certificate.extensions.items) }
     ensures least { IfOk result (λ _. attempts count.old + 17 ≤ attempts count.new) }
     ensures grows { attempts count.old ≤ attempts count.new }
     ensures most { attempts count.new ≤ attempts count.old + 8 * length i.now }
@@ -265,7 +288,7 @@ fn counted_certificate<'a>(
         return Err(Refusal::Incomplete(Needed::Size(1)));
     }
     let (rest, element) = front_element(i, count)?;
-    match certificate_of(alloc, element, count) {
+    match certificate_of(alloc, element, deep, count) {
         Ok(certificate) => Ok((rest, certificate)),
         Err(refusal) => Err(Refusal::within(refusal)),
     }

@@ -1,13 +1,14 @@
 //! The signed part of a certificate (RFC 5280, 4.1.2).
 
-ghost use Rattle.std.specs.Prelude.{◌≡◌, ◌+◌, ◌*◌, ◌^◌, ◌<◌, ◌≤◌, length, IfOk, option_map, string_bytes};
+ghost use Rattle.std.specs.Prelude.{◌≡◌, ◌+◌, ◌*◌, ◌^◌, ◌<◌, ◌≤◌, length, All, IfOk, option_map, string_bytes};
 ghost use Rattle.std.specs.Slice.Iter.{iter_rest};
 ghost use Rattle.asn1_core.specs.Counts.{attempts};
 ghost use Rattle.asn1_any.specs.CutViews.{piece_of};
 ghost use Rattle.x509_core.specs.Answers.{Gives};
 ghost use Rattle.x509_values.specs.Texts.{serial_text};
-ghost use Rattle.x509_ext.specs.Fields.{unread};
+ghost use Rattle.x509_ext.specs.Fields.{reading_of};
 ghost use Rattle.x509_ext.specs.Lookup.{all_of, first_of, only_of, seen};
+ghost use Rattle.x509_ext.specs.View.{WantsNoMemory};
 ghost use Rattle.x509_certs.specs.Reading.{tbs_in, tbs_at};
 ghost use Rattle.x509_certs.specs.View.{tbs_view, HasSerial};
 
@@ -182,16 +183,18 @@ fn copy_id<'a>(id: &Option<UniqueIdentifier<'a>>) -> Option<UniqueIdentifier<'a>
     }
 }
 
-/// The signed part that an element is.
+/// The signed part that an element is, the values of extensions parsed too where `deep` says so.
 #[tactic(auto, unfolding(crate::specs::Reading::tbs_in))]
 pub(crate) fn tbs_of<'a>(
     alloc: Global,
     element: Element<'a>,
+    deep: bool,
     count: &mut HeaderCount,
 ) -> Result<TbsCertificate<'a>, Refusal<X509Error>>
     requires { attempts count.old + 7 * length element.any.content.now < 2 ^ 128 }
-    ensures read { Gives tbs_view result (tbs_in unread (piece_of element.entry)) }
+    ensures read { Gives tbs_view result (tbs_in (reading_of deep) (piece_of element.entry)) }
     ensures serial { IfOk result HasSerial }
+    ensures memory { IfOk result (λ t. All WantsNoMemory t.extensions.items) }
     ensures least { IfOk result (λ _. attempts count.old + 12 ≤ attempts count.new) }
     ensures grows { attempts count.old ≤ attempts count.new }
     ensures most { attempts count.new ≤ attempts count.old + 7 * length element.entry.any.content.now }
@@ -209,7 +212,7 @@ pub(crate) fn tbs_of<'a>(
     let subject_pki = next_key(alloc, &mut parts, count)?;
     let issuer_uid = next_issuer_id(alloc, &mut parts, count)?;
     let subject_uid = next_subject_id(alloc, &mut parts, count)?;
-    let extensions = extensions_of(alloc, 3, parts.left(), count)?;
+    let extensions = extensions_of(alloc, 3, parts.left(), deep, count)?;
     Ok(TbsCertificate {
         version,
         serial: UnsignedBytes::from_bytes_be(raw_serial),
@@ -226,15 +229,17 @@ pub(crate) fn tbs_of<'a>(
     })
 }
 
-/// The signed part at the front.
+/// The signed part at the front, read so too.
 pub(crate) fn next_tbs<'a>(
     alloc: Global,
     parts: &mut Parts<'a>,
+    deep: bool,
     count: &mut HeaderCount,
 ) -> Result<TbsCertificate<'a>, Refusal<X509Error>>
     requires { attempts count.old + 7 * length parts.old.octets < 2 ^ 128 }
-    ensures read { Gives (λ v. (tbs_view v, parts.new.octets)) result (tbs_at unread parts.old.octets) }
+    ensures read { Gives (λ v. (tbs_view v, parts.new.octets)) result (tbs_at (reading_of deep) parts.old.octets) }
     ensures serial { IfOk result HasSerial }
+    ensures memory { IfOk result (λ t. All WantsNoMemory t.extensions.items) }
     ensures elements { IfOk result (λ _. parts.old.elements ≡ parts.new.elements + 1) }
     ensures least { IfOk result (λ _. attempts count.old + 12 ≤ attempts count.new) }
     ensures grows { attempts count.old ≤ attempts count.new }
@@ -242,5 +247,5 @@ pub(crate) fn next_tbs<'a>(
     ensures most { attempts count.new + 7 * length parts.new.octets ≤ attempts count.old + 7 * length parts.old.octets }
 {
     let element = parts.next()?;
-    tbs_of(alloc, element, count)
+    tbs_of(alloc, element, deep, count)
 }

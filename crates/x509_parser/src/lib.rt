@@ -2,7 +2,7 @@
 //! grammar has them.
 //!
 //! The types stand in crates of their own, each with what is proved of it; this one names them in the Rust crate's modules.
-//! The values of extensions aren't parsed yet.
+//! The values of extensions of lists and requests aren't parsed yet.
 #![tactic(auto)]
 
 pub mod certificate;

@@ -1,5 +1,6 @@
 //! Versions, extensions and certificates.
 
+use crate::extensions::parsed_text;
 use crate::words::{Words, bits_text, error_text, refusal_text};
 use asn1_core::HeaderCount;
 use asn1_oid::Oid;
@@ -80,7 +81,7 @@ fn extensions_of<'a>(alloc: Global, octets: &'a [u8]) -> Option<Vec<X509Extensio
     let Ok(mut parts) = Parts::cut(alloc, octets, &mut count) else {
         return None;
     };
-    match each_extension(alloc, &mut parts, &mut count) {
+    match each_extension(alloc, &mut parts, true, &mut count) {
         Ok(extensions) => Some(extensions),
         Err(_) => None,
     }
@@ -119,7 +120,8 @@ impl Words for X509Extension<'_> {
     fn words(&self, alloc: Global) -> io::Result<String> {
         let value = hex_of(alloc, self.value)?;
         let critical = if self.critical { "critical, " } else { "" };
-        let text = format!(in alloc; "{}, {critical}{value}", self.oid)?;
+        let parsed = parsed_text(alloc, self.parsed_extension())?;
+        let text = format!(in alloc; "{}, {critical}{value}, {parsed}", self.oid)?;
         Ok(text)
     }
 }

@@ -4,6 +4,8 @@
 #![tactic(auto)]
 
 mod certificates;
+mod extensions;
+mod getters;
 mod keys;
 mod names;
 mod objects;

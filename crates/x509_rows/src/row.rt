@@ -3,6 +3,7 @@
 use crate::certificates::{
     counted, first_extension, serial, unique_extension, version, version_at,
 };
+use crate::getters::extension_under;
 use crate::keys::{exponent, parsed};
 use crate::names::{as_slice, as_str, attributes_of, attributes_under};
 use crate::objects::name_of;
@@ -59,7 +60,7 @@ fn called(alloc: Global, call: &str, octets: &[u8]) -> io::Result<String> {
         _ => match (call.strip_prefix("iter_"), call.split_once(':')) {
             (Some(name), _) => attributes_under(alloc, name, octets),
             (None, Some((call, word))) => called_with(alloc, call, word, octets),
-            (None, None) => literal(alloc, "no call"),
+            (None, None) => extension_under(alloc, call, octets),
         },
     }
 }

@@ -1,16 +1,35 @@
 use Rattle.std.proofs.Common.{arith}
 use Rattle.asn1_core.proofs.Numbers.{octets_below}
 use Rattle.x509_core.specs.Grammar.{HoldsWindow}
+use Rattle.x509_core.proofs.Grammars.{next_reading}
 use Rattle.x509_core.proofs.FrontLaws.{gives_reads}
-use Rattle.x509_ext.specs.Fields.{IsUnparsed, unread}
-use Rattle.x509_ext.proofs.ExtensionLaws.{unread_law}
-use Rattle.x509_certs.specs.Certificates.{TbsParts}
-use Rattle.x509_certs.specs.Reading.{tbs_in}
+use Rattle.x509_core.proofs.Public.{gives_found, gives_only}
+use Rattle.x509_deep.specs.Parsed.{IsParsed}
+use Rattle.x509_deep.specs.Reading.{deeply}
+use Rattle.x509_ext.proofs.ExtensionLaws.{deep_law}
+use Rattle.x509_certs.specs.Certificates.{TbsParts, TbsCertificate}
+use Rattle.x509_certs.specs.Reading.{tbs_in, tbs_at}
 use Rattle.x509_certs.specs.View.{tbs_view}
-use Rattle.x509_certs.proofs.CertificateLaws.{tbs_meaning}
+use Rattle.x509_certs.proofs.CertificateLaws.{tbs_meaning, tbs_window}
 use Rattle.x509_certs.proofs.parser.TbsCertificateFromDerX509Error.from_der.Goals as goal
 
 pub returns-clause-reads : goal.returns-clause-reads
 returns-clause-reads c =
-    gives_reads (HoldsWindow 16 (TbsParts IsUnparsed) (λ t. t.raw)) (tbs_in unread) (tbs_meaning IsUnparsed unread unread_law) tbs_view c.args.bytes.now c.parse.result
-    (octets_below c.args.bytes.now (λ k. omega (arith, c.type_inv.bytes k))) c.parse.ensures.exact c.parse.ensures.missing
+    gives_reads (HoldsWindow 16 (TbsParts IsParsed) (λ t. t.raw)) (tbs_in deeply) (tbs_meaning IsParsed deeply deep_law) tbs_view c.args.bytes.now c.tbs_at_front.result
+    (octets_below c.args.bytes.now (λ k. omega (arith, c.type_inv.bytes k))) c.tbs_at_front.ensures.exact c.tbs_at_front.ensures.missing
+
+pub returns-clause-window : goal.returns-clause-window
+returns-clause-window c =
+    tbs_window IsParsed c.args.bytes.now c.tbs_at_front.result
+    (gives_found (TbsCertificate IsParsed) (tbs_at deeply) (next_reading (HoldsWindow 16 (TbsParts IsParsed) (λ t. t.raw)) (tbs_in deeply) (tbs_meaning IsParsed deeply deep_law)) tbs_view c.args.bytes.now c.tbs_at_front.result
+    (octets_below c.args.bytes.now (λ k. omega (arith, c.type_inv.bytes k))) c.tbs_at_front.ensures.exact)
+
+pub returns-clause-found : goal.returns-clause-found
+returns-clause-found c =
+    gives_found (TbsCertificate IsParsed) (tbs_at deeply) (next_reading (HoldsWindow 16 (TbsParts IsParsed) (λ t. t.raw)) (tbs_in deeply) (tbs_meaning IsParsed deeply deep_law)) tbs_view c.args.bytes.now c.tbs_at_front.result
+    (octets_below c.args.bytes.now (λ k. omega (arith, c.type_inv.bytes k))) c.tbs_at_front.ensures.exact
+
+pub returns-clause-only : goal.returns-clause-only
+returns-clause-only c =
+    gives_only (TbsCertificate IsParsed) (tbs_at deeply) (next_reading (HoldsWindow 16 (TbsParts IsParsed) (λ t. t.raw)) (tbs_in deeply) (tbs_meaning IsParsed deeply deep_law)) tbs_view c.args.bytes.now c.tbs_at_front.result
+    (octets_below c.args.bytes.now (λ k. omega (arith, c.type_inv.bytes k))) c.tbs_at_front.ensures.exact
