@@ -1,7 +1,7 @@
 -- What the values of this crate's types are, as the records of `Fields`.
-use Rattle.std.specs.Prelude.{map, string_bytes}
+use Rattle.std.specs.Prelude.{All, map, string_bytes}
 use Rattle.x509_names.specs.View.{algorithm_view, name_view, key_view, bits_view}
-use Rattle.x509_ext.specs.View.{extension_view}
+use Rattle.x509_ext.specs.View.{extension_view, WantsNoMemory}
 use Rattle.x509_requests.specs.Fields.{AttributeValues, extension_request, challenge_password, unsupported_attribute, RequestAttribute, RequestInfo, Request}
 use Rattle.x509_requests.specs.declared.attribute.ParsedCriAttribute.{ParsedCriAttribute}
 use Rattle.x509_requests.specs.declared.attribute.ParsedCriAttribute.TheVariants as cases
@@ -14,11 +14,23 @@ values_view (cases.ChallengePassword p) = challenge_password (string_bytes p.0)
 values_view (cases.ExtensionRequest r) = extension_request (map extension_view r.extensions.items)
 values_view cases.UnsupportedAttribute = unsupported_attribute
 
+-- where a value of the extensions that are asked for is none of its type, why isn't want of memory
+abbrev pub ValuesWantNoMemory : ParsedCriAttribute → Type 0
+ValuesWantNoMemory (cases.ExtensionRequest r) = All WantsNoMemory r.extensions.items
+ValuesWantNoMemory a = Unit {0}
+
+abbrev pub AttributeWantsNoMemory : X509CriAttribute → Type 0
+AttributeWantsNoMemory a = ValuesWantNoMemory a.parsed_attribute
+
 abbrev pub attribute_view : X509CriAttribute → RequestAttribute
 attribute_view a = record { identifier = a.oid; raw = a.value.now; values = values_view a.parsed_attribute }
 
 abbrev pub info_view : X509CertificationRequestInfo → RequestInfo
 info_view r = record { version = r.version.0; subject = name_view r.subject; key = key_view r.subject_pki; attributes = map attribute_view r.attributes.items; raw = r.raw.now }
+
+-- each attribute's is so
+abbrev pub AttributesWantNoMemory : X509CertificationRequestInfo → Type 0
+AttributesWantNoMemory r = All AttributeWantsNoMemory r.attributes.items
 
 abbrev pub request_view : X509CertificationRequest → Request
 request_view r = record { info = info_view r.certification_request_info; algorithm = algorithm_view r.signature_algorithm; signature_value = bits_view r.signature_value; raw = r.raw.now }

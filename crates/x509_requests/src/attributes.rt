@@ -1,12 +1,12 @@
 //! The attributes of a request, one after the other (RFC 2986, 4.1).
 
-ghost use Rattle.std.specs.Prelude.{◌≡◌, ◌==◌, ◌<◌, length, IfOk, map};
+ghost use Rattle.std.specs.Prelude.{◌≡◌, ◌==◌, ◌<◌, length, All, IfOk, map};
 ghost use Rattle.asn1_core.specs.Views.{class_number};
 ghost use Rattle.asn1_any.specs.Views.{any_of};
 ghost use Rattle.x509_core.specs.Answers.{Gives};
-ghost use Rattle.x509_ext.specs.Fields.{unread};
+ghost use Rattle.x509_deep.specs.Reading.{deeply};
 ghost use Rattle.x509_requests.specs.Reading.{attribute_parts_in, attribute_in, attribute_at, all_attributes_at, attributes_at};
-ghost use Rattle.x509_requests.specs.View.{attribute_view};
+ghost use Rattle.x509_requests.specs.View.{attribute_view, AttributeWantsNoMemory};
 
 use crate::attribute::X509CriAttribute;
 use crate::values::values_of;
@@ -21,7 +21,8 @@ fn parts_within<'a>(
     alloc: Global,
     content: &'a [u8],
 ) -> Result<X509CriAttribute<'a>, Refusal<X509Error>>
-    ensures read { Gives attribute_view result (attribute_parts_in unread content.now) }
+    ensures read { Gives attribute_view result (attribute_parts_in deeply content.now) }
+    ensures memory { IfOk result AttributeWantsNoMemory }
 {
     let mut count = HeaderCount::new();
     let (after_type, element) = front_element(content, &mut count)?;
@@ -42,7 +43,8 @@ fn parts_within<'a>(
 /// The attribute that an element is.
 #[tactic(auto, unfolding(crate::specs::Reading::attribute_in))]
 fn attribute_of<'a>(alloc: Global, any: Any<'a>) -> Result<X509CriAttribute<'a>, Refusal<X509Error>>
-    ensures read { Gives attribute_view result (attribute_in unread (any_of any.entry)) }
+    ensures read { Gives attribute_view result (attribute_in deeply (any_of any.entry)) }
+    ensures memory { IfOk result AttributeWantsNoMemory }
 {
     let is_sequence = match any.class() {
         Class::Universal => any.header.is_constructed() && any.tag().0 == Tag::Sequence.0,
@@ -63,7 +65,8 @@ pub(crate) fn front_attribute<'a>(
     alloc: Global,
     i: &'a [u8],
 ) -> X509Result<'a, X509CriAttribute<'a>>
-    ensures read { Gives (λ r. (attribute_view r.1, r.0.now)) result (attribute_at unread i.now) }
+    ensures read { Gives (λ r. (attribute_view r.1, r.0.now)) result (attribute_at deeply i.now) }
+    ensures memory { IfOk result (λ r. AttributeWantsNoMemory r.1) }
     ensures shorter { IfOk result (λ r. length r.0.now < length i.now) }
 {
     match Any::from_ber(i) {
@@ -80,7 +83,8 @@ fn all_attributes<'a>(
     alloc: Global,
     octets: &'a [u8],
 ) -> Result<Vec<X509CriAttribute<'a>>, Refusal<X509Error>>
-    ensures read { Gives (λ v. map attribute_view v.items) result (all_attributes_at unread octets.now) }
+    ensures read { Gives (λ v. map attribute_view v.items) result (all_attributes_at deeply octets.now) }
+    ensures memory { IfOk result (λ v. All AttributeWantsNoMemory v.items) }
 {
     let mut attributes = Vec::new(alloc);
     let mut left = octets;
@@ -117,7 +121,8 @@ pub(crate) fn attributes_of<'a>(
     alloc: Global,
     left: &'a [u8],
 ) -> Result<Vec<X509CriAttribute<'a>>, Refusal<X509Error>>
-    ensures read { Gives (λ v. map attribute_view v.items) result (attributes_at unread left.now) }
+    ensures read { Gives (λ v. map attribute_view v.items) result (attributes_at deeply left.now) }
+    ensures memory { IfOk result (λ v. All AttributeWantsNoMemory v.items) }
 {
     let mut count = HeaderCount::new();
     match front_header(left, &mut count) {

@@ -1,14 +1,14 @@
 //! The signed part of a request (RFC 2986, 4.1).
 
-ghost use Rattle.std.specs.Prelude.{◌≡◌, ◌≤◌, length, option_map};
+ghost use Rattle.std.specs.Prelude.{◌≡◌, ◌≤◌, length, IfOk, option_map};
 ghost use Rattle.std.specs.Slice.Iter.{iter_rest};
 ghost use Rattle.asn1_any.specs.CutViews.{piece_of};
 ghost use Rattle.x509_core.specs.Answers.{Gives};
-ghost use Rattle.x509_ext.specs.Fields.{unread};
+ghost use Rattle.x509_deep.specs.Reading.{deeply};
 ghost use Rattle.x509_ext.specs.Reading.{version_at};
 ghost use Rattle.x509_requests.specs.Lookup.{attributes_of, first_attribute};
 ghost use Rattle.x509_requests.specs.Reading.{info_in, info_at};
-ghost use Rattle.x509_requests.specs.View.{info_view};
+ghost use Rattle.x509_requests.specs.View.{info_view, AttributesWantNoMemory};
 
 use crate::attribute::X509CriAttribute;
 use crate::attributes::attributes_of;
@@ -90,7 +90,8 @@ pub(crate) fn info_of<'a>(
     alloc: Global,
     element: Element<'a>,
 ) -> Result<X509CertificationRequestInfo<'a>, Refusal<X509Error>>
-    ensures read { Gives info_view result (info_in unread (piece_of element.entry)) }
+    ensures read { Gives info_view result (info_in deeply (piece_of element.entry)) }
+    ensures memory { IfOk result AttributesWantNoMemory }
 {
     let mut count = HeaderCount::new();
     let mut parts = parts_of(alloc, 16, element, &mut count)?;
@@ -112,7 +113,8 @@ pub(crate) fn next_info<'a>(
     alloc: Global,
     parts: &mut Parts<'a>,
 ) -> Result<X509CertificationRequestInfo<'a>, Refusal<X509Error>>
-    ensures read { Gives (λ v. (info_view v, parts.new.octets)) result (info_at unread parts.old.octets) }
+    ensures read { Gives (λ v. (info_view v, parts.new.octets)) result (info_at deeply parts.old.octets) }
+    ensures memory { IfOk result AttributesWantNoMemory }
     ensures ends { length parts.new.octets ≤ length parts.old.octets }
 {
     let element = parts.next()?;

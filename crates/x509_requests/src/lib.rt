@@ -1,5 +1,5 @@
 //! Certification requests (RFC 2986), read leniently: the octets that a reader leaves in a container's content are ignored. The
-//! values of extensions aren't parsed yet.
+//! values of the extensions that are asked for are parsed by their types.
 #![tactic(auto)]
 
 mod attribute;

@@ -1,6 +1,6 @@
 //! The readers of requests, their signed parts and attributes, and of extension requests.
 
-ghost use Rattle.std.specs.Prelude.{◌≡◌, ◌++◌, ℕ, List, map, IfOk, IfErr};
+ghost use Rattle.std.specs.Prelude.{◌≡◌, ◌++◌, ℕ, List, map, All, IfOk, IfErr};
 ghost use Rattle.asn1_traits.specs.Elements.{EndsWithinElement, one_ber_element_rest};
 ghost use Rattle.asn1_traits.specs.Reads.{Reads};
 ghost use Rattle.x509_core.specs.Answers.{Gives, ElseMemory};
@@ -8,14 +8,16 @@ ghost use Rattle.x509_core.specs.Errors.{told};
 ghost use Rattle.x509_core.specs.Grammar.{Holds, HoldsWindow, HoldsWhole, ToEnd};
 ghost use Rattle.x509_core.specs.declared.error.X509Error.TheVariants as errors;
 ghost use Rattle.x509_names.specs.Fronts.{TellsMissing, one_rest};
+ghost use Rattle.x509_deep.specs.Parsed.{IsParsed};
+ghost use Rattle.x509_deep.specs.Reading.{deeply};
 ghost use Rattle.x509_ext.specs.Extensions as extensions;
-ghost use Rattle.x509_ext.specs.Fields.{Extension, IsUnparsed, unread};
+ghost use Rattle.x509_ext.specs.Fields.{Extension};
 ghost use Rattle.x509_ext.specs.Fronts.{IsOnly};
-ghost use Rattle.x509_ext.specs.View.{extension_view};
+ghost use Rattle.x509_ext.specs.View.{extension_view, WantsNoMemory};
 ghost use Rattle.x509_requests.specs.Requests as grammar;
 ghost use Rattle.x509_requests.specs.Fields.{RequestAttribute, RequestInfo, Request};
 ghost use Rattle.x509_requests.specs.Reading.{requested_at, named_attribute_at, info_at, request_at};
-ghost use Rattle.x509_requests.specs.View.{attribute_view, info_view, request_view};
+ghost use Rattle.x509_requests.specs.View.{attribute_view, info_view, request_view, AttributeWantsNoMemory, AttributesWantNoMemory};
 
 use crate::attribute::{ExtensionRequest, X509CriAttribute};
 use crate::attributes::front_attribute;
@@ -29,13 +31,13 @@ use x509_ext::extension_list_of;
 use x509_names::whole_element;
 
 impl<'b> DerMeaning for X509CertificationRequest<'b> {
-    ghost der_reads = { λ i v r. grammar.X509CertificationRequest IsUnparsed i (request_view v) r };
+    ghost der_reads = { λ i v r. grammar.X509CertificationRequest IsParsed i (request_view v) r };
 
     ghost der_cut = { EndsWithinElement };
 
     ghost der_grows = { Unit {0} };
 
-    ghost one_rest = { λ i v w r s left right. one_rest (HoldsWhole 16 (grammar.RequestParts IsUnparsed) (λ q. q.raw)) i (request_view v) (request_view w) r s left right };
+    ghost one_rest = { λ i v w r s left right. one_rest (HoldsWhole 16 (grammar.RequestParts IsParsed) (λ q. q.raw)) i (request_view v) (request_view w) r s left right };
 }
 
 impl<'a> FromDer<'a, X509Error> for X509CertificationRequest<'a> {
@@ -44,14 +46,16 @@ impl<'a> FromDer<'a, X509Error> for X509CertificationRequest<'a> {
     /// By its parts in the order in which they stand: `InvalidVersion`, `InvalidSPKI` of a key without bits,
     /// `InvalidAlgorithmIdentifier` of an algorithm without an identifier, `InvalidAttributes` where no context-specific header
     /// of tag number 0 stands in the place of attributes, and `InvalidSignatureValue`; `Incomplete` exactly where the octets
-    /// end within the request.
+    /// end within the request. A value of a known extension that its type refuses is `ParsedExtension::ParseError`, and the
+    /// request is read; want of memory within a value is a `Failure` of the whole.
     fn from_der(alloc: Global, bytes: &'a [u8]) -> X509Result<'a, X509CertificationRequest<'a>>
         ensures reads { Reads (λ given e. e ≡ told given) (Unit {0}) EndsWithinElement (λ i. i.now)
-            (λ i v r. grammar.X509CertificationRequest IsUnparsed i (request_view v) r) bytes.now result }
-        ensures exact { Gives (λ r. (request_view r.1, r.0.now)) result (request_at unread bytes.now) }
+            (λ i v r. grammar.X509CertificationRequest IsParsed i (request_view v) r) bytes.now result }
+        ensures exact { Gives (λ r. (request_view r.1, r.0.now)) result (request_at deeply bytes.now) }
+        ensures memory { IfOk result (λ r. AttributesWantNoMemory r.1.certification_request_info) }
         ensures window { IfOk result (λ r. bytes.now ≡ r.1.raw.now ++ r.0.now) }
-        ensures found { IfOk result (λ r. grammar.X509CertificationRequest IsUnparsed bytes.now (request_view r.1) r.0.now) }
-        ensures only { (v : Request) (rest : List ℕ) → grammar.X509CertificationRequest IsUnparsed bytes.now v rest
+        ensures found { IfOk result (λ r. grammar.X509CertificationRequest IsParsed bytes.now (request_view r.1) r.0.now) }
+        ensures only { (v : Request) (rest : List ℕ) → grammar.X509CertificationRequest IsParsed bytes.now v rest
             → ElseMemory result (λ r. (request_view r.1 ≡ v) × (r.0.now ≡ rest)) }
     {
         request_at_front(alloc, bytes)
@@ -59,24 +63,25 @@ impl<'a> FromDer<'a, X509Error> for X509CertificationRequest<'a> {
 }
 
 impl<'b> DerMeaning for X509CertificationRequestInfo<'b> {
-    ghost der_reads = { λ i v r. grammar.X509CertificationRequestInfo IsUnparsed i (info_view v) r };
+    ghost der_reads = { λ i v r. grammar.X509CertificationRequestInfo IsParsed i (info_view v) r };
 
     ghost der_cut = { EndsWithinElement };
 
     ghost der_grows = { Unit {0} };
 
-    ghost one_rest = { λ i v w r s left right. one_rest (HoldsWindow 16 (grammar.InfoParts IsUnparsed) (λ q. q.raw)) i (info_view v) (info_view w) r s left right };
+    ghost one_rest = { λ i v w r s left right. one_rest (HoldsWindow 16 (grammar.InfoParts IsParsed) (λ q. q.raw)) i (info_view v) (info_view w) r s left right };
 }
 
 impl<'a> FromDer<'a, X509Error> for X509CertificationRequestInfo<'a> {
     /// The signed part that begins the octets, behind those after it. It is refused as within a request.
     fn from_der(alloc: Global, bytes: &'a [u8]) -> X509Result<'a, X509CertificationRequestInfo<'a>>
         ensures reads { Reads (λ given e. e ≡ told given) (Unit {0}) EndsWithinElement (λ i. i.now)
-            (λ i v r. grammar.X509CertificationRequestInfo IsUnparsed i (info_view v) r) bytes.now result }
-        ensures exact { Gives (λ r. (info_view r.1, r.0.now)) result (info_at unread bytes.now) }
+            (λ i v r. grammar.X509CertificationRequestInfo IsParsed i (info_view v) r) bytes.now result }
+        ensures exact { Gives (λ r. (info_view r.1, r.0.now)) result (info_at deeply bytes.now) }
+        ensures memory { IfOk result (λ r. AttributesWantNoMemory r.1) }
         ensures window { IfOk result (λ r. bytes.now ≡ r.1.raw.now ++ r.0.now) }
-        ensures found { IfOk result (λ r. grammar.X509CertificationRequestInfo IsUnparsed bytes.now (info_view r.1) r.0.now) }
-        ensures only { (v : RequestInfo) (rest : List ℕ) → grammar.X509CertificationRequestInfo IsUnparsed bytes.now v rest
+        ensures found { IfOk result (λ r. grammar.X509CertificationRequestInfo IsParsed bytes.now (info_view r.1) r.0.now) }
+        ensures only { (v : RequestInfo) (rest : List ℕ) → grammar.X509CertificationRequestInfo IsParsed bytes.now v rest
             → ElseMemory result (λ r. (info_view r.1 ≡ v) × (r.0.now ≡ rest)) }
     {
         info_at_front(alloc, bytes)
@@ -84,13 +89,13 @@ impl<'a> FromDer<'a, X509Error> for X509CertificationRequestInfo<'a> {
 }
 
 impl<'b> DerMeaning for X509CriAttribute<'b> {
-    ghost der_reads = { λ i v r. grammar.X509CriAttribute IsUnparsed i (attribute_view v) r };
+    ghost der_reads = { λ i v r. grammar.X509CriAttribute IsParsed i (attribute_view v) r };
 
     ghost der_cut = { λ _ _. ⊥ };
 
     ghost der_grows = { Unit {0} };
 
-    ghost one_rest = { λ i v w r s left right. one_ber_element_rest (grammar.IsAttribute IsUnparsed) i (attribute_view v) (attribute_view w) r s left right };
+    ghost one_rest = { λ i v w r s left right. one_ber_element_rest (grammar.IsAttribute IsParsed) i (attribute_view v) (attribute_view w) r s left right };
 }
 
 impl<'a> FromDer<'a, X509Error> for X509CriAttribute<'a> {
@@ -98,11 +103,12 @@ impl<'a> FromDer<'a, X509Error> for X509CriAttribute<'a> {
     /// cut ones too.
     fn from_der(alloc: Global, bytes: &'a [u8]) -> X509Result<'a, X509CriAttribute<'a>>
         ensures reads { Reads (λ given e. e ≡ told given) (Unit {0}) (λ _ _. ⊥) (λ i. i.now)
-            (λ i v r. grammar.X509CriAttribute IsUnparsed i (attribute_view v) r) bytes.now result }
-        ensures exact { Gives (λ r. (attribute_view r.1, r.0.now)) result (named_attribute_at unread bytes.now) }
+            (λ i v r. grammar.X509CriAttribute IsParsed i (attribute_view v) r) bytes.now result }
+        ensures exact { Gives (λ r. (attribute_view r.1, r.0.now)) result (named_attribute_at deeply bytes.now) }
+        ensures memory { IfOk result (λ r. AttributeWantsNoMemory r.1) }
         ensures refused { IfErr result (IsOnly errors.InvalidAttributes) }
-        ensures found { IfOk result (λ r. grammar.X509CriAttribute IsUnparsed bytes.now (attribute_view r.1) r.0.now) }
-        ensures only { (v : RequestAttribute) (rest : List ℕ) → grammar.X509CriAttribute IsUnparsed bytes.now v rest
+        ensures found { IfOk result (λ r. grammar.X509CriAttribute IsParsed bytes.now (attribute_view r.1) r.0.now) }
+        ensures only { (v : RequestAttribute) (rest : List ℕ) → grammar.X509CriAttribute IsParsed bytes.now v rest
             → ElseMemory result (λ r. (attribute_view r.1 ≡ v) × (r.0.now ≡ rest)) }
     {
         attribute_at_front(alloc, bytes)
@@ -110,23 +116,24 @@ impl<'a> FromDer<'a, X509Error> for X509CriAttribute<'a> {
 }
 
 impl<'b> DerMeaning for ExtensionRequest<'b> {
-    ghost der_reads = { λ i v r. grammar.ExtensionRequest IsUnparsed i (map extension_view v.extensions.items) r };
+    ghost der_reads = { λ i v r. grammar.ExtensionRequest IsParsed i (map extension_view v.extensions.items) r };
 
     ghost der_cut = { EndsWithinElement };
 
     ghost der_grows = { Unit {0} };
 
-    ghost one_rest = { λ i v w r s left right. one_rest (Holds 16 (ToEnd (extensions.X509Extension IsUnparsed))) i (map extension_view v.extensions.items) (map extension_view w.extensions.items) r s left right };
+    ghost one_rest = { λ i v w r s left right. one_rest (Holds 16 (ToEnd (extensions.X509Extension IsParsed))) i (map extension_view v.extensions.items) (map extension_view w.extensions.items) r s left right };
 }
 
 impl<'a> FromDer<'a, X509Error> for ExtensionRequest<'a> {
     /// The extensions that begin the octets, behind those after them: one element that holds nothing else.
     fn from_der(alloc: Global, bytes: &'a [u8]) -> X509Result<'a, ExtensionRequest<'a>>
         ensures reads { Reads (λ given e. e ≡ told given) (Unit {0}) EndsWithinElement (λ i. i.now)
-            (λ i v r. grammar.ExtensionRequest IsUnparsed i (map extension_view v.extensions.items) r) bytes.now result }
-        ensures exact { Gives (λ r. (map extension_view r.1.extensions.items, r.0.now)) result (requested_at unread bytes.now) }
-        ensures found { IfOk result (λ r. grammar.ExtensionRequest IsUnparsed bytes.now (map extension_view r.1.extensions.items) r.0.now) }
-        ensures only { (v : List Extension) (rest : List ℕ) → grammar.ExtensionRequest IsUnparsed bytes.now v rest
+            (λ i v r. grammar.ExtensionRequest IsParsed i (map extension_view v.extensions.items) r) bytes.now result }
+        ensures exact { Gives (λ r. (map extension_view r.1.extensions.items, r.0.now)) result (requested_at deeply bytes.now) }
+        ensures memory { IfOk result (λ r. All WantsNoMemory r.1.extensions.items) }
+        ensures found { IfOk result (λ r. grammar.ExtensionRequest IsParsed bytes.now (map extension_view r.1.extensions.items) r.0.now) }
+        ensures only { (v : List Extension) (rest : List ℕ) → grammar.ExtensionRequest IsParsed bytes.now v rest
             → ElseMemory result (λ r. (map extension_view r.1.extensions.items ≡ v) × (r.0.now ≡ rest)) }
     {
         extensions_at_front(alloc, bytes)
@@ -134,7 +141,8 @@ impl<'a> FromDer<'a, X509Error> for ExtensionRequest<'a> {
 }
 
 fn request_at_front<'a>(alloc: Global, i: &'a [u8]) -> X509Result<'a, X509CertificationRequest<'a>>
-    ensures exact { Gives (λ r. (request_view r.1, r.0.now)) result (request_at unread i.now) }
+    ensures exact { Gives (λ r. (request_view r.1, r.0.now)) result (request_at deeply i.now) }
+    ensures memory { IfOk result (λ r. AttributesWantNoMemory r.1.certification_request_info) }
     ensures missing { TellsMissing i.now result }
 {
     let mut count = HeaderCount::new();
@@ -146,7 +154,8 @@ fn request_at_front<'a>(alloc: Global, i: &'a [u8]) -> X509Result<'a, X509Certif
 }
 
 fn info_at_front<'a>(alloc: Global, i: &'a [u8]) -> X509Result<'a, X509CertificationRequestInfo<'a>>
-    ensures exact { Gives (λ r. (info_view r.1, r.0.now)) result (info_at unread i.now) }
+    ensures exact { Gives (λ r. (info_view r.1, r.0.now)) result (info_at deeply i.now) }
+    ensures memory { IfOk result (λ r. AttributesWantNoMemory r.1) }
     ensures missing { TellsMissing i.now result }
 {
     let mut count = HeaderCount::new();
@@ -158,7 +167,8 @@ fn info_at_front<'a>(alloc: Global, i: &'a [u8]) -> X509Result<'a, X509Certifica
 }
 
 fn attribute_at_front<'a>(alloc: Global, i: &'a [u8]) -> X509Result<'a, X509CriAttribute<'a>>
-    ensures exact { Gives (λ r. (attribute_view r.1, r.0.now)) result (named_attribute_at unread i.now) }
+    ensures exact { Gives (λ r. (attribute_view r.1, r.0.now)) result (named_attribute_at deeply i.now) }
+    ensures memory { IfOk result (λ r. AttributeWantsNoMemory r.1) }
     ensures refused { IfErr result (IsOnly errors.InvalidAttributes) }
 {
     match front_attribute(alloc, i) {
@@ -168,12 +178,13 @@ fn attribute_at_front<'a>(alloc: Global, i: &'a [u8]) -> X509Result<'a, X509CriA
 }
 
 fn extensions_at_front<'a>(alloc: Global, i: &'a [u8]) -> X509Result<'a, ExtensionRequest<'a>>
-    ensures exact { Gives (λ r. (map extension_view r.1.extensions.items, r.0.now)) result (requested_at unread i.now) }
+    ensures exact { Gives (λ r. (map extension_view r.1.extensions.items, r.0.now)) result (requested_at deeply i.now) }
+    ensures memory { IfOk result (λ r. All WantsNoMemory r.1.extensions.items) }
     ensures missing { TellsMissing i.now result }
 {
     let mut count = HeaderCount::new();
     let (rest, element) = whole_element(i, &mut count)?;
-    match extension_list_of(alloc, element, &mut count) {
+    match extension_list_of(alloc, element, true, &mut count) {
         Ok(extensions) => Ok((rest, ExtensionRequest { extensions })),
         Err(refusal) => Err(Refusal::within(refusal)),
     }

@@ -1,15 +1,15 @@
 //! `X509CertificationRequest` (RFC 2986, 4.2).
 
-ghost use Rattle.std.specs.Prelude.{◌≡◌, ◌≤◌, length, option_map};
+ghost use Rattle.std.specs.Prelude.{◌≡◌, ◌≤◌, length, IfOk, option_map};
 ghost use Rattle.asn1_any.specs.CutViews.{piece_of};
 ghost use Rattle.x509_core.specs.Answers.{Gives, naming};
 ghost use Rattle.x509_core.specs.declared.error.X509Error.TheVariants.{InvalidSignatureValue};
 ghost use Rattle.x509_names.specs.Reading.{bits_at};
 ghost use Rattle.x509_names.specs.View.{bits_view};
-ghost use Rattle.x509_ext.specs.Fields.{unread};
+ghost use Rattle.x509_deep.specs.Reading.{deeply};
 ghost use Rattle.x509_requests.specs.Lookup.{requested_of};
 ghost use Rattle.x509_requests.specs.Reading.{request_in};
-ghost use Rattle.x509_requests.specs.View.{request_view};
+ghost use Rattle.x509_requests.specs.View.{request_view, AttributesWantNoMemory};
 
 use crate::attribute::{ParsedCriAttribute, X509CriAttribute};
 use crate::info::{X509CertificationRequestInfo, next_info};
@@ -84,7 +84,8 @@ pub(crate) fn request_of<'a>(
     alloc: Global,
     element: Element<'a>,
 ) -> Result<X509CertificationRequest<'a>, Refusal<X509Error>>
-    ensures read { Gives request_view result (request_in unread (piece_of element.entry)) }
+    ensures read { Gives request_view result (request_in deeply (piece_of element.entry)) }
+    ensures memory { IfOk result (λ r. AttributesWantNoMemory r.certification_request_info) }
 {
     let mut count = HeaderCount::new();
     let mut parts = parts_of(alloc, 16, element, &mut count)?;

@@ -1,12 +1,12 @@
 //! The values of an attribute, by its type (RFC 2985, 5.4).
 
-ghost use Rattle.std.specs.Prelude.{◌≡◌, ◌≤◌, length, IfOk, map, string_bytes};
+ghost use Rattle.std.specs.Prelude.{◌≡◌, ◌≤◌, length, All, IfOk, map, string_bytes};
 ghost use Rattle.asn1_any.specs.Views.{any_of};
 ghost use Rattle.x509_core.specs.Answers.{Gives};
-ghost use Rattle.x509_ext.specs.Fields.{unread};
-ghost use Rattle.x509_ext.specs.View.{extension_view};
+ghost use Rattle.x509_deep.specs.Reading.{deeply};
+ghost use Rattle.x509_ext.specs.View.{extension_view, WantsNoMemory};
 ghost use Rattle.x509_requests.specs.Reading.{requested_at, password_in, password_at, values_at};
-ghost use Rattle.x509_requests.specs.View.{values_view};
+ghost use Rattle.x509_requests.specs.View.{values_view, ValuesWantNoMemory};
 
 use crate::attribute::{ChallengePassword, ExtensionRequest, ParsedCriAttribute};
 use asn1_any::Any;
@@ -63,12 +63,13 @@ fn front_password<'a>(alloc: Global, i: &'a [u8]) -> X509Result<'a, ChallengePas
 
 /// The extensions that begin the octets, behind those after them.
 fn front_request<'a>(alloc: Global, i: &'a [u8]) -> X509Result<'a, ExtensionRequest<'a>>
-    ensures read { Gives (λ r. (map extension_view r.1.extensions.items, r.0.now)) result (requested_at unread i.now) }
+    ensures read { Gives (λ r. (map extension_view r.1.extensions.items, r.0.now)) result (requested_at deeply i.now) }
+    ensures memory { IfOk result (λ r. All WantsNoMemory r.1.extensions.items) }
     ensures shorter { IfOk result (λ r. length r.0.now ≤ length i.now) }
 {
     let mut count = HeaderCount::new();
     let (rest, element) = front_element(i, &mut count)?;
-    let extensions = extension_list_of(alloc, element, &mut count)?;
+    let extensions = extension_list_of(alloc, element, true, &mut count)?;
     Ok((rest, ExtensionRequest { extensions }))
 }
 
@@ -79,7 +80,8 @@ pub(crate) fn values_of<'a>(
     oid: &Oid<'_>,
     i: &'a [u8],
 ) -> X509Result<'a, ParsedCriAttribute<'a>>
-    ensures read { Gives (λ r. (values_view r.1, r.0.now)) result (values_at unread oid.now i.now) }
+    ensures read { Gives (λ r. (values_view r.1, r.0.now)) result (values_at deeply oid.now i.now) }
+    ensures memory { IfOk result (λ r. ValuesWantNoMemory r.1) }
     ensures shorter { IfOk result (λ r. length r.0.now ≤ length i.now) }
 {
     if oid.as_bytes() == EXTENSION_REQUEST {
