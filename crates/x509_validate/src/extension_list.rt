@@ -32,7 +32,10 @@ fn identifiers<'n, 'a>(
 ) -> Result<Vec<&'n Oid<'a>>, AllocError>
     ensures { IfOk result (λ v. map (λ o. o.now) v.items ≡ map (λ e. e.oid) extensions.now) }
 {
-    extensions.iter().map(|extension| &extension.oid).collect(alloc)
+    extensions
+        .iter()
+        .map(|extension| &extension.oid)
+        .collect(alloc)
 }
 
 fn policy_identifiers<'n, 'a>(
@@ -41,7 +44,10 @@ fn policy_identifiers<'n, 'a>(
 ) -> Result<Vec<&'n Oid<'a>>, AllocError>
     ensures { IfOk result (λ v. map (λ o. o.now) v.items ≡ map (λ p. p.policy_id) policies.now) }
 {
-    policies.iter().map(|policy| &policy.policy_id).collect(alloc)
+    policies
+        .iter()
+        .map(|policy| &policy.policy_id)
+        .collect(alloc)
 }
 
 fn push_policies(
@@ -52,7 +58,12 @@ fn push_policies(
     ensures { OnOk result (map message_view said.new.items ≡ map message_view said.old.items ++ policy_messages policies.now) }
 {
     let oids = policy_identifiers(alloc, policies)?;
-    push_repeats(alloc, "Certificate Policies: duplicate policy ", &oids, said)
+    push_repeats(
+        alloc,
+        "Certificate Policies: duplicate policy ",
+        &oids,
+        said,
+    )
 }
 
 fn push_half(
@@ -63,7 +74,12 @@ fn push_half(
     ensures { OnOk result (map message_view said.new.items ≡ map message_view said.old.items ++ half_messages value.now.authority_cert_issuer value.now.authority_cert_serial) }
 {
     match (&value.authority_cert_issuer, &value.authority_cert_serial) {
-        (Some(_), None) | (None, Some(_)) => push_text(alloc, Weight::Warning, "AKI: only one of Issuer and Serial is present", said),
+        (Some(_), None) | (None, Some(_)) => push_text(
+            alloc,
+            Weight::Warning,
+            "AKI: only one of Issuer and Serial is present",
+            said,
+        ),
         _ => Ok(()),
     }
 }
@@ -77,7 +93,12 @@ fn push_authority(
     ensures { OnOk result (map message_view said.new.items ≡ map message_view said.old.items ++ authority_messages critical value.now) }
 {
     if critical {
-        push_text(alloc, Weight::Fault, "Extension AKI MUST NOT be critical, but is", said)?;
+        push_text(
+            alloc,
+            Weight::Fault,
+            "Extension AKI MUST NOT be critical, but is",
+            said,
+        )?;
     }
     push_half(alloc, value, said)
 }
@@ -86,7 +107,12 @@ fn push_usage(alloc: Global, usage: &KeyUsage, said: &mut Vec<Message>) -> Resul
     ensures { OnOk result (map message_view said.new.items ≡ map message_view said.old.items ++ usage_messages usage.now.flags) }
 {
     if usage.flags == 0 {
-        push_text(alloc, Weight::Fault, "KeyUsage: all flags are set to 0", said)
+        push_text(
+            alloc,
+            Weight::Fault,
+            "KeyUsage: all flags are set to 0",
+            said,
+        )
     } else {
         Ok(())
     }
@@ -101,7 +127,9 @@ fn push_kind(
     ensures { OnOk result (map message_view said.new.items ≡ map message_view said.old.items ++ kind_messages critical parsed.now) }
 {
     match parsed {
-        ParsedExtension::AuthorityKeyIdentifier(value) => push_authority(alloc, critical, value, said),
+        ParsedExtension::AuthorityKeyIdentifier(value) => push_authority(
+            alloc, critical, value, said,
+        ),
         ParsedExtension::CertificatePolicies(policies) => push_policies(alloc, policies, said),
         ParsedExtension::KeyUsage(usage) => push_usage(alloc, usage, said),
         _ => push_alternative(alloc, parsed, said),
@@ -117,7 +145,12 @@ fn push_kinds(
 {
     let mut rest = extensions;
     while let Some((extension, behind)) = rest.split_first() {
-        push_kind(alloc, extension.critical, extension.parsed_extension(), said)?;
+        push_kind(
+            alloc,
+            extension.critical,
+            extension.parsed_extension(),
+            said,
+        )?;
         rest = behind;
     }
     Ok(())
@@ -143,7 +176,12 @@ impl<'a> Validator<'a> for X509ExtensionsValidator {
     ghost messages = { λ v extensions. list_messages extensions.now };
 
     #[tactic(auto, using(crate::proofs::Told::untold))]
-    fn validate<L: Logger>(&self, alloc: Global, extensions: &&'a [X509Extension<'a>], l: &mut L) -> Result<bool, LogError> {
+    fn validate<L: Logger>(
+        &self,
+        alloc: Global,
+        extensions: &&'a [X509Extension<'a>],
+        l: &mut L,
+    ) -> Result<bool, LogError> {
         let mut said = Vec::new(alloc);
         push_list(alloc, extensions, &mut said)?;
         tell_all(&said, l)
@@ -158,7 +196,12 @@ impl<'a> Validator<'a> for X509CertificateValidator {
     ghost messages = { λ v certificate. list_messages certificate.tbs_certificate.extensions.items };
 
     #[tactic(auto, using(crate::proofs::Told::untold))]
-    fn validate<L: Logger>(&self, alloc: Global, certificate: &X509Certificate<'a>, l: &mut L) -> Result<bool, LogError> {
+    fn validate<L: Logger>(
+        &self,
+        alloc: Global,
+        certificate: &X509Certificate<'a>,
+        l: &mut L,
+    ) -> Result<bool, LogError> {
         let mut said = Vec::new(alloc);
         push_list(alloc, certificate.tbs_certificate.extensions(), &mut said)?;
         tell_all(&said, l)

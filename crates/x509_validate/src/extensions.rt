@@ -131,7 +131,11 @@ pub(crate) fn push_alternative(
     ensures { OnOk result (map message_view said.new.items ≡ map message_view said.old.items ++ alternative_messages parsed.now) }
 {
     match parsed {
-        ParsedExtension::SubjectAlternativeName(names) => push_general_names(alloc, &names.general_names, said),
+        ParsedExtension::SubjectAlternativeName(names) => push_general_names(
+            alloc,
+            &names.general_names,
+            said,
+        ),
         _ => Ok(()),
     }
 }

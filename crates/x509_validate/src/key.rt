@@ -45,15 +45,21 @@ fn push_rsa(
 ) -> Result<(), AllocError>
     ensures { OnOk result (map message_view said.new.items ≡ map message_view said.old.items ++ rsa_messages (rsa_view key.now)) }
 {
-    push_sign(alloc, "Public key: (RSA) modulus is negative", key.modulus, said)?;
-    push_sign(alloc, "Public key: (RSA) exponent is negative", key.exponent, said)
+    push_sign(
+        alloc,
+        "Public key: (RSA) modulus is negative",
+        key.modulus,
+        said,
+    )?;
+    push_sign(
+        alloc,
+        "Public key: (RSA) exponent is negative",
+        key.exponent,
+        said,
+    )
 }
 
-fn push_value(
-    alloc: Global,
-    key: &PublicKey<'_>,
-    said: &mut Vec<Message>,
-) -> Result<(), AllocError>
+fn push_value(alloc: Global, key: &PublicKey<'_>, said: &mut Vec<Message>) -> Result<(), AllocError>
     ensures { OnOk result (map message_view said.new.items ≡ map message_view said.old.items ++ value_messages (public_key_view key.now)) }
 {
     match key {
@@ -94,8 +100,7 @@ pub(crate) fn push_key(
 pub fn messages_of_key(key: &SubjectPublicKeyInfo<'_>, octets: &[u8])
     requires { octets.now ≡ key.now.subject_public_key.content.now }
     ensures { AreKeyMessages (key_view key.now) (key_messages (key_view key.now)) }
-{
-}
+{}
 
 impl<'a> Validator<'a> for X509PublicKeyValidator {
     ghost use Rattle.x509_names.specs.View.{key_view};
@@ -106,7 +111,12 @@ impl<'a> Validator<'a> for X509PublicKeyValidator {
     ghost messages = { λ v key. key_messages (key_view key) };
 
     #[tactic(auto, using(crate::proofs::Told::untold))]
-    fn validate<L: Logger>(&self, alloc: Global, key: &SubjectPublicKeyInfo<'a>, l: &mut L) -> Result<bool, LogError> {
+    fn validate<L: Logger>(
+        &self,
+        alloc: Global,
+        key: &SubjectPublicKeyInfo<'a>,
+        l: &mut L,
+    ) -> Result<bool, LogError> {
         let mut said = Vec::new(alloc);
         push_key(alloc, key, &mut said)?;
         tell_all(&said, l)

@@ -90,7 +90,12 @@ impl<'a> Validator<'a> for X509NameStructureValidator {
     ghost messages = { λ v name. name_messages (name_view name) };
 
     #[tactic(auto, using(crate::proofs::Told::untold))]
-    fn validate<L: Logger>(&self, alloc: Global, name: &X509Name<'a>, l: &mut L) -> Result<bool, LogError> {
+    fn validate<L: Logger>(
+        &self,
+        alloc: Global,
+        name: &X509Name<'a>,
+        l: &mut L,
+    ) -> Result<bool, LogError> {
         let mut said = Vec::new(alloc);
         push_name(alloc, name, &mut said)?;
         tell_all(&said, l)

@@ -33,8 +33,18 @@ pub(crate) fn push_serial(
 {
     match octets {
         [] => push_text(alloc, Weight::Fatal, "Serial is empty", said),
-        [first, ..] if *first > 127 => push_text(alloc, Weight::Warning, "Serial number is negative", said),
-        [first, second, ..] if *first == 0 && *second <= 127 => push_text(alloc, Weight::Warning, "Leading zeroes in serial number", said),
+        [first, ..] if *first > 127 => push_text(
+            alloc,
+            Weight::Warning,
+            "Serial number is negative",
+            said,
+        ),
+        [first, second, ..] if *first == 0 && *second <= 127 => push_text(
+            alloc,
+            Weight::Warning,
+            "Leading zeroes in serial number",
+            said,
+        ),
         _ => Ok(()),
     }
 }

@@ -60,8 +60,18 @@ fn push_unique(
     if tbs.version.0 != 0 {
         return Ok(());
     }
-    push_present(alloc, "issuerUniqueID present but version 1", &tbs.issuer_uid, said)?;
-    push_present(alloc, "subjectUniqueID present but version 1", &tbs.subject_uid, said)
+    push_present(
+        alloc,
+        "issuerUniqueID present but version 1",
+        &tbs.issuer_uid,
+        said,
+    )?;
+    push_present(
+        alloc,
+        "subjectUniqueID present but version 1",
+        &tbs.subject_uid,
+        said,
+    )
 }
 
 fn push_presence(
@@ -73,7 +83,12 @@ fn push_presence(
     ensures { OnOk result (map message_view said.new.items ≡ map message_view said.old.items ++ presence_messages version extensions.now) }
 {
     match extensions {
-        [_, ..] if version != 2 => push_text(alloc, Weight::Fatal, "Extensions present but version is not 3", said),
+        [_, ..] if version != 2 => push_text(
+            alloc,
+            Weight::Fatal,
+            "Extensions present but version is not 3",
+            said,
+        ),
         _ => Ok(()),
     }
 }
@@ -125,7 +140,12 @@ impl<'a> Validator<'a> for TbsCertificateStructureValidator {
     ghost messages = { λ v tbs. structure_messages tbs };
 
     #[tactic(auto, using(crate::proofs::Told::untold))]
-    fn validate<L: Logger>(&self, alloc: Global, tbs: &TbsCertificate<'a>, l: &mut L) -> Result<bool, LogError> {
+    fn validate<L: Logger>(
+        &self,
+        alloc: Global,
+        tbs: &TbsCertificate<'a>,
+        l: &mut L,
+    ) -> Result<bool, LogError> {
         let mut said = Vec::new(alloc);
         push_structure(alloc, tbs, &mut said)?;
         tell_all(&said, l)
@@ -139,7 +159,12 @@ impl<'a> Validator<'a> for X509StructureValidator {
 
     ghost messages = { λ v certificate. structure_messages certificate.tbs_certificate };
 
-    fn validate<L: Logger>(&self, alloc: Global, certificate: &X509Certificate<'a>, l: &mut L) -> Result<bool, LogError> {
+    fn validate<L: Logger>(
+        &self,
+        alloc: Global,
+        certificate: &X509Certificate<'a>,
+        l: &mut L,
+    ) -> Result<bool, LogError> {
         TbsCertificateStructureValidator.validate(alloc, &certificate.tbs_certificate, l)
     }
 }

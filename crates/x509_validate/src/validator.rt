@@ -17,7 +17,12 @@ pub trait Validator<'a>: Sized {
 
     /// Tells a logger all that is said of the value, in its order, and answers whether nothing of it is fatal. A refusal is the logger's, or
     /// want of memory for a text; what was told till then is a front of what is said.
-    fn validate<L: Logger>(&self, alloc: Global, item: &Self::Item, l: &mut L) -> Result<bool, LogError>
+    fn validate<L: Logger>(
+        &self,
+        alloc: Global,
+        item: &Self::Item,
+        l: &mut L,
+    ) -> Result<bool, LogError>
         ensures taken { OnOk result (TakesAll L.warns L.errs l.old (messages self.now item.now) l.new) }
         ensures answer { IfOk result (λ answer. answer ≡ all_pass (messages self.now item.now)) }
         ensures refused { IfErr result (λ e. TakesSome L.warns L.errs l.old (messages self.now item.now) e l.new) };
@@ -40,7 +45,8 @@ pub struct ChainValidator<A, B> {
     second: B,
 }
 
-impl<'a, A: Validator<'a>, B: Validator<'a, Item = A::Item>> Validator<'a> for ChainValidator<A, B> {
+impl<'a, A: Validator<'a>, B: Validator<'a, Item = A::Item>> Validator<'a>
+    for ChainValidator<A, B> {
     ghost use Rattle.std.specs.Prelude.{◌++◌};
 
     type Item = A::Item;
@@ -48,7 +54,12 @@ impl<'a, A: Validator<'a>, B: Validator<'a, Item = A::Item>> Validator<'a> for C
     ghost messages = { λ v item. A.messages v.first item ++ B.messages v.second item };
 
     #[tactic(auto, using(crate::proofs::Told::joined, crate::proofs::Told::first_refused, crate::proofs::Told::second_refused, crate::proofs::Told::both_pass))]
-    fn validate<L: Logger>(&self, alloc: Global, item: &A::Item, l: &mut L) -> Result<bool, LogError> {
+    fn validate<L: Logger>(
+        &self,
+        alloc: Global,
+        item: &A::Item,
+        l: &mut L,
+    ) -> Result<bool, LogError> {
         let first = self.first.validate(alloc, item, l)?;
         let second = self.second.validate(alloc, item, l)?;
         Ok(first && second)
