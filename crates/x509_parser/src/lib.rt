@@ -2,7 +2,6 @@
 //! grammar has them.
 //!
 //! The types stand in crates of their own, each with what is proved of it; this one names them in the Rust crate's modules.
-//! The values of extensions of lists and requests aren't parsed yet.
 #![tactic(auto)]
 
 pub mod certificate;
@@ -18,6 +17,7 @@ pub mod signature_algorithm;
 pub mod signature_value;
 pub mod time;
 pub mod utils;
+pub mod validate;
 pub mod x509;
 
 pub use asn1_traits::FromDer;

@@ -1,21 +1,40 @@
-//! What most users need.
+//! What most users need: the names of the modules, those of keys and signatures left out.
 
-pub use asn1_traits::FromDer;
-pub use x509_certs::{
-    TbsCertificate, TbsCertificateParser, X509Certificate, X509CertificateParser,
-    parse_x509_certificate, parse_x509_der,
+pub use crate::certificate::{
+    BasicExtension, TbsCertificate, TbsCertificateParser, UniqueIdentifier, Validity,
+    X509Certificate, X509CertificateParser,
 };
-pub use x509_core::{X509Error, X509Result};
-pub use x509_ext::{ParsedExtension, X509Extension, X509ExtensionParser, X509Version};
-pub use x509_lists::{
+pub use crate::certification_request::{X509CertificationRequest, X509CertificationRequestInfo};
+pub use crate::cri_attributes::{
+    ChallengePassword, ExtensionRequest, ParsedCriAttribute, X509CriAttribute,
+};
+pub use crate::error::{NidError, X509Error, X509Result};
+pub use crate::extensions::{
+    AccessDescription, AuthorityInfoAccess, AuthorityKeyIdentifier, BasicConstraints,
+    CRLDistributionPoint, CRLDistributionPoints, CertificatePolicies, CtExtensions, CtLogID,
+    CtVersion, DigitallySigned, DistributionPointName, ExtendedKeyUsage, GeneralName,
+    GeneralSubtree, InhibitAnyPolicy, IssuerAlternativeName, IssuingDistributionPoint,
+    KeyIdentifier, KeyUsage, NSCertType, NameConstraints, ParsedExtension, PolicyConstraints,
+    PolicyInformation, PolicyMapping, PolicyMappings, PolicyQualifierInfo, ReasonFlags,
+    SignedCertificateTimestamp, SubjectAlternativeName, SubjectInfoAccess, X509Extension,
+    X509ExtensionParser, parse_ct_signed_certificate_timestamp,
+    parse_ct_signed_certificate_timestamp_list,
+};
+pub use crate::objects::{
+    OidEntry, OidRegistry, oid_registry, oid2abbrev, oid2description, oid2sn,
+};
+pub use crate::revocation_list::{
     CertificateRevocationList, CertificateRevocationListParser, RevokedCertificate, TbsCertList,
-    parse_crl_der, parse_x509_crl,
 };
-pub use x509_names::{
-    AlgorithmIdentifier, AttributeTypeAndValue, RelativeDistinguishedName, SubjectPublicKeyInfo,
-    X509Name,
+pub use crate::time::ASN1Time;
+pub use crate::utils::format_serial;
+pub use crate::validate::{
+    ChainValidator, LogError, Logger, StderrLogger, TbsCertificateStructureValidator, Validate,
+    Validator, VecLogger, X509CertificateValidator, X509ExtensionsValidator,
+    X509NameStructureValidator, X509PublicKeyValidator, X509StructureValidator,
 };
-pub use x509_objects::{oid_registry, oid2abbrev, oid2description, oid2sn};
-pub use x509_requests::{X509CertificationRequest, X509CertificationRequestInfo};
-pub use x509_time::{ASN1Time, Validity};
-pub use x509_values::{ReasonCode, format_serial};
+pub use crate::x509::{
+    AlgorithmIdentifier, AttributeTypeAndValue, ReasonCode, RelativeDistinguishedName,
+    SubjectPublicKeyInfo, X509Name, X509Version,
+};
+pub use crate::{FromDer, parse_crl_der, parse_x509_certificate, parse_x509_crl, parse_x509_der};
