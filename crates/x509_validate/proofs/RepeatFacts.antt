@@ -5,16 +5,12 @@ use Rattle.std.specs.BTreeSet.{BTreeSet}
 use Rattle.std.specs.Ordering.{nat_cmp, eq_by_cmp}
 use Rattle.std.specs.Cmp.Lexicographic.{slice_cmp}
 use Rattle.asn1_oid.specs.Text.{oid_text}
+use Rattle.std.proofs.lemmas.List.{append-nil}
 use Rattle.x509_policies.specs.Reading.{has}
-use Rattle.x509_policies.proofs.PurposeLaws.{IsKept, kept_more, by_octets}
+use Rattle.x509_policies.proofs.PurposeLaws.{kept_more, by_octets}
 use Rattle.x509_validate.specs.Messages.{Message, message, fatal}
 use Rattle.x509_validate.specs.Repeats.{repeat_messages}
-
--- what was said, and what will be said of the rest, is all; the set holds those that stood before
-pub record Left (text : List ℕ) (whole : List Message) (said : List Message) (seen : BTreeSet (Bor (List ℕ))) (rest : List (List ℕ)) : Type 0 where
-  pub kept : List (List ℕ)
-  pub holds : IsKept kept seen
-  pub sum : said ++ repeat_messages text kept rest ≡ whole
+use Rattle.x509_validate.specs.Before.{IsHeld, Left}
 
 by_test : (text : List ℕ) (kept : List (List ℕ)) (id : List ℕ) (rest : List (List ℕ)) (b : Bool) → has id kept ≡ b
     → repeat_messages text kept (id ∷ rest) ≡ (if b then message fatal (text ++ oid_text id) ∷ repeat_messages text kept rest else repeat_messages text (kept ++ id ∷ []) rest)
@@ -38,3 +34,9 @@ anew text whole said seen more id rest p e updates = record {
   holds = kept_more p.kept seen more id p.holds updates;
   sum = ap (λ z. said ++ z) (sym (by_test text p.kept id.now rest false (sym (p.holds id) ∙ e))) ∙ p.sum;
 }
+
+pub begun : (text : List ℕ) (said : List Message) (seen : BTreeSet (Bor (List ℕ))) (ids : List (List ℕ)) → IsHeld [] seen → Left text (said ++ repeat_messages text [] ids) said seen ids
+begun text said seen ids none = record { kept = []; holds = none; sum = refl }
+
+pub ended : (text : List ℕ) (whole said : List Message) (seen : BTreeSet (Bor (List ℕ))) → Left text whole said seen [] → said ≡ whole
+ended text whole said seen p = sym (append-nil said) ∙ p.sum

@@ -23,7 +23,7 @@ refused_text (refusals.Failure e) = codes "failure " ++ error_text e
 abbrev pub parsed_messages : List ℕ → ParsedExtension → List Message
 parsed_messages identifier (cases.UnsupportedExtension oid) = message warning (codes "Unsupported extension " ++ oid_text identifier) ∷ []
 parsed_messages identifier (cases.ParseError error) = message fatal ((codes "Parse error in extension " ++ oid_text identifier) ++ (codes ": " ++ refused_text error)) ∷ []
-parsed_messages identifier parsed = []
+parsed_messages identifier _ = []
 
 -- of one extension: whether its value is known and parsed
 abbrev pub extension_messages : X509Extension → List Message
@@ -40,7 +40,7 @@ text_messages text = if list_any is_high text then message warning ((codes "Inva
 abbrev pub general_name_messages : GeneralName → List Message
 general_name_messages (names.RFC822Name text) = text_messages text.now
 general_name_messages (names.DNSName text) = text_messages text.now
-general_name_messages name = []
+general_name_messages _ = []
 
 abbrev pub general_names_messages : List GeneralName → List Message
 general_names_messages [] = []
@@ -49,7 +49,7 @@ general_names_messages (n ∷ others) = general_name_messages n ++ general_names
 -- of the subject's alternative names, where the value is these
 abbrev pub alternative_messages : ParsedExtension → List Message
 alternative_messages (cases.SubjectAlternativeName n) = general_names_messages n.general_names.items
-alternative_messages parsed = []
+alternative_messages _ = []
 
 abbrev pub each_alternative : List X509Extension → List Message
 each_alternative [] = []

@@ -8,4 +8,5 @@ pub mod Parts
 pub mod Extensions
 pub mod Structure
 pub mod Repeats
+pub mod Before
 pub mod View

@@ -22,9 +22,12 @@ half_messages (Some x) None = message warning (codes "AKI: only one of Issuer an
 half_messages None (Some y) = message warning (codes "AKI: only one of Issuer and Serial is present") ∷ []
 half_messages issuer serial = []
 
+-- it must not be critical (RFC 5280, 4.2.1.1)
+abbrev pub critical_messages : Bool → List Message
+critical_messages critical = if critical then message fault (codes "Extension AKI MUST NOT be critical, but is") ∷ [] else []
+
 abbrev pub authority_messages : Bool → AuthorityKeyIdentifier → List Message
-authority_messages critical a =
-    (if critical then message fault (codes "Extension AKI MUST NOT be critical, but is") ∷ [] else []) ++ half_messages a.authority_cert_issuer a.authority_cert_serial
+authority_messages critical a = critical_messages critical ++ half_messages a.authority_cert_issuer a.authority_cert_serial
 
 abbrev pub policy_messages : List PolicyInformation → List Message
 policy_messages policies = repeat_messages (codes "Certificate Policies: duplicate policy ") [] (map (λ p. p.policy_id) policies)
@@ -37,12 +40,16 @@ abbrev pub kind_messages : Bool → ParsedExtension → List Message
 kind_messages critical (cases.AuthorityKeyIdentifier a) = authority_messages critical a
 kind_messages critical (cases.CertificatePolicies policies) = policy_messages policies.items
 kind_messages critical (cases.KeyUsage usage) = usage_messages usage.flags
-kind_messages critical parsed = alternative_messages parsed
+kind_messages critical other = alternative_messages other
 
 abbrev pub each_kind : List X509Extension → List Message
 each_kind [] = []
 each_kind (e ∷ others) = kind_messages e.critical e.parsed_extension ++ each_kind others
 
--- of extensions: those that repeat an identifier (RFC 5280, 4.2), and then each by its kind
+-- of extensions that repeat an identifier (RFC 5280, 4.2)
+abbrev pub duplicate_messages : List X509Extension → List Message
+duplicate_messages extensions = repeat_messages (codes "Duplicate extension ") [] (map (λ e. e.oid) extensions)
+
+-- of extensions: those that repeat an identifier, and then each by its kind
 abbrev pub list_messages : List X509Extension → List Message
-list_messages extensions = repeat_messages (codes "Duplicate extension ") [] (map (λ e. e.oid) extensions) ++ each_kind extensions
+list_messages extensions = duplicate_messages extensions ++ each_kind extensions

@@ -1,17 +1,17 @@
 //! Validators of lists of extensions.
 
-ghost use Rattle.std.specs.Prelude.{◌≡◌, ◌++◌, IfOk, OnOk, map};
-ghost use Rattle.x509_validate.specs.Repeats.{half_messages, authority_messages, policy_messages, usage_messages, kind_messages, each_kind, list_messages};
+ghost use Rattle.std.specs.Prelude.{◌≡◌, ◌++◌, OnOk, map};
+ghost use Rattle.x509_validate.specs.Repeats.{critical_messages, half_messages, authority_messages, policy_messages, duplicate_messages, usage_messages, kind_messages, each_kind, list_messages};
 ghost use Rattle.x509_validate.specs.View.{message_view};
 
 use crate::extensions::push_alternative;
 use crate::logger::{LogError, Logger};
 use crate::message::{Message, Weight, push_text};
-use crate::repeats::push_repeats;
+use crate::repeats::push_repeat;
 use crate::telling::tell_all;
 use crate::validator::Validator;
-use asn1_oid::Oid;
 use std::alloc::{AllocError, Global};
+use std::collections::BTreeSet;
 use x509_certs::X509Certificate;
 use x509_ext::{ParsedExtension, X509Extension};
 use x509_flags::KeyUsage;
@@ -26,30 +26,7 @@ pub struct X509ExtensionsValidator;
 #[derive(Clone, Copy, Debug)]
 pub struct X509CertificateValidator;
 
-fn identifiers<'n, 'a>(
-    alloc: Global,
-    extensions: &'n [X509Extension<'a>],
-) -> Result<Vec<&'n Oid<'a>>, AllocError>
-    ensures { IfOk result (λ v. map (λ o. o.now) v.items ≡ map (λ e. e.oid) extensions.now) }
-{
-    extensions
-        .iter()
-        .map(|extension| &extension.oid)
-        .collect(alloc)
-}
-
-fn policy_identifiers<'n, 'a>(
-    alloc: Global,
-    policies: &'n [PolicyInformation<'a>],
-) -> Result<Vec<&'n Oid<'a>>, AllocError>
-    ensures { IfOk result (λ v. map (λ o. o.now) v.items ≡ map (λ p. p.policy_id) policies.now) }
-{
-    policies
-        .iter()
-        .map(|policy| &policy.policy_id)
-        .collect(alloc)
-}
-
+/// Adds a message for each policy that stood before.
 fn push_policies(
     alloc: Global,
     policies: &[PolicyInformation<'_>],
@@ -57,13 +34,26 @@ fn push_policies(
 ) -> Result<(), AllocError>
     ensures { OnOk result (map message_view said.new.items ≡ map message_view said.old.items ++ policy_messages policies.now) }
 {
-    let oids = policy_identifiers(alloc, policies)?;
-    push_repeats(
-        alloc,
-        "Certificate Policies: duplicate policy ",
-        &oids,
-        said,
-    )
+    let mut seen = BTreeSet::new(alloc);
+    for policy in policies {
+        push_repeat(alloc, "Certificate Policies: duplicate policy ", &policy.policy_id, &mut seen, said)?;
+    }
+    Ok(())
+}
+
+/// Adds a message for each extension whose identifier stood before.
+fn push_duplicates(
+    alloc: Global,
+    extensions: &[X509Extension<'_>],
+    said: &mut Vec<Message>,
+) -> Result<(), AllocError>
+    ensures { OnOk result (map message_view said.new.items ≡ map message_view said.old.items ++ duplicate_messages extensions.now) }
+{
+    let mut seen = BTreeSet::new(alloc);
+    for extension in extensions {
+        push_repeat(alloc, "Duplicate extension ", &extension.oid, &mut seen, said)?;
+    }
+    Ok(())
 }
 
 fn push_half(
@@ -84,6 +74,16 @@ fn push_half(
     }
 }
 
+fn push_critical(alloc: Global, critical: bool, said: &mut Vec<Message>) -> Result<(), AllocError>
+    ensures { OnOk result (map message_view said.new.items ≡ map message_view said.old.items ++ critical_messages critical) }
+{
+    if critical {
+        push_text(alloc, Weight::Fault, "Extension AKI MUST NOT be critical, but is", said)
+    } else {
+        Ok(())
+    }
+}
+
 fn push_authority(
     alloc: Global,
     critical: bool,
@@ -92,14 +92,7 @@ fn push_authority(
 ) -> Result<(), AllocError>
     ensures { OnOk result (map message_view said.new.items ≡ map message_view said.old.items ++ authority_messages critical value.now) }
 {
-    if critical {
-        push_text(
-            alloc,
-            Weight::Fault,
-            "Extension AKI MUST NOT be critical, but is",
-            said,
-        )?;
-    }
+    push_critical(alloc, critical, said)?;
     push_half(alloc, value, said)
 }
 
@@ -143,15 +136,8 @@ fn push_kinds(
 ) -> Result<(), AllocError>
     ensures { OnOk result (map message_view said.new.items ≡ map message_view said.old.items ++ each_kind extensions.now) }
 {
-    let mut rest = extensions;
-    while let Some((extension, behind)) = rest.split_first() {
-        push_kind(
-            alloc,
-            extension.critical,
-            extension.parsed_extension(),
-            said,
-        )?;
-        rest = behind;
+    for extension in extensions {
+        push_kind(alloc, extension.critical, extension.parsed_extension(), said)?;
     }
     Ok(())
 }
@@ -163,8 +149,7 @@ fn push_list(
 ) -> Result<(), AllocError>
     ensures { OnOk result (map message_view said.new.items ≡ map message_view said.old.items ++ list_messages extensions.now) }
 {
-    let oids = identifiers(alloc, extensions)?;
-    push_repeats(alloc, "Duplicate extension ", &oids, said)?;
+    push_duplicates(alloc, extensions, said)?;
     push_kinds(alloc, extensions, said)
 }
 
@@ -183,7 +168,7 @@ impl<'a> Validator<'a> for X509ExtensionsValidator {
         l: &mut L,
     ) -> Result<bool, LogError> {
         let mut said = Vec::new(alloc);
-        push_list(alloc, extensions, &mut said)?;
+        push_list(alloc, *extensions, &mut said)?;
         tell_all(&said, l)
     }
 }

@@ -66,10 +66,8 @@ pub(crate) fn push_extensions(
 ) -> Result<(), AllocError>
     ensures { OnOk result (map message_view said.new.items ≡ map message_view said.old.items ++ each_extension extensions.now) }
 {
-    let mut rest = extensions;
-    while let Some((extension, behind)) = rest.split_first() {
+    for extension in extensions {
         push_extension(alloc, extension, said)?;
-        rest = behind;
     }
     Ok(())
 }
@@ -115,10 +113,8 @@ fn push_general_names(
 ) -> Result<(), AllocError>
     ensures { OnOk result (map message_view said.new.items ≡ map message_view said.old.items ++ general_names_messages names.now) }
 {
-    let mut rest = names;
-    while let Some((name, behind)) = rest.split_first() {
+    for name in names {
         push_general_name(alloc, name, said)?;
-        rest = behind;
     }
     Ok(())
 }
@@ -148,10 +144,8 @@ pub(crate) fn push_alternatives(
 ) -> Result<(), AllocError>
     ensures { OnOk result (map message_view said.new.items ≡ map message_view said.old.items ++ each_alternative extensions.now) }
 {
-    let mut rest = extensions;
-    while let Some((extension, behind)) = rest.split_first() {
+    for extension in extensions {
         push_alternative(alloc, extension.parsed_extension(), said)?;
-        rest = behind;
     }
     Ok(())
 }

@@ -1,9 +1,10 @@
 //! Identifiers that stand twice.
 
-ghost use Rattle.std.specs.Prelude.{◌≡◌, [], ◌++◌, IfOk, OnOk, map};
+ghost use Rattle.std.specs.Prelude.{◌≡◌, ◌∷◌, ◌++◌, ℕ, List, IfOk, OnOk, map};
 ghost use Rattle.asn1_oid.specs.Text.{oid_text};
 ghost use Rattle.x509_validate.specs.Messages as messages;
-ghost use Rattle.x509_validate.specs.Repeats.{repeat_messages};
+ghost use Rattle.x509_validate.specs.Messages.{Message as Said};
+ghost use Rattle.x509_validate.specs.Before.{Left};
 ghost use Rattle.x509_validate.specs.View.{message_view};
 
 use crate::message::{Message, Weight};
@@ -22,26 +23,23 @@ fn repeat(alloc: Global, text: &str, oid: &Oid<'_>) -> Result<Message, AllocErro
     })
 }
 
-/// Adds a message for each identifier that stood before. With n of them of s octets in all, about s times the logarithm of n octets are
-/// compared.
-pub(crate) fn push_repeats<'n>(
+/// Adds a message where the identifier stood before, and else keeps it. With n of them of s octets in all, about s times the logarithm of
+/// n octets are compared.
+pub(crate) fn push_repeat<'n>(
     alloc: Global,
     text: &str,
-    oids: &[&'n Oid<'_>],
+    oid: &'n Oid<'_>,
+    seen: &mut BTreeSet<&'n [u8]>,
     said: &mut Vec<Message>,
 ) -> Result<(), AllocError>
-    ensures { OnOk result (map message_view said.new.items ≡ map message_view said.old.items ++ repeat_messages text.now [] (map (λ o. o.now) oids.now)) }
+    ensures { OnOk result ((whole : List Said) (rest : List (List ℕ)) → Left text.now whole (map message_view said.old.items) seen.old (oid.now ∷ rest)
+        → Left text.now whole (map message_view said.new.items) seen.new rest) }
 {
-    let mut seen: BTreeSet<&'n [u8]> = BTreeSet::new(alloc);
-    let mut rest = oids;
-    while let Some((oid, behind)) = rest.split_first() {
-        let octets: &'n [u8] = oid.as_bytes();
-        if seen.contains(octets) {
-            said.push(repeat(alloc, text, oid)?)?;
-        } else {
-            seen.insert(octets)?;
-        }
-        rest = behind;
+    let octets = oid.as_bytes();
+    if seen.contains(octets) {
+        said.push(repeat(alloc, text, oid)?)?;
+    } else {
+        seen.insert(octets)?;
     }
     Ok(())
 }

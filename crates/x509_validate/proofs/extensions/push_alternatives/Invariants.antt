@@ -1,11 +1,8 @@
 -- What was said, and what will be said of the rest, is all.
-use Rattle.std.proofs.Common.{◌≡◌, ◌++◌, length, map}
+use Rattle.std.proofs.Common.{◌≡◌, ◌++◌, drop, map}
 use Rattle.x509_validate.specs.View.{message_view}
 use Rattle.x509_validate.specs.Extensions.{each_alternative}
 use Rattle.x509_validate.proofs.extensions.push_alternatives.Given as goal
 
 abbrev pub invariant-loop-extension : goal.invariant-loop-extension
-invariant-loop-extension l = map message_view l.said.items ++ each_alternative l.rest ≡ map message_view l.initial.said.items ++ each_alternative l.initial.rest
-
-abbrev pub decreases-loop-extension : goal.decreases-loop-extension
-decreases-loop-extension l = length l.rest
+invariant-loop-extension l = map message_view l.said.items ++ each_alternative (drop l.extension-index l.fn.extensions) ≡ map message_view l.initial.said.items ++ each_alternative l.fn.extensions
