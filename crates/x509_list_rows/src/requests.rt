@@ -3,7 +3,7 @@
 use crate::words::{Words, add};
 use asn1_oid::Oid;
 use asn1_traits::FromDer;
-use hex_rows::{hex_of, literal, told};
+use hex_rows::{hex_of, literal};
 use std::alloc::Global;
 use std::io;
 use x509_requests::{
@@ -21,7 +21,7 @@ pub fn requested(alloc: Global, octets: &[u8]) -> io::Result<String> {
     };
     let mut text = String::new(alloc);
     for extension in extensions {
-        let words = told(alloc, extension)?;
+        let words = extension.words(alloc)?;
         write!(text, "({words})")?;
     }
     Ok(text)

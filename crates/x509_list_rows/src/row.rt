@@ -32,6 +32,10 @@ pub fn outcome(alloc: Global, row: &str) -> io::Result<String> {
                 .with_deep_parse_extensions(false)
                 .parse(alloc, octets),
         ),
+        "parse_deep" => told_of(
+            alloc,
+            CertificateRevocationListParser::new().parse(alloc, octets),
+        ),
         "parse_x509_crl" => told_of(alloc, parse_x509_crl(alloc, octets)),
         "parse_crl_der" => told_of(alloc, parse_crl_der(alloc, octets)),
         "parse_counted" => counted(alloc, octets),

@@ -6,7 +6,7 @@ use hex_rows::{hex_of, literal, told};
 use std::alloc::Global;
 use std::io;
 use x509_core::{X509Error, X509Result};
-use x509_ext::X509Extension;
+use x509_ext::{ParsedExtension, X509Extension};
 use x509_names::{AlgorithmIdentifier, SubjectPublicKeyInfo, X509Name};
 use x509_time::ASN1Time;
 
@@ -101,7 +101,33 @@ impl Words for X509Extension<'_> {
     fn words(&self, alloc: Global) -> io::Result<String> {
         let value = hex_of(alloc, self.value)?;
         let critical = if self.critical { "critical, " } else { "" };
-        let text = format!(in alloc; "{}, {critical}{value}", self.oid)?;
+        let parsed = self.parsed_extension().words(alloc)?;
+        let text = format!(in alloc; "{}, {critical}{value}, {parsed}", self.oid)?;
+        Ok(text)
+    }
+}
+
+impl Words for ParsedExtension<'_> {
+    /// The value's case and its fields; of one that its type refuses the case alone, since which error is told isn't promised.
+    fn words(&self, alloc: Global) -> io::Result<String> {
+        if self.unsupported() {
+            return literal(alloc, "unsupported");
+        }
+        if self.error().is_some() {
+            return literal(alloc, "ParseError");
+        }
+        let text = match self {
+            ParsedExtension::CRLNumber(number) => {
+                let octets = hex_of(alloc, number.as_bytes())?;
+                format!(in alloc; "CRLNumber {octets}")?
+            }
+            ParsedExtension::ReasonCode(reason) => format!(in alloc; "ReasonCode {}", reason.0)?,
+            ParsedExtension::InvalidityDate(date) => {
+                let words = date.words(alloc)?;
+                format!(in alloc; "InvalidityDate {words}")?
+            }
+            parsed => format!(in alloc; "{parsed:?}")?,
+        };
         Ok(text)
     }
 }
