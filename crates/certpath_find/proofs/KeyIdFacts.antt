@@ -19,7 +19,12 @@ use Rattle.cert_model.specs.Fields.{Identifier, Extension}
 use Rattle.cert_model.specs.KeyIds.{IsFirstUnder, key_identifier_octets, BeginsWithKeyId}
 use Rattle.cert_model.proofs.Bounds.{IsShort, cut_short, element_in}
 use Rattle.asn1_traits.specs.Leaves.{LeafMeans}
+use Rattle.x509_core.specs.Answers.{OrMemory}
+use Rattle.x509_core.specs.Fronts.{TakesNoMemory}
 use Rattle.x509_core.specs.Grammar.{One}
+use Rattle.x509_core.specs.declared.error.X509Error.{X509Error}
+use Rattle.asn1_core.specs.declared.outcome.Err.{Err as Refusal}
+use Rattle.asn1_core.specs.declared.outcome.Err.TheVariants as refusals
 use Rattle.x509_core.specs.Leaves.{IsOctets}
 use Rattle.x509_links.proofs.Strict.{one_strict}
 use Rattle.certpath_find.specs.Contents.{HasContent}
@@ -194,6 +199,12 @@ octets_only s content small is =
     let whole : element_octets e ++ [] ≡ s = append-nil (element_octets e) ∙ sym is in
     subst (λ (z : List ℕ). One IsOctets z content []) whole
     (one_strict IsOctets e content [] (lit< tt) (lit< tt) short (record { leaf = record { tag_is = refl; primitive = refl }; meant = refl }))
+
+-- a reader that takes no memory doesn't want it
+pub no_memory : (e : Refusal X509Error) → OrMemory e → TakesNoMemory e → ⊥
+no_memory (refusals.Incomplete n) p q = p
+no_memory (refusals.Error e) p q = p
+no_memory (refusals.Failure e) p q = q
 
 -- a value of short extensions is short
 pub first_small : (identifier : Identifier) (es : List Extension) (value : List ℕ) → All (λ (e : Extension). length e.value ≤ 4_294_967_295) es → IsFirstUnder identifier es value → length value ≤ 4_294_967_295

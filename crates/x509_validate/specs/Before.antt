@@ -18,4 +18,3 @@ pub record Left (text : List ℕ) (whole : List Message) (said : List Message) (
   pub kept : List (List ℕ)
   pub holds : IsHeld kept seen
   pub sum : said ++ repeat_messages text kept rest ≡ whole
-

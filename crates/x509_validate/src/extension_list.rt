@@ -1,6 +1,8 @@
 //! Validators of lists of extensions.
 
-ghost use Rattle.std.specs.Prelude.{◌≡◌, ◌++◌, OnOk, map};
+ghost use Rattle.std.specs.Prelude.{◌≡◌, ◌++◌, IfOk, IfErr, OnOk, map};
+ghost use Rattle.x509_validate.specs.Logging.{TakesAll, TakesSome};
+ghost use Rattle.x509_validate.specs.Messages.{all_pass};
 ghost use Rattle.x509_validate.specs.Repeats.{critical_messages, half_messages, authority_messages, policy_messages, duplicate_messages, usage_messages, kind_messages, each_kind, list_messages};
 ghost use Rattle.x509_validate.specs.View.{message_view};
 
@@ -36,7 +38,13 @@ fn push_policies(
 {
     let mut seen = BTreeSet::new(alloc);
     for policy in policies {
-        push_repeat(alloc, "Certificate Policies: duplicate policy ", &policy.policy_id, &mut seen, said)?;
+        push_repeat(
+            alloc,
+            "Certificate Policies: duplicate policy ",
+            &policy.policy_id,
+            &mut seen,
+            said,
+        )?;
     }
     Ok(())
 }
@@ -51,7 +59,13 @@ fn push_duplicates(
 {
     let mut seen = BTreeSet::new(alloc);
     for extension in extensions {
-        push_repeat(alloc, "Duplicate extension ", &extension.oid, &mut seen, said)?;
+        push_repeat(
+            alloc,
+            "Duplicate extension ",
+            &extension.oid,
+            &mut seen,
+            said,
+        )?;
     }
     Ok(())
 }
@@ -78,7 +92,12 @@ fn push_critical(alloc: Global, critical: bool, said: &mut Vec<Message>) -> Resu
     ensures { OnOk result (map message_view said.new.items ≡ map message_view said.old.items ++ critical_messages critical) }
 {
     if critical {
-        push_text(alloc, Weight::Fault, "Extension AKI MUST NOT be critical, but is", said)
+        push_text(
+            alloc,
+            Weight::Fault,
+            "Extension AKI MUST NOT be critical, but is",
+            said,
+        )
     } else {
         Ok(())
     }
@@ -137,7 +156,12 @@ fn push_kinds(
     ensures { OnOk result (map message_view said.new.items ≡ map message_view said.old.items ++ each_kind extensions.now) }
 {
     for extension in extensions {
-        push_kind(alloc, extension.critical, extension.parsed_extension(), said)?;
+        push_kind(
+            alloc,
+            extension.critical,
+            extension.parsed_extension(),
+            said,
+        )?;
     }
     Ok(())
 }
@@ -153,22 +177,21 @@ fn push_list(
     push_kinds(alloc, extensions, said)
 }
 
-impl<'a> Validator<'a> for X509ExtensionsValidator {
-    ghost use Rattle.x509_validate.specs.Repeats.{list_messages};
-
-    type Item = &'a [X509Extension<'a>];
-
-    ghost messages = { λ v extensions. list_messages extensions.now };
-
+impl X509ExtensionsValidator {
+    /// Tells a logger all that is said of the extensions, as `Validator::validate` does.
     #[tactic(auto, using(crate::proofs::Told::untold))]
-    fn validate<L: Logger>(
+    pub fn validate<L: Logger>(
         &self,
         alloc: Global,
-        extensions: &&'a [X509Extension<'a>],
+        extensions: &[X509Extension<'_>],
         l: &mut L,
-    ) -> Result<bool, LogError> {
+    ) -> Result<bool, LogError>
+        ensures taken { OnOk result (TakesAll L.warns L.errs l.old (list_messages extensions.now) l.new) }
+        ensures answer { IfOk result (λ answer. answer ≡ all_pass (list_messages extensions.now)) }
+        ensures refused { IfErr result (λ e. TakesSome L.warns L.errs l.old (list_messages extensions.now) e l.new) }
+    {
         let mut said = Vec::new(alloc);
-        push_list(alloc, *extensions, &mut said)?;
+        push_list(alloc, extensions, &mut said)?;
         tell_all(&said, l)
     }
 }
@@ -180,15 +203,12 @@ impl<'a> Validator<'a> for X509CertificateValidator {
 
     ghost messages = { λ v certificate. list_messages certificate.tbs_certificate.extensions.items };
 
-    #[tactic(auto, using(crate::proofs::Told::untold))]
     fn validate<L: Logger>(
         &self,
         alloc: Global,
         certificate: &X509Certificate<'a>,
         l: &mut L,
     ) -> Result<bool, LogError> {
-        let mut said = Vec::new(alloc);
-        push_list(alloc, certificate.tbs_certificate.extensions(), &mut said)?;
-        tell_all(&said, l)
+        X509ExtensionsValidator.validate(alloc, certificate.tbs_certificate.extensions(), l)
     }
 }
