@@ -29,9 +29,10 @@ pub use crate::revocation_list::{
 pub use crate::time::ASN1Time;
 pub use crate::utils::format_serial;
 pub use crate::validate::{
-    ChainValidator, LogError, Logger, StderrLogger, TbsCertificateStructureValidator, Validate,
-    Validator, VecLogger, X509CertificateValidator, X509ExtensionsValidator,
-    X509NameStructureValidator, X509PublicKeyValidator, X509StructureValidator,
+    CallbackLogger, ChainValidator, LogError, Logger, StderrLogger,
+    TbsCertificateStructureValidator, Validate, Validator, VecLogger, X509CertificateValidator,
+    X509ExtensionsValidator, X509NameStructureValidator, X509PublicKeyValidator,
+    X509StructureValidator,
 };
 pub use crate::x509::{
     AlgorithmIdentifier, AttributeTypeAndValue, ReasonCode, RelativeDistinguishedName,

@@ -1,6 +1,7 @@
 //! Validators of certificates and their parts: what they say of a value, and to whom (RFC 5280, 4.1).
 #![tactic(auto)]
 
+mod callback_logger;
 mod extension_list;
 mod extensions;
 mod key;
@@ -16,6 +17,7 @@ mod validate;
 mod validator;
 mod vec_logger;
 
+pub use crate::callback_logger::{CallbackLogger, OnError, OnWarning};
 pub use crate::extension_list::{X509CertificateValidator, X509ExtensionsValidator};
 pub use crate::key::X509PublicKeyValidator;
 pub use crate::logger::{LogError, Logger};
