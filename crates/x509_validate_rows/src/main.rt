@@ -1,0 +1,26 @@
+//! Reads rows `VALIDATOR OCTETS` from standard input, and prints each with what the validator answers and says: `VALIDATOR OCTETS = OUTCOME`,
+//! the outcome being the answer, and then each warning behind `W`, each error behind `E`.
+//!
+//! Validators: `name`, `key`; of a certificate `structure`, `extensions`, `chain` (the one, then the other)
+//! and `validate`. The octets stand in hex. Empty lines and those that begin with `#` are printed as they stand.
+#![tactic(auto)]
+
+mod certificate;
+mod part;
+mod row;
+
+use crate::row::outcome;
+use std::io;
+
+fn main(rt: HostRuntime) -> io::Result<()> {
+    let alloc = rt.alloc();
+    for line in rt.lines(alloc) {
+        let line = line?;
+        if line.is_empty() || line.starts_with('#') {
+            println!(&rt; "{line}")?;
+        } else {
+            println!(&rt; "{line} = {}", outcome(alloc, line.as_str())?)?;
+        }
+    }
+    Ok(())
+}
