@@ -1,8 +1,8 @@
 -- The characters of octets that are UTF-16, the high octet of a unit first.
-use Rattle.std.proofs.Common.{arith, inl, inr, ◌≡◌, ◌∙◌, refl, sym, ap, subst, ℕ, ◌+◌, ◌-◌, ◌*◌, ◌/◌, ◌%◌, ◌<◌, ◌≤◌, Bool, true, false, ◌&&◌, if◌then◌else◌, List, [], ◌∷◌, ◌++◌, map, length, length-append, append_assoc, append-nil, Option, Some, None, is_some, bytes_eq}
+use Rattle.std.proofs.Common.{arith, inl, inr, ◌≡◌, ◌∙◌, refl, sym, ap, ℕ, ◌+◌, ◌*◌, ◌/◌, ◌%◌, ◌<◌, ◌≤◌, Bool, true, false, ◌&&◌, List, [], ◌∷◌, ◌++◌, map, length, length-append, append_assoc, append-nil, Option, Some, None, is_some, bytes_eq}
 use Rattle.std.specs.Prelude.{◌⊎◌}
 use Rattle.std.specs.Char.{IsScalar, encode_utf8}
-use Rattle.std.specs.Char.Utf16.{utf16_chars, utf16_lossy_chars, lone_unit_char, surrogate_pair_char}
+use Rattle.std.specs.Char.Utf16.{utf16_lossy_chars, lone_unit_char, surrogate_pair_char}
 use Rattle.std.specs.List.{flat_map}
 use Rattle.std.specs.Option.{unwrap_or}
 use Rattle.std.specs.Str.{all_scalars, encode_utf8_all}
