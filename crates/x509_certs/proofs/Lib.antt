@@ -1,2 +1,3 @@
 pub mod CertificateLaws
 pub mod Items
+mod Seen

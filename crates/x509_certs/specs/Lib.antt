@@ -4,3 +4,4 @@ pub mod Fields
 pub mod Getters
 pub mod Reading
 pub mod View
+pub mod Visits

@@ -4,11 +4,17 @@
 mod certificate;
 mod getters;
 pub mod laws;
+mod maps;
 mod parser;
 mod tbs;
+mod visit;
+mod visitor;
+mod walk;
 
 pub use crate::certificate::X509Certificate;
 pub use crate::parser::{
     TbsCertificateParser, X509CertificateParser, parse_x509_certificate, parse_x509_der,
 };
 pub use crate::tbs::TbsCertificate;
+pub use crate::visit::{CertVisit, CertVisits};
+pub use crate::visitor::X509CertificateVisitor;

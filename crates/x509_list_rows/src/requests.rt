@@ -3,7 +3,7 @@
 use crate::words::{Words, add};
 use asn1_oid::Oid;
 use asn1_traits::FromDer;
-use hex_rows::{hex_of, literal};
+use hex_rows::{hex_of, literal, told};
 use std::alloc::Global;
 use std::io;
 use x509_requests::{
@@ -35,6 +35,24 @@ pub fn found_attribute(alloc: Global, octets: &[u8]) -> io::Result<String> {
     match info.find_attribute(&Oid::new(b"\x2a\x86\x48\x86\xf7\x0d\x01\x09\x07")) {
         Some(attribute) => attribute.words(alloc),
         None => literal(alloc, "none"),
+    }
+}
+
+/// How many attributes a map by identifier has, and each behind its key, in the keys' order.
+pub fn mapped_attributes(alloc: Global, octets: &[u8]) -> io::Result<String> {
+    let Ok((_, info)) = X509CertificationRequestInfo::from_der(alloc, octets) else {
+        return literal(alloc, "no request");
+    };
+    match info.attributes_map(alloc) {
+        Ok(by_oid) => {
+            let mut text = format!(in alloc; "{}", by_oid.len())?;
+            for (oid, attribute) in by_oid.iter() {
+                let words = attribute.words(alloc)?;
+                write!(text, "\n  at {oid}: {words}")?;
+            }
+            Ok(text)
+        }
+        Err(e) => told(alloc, e),
     }
 }
 

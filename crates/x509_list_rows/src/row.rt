@@ -1,7 +1,7 @@
 //! A row, taken apart.
 
 use crate::lists::{counted, crl_number, invalidity_date, reason_code};
-use crate::requests::{found_attribute, requested};
+use crate::requests::{found_attribute, mapped_attributes, requested};
 use crate::words::told_of;
 use asn1_traits::FromDer;
 use hex_rows::{literal, octets_of};
@@ -55,6 +55,7 @@ fn of_requests(alloc: Global, call: &str, octets: &[u8]) -> io::Result<String> {
         "request" => told_of(alloc, X509CertificationRequest::from_der(alloc, octets)),
         "requested_extensions" => requested(alloc, octets),
         "find_attribute" => found_attribute(alloc, octets),
+        "attributes_map" => mapped_attributes(alloc, octets),
         _ => literal(alloc, "no call"),
     }
 }

@@ -3,3 +3,4 @@ pub mod Lists
 pub mod Lookup
 pub mod Reading
 pub mod View
+pub mod Visits

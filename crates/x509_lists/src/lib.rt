@@ -6,10 +6,16 @@ mod entries;
 mod entry;
 pub mod laws;
 mod list;
+mod maps;
 mod parser;
 mod tbs;
+mod visit;
+mod visitor;
+mod walk;
 
 pub use crate::entry::RevokedCertificate;
 pub use crate::list::CertificateRevocationList;
 pub use crate::parser::{CertificateRevocationListParser, parse_crl_der, parse_x509_crl};
 pub use crate::tbs::TbsCertList;
+pub use crate::visit::{ListVisit, ListVisits};
+pub use crate::visitor::CertificateRevocationListVisitor;

@@ -18,6 +18,7 @@ pub mod signature_value;
 pub mod time;
 pub mod utils;
 pub mod validate;
+pub mod visitor;
 pub mod x509;
 
 pub use asn1_traits::FromDer;

@@ -5,6 +5,7 @@
 mod attribute;
 mod attributes;
 mod info;
+mod maps;
 mod parser;
 mod request;
 mod requested;

@@ -1,0 +1,44 @@
+//! Extensions of certificates by their identifiers.
+
+ghost use Rattle.std.specs.Prelude.{◌≡◌, ℕ, List, IfOk, OnOk, IfErr, option_map};
+ghost use Rattle.x509_core.specs.declared.error.X509Error.TheVariants.{DuplicateExtensions};
+ghost use Rattle.x509_ext.specs.Lookup.{all_of, first_of};
+ghost use Rattle.x509_maps.specs.Maps.{held_at, AreDistinct, IsWhyNone};
+
+use crate::certificate::X509Certificate;
+use crate::tbs::TbsCertificate;
+use asn1_oid::Oid;
+use std::alloc::Global;
+use std::collections::BTreeMap;
+use x509_core::X509Error;
+use x509_ext::X509Extension;
+use x509_maps::extensions_map;
+
+impl<'a> TbsCertificate<'a> {
+    /// The extensions by their identifiers, as `find_extension` finds them; `DuplicateExtensions` where two have the same one
+    /// (RFC 5280, 4.2). The keys ascend by their content octets, and n extensions take time in n log n.
+    pub fn extensions_map(
+        &self,
+        alloc: Global,
+    ) -> Result<BTreeMap<Oid<'a>, &X509Extension<'a>>, X509Error>
+        ensures distinct { OnOk result (AreDistinct (λ e. e.oid) self.now.extensions.items) }
+        ensures held { IfOk result (λ by_oid. (id : List ℕ) → option_map (λ e. e.now) (held_at by_oid id) ≡ first_of (all_of id self.now.extensions.items)) }
+        ensures refused { IfErr result (IsWhyNone DuplicateExtensions (λ e. e.oid) self.now.extensions.items) }
+    {
+        extensions_map(alloc, self.extensions())
+    }
+}
+
+impl<'a> X509Certificate<'a> {
+    /// The extensions by their identifiers, likewise.
+    pub fn extensions_map(
+        &self,
+        alloc: Global,
+    ) -> Result<BTreeMap<Oid<'a>, &X509Extension<'a>>, X509Error>
+        ensures distinct { OnOk result (AreDistinct (λ e. e.oid) self.now.tbs_certificate.extensions.items) }
+        ensures held { IfOk result (λ by_oid. (id : List ℕ) → option_map (λ e. e.now) (held_at by_oid id) ≡ first_of (all_of id self.now.tbs_certificate.extensions.items)) }
+        ensures refused { IfErr result (IsWhyNone DuplicateExtensions (λ e. e.oid) self.now.tbs_certificate.extensions.items) }
+    {
+        extensions_map(alloc, self.extensions())
+    }
+}
