@@ -26,7 +26,7 @@ use Rattle.x509_core.specs.declared.error.X509Error.{X509Error}
 use Rattle.asn1_core.specs.declared.outcome.Err.{Err as Refusal}
 use Rattle.asn1_core.specs.declared.outcome.Err.TheVariants as refusals
 use Rattle.x509_core.specs.Leaves.{IsOctets}
-use Rattle.x509_links.proofs.Strict.{one_strict}
+use Rattle.certpath_typed.proofs.Strict.{one_strict}
 use Rattle.certpath_find.specs.Contents.{HasContent}
 
 -- an element is what its first octet says

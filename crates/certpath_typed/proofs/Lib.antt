@@ -7,3 +7,4 @@ pub mod Taken
 pub mod Gate
 pub mod Meeting
 pub mod Compared
+pub use Rattle.x509_links.proofs.Strict

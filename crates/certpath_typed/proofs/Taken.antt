@@ -9,13 +9,8 @@ use Rattle.cert_model.specs.Class.{IsCertificateItem, IsListItem}
 use Rattle.cert_framing.specs.Framing.{IsItem}
 use Rattle.x509_core.specs.Answers.{OrMemory}
 use Rattle.x509_core.specs.declared.error.X509Error.{X509Error}
-use Rattle.x509_ext.specs.Fields.{IsUnparsed}
-use Rattle.x509_certs.specs.Certificates.{X509Certificate}
-use Rattle.x509_certs.specs.View.{certificate_view}
-use Rattle.x509_certs.specs.declared.certificate.X509Certificate.{X509Certificate as ReadCertificate}
-use Rattle.x509_lists.specs.Lists.{CertificateRevocationList}
-use Rattle.x509_lists.specs.View.{list_view}
-use Rattle.x509_lists.specs.declared.list.CertificateRevocationList.{CertificateRevocationList as ReadList}
+use Rattle.x509_links.specs.Readers.{IsUnparsed, certificate_view, X509Certificate as ReadCertificate, list_view, CertificateRevocationList as ReadList}
+use Rattle.x509_links.specs.Grammars.{X509Certificate, CertificateRevocationList}
 use Rattle.x509_links.specs.Lenient.{lenient_certificate, lenient_list}
 use Rattle.x509_links.proofs.StrictCertificates.{certificate_is}
 use Rattle.x509_links.proofs.StrictLists.{list_is}

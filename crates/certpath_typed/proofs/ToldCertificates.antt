@@ -4,8 +4,7 @@ use Rattle.asn1_core.specs.Elements.{Element}
 use Rattle.cert_model.specs.Fields.{Certificate}
 use Rattle.cert_model.specs.Octets.{optional_octets, number_octets, implicit_bits_octets, bit_field_octets, algorithm_octets, name_octets, key_octets, validity_octets, version_octets, tagged_extensions_octets, tbs_certificate_octets, certificate_octets}
 use Rattle.cert_model.specs.Range.{AreCertificateFields}
-use Rattle.x509_certs.specs.View.{certificate_view}
-use Rattle.x509_certs.specs.declared.certificate.X509Certificate.{X509Certificate}
+use Rattle.x509_links.specs.Readers.{certificate_view, X509Certificate}
 use Rattle.x509_links.specs.Lenient.{lenient_certificate}
 use Rattle.x509_links.proofs.StrictTimes.{one_time_is}
 use Rattle.certpath_typed.specs.Told.{TellsAlgorithm, TellsName, told_bits, TellsKey, TellsExtensions}

@@ -6,12 +6,9 @@ use Rattle.cert_model.specs.Fields.{CivilTime, Entry, RevocationList}
 use Rattle.cert_model.specs.Octets.{optional_octets, number_octets, bit_field_octets, algorithm_octets, name_octets, time_octets, several_octets, extensions_octets, tagged_extensions_octets, entry_octets, entries_octets, tbs_cert_list_octets, list_octets}
 use Rattle.cert_model.specs.Range.{IfThere, IsTimeField, IsEntry, AreListFields}
 use Rattle.cert_model.specs.View.{time_view as civil_view}
-use Rattle.x509_ext.specs.declared.version.X509Version.{X509Version}
+use Rattle.x509_links.specs.Readers.{HeldVersion as X509Version, entry_view, list_view, RevokedCertificate, CertificateRevocationList}
 use Rattle.x509_time.specs.declared.time.ASN1Time.{ASN1Time}
 use Rattle.x509_time.specs.View.{time_view}
-use Rattle.x509_lists.specs.View.{entry_view, list_view}
-use Rattle.x509_lists.specs.declared.entry.RevokedCertificate.{RevokedCertificate}
-use Rattle.x509_lists.specs.declared.list.CertificateRevocationList.{CertificateRevocationList}
 use Rattle.x509_links.specs.Lenient.{lenient_time, lenient_entry, lenient_list}
 use Rattle.x509_links.proofs.StrictTimes.{one_time_is}
 use Rattle.certpath_typed.specs.Told.{TellsAlgorithm, TellsName, told_bits, TellsExtensions}

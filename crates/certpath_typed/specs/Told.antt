@@ -3,7 +3,7 @@ use Rattle.std.specs.Prelude.{◌≡◌, ◌⊎◌, ℕ, nat_eq, ◌||◌, Bool,
 use Rattle.std.specs.List.{starts_with, AllZip}
 use Rattle.cert_model.specs.Fields.{Algorithm, Attribute, RelativeName, Name, Bits, Key, Extension}
 use Rattle.x509_names.specs.Fields.{Algorithm as ReadAlgorithm, Attribute as ReadAttribute, Name as ReadName, Bits as ReadBits, Key as ReadKey}
-use Rattle.x509_ext.specs.Fields.{Extension as ReadExtension}
+use Rattle.x509_links.specs.Readers.{Extension as ReadExtension}
 
 -- octets stand somewhere in others
 abbrev pub stand_in : List ℕ → List ℕ → Bool

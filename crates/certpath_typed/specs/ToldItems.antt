@@ -4,10 +4,7 @@ use Rattle.std.specs.List.{AllZip}
 use Rattle.cert_model.specs.Fields.{Certificate, Entry, RevocationList}
 use Rattle.cert_model.specs.View.{time_view}
 use Rattle.x509_names.specs.View.{algorithm_view, name_view, key_view, bits_view}
-use Rattle.x509_ext.specs.View.{extension_view, identifier_view}
-use Rattle.x509_certs.specs.declared.certificate.X509Certificate.{X509Certificate}
-use Rattle.x509_lists.specs.declared.entry.RevokedCertificate.{RevokedCertificate}
-use Rattle.x509_lists.specs.declared.list.CertificateRevocationList.{CertificateRevocationList}
+use Rattle.x509_links.specs.Readers.{extension_view, identifier_view, X509Certificate, RevokedCertificate, CertificateRevocationList}
 use Rattle.certpath_typed.specs.Told.{TellsAlgorithm, TellsName, told_bits, TellsKey, TellsExtensions}
 
 pub record TellsCertificate (item : List ℕ) (c : X509Certificate) (told : Certificate) : Type 0 where

@@ -10,7 +10,7 @@ use crate::parts::{
 use asn1_core::OutOfMemory;
 use cert_model::fields::CertFields;
 use std::alloc::Global;
-use x509_certs::X509Certificate;
+use x509_links::X509Certificate;
 
 /// The number as an octet, or the greatest octet where it has none.
 pub(crate) fn small_version(version: u32) -> u8

@@ -5,9 +5,8 @@ ghost use Rattle.cert_model.specs.Class.{IsCertificateItem, IsListItem, IsClassO
 ghost use Rattle.cert_model.specs.Fields.{Certificate, RevocationList};
 ghost use Rattle.certcheck.specs.ClassView.{class_view};
 ghost use Rattle.certcheck.specs.declared.class.ItemClass.{ItemClass};
-ghost use Rattle.x509_certs.specs.Certificates.{X509Certificate};
-ghost use Rattle.x509_ext.specs.Fields.{IsUnparsed};
-ghost use Rattle.x509_lists.specs.Lists.{CertificateRevocationList};
+ghost use Rattle.x509_links.specs.Grammars.{X509Certificate, CertificateRevocationList};
+ghost use Rattle.x509_links.specs.Readers.{IsUnparsed};
 ghost use Rattle.x509_links.specs.Lenient.{lenient_certificate, lenient_list};
 
 /// What two readers answer of one item, each its class, is one class with the same fields: so the tree road and the typed road

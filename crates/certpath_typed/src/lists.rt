@@ -11,8 +11,7 @@ use asn1_core::OutOfMemory;
 use cert_model::fields::{EntryFields, ListFields};
 use jiff::civil::DateTime;
 use std::alloc::Global;
-use x509_ext::X509Version;
-use x509_lists::{CertificateRevocationList, RevokedCertificate};
+use x509_links::{CertificateRevocationList, RevokedCertificate, X509Version};
 use x509_time::ASN1Time;
 
 fn version_field(version: &Option<X509Version>) -> Option<u8>

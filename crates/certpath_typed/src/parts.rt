@@ -4,7 +4,7 @@ ghost use Rattle.std.specs.Prelude.{◌≡◌, map, option_map, IfOk};
 ghost use Rattle.asn1_any.specs.Views.{any_of};
 ghost use Rattle.cert_model.specs.View.{any_view, alg_view, attr_view, name_view, bit_view, key_view, ext_view};
 ghost use Rattle.x509_names.specs.View.{algorithm_view, attribute_view, set_view, name_view as read_name_view, bits_view, key_view as read_key_view};
-ghost use Rattle.x509_ext.specs.View.{extension_view, identifier_view};
+ghost use Rattle.x509_links.specs.Readers.{extension_view, identifier_view};
 ghost use Rattle.certpath_typed.specs.Told.{TellsAlgorithm, TellsAttribute, TellsSet, TellsName, told_bits, TellsKey, TellsExtension, TellsExtensions};
 
 use crate::identifier::identifier;
@@ -13,7 +13,7 @@ use asn1_core::OutOfMemory;
 use asn1_values::BitString;
 use cert_model::fields::{AlgField, AnyField, AttrField, BitField, ExtField, KeyField, NameFields};
 use std::alloc::Global;
-use x509_ext::{UniqueIdentifier, X509Extension};
+use x509_links::{UniqueIdentifier, X509Extension};
 use x509_names::{
     AlgorithmIdentifier, AttributeTypeAndValue, RelativeDistinguishedName, SubjectPublicKeyInfo,
     X509Name,

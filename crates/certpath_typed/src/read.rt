@@ -4,14 +4,15 @@ ghost use Rattle.std.specs.Prelude.{◌≡◌, ◌+◌, ◌*◌, ◌^◌, ◌<�
 ghost use Rattle.asn1_core.specs.Counts.{attempts};
 ghost use Rattle.cert_model.specs.Class.{IsCertificateItem, IsListItem};
 ghost use Rattle.cert_model.specs.Fields.{Certificate, RevocationList};
-ghost use Rattle.x509_certs.specs.View.{certificate_view};
-ghost use Rattle.x509_lists.specs.View.{list_view};
+ghost use Rattle.x509_links.specs.Readers.{certificate_view, list_view};
 ghost use Rattle.x509_links.specs.Lenient.{lenient_certificate, lenient_list};
 
 use asn1_core::{Err as Refusal, HeaderCount, OutOfMemory};
 use std::alloc::Global;
-use x509_certs::{X509Certificate, X509CertificateParser};
-use x509_lists::{CertificateRevocationList, CertificateRevocationListParser};
+use x509_links::{
+    CertificateRevocationList, CertificateRevocationListParser, X509Certificate,
+    X509CertificateParser,
+};
 
 /// The certificate that the item is read as, where the reader takes all of it.
 pub(crate) fn certificate_read<'a>(

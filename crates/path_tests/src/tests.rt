@@ -4,13 +4,13 @@ mod rows;
 use asn1_device::{ReadSource, WriteSink};
 use cert_judge::Policy;
 use certpath_run::{Input, RunError, Settings, run};
-use frame_tests::devices::{Full, Giver, Repeater, Taker};
 use jiff::civil::date;
 use rows::{ROWS, Row};
 use std::alloc::Global;
 use std::fmt::Debug;
 use std::process::Abort;
 use std::test::Fail;
+use test_devices::{Full, Giver, Repeater, Taker};
 
 // What came is what was wanted.
 fn same<R: Abort, T: PartialEq + Debug + Drop>(rt: &R, got: T, want: T) {

@@ -2,7 +2,7 @@
 use Rattle.std.specs.Prelude.{ℕ, false, List, [], ◌∷◌, ◌++◌, None}
 use Rattle.x509_names.specs.Examples.{algorithm, empty_name, key}
 use Rattle.x509_time.specs.Examples.{period}
-use Rattle.x509_values.specs.Values.{unparsed}
+use Rattle.x509_ext.specs.Values.{unparsed}
 use Rattle.x509_ext.specs.Fields.{Extension}
 use Rattle.x509_certs.specs.Fields.{Tbs, Certificate}
 

@@ -3,17 +3,8 @@ use Rattle.std.specs.Prelude.{ℕ, Bool, false, List, Option, Some, None, Result
 use Rattle.std.specs.Borrow.{Bor}
 use Rattle.x509_core.specs.declared.error.X509Error.{X509Error}
 use Rattle.x509_core.specs.declared.error.X509Error.TheVariants as errors
-use Rattle.x509_flags.specs.declared.flags.KeyUsage.{KeyUsage}
-use Rattle.x509_flags.specs.declared.policy.InhibitAnyPolicy.{InhibitAnyPolicy}
-use Rattle.x509_flags.specs.declared.policy.PolicyConstraints.{PolicyConstraints}
-use Rattle.x509_general.specs.declared.alternative.SubjectAlternativeName.{SubjectAlternativeName}
-use Rattle.x509_general.specs.declared.constraints.NameConstraints.{NameConstraints}
-use Rattle.x509_leaves.specs.declared.basic.BasicConstraints.{BasicConstraints}
-use Rattle.x509_policies.specs.declared.mappings.PolicyMappings.{PolicyMappings}
-use Rattle.x509_policies.specs.declared.purposes.ExtendedKeyUsage.{ExtendedKeyUsage}
-use Rattle.x509_deep.specs.Identifiers.{id_ce}
-use Rattle.x509_deep.specs.declared.parsed.ParsedExtension.{ParsedExtension}
-use Rattle.x509_deep.specs.declared.parsed.ParsedExtension.TheVariants as cases
+use Rattle.x509_ext.specs.Values.{KeyUsage, InhibitAnyPolicy, PolicyConstraints, SubjectAlternativeName, NameConstraints, BasicConstraints, PolicyMappings, ExtendedKeyUsage, id_ce, ParsedExtension}
+use Rattle.x509_ext.specs.Kinds as cases
 use Rattle.x509_ext.specs.Lookup.{all_of, only_of}
 use Rattle.x509_ext.specs.declared.basic.BasicExtension.{BasicExtension}
 use Rattle.x509_ext.specs.declared.extension.X509Extension.{X509Extension}

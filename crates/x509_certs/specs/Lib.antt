@@ -3,5 +3,6 @@ pub mod Examples
 pub mod Fields
 pub mod Getters
 pub mod Reading
+pub mod Shared
 pub mod View
 pub mod Visits

@@ -7,24 +7,8 @@ use Rattle.x509_names.specs.declared.algorithm.AlgorithmIdentifier.{AlgorithmIde
 use Rattle.x509_names.specs.declared.key.SubjectPublicKeyInfo.{SubjectPublicKeyInfo}
 use Rattle.x509_names.specs.declared.name.X509Name.{X509Name}
 use Rattle.x509_time.specs.declared.validity.Validity.{Validity}
-use Rattle.x509_flags.specs.declared.flags.KeyUsage.{KeyUsage}
-use Rattle.x509_flags.specs.declared.flags.NSCertType.{NSCertType}
-use Rattle.x509_flags.specs.declared.identifier.KeyIdentifier.{KeyIdentifier}
-use Rattle.x509_flags.specs.declared.policy.InhibitAnyPolicy.{InhibitAnyPolicy}
-use Rattle.x509_flags.specs.declared.policy.PolicyConstraints.{PolicyConstraints}
-use Rattle.x509_general.specs.declared.access.AuthorityInfoAccess.{AuthorityInfoAccess}
-use Rattle.x509_general.specs.declared.alternative.IssuerAlternativeName.{IssuerAlternativeName}
-use Rattle.x509_general.specs.declared.alternative.SubjectAlternativeName.{SubjectAlternativeName}
-use Rattle.x509_general.specs.declared.constraints.NameConstraints.{NameConstraints}
-use Rattle.x509_general.specs.declared.identifiers.AuthorityKeyIdentifier.{AuthorityKeyIdentifier}
-use Rattle.x509_leaves.specs.declared.basic.BasicConstraints.{BasicConstraints}
-use Rattle.x509_points.specs.declared.points.CRLDistributionPoints.{CRLDistributionPoints}
-use Rattle.x509_policies.specs.declared.mappings.PolicyMappings.{PolicyMappings}
-use Rattle.x509_policies.specs.declared.policies.PolicyInformation.{PolicyInformation}
-use Rattle.x509_policies.specs.declared.purposes.ExtendedKeyUsage.{ExtendedKeyUsage}
-use Rattle.x509_values.specs.declared.timestamps.SignedCertificateTimestamp.{SignedCertificateTimestamp}
-use Rattle.x509_deep.specs.declared.parsed.ParsedExtension.{ParsedExtension}
-use Rattle.x509_deep.specs.declared.parsed.ParsedExtension.TheVariants as kinds
+use Rattle.x509_ext.specs.Values.{KeyUsage, NSCertType, KeyIdentifier, InhibitAnyPolicy, PolicyConstraints, AuthorityInfoAccess, IssuerAlternativeName, SubjectAlternativeName, NameConstraints, AuthorityKeyIdentifier, BasicConstraints, CRLDistributionPoints, PolicyMappings, PolicyInformation, ExtendedKeyUsage, SignedCertificateTimestamp, ParsedExtension}
+use Rattle.x509_ext.specs.Kinds as kinds
 use Rattle.x509_ext.specs.declared.extension.X509Extension.{X509Extension}
 use Rattle.x509_ext.specs.declared.unique.UniqueIdentifier.{UniqueIdentifier}
 use Rattle.x509_ext.specs.declared.version.X509Version.{X509Version}

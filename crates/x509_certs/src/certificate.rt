@@ -8,7 +8,7 @@ ghost use Rattle.x509_core.specs.Answers.{Gives, naming};
 ghost use Rattle.x509_core.specs.declared.error.X509Error.TheVariants.{InvalidSignatureValue};
 ghost use Rattle.x509_names.specs.Reading.{bits_at};
 ghost use Rattle.x509_names.specs.View.{bits_view};
-ghost use Rattle.x509_values.specs.Texts.{serial_text};
+ghost use Rattle.x509_ext.specs.Values.{serial_text};
 ghost use Rattle.x509_ext.specs.Fields.{reading_of};
 ghost use Rattle.x509_ext.specs.Lookup.{all_of, first_of, only_of, seen};
 ghost use Rattle.x509_ext.specs.View.{WantsNoMemory};

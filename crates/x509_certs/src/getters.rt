@@ -1,7 +1,7 @@
 //! The calls on certificates that look for one kind of extension (RFC 5280, 4.2.1).
 
 ghost use Rattle.std.specs.Prelude.{◌≡◌};
-ghost use Rattle.x509_deep.specs.Identifiers.{id_ce};
+ghost use Rattle.x509_ext.specs.Values.{id_ce};
 ghost use Rattle.x509_certs.specs.Getters.{
   usage_in,
   purposes_in,

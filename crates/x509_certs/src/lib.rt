@@ -18,3 +18,4 @@ pub use crate::parser::{
 pub use crate::tbs::TbsCertificate;
 pub use crate::visit::{CertVisit, CertVisits};
 pub use crate::visitor::X509CertificateVisitor;
+pub use x509_ext::{UniqueIdentifier, X509Extension, X509Version};

@@ -5,7 +5,7 @@ ghost use Rattle.std.specs.Slice.Iter.{iter_rest};
 ghost use Rattle.asn1_core.specs.Counts.{attempts};
 ghost use Rattle.asn1_any.specs.CutViews.{piece_of};
 ghost use Rattle.x509_core.specs.Answers.{Gives};
-ghost use Rattle.x509_values.specs.Texts.{serial_text};
+ghost use Rattle.x509_ext.specs.Values.{serial_text};
 ghost use Rattle.x509_ext.specs.Fields.{reading_of};
 ghost use Rattle.x509_ext.specs.Lookup.{all_of, first_of, only_of, seen};
 ghost use Rattle.x509_ext.specs.View.{WantsNoMemory};

@@ -4,3 +4,4 @@ pub mod Kinds
 pub mod Parsed
 pub mod Reading
 pub mod View
+pub mod Values

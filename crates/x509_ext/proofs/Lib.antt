@@ -1,2 +1,3 @@
 pub mod ExtensionLaws
 pub mod PartLaws
+pub mod OnceLaws

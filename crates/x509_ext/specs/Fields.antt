@@ -1,6 +1,6 @@
 -- What the readers of this crate read, without where it lies in memory.
 use Rattle.std.specs.Prelude.{◌≡◌, ℕ, Bool, true, false, List}
-use Rattle.x509_values.specs.Values.{Parsed, unparsed}
+use Rattle.x509_deep.specs.Values.{Parsed, unparsed}
 use Rattle.x509_deep.specs.Parsed.{IsParsed}
 use Rattle.x509_deep.specs.Reading.{deeply}
 

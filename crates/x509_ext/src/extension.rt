@@ -18,8 +18,8 @@ use asn1_oid::Oid;
 use std::alloc::Global;
 use x509_core::{Parts, X509Error, leaf_of, parts_of};
 use x509_deep::{ParsedExtension, parse_extension};
+use x509_items::Copies;
 use x509_names::next_oid;
-use x509_values::Copies;
 
 /// An extension.
 #[derive(Debug, Drop, PartialEq, Eq)]

@@ -6,7 +6,7 @@ use Rattle.cert_model.specs.Fields.{Certificate}
 use Rattle.cert_model.specs.Octets.{optional_octets, number_octets, implicit_bits_octets, bit_field_octets, algorithm_octets, name_octets, key_octets, validity_octets, version_octets, tagged_extensions_octets, tbs_certificate_octets, certificate_octets}
 use Rattle.cert_model.specs.Range.{AreCertificateFields}
 use Rattle.x509_core.specs.Grammar.{HoldsWindow, HoldsWhole}
-use Rattle.x509_ext.specs.Fields.{IsUnparsed}
+use Rattle.x509_certs.specs.Shared.{IsUnparsed}
 use Rattle.x509_certs.specs.Certificates.{TbsParts, TbsCertificate, CertificateParts, X509Certificate}
 use Rattle.x509_links.specs.Lenient.{lenient_tbs, lenient_certificate}
 use Rattle.x509_links.proofs.Strict.{one_strict, content_small, two_small, algorithm_is, name_is, key_is, bits_is}

@@ -11,9 +11,7 @@ use Rattle.cert_model.specs.Range.{IfThere, IsTimeField, AreExtensions, IsEntry,
 use Rattle.x509_core.specs.Grammar.{One, NoneBegins, Holds, HoldsWindow, HoldsWhole, ToEnd, Maybe}
 use Rattle.x509_core.proofs.Grammars.{none_at_end}
 use Rattle.x509_time.specs.Updates.{IsNoTime, NextUpdate, there, at_end, no_time}
-use Rattle.x509_ext.specs.Fields.{IsUnparsed}
-use Rattle.x509_ext.specs.Extensions.{X509Extension}
-use Rattle.x509_ext.specs.Parts.{IsVersion}
+use Rattle.x509_certs.specs.Shared.{IsUnparsed, X509Extension, IsVersion}
 use Rattle.x509_lists.specs.Fields.{Entry as ReadEntry}
 use Rattle.x509_lists.specs.Lists.{EntryParts, RevokedCertificate, RevokedCertificates, or_none, TbsParts, TbsCertList, ListParts, CertificateRevocationList}
 use Rattle.x509_links.specs.Lenient.{lenient_extension, lenient_time, lenient_entry, lenient_tbs_list, lenient_list}

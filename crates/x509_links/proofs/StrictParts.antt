@@ -14,9 +14,7 @@ use Rattle.cert_model.specs.Range.{IfThere, AreBits, IsExtension, AreExtensions}
 use Rattle.x509_core.specs.Grammar.{Header, NoneBegins, One, Holds, ToEnd}
 use Rattle.x509_core.proofs.Items.{none_here}
 use Rattle.x509_names.specs.Leaves.{IsOid, IsOctets}
-use Rattle.x509_ext.specs.Fields.{IsUnparsed}
-use Rattle.x509_ext.specs.Extensions.{IsBoolean, ExtensionParts, X509Extension, ExtensionList, Extensions, absent, there}
-use Rattle.x509_ext.specs.Parts.{IsNumber, IsVersion, X509Version, IsTaggedVersion, Version, version_absent, version_there, IsSerial, IsIdentifier, IsOtherHeader, UniqueIdentifier, id_at_end, id_absent, id_there}
+use Rattle.x509_certs.specs.Shared.{IsUnparsed, IsBoolean, ExtensionParts, X509Extension, ExtensionList, Extensions, absent, there, IsNumber, IsVersion, X509Version, IsTaggedVersion, Version, version_absent, version_there, IsSerial, IsIdentifier, IsOtherHeader, UniqueIdentifier, id_at_end, id_absent, id_there}
 use Rattle.x509_links.specs.Lenient.{lenient_bits, lenient_extension}
 use Rattle.x509_links.proofs.Strict.{one_small, one_strict, content_small, two_small, each_is, oid_is, strict_bits}
 

@@ -6,8 +6,7 @@ use Rattle.cert_model.specs.Fields.{Algorithm, Attribute, RelativeName, Name, Bi
 use Rattle.cert_model.specs.Octets.{name_octets, key_octets, tbs_certificate_octets, certificate_octets, tbs_cert_list_octets, list_octets}
 use Rattle.x509_names.specs.Fields.{Algorithm as ReadAlgorithm, Attribute as ReadAttribute, Name as ReadName, Bits as ReadBits, Key as ReadKey}
 use Rattle.x509_time.specs.Times.{Time, Period}
-use Rattle.x509_values.specs.Values.{unparsed}
-use Rattle.x509_ext.specs.Fields.{Extension as ReadExtension}
+use Rattle.x509_certs.specs.Shared.{unparsed, Extension as ReadExtension}
 use Rattle.x509_certs.specs.Fields.{Tbs, Certificate as ReadCertificate}
 use Rattle.x509_lists.specs.Fields.{Entry as ReadEntry, TbsList, RevocationList as ReadList}
 

@@ -1,1 +1,3 @@
+pub mod Grammars
 pub mod Lenient
+pub mod Readers

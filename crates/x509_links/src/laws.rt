@@ -10,7 +10,7 @@ ghost use Rattle.jiff.specs.Words.{civil_nanos};
 ghost use Rattle.jiff_core.specs.declared.civil.datetime.DateTime.{DateTime};
 ghost use Rattle.x509_time.specs.Times.{ASN1Time};
 ghost use Rattle.x509_names.specs.Names.{AlgorithmIdentifier, X509Name, SubjectPublicKeyInfo};
-ghost use Rattle.x509_ext.specs.Fields.{IsUnparsed};
+ghost use Rattle.x509_certs.specs.Shared.{IsUnparsed};
 ghost use Rattle.x509_certs.specs.Certificates.{X509Certificate};
 ghost use Rattle.x509_lists.specs.Lists.{CertificateRevocationList};
 ghost use Rattle.x509_links.specs.Lenient.{lenient_algorithm, lenient_name, lenient_key, nanoseconds_of, lenient_time, lenient_certificate, lenient_list};

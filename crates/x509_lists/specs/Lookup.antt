@@ -2,11 +2,10 @@
 use Rattle.std.specs.Prelude.{ℕ, Bool, List, [], ◌∷◌, Option, Some, None}
 use Rattle.asn1_unsigned.specs.declared.unsigned.UnsignedBytes.{UnsignedBytes}
 use Rattle.x509_time.specs.declared.time.ASN1Time.{ASN1Time}
-use Rattle.x509_flags.specs.declared.reason.ReasonCode.{ReasonCode}
+use Rattle.x509_ext.specs.Values.{ReasonCode, ParsedExtension}
 use Rattle.x509_ext.specs.Lookup.{all_of}
 use Rattle.x509_ext.specs.declared.extension.X509Extension.{X509Extension}
-use Rattle.x509_deep.specs.declared.parsed.ParsedExtension.{ParsedExtension}
-use Rattle.x509_deep.specs.declared.parsed.ParsedExtension.TheVariants as cases
+use Rattle.x509_ext.specs.Kinds as cases
 
 -- id-ce-cRLNumber, 2.5.29.20
 abbrev pub crl_number_id : List ℕ

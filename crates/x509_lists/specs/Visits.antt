@@ -7,14 +7,8 @@ use Rattle.asn1_values.specs.declared.bitstring.BitString.{BitString}
 use Rattle.x509_names.specs.declared.algorithm.AlgorithmIdentifier.{AlgorithmIdentifier}
 use Rattle.x509_names.specs.declared.name.X509Name.{X509Name}
 use Rattle.x509_time.specs.declared.time.ASN1Time.{ASN1Time}
-use Rattle.x509_flags.specs.declared.reason.ReasonCode.{ReasonCode}
-use Rattle.x509_general.specs.declared.access.AuthorityInfoAccess.{AuthorityInfoAccess}
-use Rattle.x509_general.specs.declared.alternative.IssuerAlternativeName.{IssuerAlternativeName}
-use Rattle.x509_general.specs.declared.identifiers.AuthorityKeyIdentifier.{AuthorityKeyIdentifier}
-use Rattle.x509_points.specs.declared.issuing.IssuingDistributionPoint.{IssuingDistributionPoint}
-use Rattle.x509_values.specs.declared.timestamps.SignedCertificateTimestamp.{SignedCertificateTimestamp}
-use Rattle.x509_deep.specs.declared.parsed.ParsedExtension.{ParsedExtension}
-use Rattle.x509_deep.specs.declared.parsed.ParsedExtension.TheVariants as cases
+use Rattle.x509_ext.specs.Values.{ReasonCode, AuthorityInfoAccess, IssuerAlternativeName, AuthorityKeyIdentifier, IssuingDistributionPoint, SignedCertificateTimestamp, ParsedExtension}
+use Rattle.x509_ext.specs.Kinds as cases
 use Rattle.x509_ext.specs.declared.extension.X509Extension.{X509Extension}
 use Rattle.x509_ext.specs.declared.version.X509Version.{X509Version}
 use Rattle.x509_lists.specs.declared.entry.RevokedCertificate.{RevokedCertificate}

@@ -3,7 +3,7 @@
 ghost use Rattle.std.specs.Prelude.{◌≡◌, ℕ, List, IfOk, OnOk, IfErr, option_map};
 ghost use Rattle.x509_core.specs.declared.error.X509Error.TheVariants.{DuplicateExtensions};
 ghost use Rattle.x509_ext.specs.Lookup.{all_of, first_of};
-ghost use Rattle.x509_maps.specs.Maps.{held_at, AreDistinct, IsWhyNone};
+ghost use Rattle.x509_ext.specs.Maps.{held_at, AreDistinct, IsWhyNone};
 
 use crate::entry::RevokedCertificate;
 use crate::tbs::TbsCertList;
@@ -11,8 +11,7 @@ use asn1_oid::Oid;
 use std::alloc::Global;
 use std::collections::BTreeMap;
 use x509_core::X509Error;
-use x509_ext::X509Extension;
-use x509_maps::extensions_map;
+use x509_ext::{X509Extension, extensions_map};
 
 impl<'a> TbsCertList<'a> {
     /// The extensions by their identifiers, as `find_extension` finds them; `DuplicateExtensions` where two have the same one. The

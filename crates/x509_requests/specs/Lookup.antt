@@ -1,7 +1,7 @@
 -- Which of several attributes is meant.
 use Rattle.std.specs.Prelude.{ℕ, List, [], ◌∷◌, Option, Some, None, map, bytes_eq}
 use Rattle.std.specs.List.{filter}
-use Rattle.x509_deep.specs.declared.parsed.ParsedExtension.{ParsedExtension}
+use Rattle.x509_ext.specs.Values.{ParsedExtension}
 use Rattle.x509_requests.specs.declared.attribute.ParsedCriAttribute.{ParsedCriAttribute}
 use Rattle.x509_requests.specs.declared.attribute.ParsedCriAttribute.TheVariants as cases
 use Rattle.x509_requests.specs.declared.attribute.X509CriAttribute.{X509CriAttribute}

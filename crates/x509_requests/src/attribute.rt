@@ -8,7 +8,7 @@ use asn1_core::OutOfMemory;
 use asn1_oid::Oid;
 use std::alloc::Global;
 use x509_ext::X509Extension;
-use x509_values::copy_all;
+use x509_items::copy_all;
 
 /// Extensions that the certificate is to have (RFC 2985, 5.4.2).
 #[derive(Debug, Drop, PartialEq, Eq)]

@@ -4,7 +4,7 @@ ghost use Rattle.std.specs.Prelude.{◌≡◌, ◌==◌, ◌<◌, length, All, I
 ghost use Rattle.asn1_core.specs.Views.{class_number};
 ghost use Rattle.asn1_any.specs.Views.{any_of};
 ghost use Rattle.x509_core.specs.Answers.{Gives};
-ghost use Rattle.x509_deep.specs.Reading.{deeply};
+ghost use Rattle.x509_ext.specs.Values.{deeply};
 ghost use Rattle.x509_requests.specs.Reading.{attribute_parts_in, attribute_in, attribute_at, all_attributes_at, attributes_at};
 ghost use Rattle.x509_requests.specs.View.{attribute_view, AttributeWantsNoMemory};
 

@@ -4,7 +4,7 @@ ghost use Rattle.std.specs.Prelude.{◌≡◌, ◌≤◌, length, IfOk, option_m
 ghost use Rattle.std.specs.Slice.Iter.{iter_rest};
 ghost use Rattle.asn1_any.specs.CutViews.{piece_of};
 ghost use Rattle.x509_core.specs.Answers.{Gives};
-ghost use Rattle.x509_deep.specs.Reading.{deeply};
+ghost use Rattle.x509_ext.specs.Values.{deeply};
 ghost use Rattle.x509_ext.specs.Reading.{version_at};
 ghost use Rattle.x509_requests.specs.Lookup.{attributes_of, first_attribute};
 ghost use Rattle.x509_requests.specs.Reading.{info_in, info_at};

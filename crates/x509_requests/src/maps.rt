@@ -2,7 +2,7 @@
 
 ghost use Rattle.std.specs.Prelude.{◌≡◌, ℕ, List, IfOk, OnOk, IfErr, option_map};
 ghost use Rattle.x509_core.specs.declared.error.X509Error.TheVariants.{DuplicateAttributes};
-ghost use Rattle.x509_maps.specs.Maps.{held_at, AreDistinct, IsWhyNone};
+ghost use Rattle.x509_ext.specs.Maps.{held_at, AreDistinct, IsWhyNone};
 ghost use Rattle.x509_requests.specs.Lookup.{attributes_of, first_attribute};
 
 use crate::attribute::X509CriAttribute;
@@ -11,7 +11,7 @@ use asn1_oid::Oid;
 use std::alloc::Global;
 use std::collections::BTreeMap;
 use x509_core::X509Error;
-use x509_maps::add_once;
+use x509_ext::add_once;
 
 fn attributes_map<'n, 'a>(
     alloc: Global,

@@ -6,7 +6,7 @@ ghost use Rattle.x509_core.specs.Answers.{Gives, naming};
 ghost use Rattle.x509_core.specs.declared.error.X509Error.TheVariants.{InvalidSignatureValue};
 ghost use Rattle.x509_names.specs.Reading.{bits_at};
 ghost use Rattle.x509_names.specs.View.{bits_view};
-ghost use Rattle.x509_deep.specs.Reading.{deeply};
+ghost use Rattle.x509_ext.specs.Values.{deeply};
 ghost use Rattle.x509_requests.specs.Lookup.{requested_of};
 ghost use Rattle.x509_requests.specs.Reading.{request_in};
 ghost use Rattle.x509_requests.specs.View.{request_view, AttributesWantNoMemory};

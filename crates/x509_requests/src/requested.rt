@@ -16,7 +16,7 @@ pub struct RequestedExtensions<'n, 'a> {
 impl<'n, 'a> Model for RequestedExtensions<'n, 'a> {
     ghost use Rattle.std.specs.Prelude.{List, map};
     ghost use Rattle.std.specs.Slice.Iter.{iter_rest};
-    ghost use Rattle.x509_deep.specs.declared.parsed.ParsedExtension.{ParsedExtension as Parsed};
+    ghost use Rattle.x509_ext.specs.Values.{ParsedExtension as Parsed};
 
     ghost Value = { List Parsed };
 

@@ -2,7 +2,6 @@
 //! device fails.
 mod rows;
 
-use crate::devices::{Full, Giver, Repeater, Taker};
 use asn1_device::{ReadSource, WriteSink};
 use certpath_engine::{
     Command, End, FrameError, FrameOutcome, WordFault, frame, frame_status, read_words,
@@ -12,6 +11,7 @@ use std::alloc::AllocError;
 use std::fmt::Debug;
 use std::process::Abort;
 use std::test::Fail;
+use test_devices::{Full, Giver, Repeater, Taker};
 
 // What came is what was wanted.
 fn same<R: Abort, T: PartialEq + Debug + Drop>(rt: &R, got: T, want: T) {

@@ -3,7 +3,7 @@ use Rattle.std.proofs.lemmas.Grind.{common_steps}
 use Rattle.cert_model.specs.Fields.{Certificate}
 use Rattle.cert_model.specs.View.{certificate_view}
 use Rattle.cert_model.specs.Class.{IsCertificateItem}
-use Rattle.x509_certs.specs.View.{certificate_view as read_view}
+use Rattle.x509_links.specs.Readers.{certificate_view as read_view}
 use Rattle.x509_links.specs.Lenient.{lenient_certificate}
 use Rattle.certpath_typed.proofs.Taken.{no_certificate}
 use Rattle.certpath_typed.proofs.Gate.{strict_certificate}

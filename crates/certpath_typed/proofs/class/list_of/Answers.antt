@@ -3,7 +3,7 @@ use Rattle.std.proofs.lemmas.Grind.{common_steps}
 use Rattle.cert_model.specs.Fields.{RevocationList}
 use Rattle.cert_model.specs.View.{list_view}
 use Rattle.cert_model.specs.Class.{IsListItem}
-use Rattle.x509_lists.specs.View.{list_view as read_view}
+use Rattle.x509_links.specs.Readers.{list_view as read_view}
 use Rattle.x509_links.specs.Lenient.{lenient_list}
 use Rattle.certpath_typed.proofs.Taken.{no_list}
 use Rattle.certpath_typed.proofs.Gate.{strict_list}

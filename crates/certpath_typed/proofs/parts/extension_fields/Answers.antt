@@ -1,7 +1,7 @@
 use Rattle.std.proofs.Common.{◌∙◌, sym, ap, take, [], ◌∷◌, ◌++◌}
 use Rattle.std.proofs.lemmas.Grind.{take_at_read}
 use Rattle.cert_model.specs.View.{ext_view}
-use Rattle.x509_ext.specs.View.{extension_view}
+use Rattle.x509_links.specs.Readers.{extension_view}
 use Rattle.certpath_typed.specs.Told.{TellsExtension}
 use Rattle.certpath_typed.proofs.Zipped.{zip_push, shown}
 use Rattle.certpath_typed.proofs.parts.extension_fields.Goals as goal

@@ -1,6 +1,6 @@
 use Rattle.std.proofs.Common.{take, map}
 use Rattle.cert_model.specs.View.{ext_view}
-use Rattle.x509_ext.specs.View.{extension_view}
+use Rattle.x509_links.specs.Readers.{extension_view}
 use Rattle.certpath_typed.specs.Told.{TellsExtensions}
 use Rattle.certpath_typed.proofs.parts.extension_fields.Given as goal
 

@@ -4,7 +4,7 @@ use Rattle.std.proofs.lemmas.Grind.{common_steps}
 use Rattle.std.proofs.lemmas.List.{map-append, nil_from_length}
 use Rattle.std.proofs.lemmas.List.Elements.{All-push}
 use Rattle.x509_core.proofs.Many.{many_more, many_stops, refused_by}
-use Rattle.x509_deep.specs.Reading.{deeply}
+use Rattle.x509_ext.specs.Values.{deeply}
 use Rattle.x509_requests.specs.Reading.{attribute_at}
 use Rattle.x509_requests.specs.View.{attribute_view, AttributeWantsNoMemory}
 use Rattle.x509_requests.proofs.AttributeLaws.{all_stop, all_end}

@@ -2,7 +2,7 @@ use Rattle.std.proofs.Common.{◌≡◌, map, length}
 use Rattle.std.specs.Prelude.{All}
 use Rattle.x509_core.specs.Reading.{many_of}
 use Rattle.x509_core.proofs.Many.{with_front}
-use Rattle.x509_deep.specs.Reading.{deeply}
+use Rattle.x509_ext.specs.Values.{deeply}
 use Rattle.x509_requests.specs.Reading.{attribute_at}
 use Rattle.x509_requests.specs.View.{attribute_view, AttributeWantsNoMemory}
 use Rattle.x509_requests.proofs.attributes.all_attributes.Given as goal

@@ -4,8 +4,7 @@ use Rattle.x509_core.specs.Grammar.{HoldsWindow}
 use Rattle.x509_core.proofs.Grammars.{next_reading}
 use Rattle.x509_core.proofs.FrontLaws.{gives_reads}
 use Rattle.x509_core.proofs.Public.{gives_found, gives_only}
-use Rattle.x509_deep.specs.Parsed.{IsParsed}
-use Rattle.x509_deep.specs.Reading.{deeply}
+use Rattle.x509_ext.specs.Values.{IsParsed, deeply}
 use Rattle.x509_ext.proofs.ExtensionLaws.{deep_law}
 use Rattle.x509_certs.specs.Certificates.{TbsParts, TbsCertificate}
 use Rattle.x509_certs.specs.Reading.{tbs_in, tbs_at}

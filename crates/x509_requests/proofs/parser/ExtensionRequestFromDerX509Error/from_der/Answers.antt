@@ -4,8 +4,7 @@ use Rattle.x509_core.specs.Grammar.{Holds, ToEnd}
 use Rattle.x509_core.proofs.Public.{gives_found, gives_only}
 use Rattle.x509_names.proofs.FrontLaws.{gives_reads}
 use Rattle.x509_ext.specs.Extensions.{X509Extension}
-use Rattle.x509_deep.specs.Parsed.{IsParsed}
-use Rattle.x509_deep.specs.Reading.{deeply}
+use Rattle.x509_ext.specs.Values.{IsParsed, deeply}
 use Rattle.x509_ext.specs.Reading.{extension_list_in}
 use Rattle.x509_ext.specs.View.{extension_view}
 use Rattle.x509_ext.proofs.ExtensionLaws.{deep_law, list_meaning}

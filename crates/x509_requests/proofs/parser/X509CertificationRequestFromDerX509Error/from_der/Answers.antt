@@ -4,8 +4,7 @@ use Rattle.x509_core.specs.Grammar.{HoldsWhole}
 use Rattle.x509_core.proofs.Grammars.{next_reading}
 use Rattle.x509_core.proofs.Public.{gives_found, gives_only}
 use Rattle.x509_names.proofs.FrontLaws.{gives_reads}
-use Rattle.x509_deep.specs.Parsed.{IsParsed}
-use Rattle.x509_deep.specs.Reading.{deeply}
+use Rattle.x509_ext.specs.Values.{IsParsed, deeply}
 use Rattle.x509_ext.proofs.ExtensionLaws.{deep_law}
 use Rattle.x509_requests.specs.Requests.{RequestParts, X509CertificationRequest}
 use Rattle.x509_requests.specs.Reading.{request_in, request_at}

@@ -2,8 +2,7 @@ use Rattle.std.proofs.Common.{arith}
 use Rattle.asn1_core.proofs.Numbers.{octets_below}
 use Rattle.x509_core.proofs.Public.{gives_found, gives_only}
 use Rattle.x509_core.specs.declared.error.X509Error.TheVariants as errors
-use Rattle.x509_deep.specs.Parsed.{IsParsed}
-use Rattle.x509_deep.specs.Reading.{deeply}
+use Rattle.x509_ext.specs.Values.{IsParsed, deeply}
 use Rattle.x509_ext.proofs.ExtensionLaws.{deep_law}
 use Rattle.x509_core.proofs.FrontLaws.{gives_only_named}
 use Rattle.x509_requests.specs.Requests.{X509CriAttribute}

@@ -5,7 +5,7 @@ use Rattle.std.specs.Cmp.Lexicographic.{slice_cmp}
 use Rattle.std.specs.Ordering.{nat_cmp}
 use Rattle.std.proofs.lemmas.Map.Text.{is_eq-slice_cmp}
 use Rattle.std.proofs.lemmas.Slice.Eq.{bytes_eq-Decides}
-use Rattle.x509_maps.specs.Maps.{held_at, first_or}
+use Rattle.x509_ext.specs.Maps.{held_at, first_or}
 
 put_by : {V : Type 0} (b : Bool) (o : Option V) (v : V) → (b ≡ true → is_some o ≡ false) → cond b (Some v) o ≡ (if b then Some (first_or o v) else o)
 put_by true None v free = refl

@@ -1,7 +1,7 @@
 use Rattle.std.proofs.Common.{◌≡◌, ◌∙◌, sym, false, is_some}
-use Rattle.x509_maps.specs.Maps.{held_at}
-use Rattle.x509_maps.proofs.OnceLaws.{put_once}
-use Rattle.x509_maps.proofs.once.add_once.Goals as goal
+use Rattle.x509_ext.specs.Maps.{held_at}
+use Rattle.x509_ext.proofs.OnceLaws.{put_once}
+use Rattle.x509_ext.proofs.once.add_once.Goals as goal
 
 pub returns-clause-held : goal.returns-clause-held
 returns-clause-held g c =

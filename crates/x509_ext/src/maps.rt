@@ -3,14 +3,14 @@
 ghost use Rattle.std.specs.Prelude.{◌≡◌, ℕ, List, IfOk, OnOk, IfErr, option_map};
 ghost use Rattle.x509_core.specs.declared.error.X509Error.TheVariants.{DuplicateExtensions};
 ghost use Rattle.x509_ext.specs.Lookup.{all_of, first_of};
-ghost use Rattle.x509_maps.specs.Maps.{held_at, AreDistinct, IsWhyNone};
+ghost use Rattle.x509_ext.specs.Maps.{held_at, AreDistinct, IsWhyNone};
 
+use crate::extension::X509Extension;
 use crate::once::add_once;
 use asn1_oid::Oid;
 use std::alloc::Global;
 use std::collections::BTreeMap;
 use x509_core::X509Error;
-use x509_ext::X509Extension;
 
 /// The extensions by their identifiers, as `find_extension` finds them; `DuplicateExtensions` where two have the same one. The keys
 /// ascend by their content octets, and n extensions take time in n log n.

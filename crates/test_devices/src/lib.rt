@@ -1,4 +1,6 @@
-//! Devices that give and take as they are told, and fail where they are told.
+//! Devices for tests: they give and take as they are told, and fail where they are told.
+#![tactic(auto)]
+
 use std::alloc::Global;
 use std::io::{Error, ErrorKind, Read, Write};
 

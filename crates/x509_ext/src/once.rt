@@ -1,7 +1,7 @@
 //! Values by identifier, of each identifier one.
 
 ghost use Rattle.std.specs.Prelude.{◌≡◌, ℕ, List, not, IfOk, OnOk, OnErr, is_some, Some, None, if◌then◌else◌, bytes_eq};
-ghost use Rattle.x509_maps.specs.Maps.{held_at, first_or};
+ghost use Rattle.x509_ext.specs.Maps.{held_at, first_or};
 
 use asn1_core::OutOfMemory;
 use asn1_oid::Oid;
