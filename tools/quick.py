@@ -13,6 +13,8 @@ MOST_EDITS, MOST_OF_SMALL, SMALL = 8, 6, 30
 # Crates whose named wrong bodies need more places, at most 12.
 MOST_OF = {"cert_framing": 8, "cert_search": 8}
 MOST_LINES = 800
+# How many files the gate may read for its sums of what libraries are made from: each takes it some 0.15 ms, one after another.
+MOST_READS = 20_000_000
 OF_FUNCTION = ("Invariants.antt", "Answers.antt", "Proof.antt")
 BESIDE_SRC = ("args", "stdin", "stdout", "status")
 LABEL = re.compile(r"(?:^|[^\w/.-])((?:[DTLW]\d{1,2}|R\d{1,2}(?:\.\d+)?|0[1-4], ?\d|document 0[1-4]))(?:\W|$)")
@@ -176,6 +178,17 @@ def crates_listed():
             yield f"README.md: it tells nothing of the crate {name}"
 
 
+def few_ways():
+    """What the gate reads for its sums stays in bounds: `rt` goes down every way from a library, each time anew, twice a library."""
+    reads = {}
+    for crate in repo.below(CRATES, CRATES):
+        own = sum(it.startswith(tuple(f"crates/{crate}/{part}/" for part in ("src", "specs", "proofs"))) for it in FILES)
+        reads[crate] = own + sum(reads[it] for it in CRATES[crate])
+    total = sum(2 * reads[it] for it in CRATES if f"crates/{it}/src/main.rt" not in FILES)
+    if total > MOST_READS:
+        yield f"crates.txt: sums of what libraries are made from read {total:,} files, and at most {MOST_READS:,} are allowed: let a crate name what it uses through another"
+
+
 def judge_alone():
     """`certcheck` shares nothing with the search and the typed readers: beside its own crates it stands on parts of `asn1_rs` and `der_parser` alone."""
     own = {"certcheck", "cert_framing", "cert_graph", "cert_groups", "cert_judge", "cert_model"}
@@ -250,7 +263,7 @@ def items_spelled():
 
 
 def main():
-    checks = (layout, edits_apply, few_edits, all_read, no_labels, no_machine, docs_name_files, crates_listed, judge_alone, roads_apart, headers_counted, no_handles, short_files, items_spelled, worked_causes, bundles)
+    checks = (layout, edits_apply, few_edits, all_read, no_labels, no_machine, docs_name_files, crates_listed, few_ways, judge_alone, roads_apart, headers_counted, no_handles, short_files, items_spelled, worked_causes, bundles)
     failed = 0
     for check in checks:
         found = [*check()]

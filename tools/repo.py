@@ -33,9 +33,9 @@ def below(names, listed):
     found = []
 
     def take(name):
-        for it in listed[name]:
-            take(it)
         if name not in found:
+            for it in listed[name]:
+                take(it)
             found.append(name)
 
     for name in names:

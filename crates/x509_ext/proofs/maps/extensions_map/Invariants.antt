@@ -2,7 +2,7 @@ use Rattle.std.proofs.Common.{◌≡◌, ℕ, List, ◌++◌, length, option_map
 use Rattle.std.specs.Slice.Iter.{iter_rest}
 use Rattle.x509_ext.specs.Maps.{held_at, those_of}
 use Rattle.x509_ext.proofs.OnceLaws.{none_or_one}
-use Rattle.x509_ext.proofs.extensions.extensions_map.Given as goal
+use Rattle.x509_ext.proofs.maps.extensions_map.Given as goal
 
 -- what is held, and what is left
 abbrev pub invariant-loop-extension : goal.invariant-loop-extension
