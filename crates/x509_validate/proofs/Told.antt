@@ -7,6 +7,7 @@ use Rattle.x509_validate.specs.Messages.{Message, passes, all_pass}
 use Rattle.x509_validate.specs.Logging.{Tells, TellsWeight, Takes, TakesAll, RefusesNext, TakesSome}
 use Rattle.x509_validate.specs.View.{message_view}
 use Rattle.x509_validate.specs.declared.logger.LogError.{LogError}
+use Rattle.x509_validate.specs.declared.logger.LogError.TheVariants as errors
 use Rattle.x509_validate.specs.declared.message.Message as code
 
 pub folds_join : {P A : Type 0} (R : P → A → P → Type 0) (p : P) (xs ys : List A) (q r : P) → FoldsTo R p xs q → FoldsTo R q ys r → FoldsTo R p (xs ++ ys) r
@@ -35,10 +36,10 @@ done warns errs old all now p = subst (λ z. TakesAll warns errs old z now) (sym
 pub refused : {L : Type 0} (warns errs : Tells L) (old : L) (all : List Message) (now : L) (m : Message) (rest : List Message) (e : LogError) (next : L) → Progress warns errs old all now (m ∷ rest) → TellsWeight warns errs m.weight now m.text (Err e) next → TakesSome warns errs old all e next
 refused warns errs old all now m rest e next p t = record { front = p.front; back = m ∷ rest; parts = p.parts; between = now; taken = p.taken; ends = inr t }
 
--- nothing was told
-pub untold : {L : Type 0} (warns errs : Tells L) (old : L) (all : List Message) (e : LogError) → TakesSome warns errs old all e old
-untold warns errs old [] e = record { front = []; back = []; parts = refl; between = old; taken = refl; ends = refl }
-untold warns errs old (m ∷ ms) e = record { front = []; back = m ∷ ms; parts = refl; between = old; taken = refl; ends = inl refl }
+-- nothing was told, since memory ran out
+pub untold : {L : Type 0} (warns errs : Tells L) (old : L) (all : List Message) (e : LogError) → e ≡ errors.OutOfMemory → TakesSome warns errs old all e old
+untold warns errs old [] e why = record { front = []; back = []; parts = refl; between = old; taken = refl; ends = (why, refl) }
+untold warns errs old (m ∷ ms) e why = record { front = []; back = m ∷ ms; parts = refl; between = old; taken = refl; ends = inl (why, refl) }
 
 -- two lists of messages, one behind the other
 pub joined : {L : Type 0} (warns errs : Tells L) (old : L) (xs ys : List Message) (between new : L) → TakesAll warns errs old xs between → TakesAll warns errs between ys new → TakesAll warns errs old (xs ++ ys) new

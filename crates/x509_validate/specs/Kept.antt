@@ -1,5 +1,5 @@
 -- Texts that are kept, or written.
-use Rattle.std.specs.Prelude.{⊤, ◌≡◌, ℕ, List, [], ◌∷◌, ◌++◌, map, string_bytes, Option, Result, Ok, Err}
+use Rattle.std.specs.Prelude.{⊤, ◌≡◌, ℕ, ◌+◌, List, [], ◌∷◌, ◌++◌, map, string_bytes, Option, Result, Ok, Err}
 use Rattle.std.specs.Io.KnownBytes.{Appends}
 use Rattle.asn1_device.specs.Counts.{AppendsFront}
 use Rattle.x509_validate.specs.declared.logger.LogError.{LogError}
@@ -13,10 +13,10 @@ abbrev pub Keeps : List (List ℕ) → List (List ℕ) → List ℕ → Result �
 Keeps old new text (Ok x) = new ≡ old ++ text ∷ []
 Keeps old new text (Err e) = (e ≡ errors.OutOfMemory) × (new ≡ old)
 
--- the line was written, or a front of it, and the writer failed
-abbrev pub WritesLine : Option (List ℕ) → Option (List ℕ) → List ℕ → Result ⊤ LogError → Type 0
-WritesLine old new line (Ok x) = Appends old new (line ++ 10 ∷ [])
-WritesLine old new line (Err e) = (e ≡ errors.Write) × AppendsFront old new (line ++ 10 ∷ [])
+-- the line was written and no write failed, or a front of it was, and one failed (of the writer: what it holds, and how many of its calls failed)
+abbrev pub WritesLine : Option (List ℕ) → Option (List ℕ) → ℕ → ℕ → List ℕ → Result ⊤ LogError → Type 0
+WritesLine old new old_failures new_failures line (Ok x) = Appends old new (line ++ 10 ∷ []) × (new_failures ≡ old_failures)
+WritesLine old new old_failures new_failures line (Err e) = (e ≡ errors.Write) × AppendsFront old new (line ++ 10 ∷ []) × (new_failures ≡ old_failures + 1)
 
 -- a warning came behind those that were kept, or memory ran out; errors are as they were
 abbrev pub KeepsWarning : Tells VecLogger

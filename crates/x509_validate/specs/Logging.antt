@@ -3,6 +3,7 @@ use Rattle.std.specs.Prelude.{⊤, ◌≡◌, ◌⊎◌, ℕ, List, [], ◌∷�
 use Rattle.std.specs.List.{FoldsTo}
 use Rattle.x509_validate.specs.Messages.{Weight, warning, fault, fatal, Message}
 use Rattle.x509_validate.specs.declared.logger.LogError.{LogError}
+use Rattle.x509_validate.specs.declared.logger.LogError.TheVariants as errors
 
 -- which calls with this text and this answer lead from one state of a logger to another
 abbrev pub Tells : Type 0 → Type 1
@@ -22,10 +23,10 @@ Takes warns errs old m new = TellsWeight warns errs m.weight old m.text (Ok tt) 
 abbrev pub TakesAll : {L : Type 0} → Tells L → Tells L → L → List Message → L → Type 0
 TakesAll warns errs = FoldsTo (Takes warns errs)
 
--- the logger refused the first of these, or wasn't called
+-- the logger refused the first of these, or it wasn't called, since memory ran out
 abbrev pub RefusesNext : {L : Type 0} → Tells L → Tells L → L → List Message → LogError → L → Type 0
-RefusesNext warns errs old [] e new = old ≡ new
-RefusesNext warns errs old (m ∷ ms) e new = (old ≡ new) ⊎ TellsWeight warns errs m.weight old m.text (Err e) new
+RefusesNext warns errs old [] e new = (e ≡ errors.OutOfMemory) × (old ≡ new)
+RefusesNext warns errs old (m ∷ ms) e new = ((e ≡ errors.OutOfMemory) × (old ≡ new)) ⊎ TellsWeight warns errs m.weight old m.text (Err e) new
 
 -- some messages from the front were told and taken; then the logger refused the next one, or none was told
 pub record TakesSome {L : Type 0} (warns errs : Tells L) (old : L) (ms : List Message) (e : LogError) (new : L) : Type 0 where

@@ -24,6 +24,8 @@ impl CallbackLogger {
     pub fn new(warn: OnWarning, err: OnError) -> CallbackLogger
         requires warn { OnWarning.IsAlwaysCallable warn }
         requires err { OnError.IsAlwaysCallable err }
+        ensures warnings { result.warn ≡ warn }
+        ensures errors { result.err ≡ err }
     {
         CallbackLogger { warn, err }
     }

@@ -191,8 +191,10 @@ impl X509ExtensionsValidator {
         ensures refused { IfErr result (λ e. TakesSome L.warns L.errs l.old (list_messages extensions.now) e l.new) }
     {
         let mut said = Vec::new(alloc);
-        push_list(alloc, extensions, &mut said)?;
-        tell_all(&said, l)
+        match push_list(alloc, extensions, &mut said) {
+            Ok(()) => tell_all(&said, l),
+            Err(_) => Err(LogError::OutOfMemory),
+        }
     }
 }
 

@@ -118,7 +118,9 @@ impl<'a> Validator<'a> for X509PublicKeyValidator {
         l: &mut L,
     ) -> Result<bool, LogError> {
         let mut said = Vec::new(alloc);
-        push_key(alloc, key, &mut said)?;
-        tell_all(&said, l)
+        match push_key(alloc, key, &mut said) {
+            Ok(()) => tell_all(&said, l),
+            Err(_) => Err(LogError::OutOfMemory),
+        }
     }
 }

@@ -97,7 +97,9 @@ impl<'a> Validator<'a> for X509NameStructureValidator {
         l: &mut L,
     ) -> Result<bool, LogError> {
         let mut said = Vec::new(alloc);
-        push_name(alloc, name, &mut said)?;
-        tell_all(&said, l)
+        match push_name(alloc, name, &mut said) {
+            Ok(()) => tell_all(&said, l),
+            Err(_) => Err(LogError::OutOfMemory),
+        }
     }
 }

@@ -1,8 +1,8 @@
 //! A logger that writes.
 
-ghost use Rattle.std.specs.Prelude.{◌≡◌, [], ◌∷◌, ◌++◌, OnOk, OnErr};
+ghost use Rattle.std.specs.Prelude.{◌≡◌, ◌+◌, [], ◌∷◌, ◌++◌, OnOk, OnErr};
 ghost use Rattle.std.specs.Io.KnownBytes.{Appends};
-ghost use Rattle.asn1_device.specs.Counts.{AppendsFront};
+ghost use Rattle.asn1_device.specs.Counts.{AppendsFront, faults_of};
 
 use crate::logger::{LogError, Logger};
 use asn1_device::{DeviceFault, Sink, write_octets};
@@ -34,6 +34,8 @@ impl<W: Sink> StderrLogger<W> {
 fn write_two<W: Sink>(writer: &mut W, first: &[u8], second: &[u8]) -> Result<(), DeviceFault>
     ensures ok { OnOk result (Appends (W.contents writer.old) (W.contents writer.new) (first.now ++ second.now)) }
     ensures err { OnErr result (AppendsFront (W.contents writer.old) (W.contents writer.new) (first.now ++ second.now)) }
+    ensures failures { W.failures writer.new ≡ W.failures writer.old + faults_of result }
+    ensures flushes { W.flushes writer.new ≡ W.flushes writer.old }
 {
     write_octets(writer, first)?;
     write_octets(writer, second)
@@ -43,18 +45,20 @@ fn write_two<W: Sink>(writer: &mut W, first: &[u8], second: &[u8]) -> Result<(),
 fn write_line<W: Sink>(writer: &mut W, mark: &[u8], message: &str) -> Result<(), DeviceFault>
     ensures ok { OnOk result (Appends (W.contents writer.old) (W.contents writer.new) ((mark.now ++ message.now) ++ 10 ∷ [])) }
     ensures err { OnErr result (AppendsFront (W.contents writer.old) (W.contents writer.new) ((mark.now ++ message.now) ++ 10 ∷ [])) }
+    ensures failures { W.failures writer.new ≡ W.failures writer.old + faults_of result }
+    ensures flushes { W.flushes writer.new ≡ W.flushes writer.old }
 {
     write_two(writer, mark, message.as_bytes())?;
     write_octets(writer, b"\n")
 }
 
 impl<W: Sink> Logger for StderrLogger<W> {
-    ghost use Rattle.std.specs.Prelude.{codes, ◌++◌};
+    ghost use Rattle.std.specs.Prelude.{◌≡◌, codes, ◌++◌};
     ghost use Rattle.x509_validate.specs.Kept.{WritesLine};
 
-    ghost warns = { λ old text answer new. WritesLine (W.contents old.writer) (W.contents new.writer) (codes "[W] " ++ text) answer };
+    ghost warns = { λ old text answer new. WritesLine (W.contents old.writer) (W.contents new.writer) (W.failures old.writer) (W.failures new.writer) (codes "[W] " ++ text) answer × (W.flushes new.writer ≡ W.flushes old.writer) };
 
-    ghost errs = { λ old text answer new. WritesLine (W.contents old.writer) (W.contents new.writer) (codes "[E] " ++ text) answer };
+    ghost errs = { λ old text answer new. WritesLine (W.contents old.writer) (W.contents new.writer) (W.failures old.writer) (W.failures new.writer) (codes "[E] " ++ text) answer × (W.flushes new.writer ≡ W.flushes old.writer) };
 
     fn warn(&mut self, message: &str) -> Result<(), LogError> {
         match write_line(&mut self.writer, b"[W] ", message) {

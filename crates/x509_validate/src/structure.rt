@@ -147,8 +147,10 @@ impl<'a> Validator<'a> for TbsCertificateStructureValidator {
         l: &mut L,
     ) -> Result<bool, LogError> {
         let mut said = Vec::new(alloc);
-        push_structure(alloc, tbs, &mut said)?;
-        tell_all(&said, l)
+        match push_structure(alloc, tbs, &mut said) {
+            Ok(()) => tell_all(&said, l),
+            Err(_) => Err(LogError::OutOfMemory),
+        }
     }
 }
 
