@@ -1,8 +1,8 @@
 #!/usr/bin/env python3
 """Tries the edits of crates/NAME/wrong, of the named crates or of all: the prover must refuse each.
 
-It works on a copy of the repository, in which wrong/ stands in the place of must-fail/, and one crate is tried on each
-processor. Each edit counts as passed or failed; one that was not tried has failed.
+It works on a copy of the repository, and one crate is tried on each processor: edits of different functions together, by one check, and
+what isn't refused there alone, by `rt must-fail`. Each edit counts as passed or failed; one that was not tried has failed.
 """
 import os
 import re
@@ -15,6 +15,7 @@ import threading
 from concurrent.futures import ThreadPoolExecutor
 
 import repo
+import together
 
 TRIED = re.compile(r"^rt: must-fail \w+/(\S+\.edit): (.*)$", re.M)
 REFUSED = "refused, as it must be"
@@ -39,20 +40,17 @@ def lanes():
 
 
 def copy_of(room, crates, libraries):
-    """Copies what a check reads, with wrong/ as must-fail/, and the libraries as they are built, so that they aren't proved again."""
+    """Copies what a check reads, and the libraries as they are built, so that they aren't proved again."""
     for name in ("crates.txt", "HANDLES"):
         shutil.copy(os.path.join(repo.TOP, name), room)
     for crate in repo.crates():
         to = os.path.join(room, "crates", crate)
         os.makedirs(to)
-        parts = [(it, it) for it in ("src", "specs", "proofs")]
-        parts += [("wrong", "must-fail")] if crate in crates else []
-        parts += [("out/rlib", "out/rlib")] if crate in libraries else []
-        for part, name in parts:
+        for part in ("src", "specs", "proofs", *(["out/rlib"] if crate in libraries else [])):
             source = os.path.join(repo.TOP, "crates", crate, part)
             if os.path.isdir(source):
-                os.makedirs(os.path.dirname(os.path.join(to, name)), exist_ok=True)
-                subprocess.run(["cp", "-r", "-p", "--reflink=auto", source, os.path.join(to, name)], check=True)
+                os.makedirs(os.path.dirname(os.path.join(to, part)), exist_ok=True)
+                subprocess.run(["cp", "-r", "-p", "--reflink=auto", source, os.path.join(to, part)], check=True)
 
 
 def stop(number, _):
@@ -65,7 +63,8 @@ def stop(number, _):
 
 def ran(words, folder, scratch=None):
     """A command's status, and what it says."""
-    environment = {**os.environ, "TMPDIR": scratch} if scratch else None
+    # a crate has one processor, whatever rt would take
+    environment = {**os.environ, "TMPDIR": scratch, "RT_JOBS": "1"} if scratch else None
     it = subprocess.Popen(words, cwd=folder, env=environment, stdin=subprocess.DEVNULL, stdout=subprocess.PIPE, stderr=subprocess.STDOUT, text=True, errors="replace")
     RUNNING.add(it)
     text = it.communicate()[0]
@@ -82,22 +81,74 @@ def unproved(top, libraries):
     return None
 
 
+def linked(folder, to):
+    """Puts a copy of what a check kept in a place, what was proved by links: a check replaces such a file, and never writes into it."""
+    shutil.rmtree(to, ignore_errors=True)
+
+    def copy(one, other):
+        return os.link(one, other) if one.endswith(".oantt") else shutil.copy2(one, other)
+
+    shutil.copytree(folder, to, symlinks=True, copy_function=copy)
+
+
+def at_once(folder, crate, group):
+    """The edits of a group that a check of all of them refuses; where they can't be checked together, of its halves."""
+    if len(group) < 2 or STOPPED.is_set():
+        return []
+    linked(f"{folder}/out/seed", f"{folder}/out/incremental")
+    for path, text in together.texts(crate, "wrong", group).items():
+        with open(os.path.join(folder, path), "w", encoding="utf-8") as it:
+            it.write(text)
+    status, said = ran(["rt", "check", "--jobs", "1"], folder)
+    for path in together.texts(crate, "wrong", group):
+        shutil.copy(os.path.join(repo.TOP, "crates", crate, path), os.path.join(folder, path))
+    if status == 1 and re.search(r"(?m)^logic=not-proved", said):
+        return together.refused(said, group)
+    edits = [*group]
+    halves = edits[:len(edits) // 2], edits[len(edits) // 2:]
+    return [it for half in halves for it in at_once(folder, crate, {edit: group[edit] for edit in half})]
+
+
+def refused_together(folder, crate, edits):
+    """The edits that are refused where those of different functions are checked together, over what a check of the crate as it stands proved."""
+    groups, _ = together.groups(crate, "wrong", edits)
+    if not any(len(it) > 1 for it in groups):
+        return []
+    status, said = ran(["rt", "check", "--jobs", "1"], folder)
+    if status:
+        say(f"{crate}: it isn't proved as it stands: {said.strip()[-600:]}")
+        return []
+    os.rename(f"{folder}/out/incremental", f"{folder}/out/seed")
+    found = [it for group in groups for it in at_once(folder, crate, group)]
+    shutil.rmtree(f"{folder}/out/incremental", ignore_errors=True)
+    os.rename(f"{folder}/out/seed", f"{folder}/out/incremental")
+    return found
+
+
 def tried(room, scratch, crate):
     """Tries a crate's edits, and gives how many passed and failed."""
-    edits = repo.edits(crate, "wrong")
-    status, text = (130, "stopped") if STOPPED.is_set() else ran(["rt", "must-fail", crate], room, scratch)
+    edits, folder = repo.edits(crate, "wrong"), os.path.join(room, "crates", crate)
+    passed = refused_together(folder, crate, edits)
+    alone = [it for it in edits if it not in passed]
+    at_first = len(passed)
+    os.makedirs(f"{folder}/must-fail")
+    for it in alone:
+        shutil.copy(os.path.join(repo.TOP, "crates", crate, "wrong", it), f"{folder}/must-fail")
+    status, text = (130, "stopped") if STOPPED.is_set() else ran(["rt", "must-fail", crate], room, scratch) if alone else (0, "")
     found = dict(TRIED.findall(text))
-    passed = [it for it in edits if found.get(it, "").startswith(REFUSED)]
-    for it in edits:
-        if it not in passed:
+    for it in alone:
+        if not found.get(it, "").startswith(REFUSED):
             say(f"{crate}/{it}: {found.get(it, 'NOT TRIED')}")
-        elif "only because a proof file names" in found[it]:
+            continue
+        passed.append(it)
+        if "only because a proof file names" in found[it]:
             say(f"{crate}/{it}: refused only since a proof names what it takes away, which says little")
     failed = len(edits) - len(passed)
-    if status and not failed or len(found) < len(edits):
+    if status and not failed or len(found) < len(alone):
         say(f"{crate}: rt must-fail ended with status {status}: {text.strip()[-600:]}")
         failed = max(failed, 1)
-    say(f"{crate}: {len(passed)} of {len(edits)} refused")
+    say(f"{crate}: {len(passed)} of {len(edits)} refused, {at_first} of them together with others")
+    shutil.rmtree(f"{folder}/out/incremental", ignore_errors=True)
     return len(passed), failed
 
 
