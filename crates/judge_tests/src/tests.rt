@@ -1,4 +1,5 @@
-//! A module for each crate.
+//! Rows of graphs and of what is said of each, the text that they are read from, and reaches.
 
-mod graph;
-mod search;
+mod reach;
+mod rows;
+mod text;

@@ -1,0 +1,139 @@
+//! Graphs and answers, read from text.
+//!
+//! A graph is the number of its groups, then items and anchors: `3: leaf 0>1; issuer 1>2 0; anchor 2`. Of an item stand its
+//! kind, the groups that it stands in, the groups that it is linked to, and its path length constraint, if any; so many
+//! equal ones are `equal 300 leaf 0>1`. Of an anchor stands its group. Numbers have a comma between two, and `-` is none.
+//!
+//! An answer is `0,1 to 0 / - 0`, the positions of a path, its anchor and each row of the table after a `/`; or
+//! `none / - -`; or `no target`. A reach is `-`, the greatest count that it takes, or `any`.
+
+use cert_graph::{Answer, Entry, Node, Nodes, Reach, Table};
+use std::alloc::Global;
+use std::test::Fail;
+
+fn numbers(alloc: Global, text: &str) -> Result<Vec<usize>, Fail> {
+    let mut numbers = Vec::new(alloc);
+    if text == "-" {
+        return Ok(numbers);
+    }
+    for number in text.split(',') {
+        numbers.push(number.parse::<usize>()?)?;
+    }
+    Ok(numbers)
+}
+
+// A certificate that may stand in a path.
+fn usable(fit: bool, self_issued: bool, limit: Option<u32>) -> Node {
+    Node {
+        certificate: true,
+        usable: true,
+        fit,
+        self_issued,
+        limit,
+    }
+}
+
+fn node(kind: &str, limit: Option<u32>) -> Result<Node, Fail> {
+    match kind {
+        "leaf" => Ok(usable(false, false, limit)),
+        "root" => Ok(usable(false, true, limit)),
+        "issuer" => Ok(usable(true, false, limit)),
+        "self-issued" => Ok(usable(true, true, limit)),
+        // a root that is not valid at the moment
+        "late" => Ok(Node {
+            certificate: true,
+            usable: false,
+            fit: false,
+            self_issued: true,
+            limit,
+        }),
+        // no certificate
+        "other" => Ok(Node {
+            certificate: false,
+            usable: false,
+            fit: false,
+            self_issued: false,
+            limit,
+        }),
+        _ => Err(Fail::from("no kind of item")),
+    }
+}
+
+fn entry(alloc: Global, kind: &str, text: &str) -> Result<Entry, Fail> {
+    let (place, limit) = match text.split_once(' ') {
+        Some((place, limit)) => (place, Some(limit.parse::<u32>()?)),
+        None => (text, None),
+    };
+    let (groups, links) = place.split_once('>').ok_or("no links")?;
+    Ok(Entry {
+        node: node(kind, limit)?,
+        groups: numbers(alloc, groups)?,
+        links: numbers(alloc, links)?,
+    })
+}
+
+// Adds so many equal items.
+fn push_equal(alloc: Global, entries: &mut Vec<Entry>, text: &str) -> Result<(), Fail> {
+    let (count, item) = text.split_once(' ').ok_or("no count")?;
+    let (kind, text) = item.split_once(' ').ok_or("no item")?;
+    for _ in 0..count.parse::<usize>()? {
+        entries.push(entry(alloc, kind, text)?)?;
+    }
+    Ok(())
+}
+
+/// The graph of the text.
+pub fn graph(alloc: Global, text: &str) -> Result<Nodes, Fail> {
+    let (groups, parts) = text.split_once(": ").unwrap_or((text, ""));
+    let mut entries = Vec::new(alloc);
+    let mut anchors = Vec::new(alloc);
+    for part in parts.split_terminator("; ") {
+        let (kind, text) = part.split_once(' ').ok_or("no item")?;
+        match kind {
+            "anchor" => anchors.push(numbers(alloc, text)?.first().copied())?,
+            "equal" => push_equal(alloc, &mut entries, text)?,
+            _ => entries.push(entry(alloc, kind, text)?)?,
+        }
+    }
+    let groups = groups.parse::<usize>()?;
+    Ok(Nodes::new(alloc, &entries, &anchors, groups)?)
+}
+
+fn reach(word: &str) -> Result<Reach, Fail> {
+    match word {
+        "-" => Ok(Reach::No),
+        "any" => Ok(Reach::Any),
+        _ => Ok(Reach::UpTo(word.parse::<u32>()?)),
+    }
+}
+
+fn row(alloc: Global, text: &str) -> Result<Vec<Reach>, Fail> {
+    let mut row = Vec::new(alloc);
+    for word in text.split_whitespace() {
+        row.push(reach(word)?)?;
+    }
+    Ok(row)
+}
+
+/// The answer of the text.
+pub fn answer(alloc: Global, text: &str) -> Result<Answer, Fail> {
+    let mut parts = text.split('/');
+    let told = parts.next().unwrap_or("").trim_end();
+    let mut rows = Vec::new(alloc);
+    for part in parts {
+        rows.push(row(alloc, part)?)?;
+    }
+    let table = Table { rows };
+    match told {
+        "no target" => Ok(Answer::NoTarget),
+        "none" => Ok(Answer::NoPath { table }),
+        _ => {
+            let (positions, anchor) = told.split_once(" to ").ok_or("no anchor")?;
+            Ok(Answer::Path {
+                positions: numbers(alloc, positions)?,
+                anchor: anchor.parse::<usize>()?,
+                table,
+            })
+        }
+    }
+}
