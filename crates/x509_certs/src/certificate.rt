@@ -1,6 +1,6 @@
 //! `X509Certificate` (RFC 5280, 4.1.1).
 
-ghost use Rattle.std.specs.Prelude.{◌≡◌, ◌+◌, ◌*◌, ◌^◌, ◌<◌, ◌≤◌, length, All, IfOk, option_map, string_bytes};
+ghost use Rattle.std.specs.Prelude.{◌≡◌, ◌+◌, ◌*◌, ◌^◌, ◌<◌, ◌≤◌, length, All, IfOk, map, option_map, string_bytes};
 ghost use Rattle.std.specs.Slice.Iter.{iter_rest};
 ghost use Rattle.asn1_core.specs.Counts.{attempts};
 ghost use Rattle.asn1_any.specs.CutViews.{piece_of};
@@ -11,7 +11,7 @@ ghost use Rattle.x509_names.specs.View.{bits_view};
 ghost use Rattle.x509_ext.specs.Values.{serial_text};
 ghost use Rattle.x509_ext.specs.Fields.{reading_of};
 ghost use Rattle.x509_ext.specs.Lookup.{all_of, first_of, only_of, seen};
-ghost use Rattle.x509_ext.specs.View.{WantsNoMemory};
+ghost use Rattle.x509_ext.specs.View.{WantsNoMemory, extension_error};
 ghost use Rattle.x509_certs.specs.Reading.{certificate_in};
 ghost use Rattle.x509_certs.specs.View.{certificate_view, HasSerial};
 
@@ -58,6 +58,7 @@ impl<'a> X509Certificate<'a> {
     pub fn clone(&self, alloc: Global) -> Result<X509Certificate<'a>, OutOfMemory>
         ensures value { IfOk result (λ copy. certificate_view copy ≡ certificate_view self.now) }
         ensures serial { IfOk result (λ copy. copy.tbs_certificate.serial ≡ self.now.tbs_certificate.serial) }
+        ensures errors { IfOk result (λ copy. map extension_error copy.tbs_certificate.extensions.items ≡ map extension_error self.now.tbs_certificate.extensions.items) }
     {
         let tbs_certificate = self.tbs_certificate.clone(alloc)?;
         let signature_algorithm = self.signature_algorithm.clone(alloc)?;

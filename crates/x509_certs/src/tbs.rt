@@ -1,6 +1,6 @@
 //! The signed part of a certificate (RFC 5280, 4.1.2).
 
-ghost use Rattle.std.specs.Prelude.{◌≡◌, ◌+◌, ◌*◌, ◌^◌, ◌<◌, ◌≤◌, length, All, IfOk, option_map, string_bytes};
+ghost use Rattle.std.specs.Prelude.{◌≡◌, ◌+◌, ◌*◌, ◌^◌, ◌<◌, ◌≤◌, length, All, IfOk, map, option_map, string_bytes};
 ghost use Rattle.std.specs.Slice.Iter.{iter_rest};
 ghost use Rattle.asn1_core.specs.Counts.{attempts};
 ghost use Rattle.asn1_any.specs.CutViews.{piece_of};
@@ -8,7 +8,7 @@ ghost use Rattle.x509_core.specs.Answers.{Gives};
 ghost use Rattle.x509_ext.specs.Values.{serial_text};
 ghost use Rattle.x509_ext.specs.Fields.{reading_of};
 ghost use Rattle.x509_ext.specs.Lookup.{all_of, first_of, only_of, seen};
-ghost use Rattle.x509_ext.specs.View.{WantsNoMemory};
+ghost use Rattle.x509_ext.specs.View.{WantsNoMemory, extension_error};
 ghost use Rattle.x509_certs.specs.Reading.{tbs_in, tbs_at};
 ghost use Rattle.x509_certs.specs.View.{tbs_view, HasSerial};
 
@@ -20,14 +20,14 @@ use std::alloc::Global;
 use std::slice;
 use x509_core::{Parts, X509Error, parts_of};
 use x509_ext::{
-    UniqueIdentifier, X509Extension, X509Version, extensions_of, find_extension,
+    UniqueIdentifier, X509Extension, X509Version, copy_extensions, extensions_of, find_extension,
     get_extension_unique, next_issuer_id, next_serial, next_subject_id, next_version,
 };
 use x509_names::{
     AlgorithmIdentifier, SubjectPublicKeyInfo, X509Name, next_algorithm, next_key, next_name,
 };
 use x509_time::{Validity, next_validity};
-use x509_values::{copy_all, format_serial};
+use x509_values::format_serial;
 
 /// The signed part of a certificate.
 #[derive(Debug, Drop, PartialEq, Eq)]
@@ -141,12 +141,13 @@ impl<'a> TbsCertificate<'a> {
     pub fn clone(&self, alloc: Global) -> Result<TbsCertificate<'a>, OutOfMemory>
         ensures value { IfOk result (λ copy. tbs_view copy ≡ tbs_view self.now) }
         ensures serial { IfOk result (λ copy. copy.serial ≡ self.now.serial) }
+        ensures errors { IfOk result (λ copy. map extension_error copy.extensions.items ≡ map extension_error self.now.extensions.items) }
     {
         let signature = self.signature.clone(alloc)?;
         let issuer = self.issuer.clone(alloc)?;
         let subject = self.subject.clone(alloc)?;
         let subject_pki = self.subject_pki.clone(alloc)?;
-        let extensions = copy_all(alloc, self.extensions.as_slice())?;
+        let extensions = copy_extensions(alloc, self.extensions.as_slice())?;
         Ok(TbsCertificate {
             version: self.version,
             serial: self.serial,

@@ -1,3 +1,4 @@
 pub mod ExtensionLaws
 pub mod PartLaws
 pub mod OnceLaws
+pub mod Pairs

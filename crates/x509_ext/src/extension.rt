@@ -6,11 +6,11 @@ ghost use Rattle.asn1_any.specs.Views.{any_of};
 ghost use Rattle.x509_core.specs.Answers.{Gives};
 ghost use Rattle.x509_core.specs.Reading.{next};
 ghost use Rattle.x509_names.specs.Reading.{octets_in};
-ghost use Rattle.x509_deep.specs.Cases.{HoldsNoMemory, error_of};
+ghost use Rattle.x509_deep.specs.Cases.{HoldsNoMemory};
 ghost use Rattle.x509_deep.specs.View.{parsed_view};
 ghost use Rattle.x509_ext.specs.Fields.{reading_of};
 ghost use Rattle.x509_ext.specs.Reading.{boolean_in, critical_at, extension_in};
-ghost use Rattle.x509_ext.specs.View.{extension_view, WantsNoMemory};
+ghost use Rattle.x509_ext.specs.View.{extension_view, extension_error, WantsNoMemory};
 
 use asn1_any::{Any, Element};
 use asn1_core::{Err as Refusal, HeaderCount, OutOfMemory};
@@ -54,7 +54,7 @@ impl<'a> X509Extension<'a> {
     /// A copy: it borrows what the extension borrows.
     pub fn clone(&self, alloc: Global) -> Result<X509Extension<'a>, OutOfMemory>
         ensures value { IfOk result (λ copy. extension_view copy ≡ extension_view self.now) }
-        ensures error { IfOk result (λ copy. error_of copy.parsed_extension ≡ error_of self.now.parsed_extension) }
+        ensures error { IfOk result (λ copy. extension_error copy ≡ extension_error self.now) }
     {
         let oid = self.oid.clone(alloc)?;
         let parsed_extension = self.parsed_extension.clone(alloc)?;
@@ -75,12 +75,15 @@ impl<'a> X509Extension<'a> {
 }
 
 impl<'a> Copies for X509Extension<'a> {
+    ghost use Rattle.std.specs.Prelude.{Option};
+    ghost use Rattle.asn1_core.specs.declared.error.Error.{Error};
+    ghost use Rattle.asn1_core.specs.declared.outcome.Err.{Err as ParseRefusal};
     ghost use Rattle.x509_ext.specs.Fields.{Extension};
-    ghost use Rattle.x509_ext.specs.View.{extension_view};
+    ghost use Rattle.x509_ext.specs.View.{extension_view, extension_error};
 
-    ghost Value = { Extension };
+    ghost Value = { Extension × Option (ParseRefusal Error) };
 
-    ghost value = { extension_view };
+    ghost value = { λ e. (extension_view e, extension_error e) };
 
     fn copy(&self, alloc: Global) -> Result<X509Extension<'a>, OutOfMemory> {
         self.clone(alloc)

@@ -4,6 +4,7 @@
 #![tactic(auto)]
 
 mod basic;
+mod copies;
 mod extension;
 mod list;
 mod lookup;
@@ -15,6 +16,7 @@ mod unique;
 mod version;
 
 pub use crate::basic::BasicExtension;
+pub use crate::copies::copy_extensions;
 pub use crate::extension::{X509Extension, extension_of};
 pub use crate::list::{each_extension, extension_list_of, extensions_of};
 pub use crate::lookup::{find_extension, get_extension_unique};

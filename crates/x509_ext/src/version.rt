@@ -26,10 +26,13 @@ use x509_flags::number_of;
 pub struct X509Version(pub u32);
 
 impl X509Version {
+    /// The first, of certificates without identifiers of names and without extensions; written as 0 or left out (RFC 5280, 4.1.2.1).
     pub const V1: X509Version = X509Version(0);
 
+    /// The second, of certificates with identifiers of names, and of revocation lists; written as 1.
     pub const V2: X509Version = X509Version(1);
 
+    /// The third, of certificates with extensions; written as 2.
     pub const V3: X509Version = X509Version(2);
 }
 

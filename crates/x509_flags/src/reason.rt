@@ -7,24 +7,34 @@ use std::fmt;
 pub struct ReasonCode(pub u8);
 
 impl ReasonCode {
+    /// No reason is told.
     pub const Unspecified: ReasonCode = ReasonCode(0);
 
+    /// The subject's key is known to others, or may be.
     pub const KeyCompromise: ReasonCode = ReasonCode(1);
 
+    /// The key of the authority that the certificate is of is known to others, or may be.
     pub const CACompromise: ReasonCode = ReasonCode(2);
 
+    /// The subject's name or another part has changed; no key is in doubt.
     pub const AffiliationChanged: ReasonCode = ReasonCode(3);
 
+    /// Another certificate has taken its place; no key is in doubt.
     pub const Superseded: ReasonCode = ReasonCode(4);
 
+    /// The certificate is no longer needed; no key is in doubt.
     pub const CessationOfOperation: ReasonCode = ReasonCode(5);
 
+    /// The certificate is on hold: it may be taken back from the list.
     pub const CertificateHold: ReasonCode = ReasonCode(6);
 
+    /// A list of changes takes the certificate back, which was on hold or has ended.
     pub const RemoveFromCRL: ReasonCode = ReasonCode(8);
 
+    /// What the certificate entitled to was withdrawn.
     pub const PrivilegeWithdrawn: ReasonCode = ReasonCode(9);
 
+    /// The key of an authority on attributes is known to others, or may be.
     pub const AACompromise: ReasonCode = ReasonCode(10);
 }
 

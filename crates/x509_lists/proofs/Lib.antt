@@ -1,4 +1,3 @@
-pub mod CopyLaws
 pub mod EntryLaws
 pub mod ListLaws
 pub mod Seen

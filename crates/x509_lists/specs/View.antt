@@ -1,10 +1,12 @@
 -- What the values of this crate's types are, as the records of `Fields`.
-use Rattle.std.specs.Prelude.{◌≡◌, All, option_map, map}
+use Rattle.std.specs.Prelude.{◌≡◌, List, Option, All, option_map, map}
 use Rattle.std.specs.Int.Digits.{number_from_digits}
+use Rattle.asn1_core.specs.declared.error.Error.{Error}
+use Rattle.asn1_core.specs.declared.outcome.Err.{Err as Refusal}
 use Rattle.asn1_unsigned.specs.Numbers.{number_of}
 use Rattle.x509_names.specs.View.{algorithm_view, name_view, bits_view}
 use Rattle.x509_time.specs.View.{time_view}
-use Rattle.x509_ext.specs.View.{extension_view, WantsNoMemory}
+use Rattle.x509_ext.specs.View.{extension_view, extension_error, WantsNoMemory}
 use Rattle.x509_lists.specs.Fields.{Entry, TbsList, RevocationList}
 use Rattle.x509_lists.specs.declared.entry.RevokedCertificate.{RevokedCertificate}
 use Rattle.x509_lists.specs.declared.tbs.TbsCertList.{TbsCertList}
@@ -12,6 +14,10 @@ use Rattle.x509_lists.specs.declared.list.CertificateRevocationList.{Certificate
 
 abbrev pub entry_view : RevokedCertificate → Entry
 entry_view e = record { serial = e.raw_serial.now; date = time_view e.revocation_date; extensions = map extension_view e.extensions.items }
+
+-- why values of its extensions are none of their types, extension by extension
+abbrev pub entry_errors : RevokedCertificate → List (Option (Refusal Error))
+entry_errors e = map extension_error e.extensions.items
 
 -- the serial number is that of its octets in base 256, the highest first, no octet being a sign
 abbrev pub HasSerial : RevokedCertificate → Type 0

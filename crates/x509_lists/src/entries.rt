@@ -7,7 +7,7 @@ ghost use Rattle.x509_core.specs.Answers.{Gives, ManyGive};
 ghost use Rattle.x509_core.specs.Reading.{many_of};
 ghost use Rattle.x509_ext.specs.Fields.{reading_of};
 ghost use Rattle.x509_lists.specs.Reading.{entry_at, entries_in, entries_at};
-ghost use Rattle.x509_lists.specs.View.{entry_view, HasSerial, EntryWantsNoMemory};
+ghost use Rattle.x509_lists.specs.View.{entry_view, entry_errors, HasSerial, EntryWantsNoMemory};
 
 use crate::entry::{RevokedCertificate, entry_of};
 use asn1_any::Element;
@@ -111,6 +111,7 @@ pub(crate) fn copy_entries<'a>(
 ) -> Result<Vec<RevokedCertificate<'a>>, OutOfMemory>
     ensures value { IfOk result (λ copies. map entry_view copies.items ≡ map entry_view entries.now) }
     ensures serials { IfOk result (λ copies. map (λ e. e.user_certificate) copies.items ≡ map (λ e. e.user_certificate) entries.now) }
+    ensures errors { IfOk result (λ copies. map entry_errors copies.items ≡ map entry_errors entries.now) }
 {
     copy_all(alloc, entries)
 }

@@ -12,7 +12,7 @@ ghost use Rattle.x509_ext.specs.View.{extension_view, WantsNoMemory};
 ghost use Rattle.x509_lists.specs.Lists.{or_none};
 ghost use Rattle.x509_lists.specs.Lookup.{reason_code_of, invalidity_date_of};
 ghost use Rattle.x509_lists.specs.Reading.{entry_in, entry_extensions_at};
-ghost use Rattle.x509_lists.specs.View.{entry_view, HasSerial, EntryWantsNoMemory};
+ghost use Rattle.x509_lists.specs.View.{entry_view, entry_errors, HasSerial, EntryWantsNoMemory};
 
 use asn1_any::Element;
 use asn1_core::{Err as Refusal, HeaderCount, OutOfMemory};
@@ -21,9 +21,11 @@ use asn1_unsigned::UnsignedBytes;
 use std::alloc::Global;
 use std::slice;
 use x509_core::{Parts, X509Error, parts_of};
-use x509_ext::{ParsedExtension, X509Extension, extension_list_of, find_extension, next_serial};
+use x509_ext::{
+    ParsedExtension, X509Extension, copy_extensions, extension_list_of, find_extension, next_serial,
+};
 use x509_time::{ASN1Time, next_time};
-use x509_values::{Copies, ReasonCode, copy_all, format_serial};
+use x509_values::{Copies, ReasonCode, format_serial};
 
 /// The identifier of a reason code, 2.5.29.21.
 const REASON_CODE: &[u8] = b"\x55\x1d\x15";
@@ -113,8 +115,9 @@ impl<'a> RevokedCertificate<'a> {
     pub fn clone(&self, alloc: Global) -> Result<RevokedCertificate<'a>, OutOfMemory>
         ensures value { IfOk result (λ copy. entry_view copy ≡ entry_view self.now) }
         ensures serial { IfOk result (λ copy. copy.user_certificate ≡ self.now.user_certificate) }
+        ensures errors { IfOk result (λ copy. entry_errors copy ≡ entry_errors self.now) }
     {
-        let extensions = copy_all(alloc, self.extensions.as_slice())?;
+        let extensions = copy_extensions(alloc, self.extensions.as_slice())?;
         Ok(RevokedCertificate {
             user_certificate: self.user_certificate,
             revocation_date: self.revocation_date,
@@ -125,13 +128,16 @@ impl<'a> RevokedCertificate<'a> {
 }
 
 impl<'a> Copies for RevokedCertificate<'a> {
+    ghost use Rattle.std.specs.Prelude.{List, Option};
+    ghost use Rattle.asn1_core.specs.declared.error.Error.{Error};
+    ghost use Rattle.asn1_core.specs.declared.outcome.Err.{Err as ParseRefusal};
     ghost use Rattle.asn1_unsigned.specs.declared.unsigned.UnsignedBytes.{UnsignedBytes as Number};
     ghost use Rattle.x509_lists.specs.Fields.{Entry};
-    ghost use Rattle.x509_lists.specs.View.{entry_view};
+    ghost use Rattle.x509_lists.specs.View.{entry_view, entry_errors};
 
-    ghost Value = { Entry × Number };
+    ghost Value = { Entry × (Number × List (Option (ParseRefusal Error))) };
 
-    ghost value = { λ e. (entry_view e, e.user_certificate) };
+    ghost value = { λ e. (entry_view e, (e.user_certificate, entry_errors e)) };
 
     fn copy(&self, alloc: Global) -> Result<RevokedCertificate<'a>, OutOfMemory> {
         self.clone(alloc)

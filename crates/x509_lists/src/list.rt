@@ -9,10 +9,10 @@ ghost use Rattle.x509_core.specs.declared.error.X509Error.TheVariants.{InvalidSi
 ghost use Rattle.x509_names.specs.Reading.{bits_at};
 ghost use Rattle.x509_names.specs.View.{bits_view};
 ghost use Rattle.x509_ext.specs.Fields.{reading_of};
-ghost use Rattle.x509_ext.specs.View.{WantsNoMemory};
+ghost use Rattle.x509_ext.specs.View.{WantsNoMemory, extension_error};
 ghost use Rattle.x509_lists.specs.Lookup.{crl_number_of};
 ghost use Rattle.x509_lists.specs.Reading.{list_in};
-ghost use Rattle.x509_lists.specs.View.{list_view, HaveSerials, EntriesWantNoMemory};
+ghost use Rattle.x509_lists.specs.View.{list_view, entry_errors, HaveSerials, EntriesWantNoMemory};
 
 use crate::entry::RevokedCertificate;
 use crate::tbs::{TbsCertList, next_tbs};
@@ -116,6 +116,8 @@ impl<'a> CertificateRevocationList<'a> {
     pub fn clone(&self, alloc: Global) -> Result<CertificateRevocationList<'a>, OutOfMemory>
         ensures value { IfOk result (λ copy. list_view copy ≡ list_view self.now) }
         ensures serials { IfOk result (λ copy. map (λ e. e.user_certificate) copy.tbs_cert_list.revoked_certificates.items ≡ map (λ e. e.user_certificate) self.now.tbs_cert_list.revoked_certificates.items) }
+        ensures errors { IfOk result (λ copy. map extension_error copy.tbs_cert_list.extensions.items ≡ map extension_error self.now.tbs_cert_list.extensions.items) }
+        ensures entry_errors { IfOk result (λ copy. map entry_errors copy.tbs_cert_list.revoked_certificates.items ≡ map entry_errors self.now.tbs_cert_list.revoked_certificates.items) }
     {
         let tbs_cert_list = self.tbs_cert_list.clone(alloc)?;
         let signature_algorithm = self.signature_algorithm.clone(alloc)?;

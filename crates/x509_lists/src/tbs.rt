@@ -7,9 +7,9 @@ ghost use Rattle.asn1_any.specs.CutViews.{piece_of};
 ghost use Rattle.x509_core.specs.Answers.{Gives};
 ghost use Rattle.x509_ext.specs.Fields.{reading_of};
 ghost use Rattle.x509_ext.specs.Lookup.{all_of, first_of};
-ghost use Rattle.x509_ext.specs.View.{WantsNoMemory};
+ghost use Rattle.x509_ext.specs.View.{WantsNoMemory, extension_error};
 ghost use Rattle.x509_lists.specs.Reading.{version_at, tbs_in, tbs_at};
-ghost use Rattle.x509_lists.specs.View.{tbs_view, HaveSerials, EntriesWantNoMemory};
+ghost use Rattle.x509_lists.specs.View.{tbs_view, entry_errors, HaveSerials, EntriesWantNoMemory};
 
 use crate::entries::{copy_entries, next_entries};
 use crate::entry::RevokedCertificate;
@@ -19,10 +19,11 @@ use asn1_oid::Oid;
 use std::alloc::Global;
 use std::slice;
 use x509_core::{Parts, X509Error, parts_of};
-use x509_ext::{X509Extension, X509Version, extensions_of, find_extension, version_of};
+use x509_ext::{
+    X509Extension, X509Version, copy_extensions, extensions_of, find_extension, version_of,
+};
 use x509_names::{AlgorithmIdentifier, X509Name, next_algorithm, next_name};
 use x509_time::{ASN1Time, next_time, next_update};
-use x509_values::copy_all;
 
 /// The signed part of a revocation list.
 #[derive(Debug, Drop, PartialEq, Eq)]
@@ -77,11 +78,13 @@ impl<'a> TbsCertList<'a> {
     pub fn clone(&self, alloc: Global) -> Result<TbsCertList<'a>, OutOfMemory>
         ensures value { IfOk result (λ copy. tbs_view copy ≡ tbs_view self.now) }
         ensures serials { IfOk result (λ copy. map (λ e. e.user_certificate) copy.revoked_certificates.items ≡ map (λ e. e.user_certificate) self.now.revoked_certificates.items) }
+        ensures errors { IfOk result (λ copy. map extension_error copy.extensions.items ≡ map extension_error self.now.extensions.items) }
+        ensures entry_errors { IfOk result (λ copy. map entry_errors copy.revoked_certificates.items ≡ map entry_errors self.now.revoked_certificates.items) }
     {
         let signature = self.signature.clone(alloc)?;
         let issuer = self.issuer.clone(alloc)?;
         let revoked_certificates = copy_entries(alloc, self.revoked_certificates.as_slice())?;
-        let extensions = copy_all(alloc, self.extensions.as_slice())?;
+        let extensions = copy_extensions(alloc, self.extensions.as_slice())?;
         Ok(TbsCertList {
             version: self.version,
             signature,

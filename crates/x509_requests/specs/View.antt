@@ -1,7 +1,9 @@
 -- What the values of this crate's types are, as the records of `Fields`.
-use Rattle.std.specs.Prelude.{All, map, string_bytes}
+use Rattle.std.specs.Prelude.{List, [], Option, All, map, string_bytes}
+use Rattle.asn1_core.specs.declared.error.Error.{Error}
+use Rattle.asn1_core.specs.declared.outcome.Err.{Err as Refusal}
 use Rattle.x509_names.specs.View.{algorithm_view, name_view, key_view, bits_view}
-use Rattle.x509_ext.specs.View.{extension_view, WantsNoMemory}
+use Rattle.x509_ext.specs.View.{extension_view, extension_error, WantsNoMemory}
 use Rattle.x509_requests.specs.Fields.{AttributeValues, extension_request, challenge_password, unsupported_attribute, RequestAttribute, RequestInfo, Request}
 use Rattle.x509_requests.specs.declared.attribute.ParsedCriAttribute.{ParsedCriAttribute}
 use Rattle.x509_requests.specs.declared.attribute.ParsedCriAttribute.TheVariants as cases
@@ -13,6 +15,11 @@ abbrev pub values_view : ParsedCriAttribute → AttributeValues
 values_view (cases.ChallengePassword p) = challenge_password (string_bytes p.0)
 values_view (cases.ExtensionRequest r) = extension_request (map extension_view r.extensions.items)
 values_view cases.UnsupportedAttribute = unsupported_attribute
+
+-- why values of the extensions that are asked for are none of their types, extension by extension
+abbrev pub values_errors : ParsedCriAttribute → List (Option (Refusal Error))
+values_errors (cases.ExtensionRequest r) = map extension_error r.extensions.items
+values_errors a = []
 
 -- where a value of the extensions that are asked for is none of its type, why isn't want of memory
 abbrev pub ValuesWantNoMemory : ParsedCriAttribute → Type 0

@@ -1,14 +1,13 @@
 //! `X509CriAttribute` (RFC 2986, 4.1), and what its values are read as (RFC 2985, 5.4).
 
 ghost use Rattle.std.specs.Prelude.{◌≡◌, IfOk, map, string_bytes};
-ghost use Rattle.x509_ext.specs.View.{extension_view};
-ghost use Rattle.x509_requests.specs.View.{values_view, attribute_view};
+ghost use Rattle.x509_ext.specs.View.{extension_view, extension_error};
+ghost use Rattle.x509_requests.specs.View.{values_view, values_errors, attribute_view};
 
 use asn1_core::OutOfMemory;
 use asn1_oid::Oid;
 use std::alloc::Global;
-use x509_ext::X509Extension;
-use x509_items::copy_all;
+use x509_ext::{X509Extension, copy_extensions};
 
 /// Extensions that the certificate is to have (RFC 2985, 5.4.2).
 #[derive(Debug, Drop, PartialEq, Eq)]
@@ -20,9 +19,10 @@ pub struct ExtensionRequest<'a> {
 impl<'a> ExtensionRequest<'a> {
     /// A copy: it borrows what the extensions borrow.
     pub fn clone(&self, alloc: Global) -> Result<ExtensionRequest<'a>, OutOfMemory>
-        ensures { IfOk result (λ copy. map extension_view copy.extensions.items ≡ map extension_view self.now.extensions.items) }
+        ensures value { IfOk result (λ copy. map extension_view copy.extensions.items ≡ map extension_view self.now.extensions.items) }
+        ensures errors { IfOk result (λ copy. map extension_error copy.extensions.items ≡ map extension_error self.now.extensions.items) }
     {
-        let extensions = copy_all(alloc, self.extensions.as_slice())?;
+        let extensions = copy_extensions(alloc, self.extensions.as_slice())?;
         Ok(ExtensionRequest { extensions })
     }
 }
@@ -55,7 +55,8 @@ pub enum ParsedCriAttribute<'a> {
 impl<'a> ParsedCriAttribute<'a> {
     /// A copy: it borrows what the values borrow.
     pub fn clone(&self, alloc: Global) -> Result<ParsedCriAttribute<'a>, OutOfMemory>
-        ensures { IfOk result (λ copy. values_view copy ≡ values_view self.now) }
+        ensures value { IfOk result (λ copy. values_view copy ≡ values_view self.now) }
+        ensures errors { IfOk result (λ copy. values_errors copy ≡ values_errors self.now) }
     {
         let copy = match self {
             ParsedCriAttribute::ChallengePassword(password) =>
@@ -89,7 +90,8 @@ impl<'a> X509CriAttribute<'a> {
 
     /// A copy: it borrows what the attribute borrows.
     pub fn clone(&self, alloc: Global) -> Result<X509CriAttribute<'a>, OutOfMemory>
-        ensures { IfOk result (λ copy. attribute_view copy ≡ attribute_view self.now) }
+        ensures value { IfOk result (λ copy. attribute_view copy ≡ attribute_view self.now) }
+        ensures errors { IfOk result (λ copy. values_errors copy.parsed_attribute ≡ values_errors self.now.parsed_attribute) }
     {
         let oid = self.oid.clone(alloc)?;
         let parsed_attribute = self.parsed_attribute.clone(alloc)?;

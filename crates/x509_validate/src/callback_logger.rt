@@ -29,6 +29,14 @@ impl CallbackLogger {
     {
         CallbackLogger { warn, err }
     }
+
+    /// The two closures, as the messages left them: that for warnings, and that for errors.
+    pub fn into_parts(self) -> (OnWarning, OnError)
+        ensures { result ≡ (self.warn, self.err) }
+    {
+        let CallbackLogger { warn, err } = self;
+        (warn, err)
+    }
 }
 
 impl Logger for CallbackLogger {

@@ -19,7 +19,7 @@ mod vec_logger;
 
 pub use crate::callback_logger::{CallbackLogger, OnError, OnWarning};
 pub use crate::extension_list::{X509CertificateValidator, X509ExtensionsValidator};
-pub use crate::key::X509PublicKeyValidator;
+pub use crate::key::{X509PublicKeyValidator, messages_of_key};
 pub use crate::logger::{LogError, Logger};
 pub use crate::name::X509NameStructureValidator;
 pub use crate::stderr_logger::StderrLogger;

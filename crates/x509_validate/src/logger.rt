@@ -5,13 +5,16 @@ ghost use Rattle.x509_validate.specs.declared.logger.LogError.{LogError};
 
 use asn1_core::OutOfMemory;
 use std::alloc::AllocError;
+use thiserror::Error;
 
 /// Why a message wasn't taken.
-#[derive(Clone, Copy, Debug, PartialEq, Eq)]
+#[derive(Clone, Copy, Debug, PartialEq, Eq, Error)]
 pub enum LogError {
     /// Memory ran out.
+    #[error("OutOfMemory")]
     OutOfMemory,
     /// The writer behind the logger failed.
+    #[error("Write")]
     Write,
 }
 

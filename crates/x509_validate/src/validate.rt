@@ -23,12 +23,13 @@ pub trait Validate {
         ensures answer { IfOk result (λ answer. answer ≡ all_pass (messages self.now)) }
         ensures refused { IfErr result (λ e. TakesSome L.warns L.errs l.old (messages self.now) e l.new) };
 
-    /// The answer, the warnings and the errors.
-    #[tactic(auto, using(crate::proofs::KeptFacts::all_warnings, crate::proofs::KeptFacts::all_errors))]
+    /// The answer, the warnings and the errors. It is refused for want of memory alone.
+    #[tactic(auto, using(crate::proofs::KeptFacts::all_warnings, crate::proofs::KeptFacts::all_errors, crate::proofs::KeptFacts::out_of_memory))]
     fn validate_to_vec(&self, alloc: Global) -> Result<(bool, Vec<String>, Vec<String>), LogError>
         ensures answer { IfOk result (λ r. r.0 ≡ all_pass (messages self.now)) }
         ensures warnings { IfOk result (λ r. map string_bytes r.1.items ≡ warning_texts (messages self.now)) }
         ensures errors { IfOk result (λ r. map string_bytes r.2.items ≡ error_texts (messages self.now)) }
+        ensures memory { IfErr result (λ e. e ≡ LogError.OutOfMemory) }
     {
         let mut kept = VecLogger::new(alloc);
         let answer = self.validate(alloc, &mut kept)?;
