@@ -16,11 +16,10 @@ from concurrent.futures import ThreadPoolExecutor
 
 import repo
 import together
+from lanes import OVER_KEPT, lanes
 
 TRIED = re.compile(r"^rt: must-fail \w+/(\S+\.edit): (.*)$", re.M)
 REFUSED = "refused, as it must be"
-# The most memory that a check of a crate is likely to take.
-A_CHECK = 3 << 30
 PRINTING = threading.Lock()
 RUNNING = set()
 STOPPED = threading.Event()
@@ -30,13 +29,6 @@ def say(text):
     """Prints lines whole, whichever thread prints them."""
     with PRINTING:
         print(f"wrong: {text}", flush=True)
-
-
-def lanes():
-    """How many crates are tried side by side: one a processor, and fewer where memory is short."""
-    with open("/proc/meminfo", encoding="ascii") as it:
-        free = 1024 * int(re.search(r"MemAvailable:\s+(\d+)", it.read())[1])
-    return max(1, min(len(os.sched_getaffinity(0)), free // A_CHECK))
 
 
 def copy_of(room, crates, libraries):
@@ -103,7 +95,9 @@ def at_once(folder, crate, group):
     for path in together.texts(crate, "wrong", group):
         shutil.copy(os.path.join(repo.TOP, "crates", crate, path), os.path.join(folder, path))
     if status == 1 and re.search(r"(?m)^logic=not-proved", said):
-        return together.refused(said, group)
+        found = together.refused(said, group)
+        say(f"{crate}: {len(found)} of {len(group)} refused by one check")
+        return found
     edits = [*group]
     halves = edits[:len(edits) // 2], edits[len(edits) // 2:]
     return [it for half in halves for it in at_once(folder, crate, {edit: group[edit] for edit in half})]
@@ -178,8 +172,9 @@ def main(names):
             return 1
         # those with most edits first, so that the lanes end together
         crates.sort(key=lambda it: -len(repo.edits(it, "wrong")))
-        say(f"{count} edits of {len(crates)} crates, {lanes()} crates at a time")
-        with ThreadPoolExecutor(lanes()) as pool:
+        side_by_side = lanes(OVER_KEPT)
+        say(f"{count} edits of {len(crates)} crates, {side_by_side} crates at a time")
+        with ThreadPoolExecutor(side_by_side) as pool:
             for well, badly in pool.map(lambda it: tried(room, scratch, it), crates):
                 passed, failed = passed + well, failed + badly
     print(f"{passed} passed, {failed} failed")

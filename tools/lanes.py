@@ -1,0 +1,21 @@
+#!/usr/bin/env python3
+"""Prints how many checks go side by side on this machine: one a processor, and fewer where memory is short.
+
+The gate hands the number to `rt`, which then gives each proof one job. Left to itself it gives a proof the processors that no other
+proof waits for just then, and two jobs take twice the work that one takes.
+"""
+import os
+import re
+
+# The most memory that a check is likely to take: from nothing, and over what an earlier one kept.
+FROM_NOTHING, OVER_KEPT = 4 << 30, 3 << 30
+
+
+def lanes(a_check):
+    with open("/proc/meminfo", encoding="ascii") as it:
+        free = 1024 * int(re.search(r"MemAvailable:\s+(\d+)", it.read())[1])
+    return max(1, min(len(os.sched_getaffinity(0)), free // a_check))
+
+
+if __name__ == "__main__":
+    print(lanes(FROM_NOTHING))
