@@ -4,6 +4,7 @@
 //! with `#` are printed as they stand.
 #![tactic(auto)]
 
+mod contents;
 mod conversions;
 mod elements;
 mod headers;
@@ -11,6 +12,7 @@ mod lists;
 mod row;
 mod tagged;
 mod tags;
+mod texts;
 mod values;
 mod words;
 

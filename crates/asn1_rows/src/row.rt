@@ -1,5 +1,6 @@
 //! A row, taken apart.
 
+use crate::contents::integer;
 use crate::conversions::converted;
 use crate::elements::{cut, element, fronts, items};
 use crate::headers::header;
@@ -29,6 +30,7 @@ fn called(alloc: Global, call: &str, name: &str, octets: &[u8]) -> io::Result<St
         "der" => typed(alloc, Call::Der, name, octets),
         "ber" => typed(alloc, Call::Ber, name, octets),
         "write" => typed(alloc, Call::Write, name, octets),
+        "integer" => integer(alloc, name, octets),
         "as" => converted(alloc, name, octets),
         "header" => header(alloc, name, octets),
         "any" => element(alloc, name, octets),
