@@ -1,16 +1,10 @@
 //! What no contract says: that std's devices are called, once for each call, and flushed.
 ghost use Rattle.std.specs.Prelude.{◌≤◌, IfOk};
 
+use super::same;
 use asn1_device::{DeviceFault, ReadSource, Sink, Source, WriteSink, write_octets};
-use std::fmt::Debug;
 use std::io::{Error, ErrorKind, Read, Write};
-use std::process::Abort;
 use std::test::Fail;
-
-// What came is what was wanted.
-fn same<R: Abort, T: PartialEq + Debug + Drop>(rt: &R, got: T, want: T) {
-    assert_eq!(rt; got, want);
-}
 
 // What a fake device answers at one call.
 #[derive(Clone, Copy)]
@@ -94,7 +88,7 @@ fn reads_until_the_end(rt: HostRuntime) -> Result<(), Fail> {
     same(&rt, source.read(&mut buf), Ok(1));
     same(&rt, buf[0], 3);
     same(&rt, source.read(&mut buf), Ok(0));
-    assert!(rt; source.into_inner().is_empty());
+    same(&rt, source.into_inner().is_empty(), true);
     Ok(())
 }
 

@@ -1,37 +1,20 @@
 //! Each call once on its happy path. What the header readers answer to octets stands in the rows of `asn1_rows`.
 
+use super::same;
 use asn1_core::{
     Class, DerConstraint, Err, Error, ErrorKind, Header, HeaderCount, Length, Needed, OutOfMemory,
     ParseResult, SerializeError, Tag, fewest_digits, lenient_is_ber, long_length, one_ber_header,
     one_element, one_header, one_lenient_header, strict_is_lenient,
 };
 use std::alloc::{AllocError, AllocFailed, Global};
-use std::fmt::{Debug, Display};
+use std::fmt::Display;
 use std::process::Abort;
-use std::test::Fail;
-
-// What came is what was wanted.
-fn same<R: Abort, T: PartialEq + Debug + Drop>(rt: &R, got: T, want: T) {
-    assert_eq!(rt; got, want);
-}
-
-// The value prints as this text.
-fn prints<R: Abort, T: Display>(
-    rt: &R,
-    alloc: Global,
-    value: &T,
-    text: &str,
-) -> Result<(), AllocError> {
-    let printed = format!(in alloc; "{value}")?;
-    same(rt, printed.as_str(), text);
-    Ok(())
-}
 
 #[test]
 fn built_headers(rt: HostRuntime) {
     let header = Header::new(Class::Private, true, Tag(7), Length::Definite(3));
     same(&rt, header.class(), Class::Private);
-    assert!(rt; header.constructed());
+    same(&rt, header.constructed(), true);
     same(&rt, header.tag(), Tag(7));
     same(&rt, header.length(), Length::Definite(3));
     same(&rt, header.with_length(Length::Indefinite), header);
@@ -40,9 +23,9 @@ fn built_headers(rt: HostRuntime) {
         header.with_length(Length::Indefinite).length(),
         Length::Indefinite,
     );
-    assert!(rt; header.with_class(Class::Universal) != header);
-    assert!(rt; header.with_constructed(false) != header);
-    assert!(rt; header.with_tag(Tag(8)) != header);
+    same(&rt, header.with_class(Class::Universal) != header, true);
+    same(&rt, header.with_constructed(false) != header, true);
+    same(&rt, header.with_tag(Tag(8)) != header, true);
     let sequence = Header::new_simple(Tag::Sequence);
     same(
         &rt,
@@ -50,8 +33,8 @@ fn built_headers(rt: HostRuntime) {
         Header::new(Class::Universal, true, Tag(16), Length::Definite(0)),
     );
     same(&rt, Header::from(Tag::Set), Header::new_simple(Tag(17)));
-    assert!(rt; Header::new_simple(Tag::Set).is_constructed());
-    assert!(rt; Header::new_simple(Tag::Null).is_primitive());
+    same(&rt, Header::new_simple(Tag::Set).is_constructed(), true);
+    same(&rt, Header::new_simple(Tag::Null).is_primitive(), true);
 }
 
 #[test]
@@ -95,11 +78,19 @@ fn checked_headers(rt: HostRuntime) {
         header.with_length(Length::Definite(0)).assert_definite(),
         Ok(()),
     );
-    assert!(rt; header.is_contextspecific());
-    assert!(rt; header.with_class(Class::Universal).is_universal());
-    assert!(rt; header.with_class(Class::Application).is_application());
-    assert!(rt; header.with_class(Class::Private).is_private());
-    assert!(rt; !header.is_private());
+    same(&rt, header.is_contextspecific(), true);
+    same(
+        &rt,
+        header.with_class(Class::Universal).is_universal(),
+        true,
+    );
+    same(
+        &rt,
+        header.with_class(Class::Application).is_application(),
+        true,
+    );
+    same(&rt, header.with_class(Class::Private).is_private(), true);
+    same(&rt, header.is_private(), false);
 }
 
 #[test]
@@ -116,7 +107,7 @@ fn numbers_of_classes(rt: HostRuntime) {
         Ok(Class::ContextSpecific),
     );
     same(&rt, Class::try_from(Class::PRIVATE), Ok(Class::Private));
-    assert!(rt; Class::try_from(4).is_err());
+    same(&rt, Class::try_from(4).is_err(), true);
     same(&rt, Class::Private as u8, 3);
     same(&rt, Class::Private.assert_eq(Class::Private), Ok(()));
     same(&rt, Tag::from(5), Tag::Null);
@@ -133,9 +124,9 @@ fn lengths(rt: HostRuntime) {
         Length::Indefinite.definite(),
         Err(Error::IndefiniteLengthUnexpected),
     );
-    assert!(rt; Length::Definite(0).is_null());
-    assert!(rt; !Length::Indefinite.is_null());
-    assert!(rt; Length::Definite(1).is_definite());
+    same(&rt, Length::Definite(0).is_null(), true);
+    same(&rt, Length::Indefinite.is_null(), false);
+    same(&rt, Length::Definite(1).is_definite(), true);
     same(&rt, Length::Definite(1).assert_definite(), Ok(()));
     same(
         &rt,
@@ -144,96 +135,93 @@ fn lengths(rt: HostRuntime) {
     );
 }
 
+// The value prints as this text.
+fn prints<R: Abort, T: Display>(rt: &R, alloc: Global, value: &T, text: &str) {
+    match format!(in alloc; "{value}") {
+        Ok(printed) => same(rt, printed.as_str(), text),
+        Err(_) => panic!(rt; "out of memory"),
+    }
+}
+
 #[test]
-fn texts(rt: HostRuntime) -> Result<(), Fail> {
+fn texts(rt: HostRuntime) {
     let alloc = rt.alloc();
-    prints(&rt, alloc, &Error::BerTypeError, "BerTypeError")?;
     let value = Tag::Boolean.invalid_value("no boolean");
     same(&rt, value, Error::invalid_value(Tag(1), "no boolean"));
-    prints(&rt, alloc, &value, "InvalidValue")?;
     let constraint = Error::DerConstraintFailed(DerConstraint::InvalidBoolean);
-    prints(&rt, alloc, &constraint, "DerConstraintFailed")?;
-    prints(&rt, alloc, &ErrorKind::Many0, "Many0")?;
-    let size: Err<Error> = Err::Incomplete(Needed::Size(12));
-    prints(&rt, alloc, &size, "incomplete 12")?;
-    let unknown: Err<Error> = Err::Incomplete(Needed::Unknown);
-    prints(&rt, alloc, &unknown, "incomplete unknown")?;
-    let error: Err<Error> = Err::Error(Error::InvalidTag);
-    prints(&rt, alloc, &error, "error InvalidTag")?;
-    let failure: Err<Error> = Err::Failure(Error::OutOfMemory);
-    prints(&rt, alloc, &failure, "failure OutOfMemory")?;
+    let errors = [
+        (Error::BerTypeError, "BerTypeError"),
+        (value, "InvalidValue"),
+        (constraint, "DerConstraintFailed"),
+    ];
+    for (error, text) in errors {
+        prints(&rt, alloc, &error, text);
+    }
+    let answers: [(Err<Error>, &str); 4] = [
+        (Err::Incomplete(Needed::Size(12)), "incomplete 12"),
+        (Err::Incomplete(Needed::Unknown), "incomplete unknown"),
+        (Err::Error(Error::InvalidTag), "error InvalidTag"),
+        (Err::Failure(Error::OutOfMemory), "failure OutOfMemory"),
+    ];
+    for (answer, text) in answers {
+        prints(&rt, alloc, &answer, text);
+    }
+    prints(&rt, alloc, &ErrorKind::Many0, "Many0");
     let written = SerializeError::InvalidClass { class: 4 };
-    prints(&rt, alloc, &written, "InvalidClass")?;
-    prints(&rt, alloc, &Class::ContextSpecific, "CONTEXT-SPECIFIC")?;
-    prints(&rt, alloc, &OutOfMemory, "OutOfMemory")?;
-    Ok(())
+    prints(&rt, alloc, &written, "InvalidClass");
+    prints(&rt, alloc, &Class::ContextSpecific, "CONTEXT-SPECIFIC");
+    prints(&rt, alloc, &OutOfMemory, "OutOfMemory");
 }
 
 #[test]
 fn conversions(rt: HostRuntime) {
     let refused: Err<Error> = Err::from(Error::InvalidTag);
     same(&rt, refused, Err::Error(Error::InvalidTag));
-    assert!(rt; !refused.is_incomplete());
-    let memory: Err<Error> = Err::from(Error::OutOfMemory);
-    same(&rt, memory, Err::Failure(Error::OutOfMemory));
-    let failure: Err<Error> = Err::from(OutOfMemory);
-    same(&rt, failure, memory);
-    let unstored: Err<Error> = Err::from(AllocFailed { value: 1u8 });
-    same(&rt, unstored, memory);
-    let unheld: Err<Error> = Err::from(AllocError);
-    same(&rt, unheld, memory);
-    same(&rt, Error::from(AllocError), Error::OutOfMemory);
-    same(
-        &rt,
+    let cut: Err<Error> = Err::Incomplete(Needed::Size(2));
+    same(&rt, Error::from(cut), Error::Incomplete(Needed::Size(2)));
+    let eof = Error::NomError(ErrorKind::Eof);
+    same(&rt, Error::from(ErrorKind::Eof), eof);
+    same(&rt, refused.is_incomplete(), false);
+    same(&rt, cut.is_incomplete(), true);
+    let unwritten = SerializeError::ASN1Error(Error::InvalidTag);
+    same(&rt, SerializeError::from(Error::InvalidTag), unwritten);
+    same(&rt, Err::convert(refused), Err::Error(unwritten));
+}
+
+// Want of memory stays what it is.
+#[test]
+fn conversions_of_want_of_memory(rt: HostRuntime) {
+    let memory: Err<Error> = Err::Failure(Error::OutOfMemory);
+    let answers = [
+        Err::from(Error::OutOfMemory),
+        Err::from(OutOfMemory),
+        Err::from(AllocError),
+        Err::from(AllocFailed { value: 1u8 }),
+    ];
+    same(&rt, answers.as_slice(), [memory; 4].as_slice());
+    let errors = [
+        Error::from(memory),
+        Error::from(OutOfMemory),
+        Error::from(AllocError),
         Error::from(AllocFailed { value: 1u8 }),
-        Error::OutOfMemory,
-    );
-    same(
-        &rt,
+    ];
+    same(&rt, errors.as_slice(), [Error::OutOfMemory; 4].as_slice());
+    let written = [
+        SerializeError::from(Error::OutOfMemory),
+        SerializeError::from(OutOfMemory),
         SerializeError::from(AllocError),
-        SerializeError::OutOfMemory,
-    );
+        SerializeError::from(AllocFailed { value: 1u8 }),
+    ];
     same(
         &rt,
-        SerializeError::from(AllocFailed { value: 1u8 }),
-        SerializeError::OutOfMemory,
+        written.as_slice(),
+        [SerializeError::OutOfMemory; 4].as_slice(),
     );
     same(&rt, OutOfMemory::from(AllocError), OutOfMemory);
     same(
         &rt,
         OutOfMemory::from(AllocFailed { value: 1u8 }),
         OutOfMemory,
-    );
-    let cut: Err<Error> = Err::Incomplete(Needed::Size(2));
-    assert!(rt; cut.is_incomplete());
-    same(&rt, Error::from(cut), Error::Incomplete(Needed::Size(2)));
-    same(&rt, Error::from(memory), Error::OutOfMemory);
-    same(&rt, Error::from(OutOfMemory), Error::OutOfMemory);
-    same(
-        &rt,
-        Error::from(ErrorKind::Eof),
-        Error::NomError(ErrorKind::Eof),
-    );
-    same(
-        &rt,
-        SerializeError::from(Error::OutOfMemory),
-        SerializeError::OutOfMemory,
-    );
-    same(
-        &rt,
-        SerializeError::from(OutOfMemory),
-        SerializeError::OutOfMemory,
-    );
-    same(
-        &rt,
-        SerializeError::from(Error::InvalidTag),
-        SerializeError::ASN1Error(Error::InvalidTag),
-    );
-    let written: Err<SerializeError> = Err::convert(refused);
-    same(
-        &rt,
-        written,
-        Err::Error(SerializeError::ASN1Error(Error::InvalidTag)),
     );
 }
 
@@ -252,8 +240,10 @@ fn laws_hold() {
 
 // The length that a header tells, and how many octets are left behind it.
 fn told(read: ParseResult<'_, Header>) -> Result<(Length, usize), Err<Error>> {
-    let (rest, header) = read?;
-    Ok((header.length(), rest.len()))
+    match read {
+        Ok((rest, header)) => Ok((header.length(), rest.len())),
+        Err(e) => Err(e),
+    }
 }
 
 #[test]

@@ -1,19 +1,13 @@
 //! Pairs read, written and read back, by themselves and within other types; a struct of one's own by a pair.
 
+use super::{back_again, same};
 use crate::own::Ticket;
 use asn1_core::{Err as Refusal, Error, IResult, Needed};
 use asn1_lists::SetOf;
 use asn1_pairs::Pair;
 use asn1_tagged::{OptTaggedExplicit, TaggedImplicit};
-use asn1_traits::{FromDer, ToDer, read_back, read_back_optional};
-use std::fmt::Debug;
-use std::process::Abort;
+use asn1_traits::{FromDer, ToDer, read_back};
 use std::test::Fail;
-
-// What came is what was wanted.
-fn same<R: Abort, T: PartialEq + Debug + Drop>(rt: &R, got: T, want: T) {
-    assert_eq!(rt; got, want);
-}
 
 #[test]
 fn pairs(rt: HostRuntime) -> Result<(), Fail> {
@@ -40,18 +34,22 @@ fn pairs(rt: HostRuntime) -> Result<(), Fail> {
 
 #[test]
 fn pairs_in_others(rt: HostRuntime) -> Result<(), Fail> {
-    let alloc = rt.alloc();
     let octets = b"\x30\x07\x30\x05\x02\x01\x01\x30\x00";
-    let (_, pairs) = read_back::<Error, Vec<Pair<u32, Vec<u8>>>>(alloc, octets)?;
-    same(&rt, pairs.len(), 1);
-    let (_, pairs) = read_back_optional::<Error, SetOf<Pair<u32, u32>>>(alloc, b"\x31\x00")?;
-    assert!(&rt; pairs.is_some());
+    back_again::<_, Vec<Pair<u32, Vec<u8>>>>(&rt, rt.alloc(), octets, b"")?;
+    back_again::<_, SetOf<Pair<u32, u32>>>(&rt, rt.alloc(), b"\x31\x00", b"")
+}
+
+#[test]
+fn pairs_under_tags(rt: HostRuntime) {
     let octets = b"\xa0\x06\x02\x01\x05\x02\x01\x06";
-    let (_, tagged) = TaggedImplicit::<Pair<u32, u32>, Error, 0>::from_der(alloc, octets)?;
-    same(&rt, tagged.into_inner().second, 6);
-    let (_, tagged) = OptTaggedExplicit::<Pair<u32, u32>, Error, 0>::from_der(alloc, b"\xa1\x00")?;
-    assert!(&rt; tagged.is_none());
-    Ok(())
+    match TaggedImplicit::<Pair<u32, u32>, Error, 0>::from_der(rt.alloc(), octets) {
+        Ok((_, tagged)) => same(&rt, tagged.into_inner().second, 6),
+        Err(e) => panic!(rt; "{e}"),
+    }
+    match OptTaggedExplicit::<Pair<u32, u32>, Error, 0>::from_der(rt.alloc(), b"\xa1\x00") {
+        Ok((_, tagged)) => same(&rt, tagged.is_none(), true),
+        Err(e) => panic!(rt; "{e}"),
+    }
 }
 
 #[test]

@@ -1,6 +1,7 @@
 //! Values under tags: their own calls, parsers with closures, want of memory and round trips. What octets are read as and
 //! written stands in the rows of `asn1_rows`.
 
+use super::{back_again, same};
 use asn1_any::Any;
 use asn1_core::{
     Class, Err as Refusal, Error, Header, Length, Needed, SerializeError, SerializeResult, Tag,
@@ -11,19 +12,10 @@ use asn1_tagged::{
     TaggedImplicit, TaggedValue, opt_explicit_by_ber, opt_explicit_by_der, opt_implicit_by_ber,
     opt_implicit_by_der,
 };
-use asn1_traits::{
-    DerElement, DerLeaf, FromAny, FromBer, FromDer, FromDerAny, FromLeaf, Tagged, TaggedElement,
-    ToDer, read_back, read_back_optional,
-};
+use asn1_traits::{DerLeaf, FromAny, FromBer, FromDer, FromDerAny, FromLeaf, Tagged, ToDer};
 use std::alloc::Global;
-use std::fmt::Debug;
 use std::process::Abort;
 use std::test::Fail;
-
-// What came is what was wanted.
-fn same<R: Abort, T: PartialEq + Debug + Drop>(rt: &R, got: T, want: T) {
-    assert_eq!(rt; got, want);
-}
 
 type Two = TaggedExplicit<u8, Error, 0>;
 
@@ -356,69 +348,19 @@ fn want_of_memory_is_told(rt: HostRuntime) -> Result<(), Fail> {
     Ok(())
 }
 
-// Through the bounds of the laws alone.
-fn again<'a, E: From<Error>, T: FromDer<'a, E> + DerElement>(
-    alloc: Global,
-    octets: &'a [u8],
-) -> Result<(usize, T), Refusal<E>> {
-    match read_back(alloc, octets) {
-        Ok((rest, value)) => Ok((rest.len(), value)),
-        Err(e) => Err(e),
-    }
-}
-
-fn again_optional<'a, E: From<Error>, T: FromDer<'a, E> + TaggedElement>(
-    alloc: Global,
-    octets: &'a [u8],
-) -> Result<(usize, Option<T>), Refusal<E>> {
-    match read_back_optional(alloc, octets) {
-        Ok((rest, value)) => Ok((rest.len(), value)),
-        Err(e) => Err(e),
-    }
+#[test]
+fn round_trips(rt: HostRuntime) -> Result<(), Fail> {
+    let alloc = rt.alloc();
+    back_again::<_, Two>(&rt, alloc, &[0xa0, 3, 2, 1, 2], &[])?;
+    back_again::<_, Short>(&rt, alloc, &[0x80, 1, 2], &[1, 1, 0])
 }
 
 #[test]
-fn round_trips(rt: HostRuntime) -> Result<(), Fail> {
-    let written = two(2).to_der_vec(rt.alloc())?;
-    same(
-        &rt,
-        again::<Error, Two>(rt.alloc(), written.as_slice()),
-        Ok((0, two(2))),
-    );
-    same(
-        &rt,
-        again_optional::<Error, Two>(rt.alloc(), written.as_slice()),
-        Ok((0, Some(two(2)))),
-    );
-    let written = short(2).to_der_vec(rt.alloc())?;
-    same(
-        &rt,
-        again::<Error, Short>(rt.alloc(), written.as_slice()),
-        Ok((0, short(2))),
-    );
-    same(
-        &rt,
-        again_optional::<Error, Short>(rt.alloc(), written.as_slice()),
-        Ok((0, Some(short(2)))),
-    );
-    same(
-        &rt,
-        again_optional::<Error, Two>(rt.alloc(), &[]),
-        Ok((0, None)),
-    );
-    same(
-        &rt,
-        again_optional::<Error, Short>(rt.alloc(), &[1, 1, 0]),
-        Ok((3, None)),
-    );
+fn headers_and_contents(rt: HostRuntime) {
     let mut sink = WriteSink::new(Vec::new(rt.alloc()));
     same(&rt, two(2).write_der_header(&mut sink), Ok(2));
     same(&rt, two(2).write_der_content(&mut sink), Ok(3));
     same(&rt, short(2).write_der(&mut sink), Ok(3));
-    same(
-        &rt,
-        sink.into_inner().as_slice(),
-        [0xa0, 3, 2, 1, 2, 0x80, 1, 2].as_slice(),
-    );
-    Ok(())
+    let written = [0xa0, 3, 2, 1, 2, 0x80, 1, 2];
+    same(&rt, sink.into_inner().as_slice(), written.as_slice());
 }

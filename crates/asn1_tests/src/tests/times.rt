@@ -3,15 +3,9 @@
 
 mod moments;
 
+use super::same;
 use asn1_times::{ASN1DateTime, ASN1TimeZone, GeneralizedTime, UtcTime};
 use asn1_traits::ToDer;
-use std::fmt::Debug;
-use std::process::Abort;
-
-// What came is what was wanted.
-fn same<R: Abort, T: PartialEq + Debug + Drop>(rt: &R, got: T, want: T) {
-    assert_eq!(rt; got, want);
-}
 
 const NOON: ASN1DateTime = ASN1DateTime {
     year: 2026,
@@ -38,103 +32,86 @@ fn texts_of_times(rt: HostRuntime) {
         UtcTime::from_bytes(b"261122123059Z"),
         Ok(UtcTime::new(SHORT)),
     );
-    assert!(rt; UtcTime::from_bytes(b"").is_err());
+    same(&rt, UtcTime::from_bytes(b"").is_err(), true);
     same(
         &rt,
         GeneralizedTime::from_bytes(b"20261122123059Z"),
         Ok(GeneralizedTime::new(NOON)),
     );
-    assert!(rt; GeneralizedTime::from_bytes(b"").is_err());
+    same(&rt, GeneralizedTime::from_bytes(b"").is_err(), true);
+}
+
+// In DER form, by the bound alone.
+fn in_form<T: ToDer>(value: &T) -> bool {
+    value.in_der_form()
 }
 
 #[test]
 fn utc_times_out_of_form(rt: HostRuntime) {
-    assert!(rt; UtcTime::new(SHORT).in_der_form());
-    assert!(rt; UtcTime::new(ASN1DateTime { year: 99, ..SHORT }).in_der_form());
-    assert!(rt; !UtcTime::new(ASN1DateTime { year: 100, ..SHORT }).in_der_form());
-    assert!(rt; !UtcTime::new(NOON).in_der_form());
-    assert!(rt; !UtcTime::new(ASN1DateTime { month: 0, ..SHORT }).in_der_form());
-    assert!(rt;
-        !UtcTime::new(ASN1DateTime {
+    let nines = ASN1DateTime { year: 99, ..SHORT };
+    same(&rt, in_form(&UtcTime::new(SHORT)), true);
+    same(&rt, in_form(&UtcTime::new(nines)), true);
+    let bad = [
+        ASN1DateTime { year: 100, ..SHORT },
+        NOON,
+        ASN1DateTime { month: 0, ..SHORT },
+        ASN1DateTime {
             month: 255,
             ..SHORT
-        })
-        .in_der_form()
-    );
-    assert!(rt;
-        !UtcTime::new(ASN1DateTime {
+        },
+        ASN1DateTime {
             millisecond: Some(5),
             ..SHORT
-        })
-        .in_der_form()
-    );
-    assert!(rt;
-        !UtcTime::new(ASN1DateTime {
+        },
+        ASN1DateTime {
             tz: ASN1TimeZone::Undefined,
             ..SHORT
-        })
-        .in_der_form()
-    );
-    assert!(rt;
-        !UtcTime::new(ASN1DateTime {
+        },
+        ASN1DateTime {
             tz: offset(-5, -30),
             ..SHORT
-        })
-        .in_der_form()
-    );
-    assert!(rt;
-        !UtcTime::new(ASN1DateTime {
+        },
+        ASN1DateTime {
             tz: offset(24, 0),
             ..SHORT
-        })
-        .in_der_form()
-    );
-    assert!(rt;
-        !UtcTime::new(ASN1DateTime {
+        },
+        ASN1DateTime {
             tz: offset(-128, 0),
             ..SHORT
-        })
-        .in_der_form()
-    );
+        },
+    ];
+    for time in bad {
+        assert!(rt; !in_form(&UtcTime::new(time)), "{time:?}");
+    }
 }
 
 #[test]
 fn generalized_times_out_of_form(rt: HostRuntime) {
-    assert!(rt; GeneralizedTime::new(NOON).in_der_form());
-    assert!(rt;
-        !GeneralizedTime::new(ASN1DateTime {
+    same(&rt, in_form(&GeneralizedTime::new(NOON)), true);
+    let bad = [
+        ASN1DateTime {
             year: 10000,
             ..NOON
-        })
-        .in_der_form()
-    );
-    assert!(rt; !GeneralizedTime::new(ASN1DateTime { second: 60, ..NOON }).in_der_form());
-    assert!(rt;
-        !GeneralizedTime::new(ASN1DateTime {
+        },
+        ASN1DateTime { second: 60, ..NOON },
+        ASN1DateTime {
             millisecond: Some(0),
             ..NOON
-        })
-        .in_der_form()
-    );
-    assert!(rt;
-        !GeneralizedTime::new(ASN1DateTime {
+        },
+        ASN1DateTime {
             millisecond: Some(1000),
             ..NOON
-        })
-        .in_der_form()
-    );
-    assert!(rt;
-        !GeneralizedTime::new(ASN1DateTime {
+        },
+        ASN1DateTime {
             tz: offset(0, 0),
             ..NOON
-        })
-        .in_der_form()
-    );
-    assert!(rt;
-        !GeneralizedTime::new(ASN1DateTime {
+        },
+        ASN1DateTime {
             tz: ASN1TimeZone::Undefined,
             ..NOON
-        })
-        .in_der_form()
-    );
+        },
+    ];
+    for time in bad {
+        assert!(rt; !in_form(&GeneralizedTime::new(time)), "{time:?}");
+    }
 }

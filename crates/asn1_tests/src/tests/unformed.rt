@@ -1,5 +1,6 @@
 //! Nothing is written of a value that isn't in DER form, by itself or within others, and the refusal names its tag.
 
+use super::same;
 use asn1_core::{SerializeError, Tag};
 use asn1_device::WriteSink;
 use asn1_strings::PrintableString;
@@ -8,7 +9,6 @@ use asn1_times::{ASN1DateTime, ASN1TimeZone, GeneralizedTime, UtcTime};
 use asn1_traits::ToDer;
 use asn1_values::{BitString, Boolean, Integer};
 use std::alloc::Global;
-use std::fmt::Debug;
 use std::process::Abort;
 use std::test::Fail;
 
@@ -22,11 +22,6 @@ const NOON: ASN1DateTime = ASN1DateTime {
     millisecond: None,
     tz: ASN1TimeZone::Z,
 };
-
-// What came is what was wanted.
-fn same<R: Abort, T: PartialEq + Debug + Drop>(rt: &R, got: T, want: T) {
-    assert_eq!(rt; got, want);
-}
 
 // Nothing of the value comes to a device or a vector.
 fn unwritten<R: Abort, T: ToDer>(rt: &R, alloc: Global, value: &T, tag: Tag) {

@@ -1,14 +1,10 @@
+//! Numbers of any size: their octets, their order and their hashes.
+
+use super::same;
 use asn1_unsigned::{UnsignedBytes, laws};
 use std::cmp::Ordering;
 use std::collections::hash_map::DefaultHasher;
-use std::fmt::Debug;
 use std::hash::{Hash, Hasher};
-use std::process::Abort;
-
-// What came is what was wanted.
-fn same<R: Abort, T: PartialEq + Debug + Drop>(rt: &R, got: T, want: T) {
-    assert_eq!(rt; got, want);
-}
 
 fn from(octets: &[u8]) -> UnsignedBytes<'_> {
     UnsignedBytes::from_bytes_be(octets)
@@ -24,60 +20,70 @@ fn greatest<T: Ord + Copy>(left: T, right: T) -> T {
     if left < right { right } else { left }
 }
 
+// The octets behind the leading zeros, and the number where it has 64 bits.
 #[test]
 fn leading_zeros_are_trimmed(rt: HostRuntime) {
-    assert!(rt; from(&[]).as_bytes().is_empty());
-    assert!(rt; from(&[0]).as_bytes().is_empty());
-    assert!(rt; from(&[0, 0]).as_bytes().is_empty());
-    same(&rt, from(&[0, 1, 0]).as_bytes(), [1, 0].as_slice());
-    same(&rt, from(&[1, 0]).as_bytes(), [1, 0].as_slice());
-    same(&rt, from(&[0x80]).as_bytes(), [0x80].as_slice());
-}
-
-#[test]
-fn numbers_of_64_bits_are_answered(rt: HostRuntime) {
-    same(&rt, from(&[]).as_u64(), Some(0));
-    same(&rt, from(&[0, 0]).as_u64(), Some(0));
-    same(&rt, from(&[1, 0]).as_u64(), Some(256));
-    same(
-        &rt,
-        from(&[0, 0xff, 0xff, 0xff, 0xff, 0xff, 0xff, 0xff, 0xff]).as_u64(),
-        Some(u64::MAX),
-    );
-    same(&rt, from(&[1, 0, 0, 0, 0, 0, 0, 0, 0]).as_u64(), None);
-    same(&rt, from(&[0xff; 40]).as_u64(), None);
+    let rows = [
+        (b"".as_slice(), b"".as_slice(), Some(0)),
+        (b"\x00", b"", Some(0)),
+        (b"\x00\x00", b"", Some(0)),
+        (b"\x00\x01\x00", b"\x01\x00", Some(256)),
+        (b"\x01\x00", b"\x01\x00", Some(256)),
+        (b"\x80", b"\x80", Some(128)),
+        (
+            b"\x00\xff\xff\xff\xff\xff\xff\xff\xff",
+            &[0xff; 8],
+            Some(u64::MAX),
+        ),
+        (
+            b"\x01\x00\x00\x00\x00\x00\x00\x00\x00",
+            b"\x01\x00\x00\x00\x00\x00\x00\x00\x00",
+            None,
+        ),
+        (&[0xff; 40], &[0xff; 40], None),
+    ];
+    for (octets, kept, number) in rows {
+        same(&rt, from(octets).as_bytes(), kept);
+        same(&rt, from(octets).as_u64(), number);
+    }
 }
 
 #[test]
 fn numbers_are_compared(rt: HostRuntime) {
-    assert!(rt; from(&[0, 1, 0]) == from(&[1, 0]));
-    assert!(rt; from(&[]) == from(&[0]));
-    assert!(rt; from(&[1]) != from(&[1, 0]));
-    assert!(rt; from(&[0, 0, 2]) < from(&[1, 0]));
-    assert!(rt; from(&[0xff]) < from(&[1, 0]));
-    assert!(rt; from(&[1, 2]) < from(&[2, 1]));
-    assert!(rt; from(&[1, 1]) < from(&[1, 2]));
-    same(&rt, from(&[1, 2]).cmp(&from(&[0, 1, 2])), Ordering::Equal);
-    same(&rt, from(&[1, 2, 0]).cmp(&from(&[2, 1])), Ordering::Greater);
-    same(
-        &rt,
-        from(&[]).partial_cmp(&from(&[1])),
-        Some(Ordering::Less),
-    );
-    same(
-        &rt,
-        greatest(from(&[0, 0, 0, 9]), from(&[1, 0])).as_u64(),
-        Some(256),
-    );
+    let rows = [
+        (
+            b"\x00\x01\x00".as_slice(),
+            b"\x01\x00".as_slice(),
+            Ordering::Equal,
+        ),
+        (b"", b"\x00", Ordering::Equal),
+        (b"\x01\x02", b"\x00\x01\x02", Ordering::Equal),
+        (b"\x01", b"\x01\x00", Ordering::Less),
+        (b"", b"\x01", Ordering::Less),
+        (b"\x00\x00\x02", b"\x01\x00", Ordering::Less),
+        (b"\xff", b"\x01\x00", Ordering::Less),
+        (b"\x01\x02", b"\x02\x01", Ordering::Less),
+        (b"\x01\x01", b"\x01\x02", Ordering::Less),
+        (b"\x01\x02\x00", b"\x02\x01", Ordering::Greater),
+    ];
+    for (left, right, order) in rows {
+        let (left, right) = (from(left), from(right));
+        same(&rt, left.cmp(&right), order);
+        same(&rt, left.partial_cmp(&right), Some(order));
+        same(&rt, left == right, order == Ordering::Equal);
+        same(&rt, left < right, order == Ordering::Less);
+    }
+    let greatest = greatest(from(b"\x00\x00\x00\x09"), from(b"\x01\x00"));
+    same(&rt, greatest.as_u64(), Some(256));
 }
 
 #[test]
 fn equal_numbers_have_equal_hashes(rt: HostRuntime) {
     same(&rt, hash_of(&from(&[0, 1, 0])), hash_of(&from(&[1, 0])));
-    assert!(rt; hash_of(&from(&[1])) != hash_of(&from(&[1, 0])));
+    same(&rt, hash_of(&from(&[1])) == hash_of(&from(&[1, 0])), false);
 }
 
 #[test]
-fn laws_are_called(rt: HostRuntime) {
+fn laws_are_called() {
     laws::one_spelling();
 }

@@ -1,8 +1,8 @@
-//! `SequenceOf` and what `SetOf` has in common with it.
+//! The values of a `SequenceOf`.
 
 use super::same;
-use asn1_core::{Err as Refusal, Error, ErrorKind};
-use asn1_lists::{SequenceOf, SetOf};
+use asn1_core::Error;
+use asn1_lists::SequenceOf;
 use asn1_traits::{FromDer, ToDer};
 use std::test::Fail;
 
@@ -19,7 +19,11 @@ fn values_are_pushed_and_read(rt: HostRuntime) -> Result<(), Fail> {
     same(&rt, values.as_ref(), [300, 1].as_slice());
     same(&rt, values.iter().next(), Some(&300));
     let written = values.to_der_vec(rt.alloc())?;
-    assert!(rt; written.as_slice() == [0x30, 7, 2, 2, 1, 0x2c, 2, 1, 1].as_slice());
+    same(
+        &rt,
+        written.as_slice() == [0x30, 7, 2, 2, 1, 0x2c, 2, 1, 1].as_slice(),
+        true,
+    );
     let held = values.into_vec();
     same(&rt, held.as_slice(), [300, 1].as_slice());
     same(&rt, SequenceOf::from_vec(held).len(), 2);
@@ -35,22 +39,8 @@ fn thousands_of_values(rt: HostRuntime) -> Result<(), Fail> {
     }
     let octets = values.to_der_vec(alloc)?;
     let (rest, read) = <SequenceOf<u32> as FromDer<Error>>::from_der(alloc, octets.as_slice())?;
-    assert!(rt; rest.is_empty());
-    assert!(rt; read.as_slice() == values.as_slice());
-    assert!(rt; read.to_der_len() == Ok(octets.len()));
+    same(&rt, rest.is_empty(), true);
+    same(&rt, read.as_slice() == values.as_slice(), true);
+    same(&rt, read.to_der_len() == Ok(octets.len()), true);
     Ok(())
-}
-
-// A value that takes no octet is refused.
-#[test]
-fn absent_values_are_refused(rt: HostRuntime) {
-    let no_octet = Refusal::Error(Error::NomError(ErrorKind::Many0));
-    match <SequenceOf<Option<bool>> as FromDer<Error>>::from_der(rt.alloc(), &[0x30, 3, 2, 1, 0]) {
-        Ok(_) => assert!(rt; false),
-        Err(e) => same(&rt, e, no_octet),
-    }
-    match <SetOf<Option<bool>> as FromDer<Error>>::from_der(rt.alloc(), &[0x31, 3, 2, 1, 0]) {
-        Ok(_) => assert!(rt; false),
-        Err(e) => same(&rt, e, no_octet),
-    }
 }

@@ -4,25 +4,19 @@ use super::same;
 use asn1_any::Any;
 use asn1_core::{Err as Refusal, Error, ErrorKind, Needed, Tag};
 use asn1_lists::{BerParser, DerParser, SequenceIterator};
-use std::test::Fail;
 
 #[test]
-fn elements_until_one_is_cut(rt: HostRuntime) -> Result<(), Fail> {
+fn elements_until_one_is_cut(rt: HostRuntime) {
     let mut items: SequenceIterator<Any, DerParser, Error> = SequenceIterator::new(
         rt.alloc(),
         &[2, 1, 1, 2, 1],
     );
-    let first = items.next().ok_or("an element")??;
-    same(&rt, first.tag(), Tag(2));
-    same(&rt, first.as_bytes(), [1].as_slice());
-    let Some(Err(refusal)) = items.next() else {
-        return Err(Fail::new("a refusal"));
-    };
+    let first = Any::from_tag_and_data(Tag::Integer, &[1]);
+    same(&rt, items.next(), Some(Ok(first)));
     let cut = Error::Incomplete(Needed::Size(1));
-    same(&rt, refusal, Refusal::Error(cut));
-    assert!(rt; items.next().is_none());
-    assert!(rt; items.next().is_none());
-    Ok(())
+    same(&rt, items.next(), Some(Err(Refusal::Error(cut))));
+    same(&rt, items.next(), None);
+    same(&rt, items.next(), None);
 }
 
 #[test]
