@@ -16,19 +16,22 @@ impl CertVisits for Record {
                 "visit_serial_number",
                 serial,
             ),
-            CertVisit::VisitTbsSignatureAlgorithm(_) => self.call("visit_tbs_signature_algorithm"),
-            CertVisit::VisitIssuer(_) => self.call("visit_issuer"),
-            CertVisit::VisitValidity(_) => self.call("visit_validity"),
-            CertVisit::VisitSubject(_) => self.call("visit_subject"),
-            CertVisit::VisitSubjectPublicKeyInfo(_) => self.call("visit_subject_public_key_info"),
-            CertVisit::VisitIssuerUniqueId(id) => self.call_with_flag(
-                "visit_issuer_unique_id",
-                id.is_some(),
+            CertVisit::VisitTbsSignatureAlgorithm(it) => self.call_with(
+                "visit_tbs_signature_algorithm",
+                &it.algorithm,
             ),
-            CertVisit::VisitSubjectUniqueId(id) => self.call_with_flag(
-                "visit_subject_unique_id",
-                id.is_some(),
+            CertVisit::VisitIssuer(name) => self.call_with("visit_issuer", name),
+            CertVisit::VisitValidity(validity) => self.call_with_validity(
+                "visit_validity",
+                validity,
             ),
+            CertVisit::VisitSubject(name) => self.call_with("visit_subject", name),
+            CertVisit::VisitSubjectPublicKeyInfo(key) => self.call_with(
+                "visit_subject_public_key_info",
+                &key.algorithm.algorithm,
+            ),
+            CertVisit::VisitIssuerUniqueId(id) => self.call_with_id("visit_issuer_unique_id", id),
+            CertVisit::VisitSubjectUniqueId(id) => self.call_with_id("visit_subject_unique_id", id),
             CertVisit::PreVisitExtensions(extensions) => self.call_with(
                 "pre_visit_extensions",
                 &extensions.len(),
@@ -94,8 +97,14 @@ impl CertVisits for Record {
                 "post_visit_extensions",
                 &extensions.len(),
             ),
-            CertVisit::VisitSignatureAlgorithm(_) => self.call("visit_signature_algorithm"),
-            CertVisit::VisitSignatureValue(_) => self.call("visit_signature_value"),
+            CertVisit::VisitSignatureAlgorithm(it) => self.call_with(
+                "visit_signature_algorithm",
+                &it.algorithm,
+            ),
+            CertVisit::VisitSignatureValue(bits) => self.call_with_octets(
+                "visit_signature_value",
+                bits.content,
+            ),
         }
     }
 }

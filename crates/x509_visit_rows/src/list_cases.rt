@@ -15,8 +15,11 @@ impl ListVisits for Record {
                 Some(version) => self.call_with("visit_version", &version.0),
                 None => self.call("visit_version absent"),
             },
-            ListVisit::VisitTbsSignatureAlgorithm(_) => self.call("visit_tbs_signature_algorithm"),
-            ListVisit::VisitIssuer(_) => self.call("visit_issuer"),
+            ListVisit::VisitTbsSignatureAlgorithm(it) => self.call_with(
+                "visit_tbs_signature_algorithm",
+                &it.algorithm,
+            ),
+            ListVisit::VisitIssuer(name) => self.call_with("visit_issuer", name),
             ListVisit::VisitThisUpdate(time) => self.call_with(
                 "visit_this_update",
                 &time.timestamp(),
@@ -79,8 +82,14 @@ impl ListVisits for Record {
                 "visit_extension_parse_error",
                 &extension.oid,
             ),
-            ListVisit::VisitSignatureAlgorithm(_) => self.call("visit_signature_algorithm"),
-            ListVisit::VisitSignatureValue(_) => self.call("visit_signature_value"),
+            ListVisit::VisitSignatureAlgorithm(it) => self.call_with(
+                "visit_signature_algorithm",
+                &it.algorithm,
+            ),
+            ListVisit::VisitSignatureValue(bits) => self.call_with_octets(
+                "visit_signature_value",
+                bits.content,
+            ),
         }
     }
 }

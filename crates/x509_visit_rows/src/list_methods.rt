@@ -18,12 +18,12 @@ impl CertificateRevocationListVisitor for Record {
         self.call("visit_tbs_cert_list");
     }
 
-    fn visit_signature_algorithm(&mut self, _algorithm: &AlgorithmIdentifier<'_>) {
-        self.call("visit_signature_algorithm");
+    fn visit_signature_algorithm(&mut self, it: &AlgorithmIdentifier<'_>) {
+        self.call_with("visit_signature_algorithm", &it.algorithm);
     }
 
-    fn visit_signature_value(&mut self, _signature: &BitString<'_>) {
-        self.call("visit_signature_value");
+    fn visit_signature_value(&mut self, signature: &BitString<'_>) {
+        self.call_with_octets("visit_signature_value", signature.content);
     }
 
     fn visit_version(&mut self, version: Option<&X509Version>) {
@@ -33,12 +33,12 @@ impl CertificateRevocationListVisitor for Record {
         }
     }
 
-    fn visit_tbs_signature_algorithm(&mut self, _algorithm: &AlgorithmIdentifier<'_>) {
-        self.call("visit_tbs_signature_algorithm");
+    fn visit_tbs_signature_algorithm(&mut self, it: &AlgorithmIdentifier<'_>) {
+        self.call_with("visit_tbs_signature_algorithm", &it.algorithm);
     }
 
-    fn visit_issuer(&mut self, _name: &X509Name<'_>) {
-        self.call("visit_issuer");
+    fn visit_issuer(&mut self, name: &X509Name<'_>) {
+        self.call_with("visit_issuer", name);
     }
 
     fn visit_this_update(&mut self, time: &ASN1Time) {

@@ -1,8 +1,9 @@
 //! Reads rows `KIND OCTETS` from standard input, and prints each with the calls that a walk makes over what the octets are: `KIND OCTETS = CALLS`,
-//! a `;` between two. A visitor with each method written records them, and so does one that takes them as values: where the two differ, both
-//! records are printed.
+//! a `;` between two. A visitor with each method written records them, told by its own `walk` and by the walk of what was read, and so does one that takes
+//! them as values: where two differ, both records are printed.
 //!
-//! Kinds: `certificate`, `list`. The octets stand in hex. Empty lines and those that begin with `#` are printed as they stand.
+//! Kinds: `certificate` and `list`; `shallow-certificate` and `shallow-list`, where the values of extensions aren't parsed;
+//! `tbs-certificate` and `tbs-list`, signed parts by themselves. The octets stand in hex. Empty lines and those that begin with `#` are printed as they stand.
 #![tactic(auto)]
 
 mod cases;

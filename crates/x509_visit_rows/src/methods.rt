@@ -27,32 +27,32 @@ impl X509CertificateVisitor for Record {
         self.call_with_octets("visit_serial_number", serial);
     }
 
-    fn visit_tbs_signature_algorithm(&mut self, _algorithm: &AlgorithmIdentifier<'_>) {
-        self.call("visit_tbs_signature_algorithm");
+    fn visit_tbs_signature_algorithm(&mut self, it: &AlgorithmIdentifier<'_>) {
+        self.call_with("visit_tbs_signature_algorithm", &it.algorithm);
     }
 
-    fn visit_issuer(&mut self, _name: &X509Name<'_>) {
-        self.call("visit_issuer");
+    fn visit_issuer(&mut self, name: &X509Name<'_>) {
+        self.call_with("visit_issuer", name);
     }
 
-    fn visit_validity(&mut self, _validity: &Validity) {
-        self.call("visit_validity");
+    fn visit_validity(&mut self, validity: &Validity) {
+        self.call_with_validity("visit_validity", validity);
     }
 
-    fn visit_subject(&mut self, _name: &X509Name<'_>) {
-        self.call("visit_subject");
+    fn visit_subject(&mut self, name: &X509Name<'_>) {
+        self.call_with("visit_subject", name);
     }
 
-    fn visit_subject_public_key_info(&mut self, _key: &SubjectPublicKeyInfo<'_>) {
-        self.call("visit_subject_public_key_info");
+    fn visit_subject_public_key_info(&mut self, key: &SubjectPublicKeyInfo<'_>) {
+        self.call_with("visit_subject_public_key_info", &key.algorithm.algorithm);
     }
 
     fn visit_issuer_unique_id(&mut self, id: Option<&UniqueIdentifier<'_>>) {
-        self.call_with_flag("visit_issuer_unique_id", id.is_some());
+        self.call_with_id("visit_issuer_unique_id", id);
     }
 
     fn visit_subject_unique_id(&mut self, id: Option<&UniqueIdentifier<'_>>) {
-        self.call_with_flag("visit_subject_unique_id", id.is_some());
+        self.call_with_id("visit_subject_unique_id", id);
     }
 
     fn pre_visit_extensions(&mut self, extensions: &[X509Extension<'_>]) {
@@ -147,11 +147,11 @@ impl X509CertificateVisitor for Record {
         self.call_with("post_visit_extensions", &extensions.len());
     }
 
-    fn visit_signature_algorithm(&mut self, _algorithm: &AlgorithmIdentifier<'_>) {
-        self.call("visit_signature_algorithm");
+    fn visit_signature_algorithm(&mut self, it: &AlgorithmIdentifier<'_>) {
+        self.call_with("visit_signature_algorithm", &it.algorithm);
     }
 
-    fn visit_signature_value(&mut self, _signature: &BitString<'_>) {
-        self.call("visit_signature_value");
+    fn visit_signature_value(&mut self, signature: &BitString<'_>) {
+        self.call_with_octets("visit_signature_value", signature.content);
     }
 }

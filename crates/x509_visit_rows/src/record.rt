@@ -4,6 +4,8 @@ use hex_rows::literal;
 use std::alloc::Global;
 use std::fmt::Display;
 use std::io;
+use x509_ext::UniqueIdentifier;
+use x509_time::Validity;
 
 /// The calls so far, as text.
 #[derive(Drop)]
@@ -42,10 +44,18 @@ impl Record {
         }
     }
 
-    /// A call, and whether it tells something.
-    pub(crate) fn call_with_flag(&mut self, name: &str, is_told: bool) {
-        let what = if is_told { "told" } else { "absent" };
-        self.call_with(name, &what);
+    /// A call, and the octets of the bits that it tells, if it tells some.
+    pub(crate) fn call_with_id(&mut self, name: &str, id: Option<&UniqueIdentifier<'_>>) {
+        match id {
+            Some(id) => self.call_with_octets(name, id.0.content),
+            None => self.call_with(name, &"absent"),
+        }
+    }
+
+    /// A call, and when what it tells begins and ends, in seconds since 1970.
+    pub(crate) fn call_with_validity(&mut self, name: &str, validity: &Validity) {
+        self.call_with(name, &validity.not_before.timestamp());
+        self.call_with("to", &validity.not_after.timestamp());
     }
 
     fn push(&mut self, name: &str) -> io::Result<()> {
@@ -72,14 +82,16 @@ impl Record {
     }
 }
 
-/// What two records of a walk tell: the calls, where they are the same.
-pub(crate) fn agreed(alloc: Global, methods: Record, cases: Record) -> io::Result<String> {
-    if methods.failed || cases.failed {
-        return literal(alloc, "out of memory");
+/// The calls that a walk told as values, where each walk by methods told the same ones.
+pub(crate) fn agreed(alloc: Global, cases: Record, methods: &[Record]) -> io::Result<String> {
+    for record in methods {
+        if record.failed || cases.failed {
+            return literal(alloc, "out of memory");
+        }
+        if record.text.as_str() != cases.text.as_str() {
+            let text = format!(in alloc; "methods {}, cases {}", record.text, cases.text)?;
+            return Ok(text);
+        }
     }
-    if methods.text.as_str() == cases.text.as_str() {
-        return Ok(methods.text);
-    }
-    let text = format!(in alloc; "methods {}, cases {}", methods.text, cases.text)?;
-    Ok(text)
+    Ok(cases.text)
 }

@@ -1,7 +1,7 @@
 //! What a row means.
 
-use crate::certificate::of_certificate;
-use crate::list::of_list;
+use crate::certificate::{of_certificate, of_tbs_certificate};
+use crate::list::{of_list, of_tbs_list};
 use hex_rows::{literal, octets_of};
 use std::alloc::Global;
 use std::io;
@@ -15,8 +15,12 @@ pub(crate) fn outcome(alloc: Global, line: &str) -> io::Result<String> {
         return literal(alloc, "no octets");
     };
     match kind {
-        "certificate" => of_certificate(alloc, &octets),
-        "list" => of_list(alloc, &octets),
+        "certificate" => of_certificate(alloc, &octets, true),
+        "shallow-certificate" => of_certificate(alloc, &octets, false),
+        "tbs-certificate" => of_tbs_certificate(alloc, &octets),
+        "list" => of_list(alloc, &octets, true),
+        "shallow-list" => of_list(alloc, &octets, false),
+        "tbs-list" => of_tbs_list(alloc, &octets),
         _ => literal(alloc, "no row"),
     }
 }
