@@ -4,7 +4,7 @@ use crate::row::answer;
 use asn1_core::OutOfMemory;
 use asn1_traits::FromDer;
 use std::alloc::Global;
-use x509_certs::X509Certificate;
+use x509_certs::{TbsCertificate, X509Certificate};
 use x509_lists::CertificateRevocationList;
 use x509_requests::X509CriAttribute;
 
@@ -51,6 +51,15 @@ pub(crate) fn serial(alloc: Global, octets: &[u8]) -> Result<String, OutOfMemory
         return answer(alloc, "no certificate");
     };
     let text = certificate.raw_serial_as_string(alloc)?;
+    Ok(text)
+}
+
+/// The serial number of a certificate's first part.
+pub(crate) fn first_part_serial(alloc: Global, octets: &[u8]) -> Result<String, OutOfMemory> {
+    let Ok((_, tbs)) = TbsCertificate::from_der(alloc, octets) else {
+        return answer(alloc, "no first part");
+    };
+    let text = tbs.raw_serial_as_string(alloc)?;
     Ok(text)
 }
 

@@ -6,7 +6,7 @@ use asn1_oid::Oid;
 use asn1_traits::FromDer;
 use std::alloc::Global;
 use std::collections::BTreeMap;
-use x509_certs::X509Certificate;
+use x509_certs::{TbsCertificate, X509Certificate};
 use x509_core::X509Error;
 use x509_ext::X509Extension;
 use x509_lists::CertificateRevocationList;
@@ -20,6 +20,16 @@ pub(crate) fn of_certificate(alloc: Global, octets: &[u8]) -> Result<String, Out
     };
     let mut text = String::new(alloc);
     tell(&mut text, certificate.extensions_map(alloc))?;
+    Ok(text)
+}
+
+/// Those of a certificate's first part.
+pub(crate) fn of_first_part(alloc: Global, octets: &[u8]) -> Result<String, OutOfMemory> {
+    let Ok((_, tbs)) = TbsCertificate::from_der(alloc, octets) else {
+        return answer(alloc, "no first part");
+    };
+    let mut text = String::new(alloc);
+    tell(&mut text, tbs.extensions_map(alloc))?;
     Ok(text)
 }
 

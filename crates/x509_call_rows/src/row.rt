@@ -1,7 +1,7 @@
 //! A row, taken apart.
 
-use crate::copies::{attribute, certificate, entry_serials, list, serial};
-use crate::extensions::{of_certificate, of_list};
+use crate::copies::{attribute, certificate, entry_serials, first_part_serial, list, serial};
+use crate::extensions::{of_certificate, of_first_part, of_list};
 use crate::flags::key_usage;
 use crate::maps::{authority_info, mappings, subject_info};
 use crate::names::{built_name, general, name, registered};
@@ -32,6 +32,7 @@ fn called(alloc: Global, call: &str, octets: &[u8]) -> Result<String, OutOfMemor
         "copy_list" => list(alloc, octets),
         "copy_attribute" => attribute(alloc, octets),
         "raw_serial_as_string" => serial(alloc, octets),
+        "tbs_raw_serial_as_string" => first_part_serial(alloc, octets),
         "entry_serials" => entry_serials(alloc, octets),
         "name" => name(alloc, octets),
         "registered" => registered(alloc, octets),
@@ -40,6 +41,7 @@ fn called(alloc: Global, call: &str, octets: &[u8]) -> Result<String, OutOfMemor
         "subject_info" => subject_info(alloc, octets),
         "mappings" => mappings(alloc, octets),
         "extensions_map" => of_certificate(alloc, octets),
+        "tbs_extensions_map" => of_first_part(alloc, octets),
         "list_extensions_map" => of_list(alloc, octets),
         _ => parsed(alloc, call, octets),
     }
