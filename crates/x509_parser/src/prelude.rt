@@ -4,7 +4,9 @@ pub use crate::certificate::{
     BasicExtension, TbsCertificate, TbsCertificateParser, UniqueIdentifier, Validity,
     X509Certificate, X509CertificateParser,
 };
-pub use crate::certification_request::{X509CertificationRequest, X509CertificationRequestInfo};
+pub use crate::certification_request::{
+    RequestedExtensions, X509CertificationRequest, X509CertificationRequestInfo,
+};
 pub use crate::cri_attributes::{
     ChallengePassword, ExtensionRequest, ParsedCriAttribute, X509CriAttribute,
 };
@@ -29,13 +31,13 @@ pub use crate::revocation_list::{
 pub use crate::time::ASN1Time;
 pub use crate::utils::format_serial;
 pub use crate::validate::{
-    CallbackLogger, ChainValidator, LogError, Logger, StderrLogger,
-    TbsCertificateStructureValidator, Validate, Validator, VecLogger, X509CertificateValidator,
-    X509ExtensionsValidator, X509NameStructureValidator, X509PublicKeyValidator,
-    X509StructureValidator,
+    CallbackLogger, ChainValidator, LogError, Logger, OnError, OnWarning, StderrLogger,
+    TbsCertificateStructureValidator, Validate, Validator, VecLogger, WriteSink,
+    X509CertificateValidator, X509ExtensionsValidator, X509NameStructureValidator,
+    X509PublicKeyValidator, X509StructureValidator,
 };
 pub use crate::x509::{
-    AlgorithmIdentifier, AttributeTypeAndValue, ReasonCode, RelativeDistinguishedName,
-    SubjectPublicKeyInfo, X509Name, X509Version,
+    AlgorithmIdentifier, AttributeTypeAndValue, Attributes, AttributesOf, ReasonCode,
+    RelativeDistinguishedName, SubjectPublicKeyInfo, X509Name, X509Version,
 };
 pub use crate::{FromDer, parse_crl_der, parse_x509_certificate, parse_x509_crl, parse_x509_der};

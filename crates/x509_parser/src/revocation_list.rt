@@ -2,4 +2,5 @@
 
 pub use x509_lists::{
     CertificateRevocationList, CertificateRevocationListParser, RevokedCertificate, TbsCertList,
+    laws as list_laws,
 };

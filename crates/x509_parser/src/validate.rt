@@ -1,8 +1,9 @@
-//! Validators, and loggers that they tell what is amiss.
+//! Validators, and loggers that they tell what is amiss. A `StderrLogger` writes to a sink: a `WriteSink` over a writer of std, say.
 
+pub use asn1_device::WriteSink;
 pub use x509_validate::{
     CallbackLogger, ChainValidator, LogError, Logger, OnError, OnWarning, StderrLogger,
     TbsCertificateStructureValidator, Validate, Validator, VecLogger, X509CertificateValidator,
     X509ExtensionsValidator, X509NameStructureValidator, X509PublicKeyValidator,
-    X509StructureValidator,
+    X509StructureValidator, messages_of_key,
 };

@@ -4,5 +4,6 @@ pub use x509_ext::X509Version;
 pub use x509_names::{
     AlgorithmIdentifier, AttributeTypeAndValue, Attributes, AttributesOf,
     RelativeDistinguishedName, SubjectPublicKeyInfo, X509Name, laws as name_laws,
+    text_laws as name_text_laws,
 };
 pub use x509_values::ReasonCode;

@@ -1,11 +1,15 @@
-//! Reads rows `VALIDATOR OCTETS` from standard input, and prints each with what the validator answers and says: `VALIDATOR OCTETS = OUTCOME`,
-//! the outcome being the answer, and then each warning behind `W`, each error behind `E`.
+//! Reads rows `VALIDATOR OCTETS` from standard input, and prints each with what the validator answers and says:
+//! `VALIDATOR OCTETS = OUTCOME`, the outcome being the answer, and then each warning behind `W`, each error behind `E`.
 //!
-//! Validators: `name`, `key`; of a certificate `structure`, `extensions`, `chain` (the one, then the other)
-//! and `validate`. The octets stand in hex. Empty lines and those that begin with `#` are printed as they stand.
+//! Validators: `name`, `key`; of a certificate `structure`, `extensions`, `extension-list` (by the list alone), `chain` (the one, then
+//! the other) and `validate`; of a signed part by itself `tbs-structure` and `tbs-validate`. `written` and `handed` are `validate` with
+//! a logger that writes lines, and with one that hands messages to closures, which tell them in the order in which they come.
+//! `refusal memory` and `refusal write` are why a logger takes no message, as text. The octets stand in hex. Empty lines and those that
+//! begin with `#` are printed as they stand.
 #![tactic(auto)]
 
 mod certificate;
+mod loggers;
 mod part;
 mod row;
 

@@ -1,12 +1,13 @@
 //! Names and keys.
 
 use crate::row::told;
-use asn1_traits::FromDer;
 use hex_rows::literal;
 use std::alloc::Global;
 use std::io;
-use x509_names::{SubjectPublicKeyInfo, X509Name};
-use x509_validate::{Validator, VecLogger, X509NameStructureValidator, X509PublicKeyValidator};
+use x509_parser::prelude::{
+    FromDer, SubjectPublicKeyInfo, Validator, VecLogger, X509Name, X509NameStructureValidator,
+    X509PublicKeyValidator,
+};
 
 pub(crate) fn of_name(alloc: Global, octets: &[u8]) -> io::Result<String> {
     let Ok((_, name)) = X509Name::from_der(alloc, octets) else {

@@ -1,6 +1,7 @@
 //! What a row means.
 
-use crate::certificate::of_certificate;
+use crate::certificate::{of_certificate, of_tbs};
+use crate::loggers::refusal;
 use crate::part::{of_key, of_name};
 use hex_rows::{literal, octets_of};
 use std::alloc::Global;
@@ -11,12 +12,16 @@ pub(crate) fn outcome(alloc: Global, line: &str) -> io::Result<String> {
     let Some((validator, digits)) = line.split_once(' ') else {
         return literal(alloc, "no row");
     };
+    if validator == "refusal" {
+        return refusal(alloc, digits);
+    }
     let Some(octets) = octets_of(alloc, digits)? else {
         return literal(alloc, "no octets");
     };
     match validator {
         "name" => of_name(alloc, &octets),
         "key" => of_key(alloc, &octets),
+        "tbs-structure" | "tbs-validate" => of_tbs(alloc, validator, &octets),
         _ => of_certificate(alloc, validator, &octets),
     }
 }
