@@ -1,7 +1,7 @@
 #!/usr/bin/env python3
 """Tries the edits of crates/NAME/wrong, of the named crates or of all: the prover must refuse each.
 
-It works on a copy of the repository, and one crate is tried on each processor: edits of different functions together, by one check, and
+It works on copies of the repository, and one crate is tried on each processor: edits of different functions together, by one check, and
 what isn't refused there alone, by `rt must-fail`. Each edit counts as passed or failed; one that was not tried has failed.
 """
 import os
@@ -31,7 +31,7 @@ def say(text):
         print(f"wrong: {text}", flush=True)
 
 
-def copy_of(room, crates, libraries):
+def copy_of(room, libraries):
     """Copies what a check reads, and the libraries as they are built, so that they aren't proved again."""
     for name in ("crates.txt", "HANDLES"):
         shutil.copy(os.path.join(repo.TOP, name), room)
@@ -43,6 +43,18 @@ def copy_of(room, crates, libraries):
             if os.path.isdir(source):
                 os.makedirs(os.path.dirname(os.path.join(to, part)), exist_ok=True)
                 subprocess.run(["cp", "-r", "-p", "--reflink=auto", source, os.path.join(to, part)], check=True)
+
+
+def room_of(room, crate):
+    """A room of the crate's own, since its sources change while the crates above it are tried: all of the copy by links, but for these sources."""
+    own = f"{room}-{crate}"
+    subprocess.run(["cp", "-r", "-l", room, own], check=True)
+    for part in ("src", "specs", "proofs"):
+        linked_to = os.path.join(own, "crates", crate, part)
+        if os.path.isdir(linked_to):
+            shutil.rmtree(linked_to)
+            shutil.copytree(os.path.join(repo.TOP, "crates", crate, part), linked_to)
+    return own
 
 
 def stop(number, _):
@@ -104,14 +116,14 @@ def at_once(folder, crate, group):
 
 
 def refused_together(folder, crate, edits):
-    """The edits that are refused where those of different functions are checked together, over what a check of the crate as it stands proved."""
+    """The edits that are refused where those of different functions are checked together, over what a check of the crate as it stands proved; none where it isn't proved."""
     groups, _ = together.groups(crate, "wrong", edits)
     if not any(len(it) > 1 for it in groups):
         return []
     status, said = ran(["rt", "check", "--jobs", "1"], folder)
     if status:
         say(f"{crate}: it isn't proved as it stands: {said.strip()[-600:]}")
-        return []
+        return None
     os.rename(f"{folder}/out/incremental", f"{folder}/out/seed")
     found = [it for group in groups for it in at_once(folder, crate, group)]
     shutil.rmtree(f"{folder}/out/incremental", ignore_errors=True)
@@ -119,10 +131,13 @@ def refused_together(folder, crate, edits):
     return found
 
 
-def tried(room, scratch, crate):
+def tried(copy, scratch, crate):
     """Tries a crate's edits, and gives how many passed and failed."""
+    room = room_of(copy, crate)
     edits, folder = repo.edits(crate, "wrong"), os.path.join(room, "crates", crate)
     passed = refused_together(folder, crate, edits)
+    if passed is None:
+        return 0, len(edits)
     alone = [it for it in edits if it not in passed]
     at_first = len(passed)
     os.makedirs(f"{folder}/must-fail")
@@ -142,7 +157,7 @@ def tried(room, scratch, crate):
         say(f"{crate}: rt must-fail ended with status {status}: {text.strip()[-600:]}")
         failed = max(failed, 1)
     say(f"{crate}: {len(passed)} of {len(edits)} refused, {at_first} of them together with others")
-    shutil.rmtree(f"{folder}/out/incremental", ignore_errors=True)
+    shutil.rmtree(room, ignore_errors=True)
     return len(passed), failed
 
 
@@ -163,7 +178,7 @@ def main(names):
         os.mkdir(scratch)
         why = unproved(repo.TOP, libraries)
         if not why:
-            copy_of(room, crates, libraries)
+            copy_of(room, libraries)
             # they are built already, unless a source has changed meanwhile: what is tried side by side must not build them
             why = unproved(room, libraries)
         if why:
