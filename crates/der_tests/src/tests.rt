@@ -4,19 +4,24 @@ mod ber_trees;
 mod combinators;
 mod der_trees;
 
-use asn1_core::{Class, Error, Length};
+use asn1_core::{Class, Err as Refusal, Error, Length};
 use asn1_device::WriteSink;
-use der_tree::{BerObject, BerObjectContent, BerResult, ber_encode_object, end_of, first_of};
+use der_tree::{BerObject, BerObjectContent, BerResult, ber_encode_object};
 use std::alloc::{AllocError, Global};
 use std::fmt::Debug;
 use std::process::Abort;
 
-// That the debug text of what came is this one.
-fn tells<R: Abort + AllocGlobal, T: Debug + Drop>(rt: &R, got: T, want: &str) {
-    match format!(in rt.alloc(); "{got:?}") {
+// That what came is this text.
+fn says<R: Abort>(rt: &R, got: Result<String, AllocError>, want: &str) {
+    match got {
         Ok(text) => assert!(rt; text.as_str() == want, "{text} where {want} is wanted"),
         Err(AllocError) => assert!(rt; false),
     }
+}
+
+// That the debug text of what came is this one.
+fn tells<R: Abort + AllocGlobal, T: Debug + Drop>(rt: &R, got: T, want: &str) {
+    says(rt, format!(in rt.alloc(); "{got:?}"), want)
 }
 
 // What a content holds; of a sequence or a set how many parts.
@@ -24,24 +29,18 @@ fn tells<R: Abort + AllocGlobal, T: Debug + Drop>(rt: &R, got: T, want: &str) {
 enum Content<'a> {
     Sequence(usize),
     Set(usize),
-    Number(u32),
     Octets(&'a [u8]),
     Other,
 }
 
 fn content_of<'a>(content: &BerObjectContent<'a>) -> Content<'a> {
-    if let Ok(parts) = content.as_sequence() {
-        return Content::Sequence(parts.len());
-    }
-    if let Ok(parts) = content.as_set() {
-        return Content::Set(parts.len());
-    }
-    if let Ok(number) = content.as_u32() {
-        return Content::Number(number);
-    }
-    match content.as_slice() {
-        Ok(octets) => Content::Octets(octets),
-        Err(_) => Content::Other,
+    match content {
+        BerObjectContent::Sequence(parts) => Content::Sequence(parts.len()),
+        BerObjectContent::Set(parts) => Content::Set(parts.len()),
+        _ => match content.as_slice() {
+            Ok(octets) => Content::Octets(octets),
+            Err(_) => Content::Other,
+        },
     }
 }
 
@@ -74,56 +73,51 @@ fn arcs_of<'b>(object: &'b BerObject<'_>) -> Option<&'b [u8]> {
     }
 }
 
-// What the accessors of an object answer.
-type Answers<'b, 'a> = (
-    Result<bool, Error>,
-    Option<u64>,
-    Option<&'a [u8]>,
-    Option<&'b [u8]>,
-    Option<(u8, &'a [u8])>,
-    Option<&'a str>,
-);
-
-fn answers<'b, 'a>(object: &'b BerObject<'a>) -> Answers<'b, 'a> {
-    (
+// What the accessors of an object answer: as a truth value, a number, octets, an identifier, bits and a text.
+fn answers(alloc: Global, object: &BerObject<'_>) -> Result<String, AllocError> {
+    format!(in alloc;
+        "{:?} {:?} {:?} {:?} {:?} {:?}",
         object.as_bool(),
         object.as_u64().ok(),
         object.as_slice().ok(),
         arcs_of(object),
         object.as_bitstring().ok(),
-        object.as_str().ok(),
+        object.as_str().ok()
     )
 }
 
-// The parts from a position on.
-fn from<'b, 'a>(parts: &'b [BerObject<'a>], at: usize) -> &'b [BerObject<'a>] {
-    let at = if at < parts.len() { at } else { parts.len() };
-    &parts[at..]
-}
-
-// That the parts, one after the other, are read so and answer so, and that there are no more.
-fn has_parts<R: Abort + AllocGlobal>(rt: &R, parts: &[BerObject<'_>], wants: &[(&str, &str)]) {
-    for (at, (want, answered)) in wants.iter().enumerate() {
-        match first_of(from(parts, at)) {
-            Some((part, _)) => {
-                tells(rt, seen(part), want);
-                tells(rt, answers(part), answered);
-            }
-            None => tells(rt, "no part", want),
+// That the parts, one after the other, are read so, and that there are no more.
+fn has_parts<R: Abort + AllocGlobal>(rt: &R, parts: &[BerObject<'_>], wants: &[&str]) {
+    let mut wants = wants.iter();
+    for part in parts {
+        match wants.next() {
+            Some(want) => tells(rt, seen(part), want),
+            None => tells(rt, "a part more", "none"),
         }
     }
-    tells(rt, end_of(from(parts, wants.len())), "Some(())")
+    assert!(rt; wants.next().is_none())
+}
+
+// Whether an object is written as these octets to a device.
+fn is_encoded(alloc: Global, object: &BerObject<'_>, octets: &[u8]) -> bool {
+    let mut sink = WriteSink::new(Vec::new(alloc));
+    match ber_encode_object(alloc, &mut sink, object) {
+        Ok(length) => length == octets.len() && sink.into_inner().as_slice() == octets,
+        Err(_) => false,
+    }
+}
+
+// The same at once.
+fn is_vector(alloc: Global, object: &BerObject<'_>, octets: &[u8]) -> bool {
+    match object.to_vec(alloc) {
+        Ok(written) => written.as_slice() == octets,
+        Err(_) => false,
+    }
 }
 
 // Whether an object is written as these octets, at once and to a device.
 fn is_written(alloc: Global, object: &BerObject<'_>, octets: &[u8]) -> bool {
-    let mut sink = WriteSink::new(Vec::new(alloc));
-    let length = ber_encode_object(alloc, &mut sink, object);
-    let same = length == Ok(octets.len()) && sink.into_inner().as_slice() == octets;
-    match object.to_vec(alloc) {
-        Ok(written) => same && written.as_slice() == octets,
-        Err(_) => false,
-    }
+    is_vector(alloc, object, octets) && is_encoded(alloc, object, octets)
 }
 
 // How many parts the sequences of thousands have.
@@ -143,12 +137,20 @@ fn numbers(alloc: Global, before: &[u8], header: &[u8]) -> Result<Vec<u8>, Alloc
 fn count_of_numbers(parts: &[BerObject<'_>]) -> u32 {
     let mut count = 0u32;
     for part in parts {
-        let length = part.header.length();
-        match part.as_u32() {
-            Ok(number) if number == 256 + count % 256 && length == Length::Definite(2) => {}
-            _ => return count,
+        let is_long = part.header.length() == Length::Definite(2);
+        if !is_long || part.as_u32() != Ok(256 + count % 256) {
+            return count;
         }
         count = count.wrapping_add(1);
     }
     count
+}
+
+// How many octets are left, how many parts the sequence has, and how many of them are such numbers.
+fn counts(read: BerResult<'_>) -> Result<(usize, usize, u32), Refusal<Error>> {
+    let (rest, object) = read?;
+    match object.as_sequence() {
+        Ok(parts) => Ok((rest.len(), parts.len(), count_of_numbers(parts))),
+        Err(error) => Err(Refusal::Error(error)),
+    }
 }

@@ -108,7 +108,7 @@ fn implicit_objects_are_read(rt: HostRuntime) {
     reads(
         &rt,
         as_type(alloc, b"\x82\x02\x00\x80\x05", Tag::Integer),
-        "Ok(([5], (ContextSpecific, Definite(2), [130, 2, 0, 128], Number(128))))",
+        "Ok(([5], (ContextSpecific, Definite(2), [130, 2, 0, 128], Octets([0, 128]))))",
     );
     reads(
         &rt,
@@ -163,7 +163,7 @@ fn contents_alone_are_read(rt: HostRuntime) {
             want,
         )
     };
-    number(b"\x00\x80\x05", 1, "Ok(([5], Number(128)))");
+    number(b"\x00\x80\x05", 1, "Ok(([5], Octets([0, 128])))");
     number(b"\x00\x80", 0, "Err(Error(BerMaxDepth))");
     number(b"\x00", 1, "Err(Incomplete(Size(1)))");
     number(b"\x00\x7f", 1, "Err(Error(BerValueError))");
@@ -203,6 +203,11 @@ fn items_are_read_to_the_end(rt: HostRuntime) {
     tells(&rt, all_small(alloc, b"\x31\x00"), NO_SEQUENCE);
     let short = all_small(alloc, b"\x30\x01");
     tells(&rt, short, "Err(Incomplete(Size(1)))");
+}
+
+#[test]
+fn refusals_of_items_are_told(rt: HostRuntime) {
+    let alloc = rt.alloc();
     let none_taken = parse_der_sequence_of_v(alloc, b"\x30\x01\x00", |i| {
         Ok::<_, Refusal<Error>>((i, 0u8))
     });
