@@ -1,16 +1,15 @@
 //! Copies, and numbers as text.
 
+use crate::read;
 use crate::row::answer;
 use asn1_core::OutOfMemory;
 use asn1_traits::FromDer;
 use std::alloc::Global;
-use x509_certs::{TbsCertificate, X509Certificate};
-use x509_lists::CertificateRevocationList;
 use x509_requests::X509CriAttribute;
 
 /// Whether the copy of a certificate is the same.
 pub(crate) fn certificate(alloc: Global, octets: &[u8]) -> Result<String, OutOfMemory> {
-    let Ok((_, certificate)) = X509Certificate::from_der(alloc, octets) else {
+    let Some(certificate) = read::certificate(alloc, octets) else {
         return answer(alloc, "no certificate");
     };
     let copy = certificate.clone(alloc)?;
@@ -19,7 +18,7 @@ pub(crate) fn certificate(alloc: Global, octets: &[u8]) -> Result<String, OutOfM
 
 /// Whether the copy of a list is the same, part by part.
 pub(crate) fn list(alloc: Global, octets: &[u8]) -> Result<String, OutOfMemory> {
-    let Ok((_, list)) = CertificateRevocationList::from_der(alloc, octets) else {
+    let Some(list) = read::list(alloc, octets) else {
         return answer(alloc, "no list");
     };
     let copy = list.clone(alloc)?;
@@ -47,7 +46,7 @@ fn same(alloc: Global, is_same: bool) -> Result<String, OutOfMemory> {
 
 /// The serial number of a certificate.
 pub(crate) fn serial(alloc: Global, octets: &[u8]) -> Result<String, OutOfMemory> {
-    let Ok((_, certificate)) = X509Certificate::from_der(alloc, octets) else {
+    let Some(certificate) = read::certificate(alloc, octets) else {
         return answer(alloc, "no certificate");
     };
     let text = certificate.raw_serial_as_string(alloc)?;
@@ -56,7 +55,7 @@ pub(crate) fn serial(alloc: Global, octets: &[u8]) -> Result<String, OutOfMemory
 
 /// The serial number of a certificate's first part.
 pub(crate) fn first_part_serial(alloc: Global, octets: &[u8]) -> Result<String, OutOfMemory> {
-    let Ok((_, tbs)) = TbsCertificate::from_der(alloc, octets) else {
+    let Some(tbs) = read::first_part(alloc, octets) else {
         return answer(alloc, "no first part");
     };
     let text = tbs.raw_serial_as_string(alloc)?;
@@ -65,7 +64,7 @@ pub(crate) fn first_part_serial(alloc: Global, octets: &[u8]) -> Result<String, 
 
 /// The serial numbers of a list's entries, each behind a blank.
 pub(crate) fn entry_serials(alloc: Global, octets: &[u8]) -> Result<String, OutOfMemory> {
-    let Ok((_, list)) = CertificateRevocationList::from_der(alloc, octets) else {
+    let Some(list) = read::list(alloc, octets) else {
         return answer(alloc, "no list");
     };
     let mut text = String::from_str(alloc, "serials")?;

@@ -1,21 +1,19 @@
 //! Extensions by their identifiers.
 
+use crate::read;
 use crate::row::answer;
 use asn1_core::OutOfMemory;
 use asn1_oid::Oid;
-use asn1_traits::FromDer;
 use std::alloc::Global;
 use std::collections::BTreeMap;
-use x509_certs::{TbsCertificate, X509Certificate};
 use x509_core::X509Error;
 use x509_ext::X509Extension;
-use x509_lists::CertificateRevocationList;
 
 type ByIdentifier<'n, 'a> = Result<BTreeMap<Oid<'a>, &'n X509Extension<'a>>, X509Error>;
 
 /// Those of a certificate.
 pub(crate) fn of_certificate(alloc: Global, octets: &[u8]) -> Result<String, OutOfMemory> {
-    let Ok((_, certificate)) = X509Certificate::from_der(alloc, octets) else {
+    let Some(certificate) = read::certificate(alloc, octets) else {
         return answer(alloc, "no certificate");
     };
     let mut text = String::new(alloc);
@@ -25,7 +23,7 @@ pub(crate) fn of_certificate(alloc: Global, octets: &[u8]) -> Result<String, Out
 
 /// Those of a certificate's first part.
 pub(crate) fn of_first_part(alloc: Global, octets: &[u8]) -> Result<String, OutOfMemory> {
-    let Ok((_, tbs)) = TbsCertificate::from_der(alloc, octets) else {
+    let Some(tbs) = read::first_part(alloc, octets) else {
         return answer(alloc, "no first part");
     };
     let mut text = String::new(alloc);
@@ -35,7 +33,7 @@ pub(crate) fn of_first_part(alloc: Global, octets: &[u8]) -> Result<String, OutO
 
 /// Those of a list, and then of each of its entries.
 pub(crate) fn of_list(alloc: Global, octets: &[u8]) -> Result<String, OutOfMemory> {
-    let Ok((_, list)) = CertificateRevocationList::from_der(alloc, octets) else {
+    let Some(list) = read::list(alloc, octets) else {
         return answer(alloc, "no list");
     };
     let mut text = String::new(alloc);

@@ -15,6 +15,7 @@ mod flags;
 mod maps;
 mod names;
 mod parsers;
+mod read;
 mod row;
 mod warned;
 

@@ -1,5 +1,6 @@
 //! Names as text.
 
+use crate::read;
 use crate::row::answer;
 use asn1_any::Any;
 use asn1_core::{OutOfMemory, Tag};
@@ -12,7 +13,7 @@ use x509_objects::{OidEntry, oid_registry};
 
 /// The name, its types named as they are known.
 pub(crate) fn name(alloc: Global, octets: &[u8]) -> Result<String, OutOfMemory> {
-    let Ok((_, name)) = X509Name::from_der(alloc, octets) else {
+    let Some(name) = read::name(alloc, octets) else {
         return answer(alloc, "no name");
     };
     let text = format!(in alloc; "{name}")?;
@@ -21,7 +22,7 @@ pub(crate) fn name(alloc: Global, octets: &[u8]) -> Result<String, OutOfMemory> 
 
 /// The name, its types named by a registry that knows 1.2.3 as `own` too.
 pub(crate) fn registered(alloc: Global, octets: &[u8]) -> Result<String, OutOfMemory> {
-    let Ok((_, name)) = X509Name::from_der(alloc, octets) else {
+    let Some(name) = read::name(alloc, octets) else {
         return answer(alloc, "no name");
     };
     let mut registry = oid_registry(alloc)?;
