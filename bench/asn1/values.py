@@ -1,8 +1,8 @@
 #!/usr/bin/env python3
 """Times reading UTCTimes and writing a sequence of 1,000 numbers of 32 bits.
 
-Prints the nanoseconds that one value takes, the least of five runs. With the path of another build of `value_bench`
-(`crates/value_bench/out/value_bench` of an earlier commit) both are timed in turn, and the ratio to it is printed.
+Prints the nanoseconds that one value takes, the least of five runs. With the path of another build of `read_bench`
+(`crates/read_bench/out/read_bench` of an earlier commit) both are timed in turn, and the ratio to it is printed.
 """
 import os
 import random
@@ -32,19 +32,19 @@ def sequence(numbers):
     return b"\x30\x82" + len(content).to_bytes(2, "big") + content
 
 
-def nanoseconds(programs, path):
+def nanoseconds(programs, name, path):
     """The nanoseconds a value by each of the programs, which take turns."""
-    runs = [[timing.timed([program] + FILES * [path])[0] for program in programs] for _ in range(timing.RUNS)]
+    runs = [[timing.timed([program] + FILES * [name, path])[0] for program in programs] for _ in range(timing.RUNS)]
     return [min(times) * 1e9 / (FILES * ROUNDS * VALUES) for times in zip(*runs)]
 
 
 if __name__ == "__main__":
-    programs = [timing.built("value_bench")] + sys.argv[1:2]
+    programs = [timing.built("read_bench")] + sys.argv[1:2]
     with tempfile.TemporaryDirectory() as room:
         for name, make in (("times", utc_times), ("numbers", sequence)):
             path = os.path.join(room, name)
             with open(path, "wb") as file:
                 file.write(make(random.Random(1)))
-            here, *other = nanoseconds(programs, path)
+            here, *other = nanoseconds(programs, name, path)
             beside = f", {here / other[0]:.2f} times the other's {other[0]:.1f}" if other else ""
             print(f"{'reading a UTCTime' if name == 'times' else 'writing a number'}: {here:.1f} ns{beside}")

@@ -35,10 +35,10 @@ def of_many_extensions(size):
     return element(0x30, tbs, SIGNED)
 
 
-def seconds(program, reader, path, said):
-    """The median of the seconds of some runs that say so."""
+def seconds(program, reader, path, count, size):
+    """The median of the seconds of some runs that read so many items of so many octets."""
     printed = subprocess.run([program, reader, path], check=True, capture_output=True, text=True).stdout
-    if not printed.endswith(said):
+    if not printed.endswith(f": {count} {reader} in {size} octets\n"):
         sys.exit(f"{reader} printed something else: {printed[-200:]}")
     return statistics.median(timing.timed([program, reader, path])[0] for _ in range(timing.RUNS))
 
@@ -48,8 +48,7 @@ def of_bundle(program, room):
     with open(timing.SAMPLE, "rb") as sample:
         item = sample.read()
     bundle = write(room, "bundle.der", item * ITEMS)
-    said = f": {ITEMS} items in {ITEMS * len(item)} octets\n"
-    typed, tree, road = (seconds(program, it, bundle, said) for it in ("typed", "tree", "road"))
+    typed, tree, road = (seconds(program, it, bundle, ITEMS, ITEMS * len(item)) for it in ("typed", "tree", "road"))
     print(f"{ITEMS} items: X509Certificate::from_der {typed:.4f} s; read_tree {tree:.4f} s, {tree / typed:.2f} times; read_typed {road:.4f} s, "
           f"{road / typed:.2f} times, {1e6 * road / ITEMS:.2f} microseconds an item", flush=True)
     return road / typed
@@ -61,13 +60,13 @@ def of_one(program, room):
     for size in (MEGABYTE, 2 * MEGABYTE, 4 * MEGABYTE):
         item = of_many_extensions(size)
         path = write(room, "item.der", item)
-        times.append(seconds(program, "road", path, f": 1 items in {len(item)} octets\n"))
+        times.append(seconds(program, "road", path, 1, len(item)))
         print(f"one certificate of {len(item)} octets: read_typed {times[-1]:.4f} s", flush=True)
     return max(after / before for before, after in zip(times, times[1:]))
 
 
 def main():
-    program = timing.built("x509_bench")
+    program = timing.built("read_bench")
     with tempfile.TemporaryDirectory() as room:
         ratio, growth = of_bundle(program, room), of_one(program, room)
     print(f"read_typed: {ratio:.2f} times X509Certificate::from_der, at most {MOST_OF_TYPED}; {growth:.2f} times at a doubling, at most {MOST_GROWTH}")

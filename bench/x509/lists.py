@@ -48,14 +48,14 @@ def write_list(path, count):
 
 
 def main():
-    program, seconds, is_reached = timing.built("x509_bench"), [], True
+    program, seconds, is_reached = timing.built("read_bench"), [], True
     with tempfile.TemporaryDirectory() as room:
         for count in ENTRIES:
             path = os.path.join(room, f"{count}.der")
             write_list(path, count)
             size = os.path.getsize(path)
             said = subprocess.run([program, "list", path], check=True, capture_output=True, text=True).stdout
-            if not said.endswith(f": 1 items in {size} octets\n"):
+            if not said.endswith(f": 1 list in {size} octets\n"):
                 sys.exit(f"something else was printed: {said[-200:]}")
             runs = [timing.timed([program, "list", path]) for _ in range(timing.RUNS)]
             took, memory = (statistics.median(it) for it in zip(*runs))

@@ -26,7 +26,7 @@ def median(words):
 
 
 def main():
-    program = timing.built("x509_bench")
+    program = timing.built("read_bench")
     with open(timing.SAMPLE, "rb") as sample:
         item = sample.read()
     with tempfile.TemporaryDirectory() as room:
@@ -37,7 +37,7 @@ def main():
                 out.write(item * count)
             for reader in ("typed", "plain", "tree"):
                 said = subprocess.run([program, reader, bundle], check=True, capture_output=True, text=True).stdout
-                if not said.endswith(f": {count} items in {count * len(item)} octets\n"):
+                if not said.endswith(f": {count} {reader} in {count * len(item)} octets\n"):
                     sys.exit(f"{reader} printed something else: {said[-200:]}")
             typed, plain, tree = (median([program, it, bundle]) for it in ("typed", "plain", "tree"))
             touched = median([loop, bundle])

@@ -1,78 +1,28 @@
-//! A row, taken apart.
+//! A row, taken to its group.
 
-use crate::certificates::{
-    counted, first_extension, serial, unique_extension, version, version_at,
-};
-use crate::getters::extension_under;
-use crate::keys::{exponent, parsed};
-use crate::names::{as_slice, as_str, attributes_of, attributes_under};
-use crate::objects::name_of;
-use crate::times::{from_timestamp, is_valid_at, next_update_of, time, time_left, validity};
-use crate::words::told_of;
-use asn1_traits::FromDer;
-use hex_rows::{literal, octets_of};
+use crate::{call, certificate, list, validator, value, walk};
+use asn1_core::OutOfMemory;
+use hex_rows::literal;
 use std::alloc::Global;
 use std::io;
-use x509_certs::{TbsCertificate, X509Certificate};
-use x509_ext::X509Extension;
-use x509_names::{
-    AlgorithmIdentifier, AttributeTypeAndValue, RSAPublicKey, RelativeDistinguishedName,
-    SubjectPublicKeyInfo, X509Name,
-};
 
 /// What the call of the row answers.
-pub fn outcome(alloc: Global, row: &str) -> io::Result<String> {
-    let (call, digits) = row.split_once(' ').unwrap_or((row, ""));
-    let Some(octets) = octets_of(alloc, digits)? else {
-        return literal(alloc, "no octets");
-    };
-    let octets = octets.as_slice();
-    match call {
-        "algorithm" => told_of(alloc, AlgorithmIdentifier::from_der(alloc, octets)),
-        "attribute" => told_of(alloc, AttributeTypeAndValue::from_der(alloc, octets)),
-        "relative" => told_of(alloc, RelativeDistinguishedName::from_der(alloc, octets)),
-        "name" => told_of(alloc, X509Name::from_der(alloc, octets)),
-        "key" => told_of(alloc, SubjectPublicKeyInfo::from_der(alloc, octets)),
-        "time" => time(alloc, octets),
-        "validity" => validity(alloc, octets),
-        "rsa" => told_of(alloc, RSAPublicKey::from_der(alloc, octets)),
-        "version" => version(alloc, octets),
-        "extension" => told_of(alloc, X509Extension::from_der(alloc, octets)),
-        "tbs" => told_of(alloc, TbsCertificate::from_der(alloc, octets)),
-        "certificate" => told_of(alloc, X509Certificate::from_der(alloc, octets)),
-        _ => called(alloc, call, octets),
+pub(crate) fn outcome(alloc: Global, line: &str) -> io::Result<String> {
+    let (group, row) = line.split_once(' ').unwrap_or((line, ""));
+    match group {
+        "certificate" => certificate::outcome(alloc, row),
+        "list" => list::outcome(alloc, row),
+        "value" => value::outcome(alloc, row),
+        "walk" => walk::outcome(alloc, row),
+        "validator" => validator::outcome(alloc, row),
+        "call" => called(alloc, row),
+        _ => literal(alloc, "no group"),
     }
 }
 
-/// The same of calls on what was read.
-fn called(alloc: Global, call: &str, octets: &[u8]) -> io::Result<String> {
-    match call {
-        "format_serial" => serial(alloc, octets),
-        "parse_counted" => counted(alloc, octets),
-        "next_update" => next_update_of(alloc, octets),
-        "oid2sn" | "oid2description" | "oid2abbrev" => name_of(alloc, call, octets),
-        "as_str" => as_str(alloc, octets),
-        "as_slice" => as_slice(alloc, octets),
-        "iter_attributes" => attributes_of(alloc, octets),
-        "try_exponent" => exponent(alloc, octets),
-        "parsed" => parsed(alloc, octets),
-        "next_version" => version_at(alloc, octets),
-        _ => match (call.strip_prefix("iter_"), call.split_once(':')) {
-            (Some(name), _) => attributes_under(alloc, name, octets),
-            (None, Some((call, word))) => called_with(alloc, call, word, octets),
-            (None, None) => extension_under(alloc, call, octets),
-        },
-    }
-}
-
-/// The same of calls that take a word.
-fn called_with(alloc: Global, call: &str, word: &str, octets: &[u8]) -> io::Result<String> {
-    match call {
-        "from_timestamp" => from_timestamp(alloc, word),
-        "is_valid_at" => is_valid_at(alloc, word, octets),
-        "time_to_expiration" => time_left(alloc, word, octets),
-        "find_extension" => first_extension(alloc, word, octets),
-        "get_extension_unique" => unique_extension(alloc, word, octets),
-        _ => literal(alloc, "no call"),
+fn called(alloc: Global, row: &str) -> io::Result<String> {
+    match call::outcome(alloc, row) {
+        Ok(text) => Ok(text),
+        Err(OutOfMemory) => literal(alloc, "want of memory"),
     }
 }

@@ -9,13 +9,16 @@ use std::io;
 use x509_core::{X509Error, X509Result};
 
 /// A value that has words.
-pub trait Words {
+pub(crate) trait Words {
     /// The value's parts, in the order of its fields.
     fn words(&self, alloc: Global) -> io::Result<String>;
 }
 
 /// The value's words and the octets after it, or the refusal.
-pub fn told_of<T: Words + Drop>(alloc: Global, read: X509Result<'_, T>) -> io::Result<String> {
+pub(crate) fn told_of<T: Words + Drop>(
+    alloc: Global,
+    read: X509Result<'_, T>,
+) -> io::Result<String> {
     match read {
         Ok((rest, value)) => {
             let words = value.words(alloc)?;
@@ -28,7 +31,7 @@ pub fn told_of<T: Words + Drop>(alloc: Global, read: X509Result<'_, T>) -> io::R
 }
 
 /// The refusal; of an error of the readers below its kind alone, since which one it is isn't promised.
-pub fn refusal_text(alloc: Global, refusal: Refusal<X509Error>) -> io::Result<String> {
+pub(crate) fn refusal_text(alloc: Global, refusal: Refusal<X509Error>) -> io::Result<String> {
     match refusal {
         Refusal::Error(error) => {
             let error = error_text(alloc, error)?;
@@ -40,7 +43,7 @@ pub fn refusal_text(alloc: Global, refusal: Refusal<X509Error>) -> io::Result<St
 }
 
 /// The error's name.
-pub fn error_text(alloc: Global, error: X509Error) -> io::Result<String> {
+pub(crate) fn error_text(alloc: Global, error: X509Error) -> io::Result<String> {
     match error {
         X509Error::Der(_) => literal(alloc, "Der"),
         X509Error::NomError(_) => literal(alloc, "NomError"),
@@ -49,7 +52,7 @@ pub fn error_text(alloc: Global, error: X509Error) -> io::Result<String> {
 }
 
 /// An element: class, form, tag number and content.
-pub fn element_text(alloc: Global, any: &Any<'_>) -> io::Result<String> {
+pub(crate) fn element_text(alloc: Global, any: &Any<'_>) -> io::Result<String> {
     let class = match any.header.class() {
         Class::Universal => "universal",
         Class::Application => "application",
@@ -67,8 +70,26 @@ pub fn element_text(alloc: Global, any: &Any<'_>) -> io::Result<String> {
 }
 
 /// The number of unused bits, and the octets.
-pub fn bits_text(alloc: Global, bits: &BitString<'_>) -> io::Result<String> {
+pub(crate) fn bits_text(alloc: Global, bits: &BitString<'_>) -> io::Result<String> {
     let octets = hex_of(alloc, bits.content)?;
     let text = format!(in alloc; "{} unused of {octets}", bits.unused_bits)?;
     Ok(text)
+}
+
+/// Adds a line of a part.
+pub(crate) fn add<T: Words>(
+    alloc: Global,
+    text: &mut String,
+    name: &str,
+    part: &T,
+) -> io::Result<()> {
+    let words = part.words(alloc)?;
+    write!(text, "\n  {name} {words}")?;
+    Ok(())
+}
+
+impl Words for BitString<'_> {
+    fn words(&self, alloc: Global) -> io::Result<String> {
+        bits_text(alloc, self)
+    }
 }

@@ -1,4 +1,0 @@
-//! A module for each crate.
-
-mod engine;
-mod framing;

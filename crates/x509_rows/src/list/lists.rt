@@ -1,0 +1,121 @@
+//! Revocation lists and their entries.
+
+use crate::words::{Words, add};
+use asn1_core::HeaderCount;
+use asn1_traits::FromDer;
+use hex_rows::{hex_of, literal};
+use std::alloc::Global;
+use std::io;
+use x509_lists::{
+    CertificateRevocationList, CertificateRevocationListParser, RevokedCertificate, TbsCertList,
+};
+
+/// Whether a list is read, and whether the number of headers that were tried is in its bounds: at most eight for each octet,
+/// and at least nine of a list.
+pub(crate) fn counted(alloc: Global, octets: &[u8]) -> io::Result<String> {
+    let mut count = HeaderCount::new();
+    let read = CertificateRevocationListParser::new().parse_counted(alloc, octets, &mut count);
+    let (told, least) = if read.is_ok() {
+        ("read", 9)
+    } else {
+        ("refused", 0)
+    };
+    let tried = u128::from(count.get());
+    let is_bounded = least <= tried && tried <= octets.len() as u128 * 8;
+    let bounds = if is_bounded {
+        "in bounds"
+    } else {
+        "out of bounds"
+    };
+    let text = format!(in alloc; "{told}, headers {bounds}")?;
+    Ok(text)
+}
+
+/// The number of the list.
+pub(crate) fn crl_number(alloc: Global, octets: &[u8]) -> io::Result<String> {
+    let Ok((_, list)) = CertificateRevocationList::from_der(alloc, octets) else {
+        return literal(alloc, "no list");
+    };
+    match list.crl_number() {
+        Some(number) => {
+            let text = hex_of(alloc, number.as_bytes())?;
+            Ok(text)
+        }
+        None => literal(alloc, "none"),
+    }
+}
+
+/// Why the entry's certificate was revoked.
+pub(crate) fn reason_code(alloc: Global, octets: &[u8]) -> io::Result<String> {
+    let Ok((_, entry)) = RevokedCertificate::from_der(alloc, octets) else {
+        return literal(alloc, "no entry");
+    };
+    match entry.reason_code() {
+        Some((critical, reason)) => {
+            let text = format!(in alloc; "{reason}, critical {critical}")?;
+            Ok(text)
+        }
+        None => literal(alloc, "none"),
+    }
+}
+
+/// Since when the entry's certificate is thought to be invalid.
+pub(crate) fn invalidity_date(alloc: Global, octets: &[u8]) -> io::Result<String> {
+    let Ok((_, entry)) = RevokedCertificate::from_der(alloc, octets) else {
+        return literal(alloc, "no entry");
+    };
+    match entry.invalidity_date() {
+        Some((critical, date)) => {
+            let text = format!(in alloc; "{}, critical {critical}", date.timestamp())?;
+            Ok(text)
+        }
+        None => literal(alloc, "none"),
+    }
+}
+
+impl Words for RevokedCertificate<'_> {
+    fn words(&self, alloc: Global) -> io::Result<String> {
+        let serial = hex_of(alloc, self.raw_serial())?;
+        let number = hex_of(alloc, self.serial().as_bytes())?;
+        let date = self.revocation_date.words(alloc)?;
+        let mut text = format!(in alloc; "{serial}, number {number}, {date}")?;
+        for extension in self.iter_extensions() {
+            let words = extension.words(alloc)?;
+            write!(text, "\n    extension {words}")?;
+        }
+        Ok(text)
+    }
+}
+
+impl Words for TbsCertList<'_> {
+    fn words(&self, alloc: Global) -> io::Result<String> {
+        let mut text = hex_of(alloc, self.as_ref())?;
+        if let Some(version) = &self.version {
+            write!(text, "\n  version {version}")?;
+        }
+        add(alloc, &mut text, "signature", &self.signature)?;
+        add(alloc, &mut text, "issuer", &self.issuer)?;
+        add(alloc, &mut text, "this update", &self.this_update)?;
+        if let Some(time) = &self.next_update {
+            add(alloc, &mut text, "next update", time)?;
+        }
+        for entry in self.revoked_certificates.iter() {
+            add(alloc, &mut text, "revoked", entry)?;
+        }
+        for extension in self.iter_extensions() {
+            add(alloc, &mut text, "extension", extension)?;
+        }
+        Ok(text)
+    }
+}
+
+impl Words for CertificateRevocationList<'_> {
+    fn words(&self, alloc: Global) -> io::Result<String> {
+        let mut text = self.tbs_cert_list.words(alloc)?;
+        add(alloc, &mut text, "algorithm", &self.signature_algorithm)?;
+        add(alloc, &mut text, "signature value", &self.signature_value)?;
+        let raw = hex_of(alloc, self.as_raw())?;
+        write!(text, "\n  of {raw}")?;
+        Ok(text)
+    }
+}

@@ -1,0 +1,82 @@
+//! Rows of values of one element, and of texts.
+
+use crate::value::algorithms::of_algorithms;
+use crate::value::told::{fault_of, shown, told_of};
+use crate::words::refusal_text;
+use asn1_traits::FromDer;
+use hex_rows::{hex_of, literal};
+use std::alloc::Global;
+use std::io;
+use x509_flags::{KeyIdentifier, KeyUsage, NSCertType};
+use x509_leaves::{BasicConstraints, crl_number, invalidity_date, netscape_comment, reason_code};
+use x509_points::CRLDistributionPoints;
+
+/// What the reader of the row's type answers.
+pub(crate) fn of_leaves(alloc: Global, name: &str, octets: &[u8]) -> io::Result<String> {
+    match name {
+        "BasicConstraints" => told_of(alloc, BasicConstraints::from_der(alloc, octets)),
+        "BasicConstraintsFault" => fault_of(alloc, BasicConstraints::from_der(alloc, octets)),
+        "CRLNumber" => number(alloc, octets),
+        "ReasonCode" => told_of(alloc, reason_code(octets)),
+        "ReasonCodeFault" => fault_of(alloc, reason_code(octets)),
+        "InvalidityDate" => date(alloc, octets),
+        "NetscapeComment" => comment(alloc, octets),
+        "KeyUsageText" => shown(alloc, KeyUsage::from_der(alloc, octets)),
+        "NSCertTypeText" => shown(alloc, NSCertType::from_der(alloc, octets)),
+        "KeyIdentifierText" => shown(alloc, KeyIdentifier::from_der(alloc, octets)),
+        "ReasonFlagsText" => reasons(alloc, octets),
+        _ => of_algorithms(alloc, name, octets),
+    }
+}
+
+fn number(alloc: Global, octets: &[u8]) -> io::Result<String> {
+    match crl_number(octets) {
+        Ok((rest, number)) => {
+            let number = hex_of(alloc, number.as_bytes())?;
+            let rest = hex_of(alloc, rest)?;
+            let text = format!(in alloc; "{number}; rest {rest}")?;
+            Ok(text)
+        }
+        Err(refusal) => refusal_text(alloc, refusal),
+    }
+}
+
+fn date(alloc: Global, octets: &[u8]) -> io::Result<String> {
+    match invalidity_date(octets) {
+        Ok((rest, time)) => {
+            let rest = hex_of(alloc, rest)?;
+            let text = format!(in alloc; "{time}; rest {rest}")?;
+            Ok(text)
+        }
+        Err(refusal) => refusal_text(alloc, refusal),
+    }
+}
+
+fn comment(alloc: Global, octets: &[u8]) -> io::Result<String> {
+    match netscape_comment(octets) {
+        Ok((rest, comment)) => {
+            let comment = hex_of(alloc, comment.as_bytes())?;
+            let rest = hex_of(alloc, rest)?;
+            let text = format!(in alloc; "{comment}; rest {rest}")?;
+            Ok(text)
+        }
+        Err(refusal) => refusal_text(alloc, refusal),
+    }
+}
+
+/// The reasons of the first of the places that the octets tell.
+fn reasons(alloc: Global, octets: &[u8]) -> io::Result<String> {
+    let Ok((_, places)) = CRLDistributionPoints::from_der(alloc, octets) else {
+        return literal(alloc, "no places");
+    };
+    let Some(place) = places.points.first() else {
+        return literal(alloc, "no place");
+    };
+    match &place.reasons {
+        Some(reasons) => {
+            let text = format!(in alloc; "{reasons}")?;
+            Ok(text)
+        }
+        None => literal(alloc, "no reasons"),
+    }
+}
