@@ -54,19 +54,20 @@ impl<'a> GeneralName<'a> {
     pub fn clone(&self, alloc: Global) -> Result<GeneralName<'a>, OutOfMemory>
         ensures { IfOk result (λ copy. general_name_view copy ≡ general_name_view self.now) }
     {
-        let name = match self {
-            GeneralName::OtherName(id, octets) => GeneralName::OtherName(id.clone(alloc)?, *octets),
-            GeneralName::RFC822Name(text) => GeneralName::RFC822Name(*text),
-            GeneralName::DNSName(text) => GeneralName::DNSName(*text),
-            GeneralName::X400Address(any) => GeneralName::X400Address(*any),
-            GeneralName::DirectoryName(name) => GeneralName::DirectoryName(name.clone(alloc)?),
-            GeneralName::EDIPartyName(any) => GeneralName::EDIPartyName(*any),
-            GeneralName::URI(text) => GeneralName::URI(*text),
-            GeneralName::IPAddress(octets) => GeneralName::IPAddress(*octets),
-            GeneralName::RegisteredID(id) => GeneralName::RegisteredID(id.clone(alloc)?),
-            GeneralName::Invalid(tag, octets) => GeneralName::Invalid(*tag, *octets),
-        };
-        Ok(name)
+        match self {
+            GeneralName::OtherName(id, octets) => {
+                Ok(GeneralName::OtherName(id.clone(alloc)?, *octets))
+            }
+            GeneralName::RFC822Name(text) => Ok(GeneralName::RFC822Name(*text)),
+            GeneralName::DNSName(text) => Ok(GeneralName::DNSName(*text)),
+            GeneralName::X400Address(any) => Ok(GeneralName::X400Address(*any)),
+            GeneralName::DirectoryName(name) => Ok(GeneralName::DirectoryName(name.clone(alloc)?)),
+            GeneralName::EDIPartyName(any) => Ok(GeneralName::EDIPartyName(*any)),
+            GeneralName::URI(text) => Ok(GeneralName::URI(*text)),
+            GeneralName::IPAddress(octets) => Ok(GeneralName::IPAddress(*octets)),
+            GeneralName::RegisteredID(id) => Ok(GeneralName::RegisteredID(id.clone(alloc)?)),
+            GeneralName::Invalid(tag, octets) => Ok(GeneralName::Invalid(*tag, *octets)),
+        }
     }
 }
 
