@@ -1,6 +1,5 @@
 //! Versions, extensions and certificates.
 
-use crate::certificate::extensions::parsed_text;
 use crate::words::{Words, add, bits_text, error_text, refusal_text};
 use asn1_core::HeaderCount;
 use asn1_oid::Oid;
@@ -128,7 +127,7 @@ impl Words for X509Extension<'_> {
     fn words(&self, alloc: Global) -> io::Result<String> {
         let value = hex_of(alloc, self.value)?;
         let critical = if self.critical { "critical, " } else { "" };
-        let parsed = parsed_text(alloc, self.parsed_extension())?;
+        let parsed = self.parsed_extension().words(alloc)?;
         let text = format!(in alloc; "{}, {critical}{value}, {parsed}", self.oid)?;
         Ok(text)
     }

@@ -7,30 +7,35 @@ use std::io;
 use x509_ext::ParsedExtension;
 use x509_values::CRLDistributionPoints;
 
-/// The value's case and its fields; of one that its type refuses the case alone, since which error is told isn't promised.
-pub(crate) fn parsed_text(alloc: Global, parsed: &ParsedExtension<'_>) -> io::Result<String> {
-    if parsed.unsupported() {
-        return literal(alloc, "unsupported");
-    }
-    if parsed.error().is_some() {
-        return literal(alloc, "ParseError");
-    }
-    let text = match parsed {
-        ParsedExtension::KeyUsage(usage) => format!(in alloc; "KeyUsage {}, {usage}", usage.flags)?,
-        ParsedExtension::NSCertType(kinds) => format!(in alloc; "NSCertType {kinds}")?,
-        ParsedExtension::ReasonCode(reason) => format!(in alloc; "ReasonCode {}", reason.0)?,
-        ParsedExtension::CRLNumber(number) => {
-            let octets = hex_of(alloc, number.as_bytes())?;
-            format!(in alloc; "CRLNumber {octets}")?
+impl Words for ParsedExtension<'_> {
+    /// The value's case and its fields; of one that its type refuses the case alone, since which error is told isn't promised.
+    fn words(&self, alloc: Global) -> io::Result<String> {
+        if self.unsupported() {
+            return literal(alloc, "unsupported");
         }
-        ParsedExtension::InvalidityDate(date) => {
-            let words = date.words(alloc)?;
-            format!(in alloc; "InvalidityDate {words}")?
+        if self.error().is_some() {
+            return literal(alloc, "ParseError");
         }
-        ParsedExtension::CRLDistributionPoints(points) => points_text(alloc, points)?,
-        parsed => format!(in alloc; "{parsed:?}")?,
-    };
-    Ok(text)
+        let text = match self {
+            ParsedExtension::KeyUsage(usage) => format!(in alloc;
+                "KeyUsage {}, {usage}",
+                usage.flags
+            )?,
+            ParsedExtension::NSCertType(kinds) => format!(in alloc; "NSCertType {kinds}")?,
+            ParsedExtension::ReasonCode(reason) => format!(in alloc; "ReasonCode {}", reason.0)?,
+            ParsedExtension::CRLNumber(number) => {
+                let octets = hex_of(alloc, number.as_bytes())?;
+                format!(in alloc; "CRLNumber {octets}")?
+            }
+            ParsedExtension::InvalidityDate(date) => {
+                let words = date.words(alloc)?;
+                format!(in alloc; "InvalidityDate {words}")?
+            }
+            ParsedExtension::CRLDistributionPoints(points) => points_text(alloc, points)?,
+            parsed => format!(in alloc; "{parsed:?}")?,
+        };
+        Ok(text)
+    }
 }
 
 /// The points, and the text of each one's reasons.
