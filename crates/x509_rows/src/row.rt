@@ -1,7 +1,6 @@
 //! A row, taken to its group.
 
-use crate::{call, certificate, list, validator, value, walk};
-use asn1_core::OutOfMemory;
+use crate::{certificate, list, value};
 use hex_rows::literal;
 use std::alloc::Global;
 use std::io;
@@ -13,16 +12,6 @@ pub(crate) fn outcome(alloc: Global, line: &str) -> io::Result<String> {
         "certificate" => certificate::outcome(alloc, row),
         "list" => list::outcome(alloc, row),
         "value" => value::outcome(alloc, row),
-        "walk" => walk::outcome(alloc, row),
-        "validator" => validator::outcome(alloc, row),
-        "call" => called(alloc, row),
         _ => literal(alloc, "no group"),
-    }
-}
-
-fn called(alloc: Global, row: &str) -> io::Result<String> {
-    match call::outcome(alloc, row) {
-        Ok(text) => Ok(text),
-        Err(OutOfMemory) => literal(alloc, "want of memory"),
     }
 }

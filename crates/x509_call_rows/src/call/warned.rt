@@ -12,7 +12,7 @@ struct Small {
 }
 
 impl Validate for Small {
-    ghost use Rattle.x509_rows.specs.Warned.{warnings_of};
+    ghost use Rattle.x509_call_rows.specs.Warned.{warnings_of};
 
     ghost messages = { λ small. warnings_of small.number };
 
@@ -29,7 +29,7 @@ impl Validate for Small {
 struct SmallValidator;
 
 impl<'a> Validator<'a> for SmallValidator {
-    ghost use Rattle.x509_rows.specs.Warned.{warnings_of};
+    ghost use Rattle.x509_call_rows.specs.Warned.{warnings_of};
 
     type Item = Small;
 

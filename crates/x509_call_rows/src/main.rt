@@ -1,0 +1,26 @@
+//! Reads rows `GROUP CALL OCTETS` from standard input, and prints each with what the call answers: `GROUP CALL OCTETS = OUTCOME`.
+//!
+//! Groups: `walk`, `validator`, `call`; each one's module tells its calls. The octets stand in hex. Empty lines and those that begin with `#` are printed
+//! as they stand.
+#![tactic(auto)]
+
+mod call;
+mod row;
+mod validator;
+mod walk;
+
+use crate::row::outcome;
+use std::io;
+
+fn main(rt: HostRuntime) -> io::Result<()> {
+    let alloc = rt.alloc();
+    for line in rt.lines(alloc) {
+        let line = line?;
+        if line.is_empty() || line.starts_with('#') {
+            println!(&rt; "{line}")?;
+        } else {
+            println!(&rt; "{line} = {}", outcome(alloc, line.as_str())?)?;
+        }
+    }
+    Ok(())
+}
