@@ -24,6 +24,13 @@ fn meaning(alloc: Global, name: &str, any: Any<'_>) -> io::Result<String> {
         "null" => told(alloc, any.null(alloc)),
         "oid" => told(alloc, any.oid(alloc)),
         "as_oid" => told(alloc, any.as_oid(alloc)),
+        _ => time_or_parts(alloc, name, any),
+    }
+}
+
+/// The same of times, sequences, sets and strings of characters.
+fn time_or_parts(alloc: Global, name: &str, any: Any<'_>) -> io::Result<String> {
+    match name {
         "utctime" => told(alloc, any.utctime(alloc)),
         "generalizedtime" => told(alloc, any.generalizedtime(alloc)),
         "sequence" => told(alloc, any.sequence(alloc)),
@@ -42,6 +49,13 @@ fn number(alloc: Global, name: &str, any: Any<'_>) -> io::Result<String> {
         "u16" => told(alloc, any.as_u16(alloc)),
         "u32" => told(alloc, any.as_u32(alloc)),
         "u64" => told(alloc, any.as_u64(alloc)),
+        _ => signed(alloc, name, any),
+    }
+}
+
+/// The same of those with a sign.
+fn signed(alloc: Global, name: &str, any: Any<'_>) -> io::Result<String> {
+    match name {
         "i8" => told(alloc, any.as_i8(alloc)),
         "i16" => told(alloc, any.as_i16(alloc)),
         "i32" => told(alloc, any.as_i32(alloc)),

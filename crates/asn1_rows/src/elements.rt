@@ -63,19 +63,26 @@ pub fn cut(alloc: Global, octets: &[u8]) -> io::Result<String> {
 
 /// What the iterator over numbers gives, to its end.
 pub fn items(alloc: Global, rules: &str, octets: &[u8]) -> io::Result<String> {
-    let mut text = String::new(alloc);
     match rules {
-        "ber" => {
-            for item in SequenceIterator::<u32, BerParser, Error>::new(alloc, octets) {
-                write!(text, "{item:?}, ")?;
-            }
-        }
-        "der" => {
-            for item in SequenceIterator::<u32, DerParser, Error>::new(alloc, octets) {
-                write!(text, "{item:?}, ")?;
-            }
-        }
-        _ => return literal(alloc, "no kind"),
+        "ber" => ber_items(alloc, octets),
+        "der" => der_items(alloc, octets),
+        _ => literal(alloc, "no kind"),
+    }
+}
+
+fn ber_items(alloc: Global, octets: &[u8]) -> io::Result<String> {
+    let mut text = String::new(alloc);
+    for item in SequenceIterator::<u32, BerParser, Error>::new(alloc, octets) {
+        write!(text, "{item:?}, ")?;
+    }
+    text.push_str("end")?;
+    Ok(text)
+}
+
+fn der_items(alloc: Global, octets: &[u8]) -> io::Result<String> {
+    let mut text = String::new(alloc);
+    for item in SequenceIterator::<u32, DerParser, Error>::new(alloc, octets) {
+        write!(text, "{item:?}, ")?;
     }
     text.push_str("end")?;
     Ok(text)

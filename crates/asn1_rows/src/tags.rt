@@ -25,41 +25,47 @@ pub fn tag(alloc: Global, name: &str) -> io::Result<String> {
     }
 }
 
+/// Each constant by its name.
+const CONSTANTS: [(&str, Tag); 29] = [
+    ("EndOfContent", Tag::EndOfContent),
+    ("Boolean", Tag::Boolean),
+    ("Integer", Tag::Integer),
+    ("BitString", Tag::BitString),
+    ("OctetString", Tag::OctetString),
+    ("Null", Tag::Null),
+    ("Oid", Tag::Oid),
+    ("ObjectDescriptor", Tag::ObjectDescriptor),
+    ("External", Tag::External),
+    ("RealType", Tag::RealType),
+    ("Enumerated", Tag::Enumerated),
+    ("EmbeddedPdv", Tag::EmbeddedPdv),
+    ("Utf8String", Tag::Utf8String),
+    ("RelativeOid", Tag::RelativeOid),
+    ("Sequence", Tag::Sequence),
+    ("Set", Tag::Set),
+    ("NumericString", Tag::NumericString),
+    ("PrintableString", Tag::PrintableString),
+    ("TeletexString", Tag::TeletexString),
+    ("T61String", Tag::T61String),
+    ("VideotexString", Tag::VideotexString),
+    ("Ia5String", Tag::Ia5String),
+    ("UtcTime", Tag::UtcTime),
+    ("GeneralizedTime", Tag::GeneralizedTime),
+    ("GraphicString", Tag::GraphicString),
+    ("VisibleString", Tag::VisibleString),
+    ("GeneralString", Tag::GeneralString),
+    ("UniversalString", Tag::UniversalString),
+    ("BmpString", Tag::BmpString),
+];
+
 /// The constant of this name.
 fn constant(name: &str) -> Option<Tag> {
-    let tag = match name {
-        "EndOfContent" => Tag::EndOfContent,
-        "Boolean" => Tag::Boolean,
-        "Integer" => Tag::Integer,
-        "BitString" => Tag::BitString,
-        "OctetString" => Tag::OctetString,
-        "Null" => Tag::Null,
-        "Oid" => Tag::Oid,
-        "ObjectDescriptor" => Tag::ObjectDescriptor,
-        "External" => Tag::External,
-        "RealType" => Tag::RealType,
-        "Enumerated" => Tag::Enumerated,
-        "EmbeddedPdv" => Tag::EmbeddedPdv,
-        "Utf8String" => Tag::Utf8String,
-        "RelativeOid" => Tag::RelativeOid,
-        "Sequence" => Tag::Sequence,
-        "Set" => Tag::Set,
-        "NumericString" => Tag::NumericString,
-        "PrintableString" => Tag::PrintableString,
-        "TeletexString" => Tag::TeletexString,
-        "T61String" => Tag::T61String,
-        "VideotexString" => Tag::VideotexString,
-        "Ia5String" => Tag::Ia5String,
-        "UtcTime" => Tag::UtcTime,
-        "GeneralizedTime" => Tag::GeneralizedTime,
-        "GraphicString" => Tag::GraphicString,
-        "VisibleString" => Tag::VisibleString,
-        "GeneralString" => Tag::GeneralString,
-        "UniversalString" => Tag::UniversalString,
-        "BmpString" => Tag::BmpString,
-        _ => return None,
-    };
-    Some(tag)
+    for (known, tag) in CONSTANTS {
+        if known == name {
+            return Some(tag);
+        }
+    }
+    None
 }
 
 /// The tag number of the type of this name.

@@ -1,5 +1,6 @@
 //! An object in words.
 
+use asn1_any::Any;
 use asn1_core::Length;
 use der_parser::{BerObject, BerObjectContent};
 use hex_rows::{hex_of, literal};
@@ -65,23 +66,26 @@ fn leaf_words(alloc: Global, content: &BerObjectContent<'_>) -> io::Result<Strin
             let text = format!(in alloc; "bits {octets}, {unused} unused")?;
             Ok(text)
         }
-        BerObjectContent::Unknown(any) => {
-            let form = if any.header.is_constructed() {
-                "constructed"
-            } else {
-                "primitive"
-            };
-            let octets = hex_of(alloc, any.content)?;
-            let text = format!(in alloc;
-                "raw {:?} {form} {} {:?} {octets}",
-                any.class(),
-                any.tag().0,
-                any.length()
-            )?;
-            Ok(text)
-        }
+        BerObjectContent::Unknown(any) => raw_words(alloc, any),
         _ => octets_words(alloc, content),
     }
+}
+
+/// An element of no type that is known.
+fn raw_words(alloc: Global, any: &Any<'_>) -> io::Result<String> {
+    let form = if any.header.is_constructed() {
+        "constructed"
+    } else {
+        "primitive"
+    };
+    let octets = hex_of(alloc, any.content)?;
+    let text = format!(in alloc;
+        "raw {:?} {form} {} {:?} {octets}",
+        any.class(),
+        any.tag().0,
+        any.length()
+    )?;
+    Ok(text)
 }
 
 /// What a content that is octets or a text holds.

@@ -20,33 +20,45 @@ pub fn typed(alloc: Global, call: &str, octets: &[u8]) -> io::Result<String> {
         "ber_read_element_header" => header_words(alloc, ber_read_element_header(octets)),
         "der_read_element_header" => header_words(alloc, der_read_element_header(octets)),
         "parse_der_u32" => told(alloc, parse_der_u32(octets)),
-        "parse_ber_bool" => object_words(alloc, parse_ber_bool(octets)),
-        "parse_der_bool" => object_words(alloc, parse_der_bool(octets)),
-        "parse_der_integer" => object_words(alloc, parse_der_integer(octets)),
-        "parse_der_enum" => object_words(alloc, parse_der_enum(octets)),
-        "parse_der_bitstring" => object_words(alloc, parse_der_bitstring(octets)),
-        "parse_der_octetstring" => object_words(alloc, parse_der_octetstring(octets)),
-        "parse_der_null" => object_words(alloc, parse_der_null(octets)),
-        "parse_der_oid" => object_words(alloc, parse_der_oid(octets)),
-        "parse_der_sequence" => object_words(alloc, parse_der_sequence(alloc, octets)),
-        "parse_der_set" => object_words(alloc, parse_der_set(alloc, octets)),
-        _ => text_or_time(alloc, call, octets),
+        _ => match object_by(alloc, call, octets) {
+            Some(read) => object_words(alloc, read),
+            None => literal(alloc, "no call"),
+        },
     }
 }
 
+/// The object that the typed reader of this name reads.
+fn object_by<'a>(alloc: Global, call: &str, octets: &'a [u8]) -> Option<BerResult<'a>> {
+    let read = match call {
+        "parse_ber_bool" => parse_ber_bool(octets),
+        "parse_der_bool" => parse_der_bool(octets),
+        "parse_der_integer" => parse_der_integer(octets),
+        "parse_der_enum" => parse_der_enum(octets),
+        "parse_der_bitstring" => parse_der_bitstring(octets),
+        "parse_der_octetstring" => parse_der_octetstring(octets),
+        "parse_der_null" => parse_der_null(octets),
+        "parse_der_oid" => parse_der_oid(octets),
+        "parse_der_sequence" => parse_der_sequence(alloc, octets),
+        "parse_der_set" => parse_der_set(alloc, octets),
+        _ => return text_or_time(call, octets),
+    };
+    Some(read)
+}
+
 /// The same for texts and times.
-fn text_or_time(alloc: Global, call: &str, octets: &[u8]) -> io::Result<String> {
-    match call {
-        "parse_der_utf8string" => object_words(alloc, parse_der_utf8string(octets)),
-        "parse_der_printablestring" => object_words(alloc, parse_der_printablestring(octets)),
-        "parse_der_ia5string" => object_words(alloc, parse_der_ia5string(octets)),
-        "parse_der_universalstring" => object_words(alloc, parse_der_universalstring(octets)),
-        "parse_der_bmpstring" => object_words(alloc, parse_der_bmpstring(octets)),
-        "parse_der_t61string" => object_words(alloc, parse_der_t61string(octets)),
-        "parse_der_utctime" => object_words(alloc, parse_der_utctime(octets)),
-        "parse_der_generalizedtime" => object_words(alloc, parse_der_generalizedtime(octets)),
-        _ => literal(alloc, "no call"),
-    }
+fn text_or_time<'a>(call: &str, octets: &'a [u8]) -> Option<BerResult<'a>> {
+    let read = match call {
+        "parse_der_utf8string" => parse_der_utf8string(octets),
+        "parse_der_printablestring" => parse_der_printablestring(octets),
+        "parse_der_ia5string" => parse_der_ia5string(octets),
+        "parse_der_universalstring" => parse_der_universalstring(octets),
+        "parse_der_bmpstring" => parse_der_bmpstring(octets),
+        "parse_der_t61string" => parse_der_t61string(octets),
+        "parse_der_utctime" => parse_der_utctime(octets),
+        "parse_der_generalizedtime" => parse_der_generalizedtime(octets),
+        _ => return None,
+    };
+    Some(read)
 }
 
 /// The header and how many octets are left, or the refusal.

@@ -11,28 +11,21 @@ use std::io;
 /// What `parse_der` reads, whether it is written as it was read, and how many of its shorter fronts are read.
 pub fn der(alloc: Global, octets: &[u8]) -> io::Result<String> {
     match parse_der(alloc, octets) {
-        Ok((rest, object)) => {
-            let again = is_written(alloc, &object);
-            let mut fronts: usize = 0;
-            for end in 0..object.as_raw().len() {
-                if parse_der(alloc, &object.as_raw()[..end]).is_ok() {
-                    fronts = fronts.saturating_add(1);
-                }
-            }
-            let words = words_of(alloc, &object)?;
-            let written = if again {
-                "written again"
-            } else {
-                "written otherwise"
-            };
-            let text = format!(in alloc;
-                "{words}, {} left, {written}, {fronts} fronts",
-                rest.len()
-            )?;
-            Ok(text)
-        }
+        Ok((rest, object)) => der_words(alloc, &object, rest.len()),
         Err(refusal) => told(alloc, refusal),
     }
+}
+
+fn der_words(alloc: Global, object: &BerObject<'_>, left: usize) -> io::Result<String> {
+    let words = words_of(alloc, object)?;
+    let written = if is_written(alloc, object) {
+        "written again"
+    } else {
+        "written otherwise"
+    };
+    let fronts = der_fronts(alloc, object.as_raw());
+    let text = format!(in alloc; "{words}, {left} left, {written}, {fronts} fronts")?;
+    Ok(text)
 }
 
 /// Whether the object's octets are written of it.
@@ -43,30 +36,46 @@ fn is_written(alloc: Global, object: &BerObject<'_>) -> bool {
     }
 }
 
+/// How many shorter fronts of the octets `parse_der` reads.
+fn der_fronts(alloc: Global, octets: &[u8]) -> usize {
+    let mut fronts: usize = 0;
+    for end in 0..octets.len() {
+        if parse_der(alloc, &octets[..end]).is_ok() {
+            fronts = fronts.saturating_add(1);
+        }
+    }
+    fronts
+}
+
 /// What `parse_ber` reads, whether `parse_der` takes the same octets, and how many of their shorter fronts are read.
 pub fn ber(alloc: Global, octets: &[u8]) -> io::Result<String> {
     match parse_ber(alloc, octets) {
-        Ok((rest, object)) => {
-            let mut fronts: usize = 0;
-            for end in 0..object.as_raw().len() {
-                if parse_ber(alloc, &object.as_raw()[..end]).is_ok() {
-                    fronts = fronts.saturating_add(1);
-                }
-            }
-            let strict = if parse_der(alloc, object.as_raw()).is_ok() {
-                "DER"
-            } else {
-                "not DER"
-            };
-            let words = words_of(alloc, &object)?;
-            let text = format!(in alloc;
-                "{words}, {} left, {strict}, {fronts} fronts",
-                rest.len()
-            )?;
-            Ok(text)
-        }
+        Ok((rest, object)) => ber_words(alloc, &object, rest.len()),
         Err(refusal) => told(alloc, refusal),
     }
+}
+
+fn ber_words(alloc: Global, object: &BerObject<'_>, left: usize) -> io::Result<String> {
+    let words = words_of(alloc, object)?;
+    let strict = if parse_der(alloc, object.as_raw()).is_ok() {
+        "DER"
+    } else {
+        "not DER"
+    };
+    let fronts = ber_fronts(alloc, object.as_raw());
+    let text = format!(in alloc; "{words}, {left} left, {strict}, {fronts} fronts")?;
+    Ok(text)
+}
+
+/// How many shorter fronts of the octets `parse_ber` reads.
+fn ber_fronts(alloc: Global, octets: &[u8]) -> usize {
+    let mut fronts: usize = 0;
+    for end in 0..octets.len() {
+        if parse_ber(alloc, &octets[..end]).is_ok() {
+            fronts = fronts.saturating_add(1);
+        }
+    }
+    fronts
 }
 
 /// What the call reads of so many levels.
@@ -84,11 +93,13 @@ pub fn levels(alloc: Global, call: &str, allowed: &str, octets: &[u8]) -> io::Re
 /// The object and how many octets are left, or the refusal.
 pub fn object_words(alloc: Global, read: BerResult<'_>) -> io::Result<String> {
     match read {
-        Ok((rest, object)) => {
-            let words = words_of(alloc, &object)?;
-            let text = format!(in alloc; "{words}, {} left", rest.len())?;
-            Ok(text)
-        }
+        Ok((rest, object)) => left_words(alloc, &object, rest.len()),
         Err(refusal) => told(alloc, refusal),
     }
+}
+
+fn left_words(alloc: Global, object: &BerObject<'_>, left: usize) -> io::Result<String> {
+    let words = words_of(alloc, object)?;
+    let text = format!(in alloc; "{words}, {left} left")?;
+    Ok(text)
 }

@@ -5,6 +5,7 @@ use crate::tests::text;
 use cert_graph::{Nodes, check_nodes};
 use cert_search::find_nodes;
 use std::alloc::Global;
+use std::process::Abort;
 use std::test::Fail;
 
 // A row is `CALL POSITION: TEXT = OUTCOME`, asked of the graph above it.
@@ -243,19 +244,29 @@ fn outcome(alloc: Global, nodes: &Nodes, call: &str, want: &str) -> Result<Strin
     }
 }
 
+// A row's outcome is the one that stands behind it.
+fn same<R: Abort>(rt: &R, row: &str, got: &str, want: &str) {
+    assert_eq!(rt; got, want, "{row}");
+}
+
+// The rows that stand below a graph.
+fn ask<R: Abort>(rt: &R, alloc: Global, graph: &str, rows: &str) -> Result<(), Fail> {
+    let nodes = text::graph(alloc, graph)?;
+    for row in rows.lines() {
+        if !row.is_empty() && !row.starts_with('#') {
+            let (call, want) = row.split_once(" = ").ok_or("no outcome")?;
+            let got = outcome(alloc, &nodes, call, want)?;
+            same(rt, row, got.as_str(), want);
+        }
+    }
+    Ok(())
+}
+
 #[test]
 fn rows_are_answered(rt: HostRuntime) -> Result<(), Fail> {
-    let alloc = rt.alloc();
     for part in ROWS.split("\ngraph ").skip(1) {
         let (graph, rows) = part.split_once('\n').unwrap_or((part, ""));
-        let nodes = text::graph(alloc, graph)?;
-        for row in rows.lines() {
-            if !row.is_empty() && !row.starts_with('#') {
-                let (call, want) = row.split_once(" = ").ok_or("no outcome")?;
-                let got = outcome(alloc, &nodes, call, want)?;
-                assert_eq!(rt; got.as_str(), want, "{call} of {graph}");
-            }
-        }
+        ask(&rt, rt.alloc(), graph, rows)?;
     }
     Ok(())
 }

@@ -7,6 +7,8 @@
 //! An answer is `0,1 to 0 / - 0`, the positions of a path, its anchor and each row of the table after a `/`; or
 //! `none / - -`; or `no target`. A reach is `-`, the greatest count that it takes, or `any`.
 
+ghost use Rattle.std.specs.Prelude.{IsTrue};
+
 use cert_graph::{Answer, Entry, Node, Nodes, Reach, Table};
 use std::alloc::Global;
 use std::test::Fail;
@@ -22,11 +24,13 @@ fn numbers(alloc: Global, text: &str) -> Result<Vec<usize>, Fail> {
     Ok(numbers)
 }
 
-// A certificate that may stand in a path.
-fn usable(fit: bool, self_issued: bool, limit: Option<u32>) -> Node {
+// Whether a certificate may stand in a path, whether it may issue others, and whether it is self-issued.
+fn certificate(usable: bool, fit: bool, self_issued: bool, limit: Option<u32>) -> Node
+    requires { IsTrue fit → IsTrue usable }
+{
     Node {
         certificate: true,
-        usable: true,
+        usable,
         fit,
         self_issued,
         limit,
@@ -35,18 +39,12 @@ fn usable(fit: bool, self_issued: bool, limit: Option<u32>) -> Node {
 
 fn node(kind: &str, limit: Option<u32>) -> Result<Node, Fail> {
     match kind {
-        "leaf" => Ok(usable(false, false, limit)),
-        "root" => Ok(usable(false, true, limit)),
-        "issuer" => Ok(usable(true, false, limit)),
-        "self-issued" => Ok(usable(true, true, limit)),
+        "leaf" => Ok(certificate(true, false, false, limit)),
+        "root" => Ok(certificate(true, false, true, limit)),
+        "issuer" => Ok(certificate(true, true, false, limit)),
+        "self-issued" => Ok(certificate(true, true, true, limit)),
         // a root that is not valid at the moment
-        "late" => Ok(Node {
-            certificate: true,
-            usable: false,
-            fit: false,
-            self_issued: true,
-            limit,
-        }),
+        "late" => Ok(certificate(false, false, true, limit)),
         // no certificate
         "other" => Ok(Node {
             certificate: false,
@@ -82,18 +80,29 @@ fn push_equal(alloc: Global, entries: &mut Vec<Entry>, text: &str) -> Result<(),
     Ok(())
 }
 
+// Adds an item, equal ones, or an anchor.
+fn push_part(
+    alloc: Global,
+    entries: &mut Vec<Entry>,
+    anchors: &mut Vec<Option<usize>>,
+    part: &str,
+) -> Result<(), Fail> {
+    let (kind, text) = part.split_once(' ').ok_or("no item")?;
+    match kind {
+        "anchor" => anchors.push(numbers(alloc, text)?.first().copied())?,
+        "equal" => push_equal(alloc, entries, text)?,
+        _ => entries.push(entry(alloc, kind, text)?)?,
+    }
+    Ok(())
+}
+
 /// The graph of the text.
 pub fn graph(alloc: Global, text: &str) -> Result<Nodes, Fail> {
     let (groups, parts) = text.split_once(": ").unwrap_or((text, ""));
     let mut entries = Vec::new(alloc);
     let mut anchors = Vec::new(alloc);
     for part in parts.split_terminator("; ") {
-        let (kind, text) = part.split_once(' ').ok_or("no item")?;
-        match kind {
-            "anchor" => anchors.push(numbers(alloc, text)?.first().copied())?,
-            "equal" => push_equal(alloc, &mut entries, text)?,
-            _ => entries.push(entry(alloc, kind, text)?)?,
-        }
+        push_part(alloc, &mut entries, &mut anchors, part)?;
     }
     let groups = groups.parse::<usize>()?;
     Ok(Nodes::new(alloc, &entries, &anchors, groups)?)
