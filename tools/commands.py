@@ -19,6 +19,33 @@ LARGEST = 16_777_216
 MANY = 20_000
 # An element of 3 content octets, and the same behind it, cut in its content.
 THREE, CUT = bytes.fromhex("3003020105"), bytes.fromhex("30030201")
+# Certificates of version 1, and of version 3 with an empty basicConstraints.
+FIRST = bytes.fromhex("30433038020101300406022a033000301e170d3235303130313030303030305a170d3236303130313030303030305a30003009"
+                      "300406022a03030100300406022a03030100")
+THIRD = bytes.fromhex("3057304ca003020102020101300406022a033000301e170d3235303130313030303030305a170d3236303130313030303030305a"
+                      "30003009300406022a03030100a30d300b30090603551d1304023000300406022a03030100")
+# Streams, the limit that each is framed under, what is printed, a blank between lines, and the status.
+STREAMS = [
+    ("", LARGEST, "end_clean", 0),
+    ("3000", LARGEST, "0_0_2 end_clean", 0),
+    ("30003000", LARGEST, "0_0_2 1_2_2 end_clean", 0),
+    ("30003100", LARGEST, "0_0_2 end_fault_2", 1),
+    ("30030201", LARGEST, "end_cut_0", 1),
+    ("308100", LARGEST, "end_fault_0", 1),
+    ("30800000", LARGEST, "end_fault_0", 1),
+    ("30", 0, "end_cut_0", 1),
+    ("3000", 0, "0_0_2 end_clean", 0),
+    ("3001", 0, "end_fault_0", 1),
+    ("3081", 200, "end_cut_0", 1),
+    ("3081c8", 200, "end_cut_0", 1),
+    ("3081c9", 200, "end_fault_0", 1),
+    ("3082", 200, "end_fault_0", 1),
+    ("3085", 0xFFFFFFFF, "end_fault_0", 1),
+    ("3084ffffffff", 0xFFFFFFFF, "end_cut_0", 1),
+    (FIRST.hex(), 67, "0_0_69 end_clean", 0),
+    (FIRST.hex(), 66, "end_fault_0", 1),
+    ((FIRST + THIRD).hex(), LARGEST, "0_0_69 1_69_89 end_clean", 0),
+]
 
 
 class Some:
@@ -53,7 +80,12 @@ def frame_table(room, made):
     empty, three, cut, fault = made("empty", b""), made("three", THREE), made("cut", THREE + CUT), made("fault", THREE + b"\x00\x00")
     pem = made("three.pem", b"-----BEGIN CERTIFICATE-----\nMAMCAQU=\n-----END CERTIFICATE-----\n")
     os.mkdir(os.path.join(room, "folder"))
+    streams = [
+        (["frame", f"--limit={limit:020}", made(f"stream{k}", bytes.fromhex(octets))], b"", status, lines.replace(" ", "\n").replace("_", " ").encode() + b"\n", b"")
+        for k, (octets, limit, lines, status) in enumerate(STREAMS)
+    ]
     return [
+        *streams,
         (["frame", BUNDLE], b"", 0, LINES, b""),
         (["frame", "--limit", "433", three], b"", 0, b"0 0 5\nend clean\n", b""),
         (["frame", three, "--limit=3"], b"", 0, b"0 0 5\nend clean\n", b""),
@@ -74,7 +106,8 @@ def frame_table(room, made):
         (["frame", ""], b"", 4, b"", b"cannot read \n"),
         (["frame", three, "--limit", "4294967296"], b"", 2, b"", b"bad number\n"),
         (["frame", three, "--limit", "3x"], b"", 2, b"", b"bad number\n"),
-        (["frame", three, "--limit", ""], b"", 2, b"", b"bad number\n"),
+        *((["frame", three, "--limit", it], b"", 2, b"", b"bad number\n") for it in ("", "10000000000", "5_0", " 3", "\u0663")),
+        *((["frame", three, f"--limit={it}"], b"", 2, b"", b"bad number\n") for it in ("", "-1")),
         (["frame", "none.der", "--limit", "+3"], b"", 2, b"", b"bad number\n"),
         ([], b"", 2, b"", Some(b"")),
         (["frame"], b"", 2, b"", Some(b"error: ")),
@@ -82,7 +115,12 @@ def frame_table(room, made):
         (["frames", three], b"", 2, b"", Some(b"error: ")),
         (["frame", three, "--limits", "3"], b"", 2, b"", Some(b"error: ")),
         (["frame", three, "--limit", "3", "--limit", "3"], b"", 2, b"", Some(b"error: ")),
+        (["frame", three, "--limit"], b"", 2, b"", Some(b"error: ")),
+        (["frame", three, "--limit", "-0"], b"", 2, b"", Some(b"error: ")),
         (["frame", b"\xff"], b"", 2, b"", b"error: a word is not UTF-8\n"),
+        (["path", three, three, three], b"", 2, b"", Some(b"error: ")),
+        (["path", three, three, three, "--target", "x", "--at", "2026-01-01T00:00:00"], b"", 2, b"", b"bad number\n"),
+        (["path", three, three, three, "--target", "0", "--at", "2026-02-29T00:00:00"], b"", 2, b"", b"bad moment\n"),
         (["--help"], b"", 2, b"", Some(b"Reads certificates")),
         (["frame", "--help"], b"", 2, b"", Some(b"Tells where the items of a file lie")),
     ]

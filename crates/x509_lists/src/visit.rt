@@ -16,7 +16,7 @@ use x509_values::{
 };
 
 /// A call of a walk over a list, with what it shows: a case for each method of `CertificateRevocationListVisitor`.
-#[derive(Clone, Copy, Debug)]
+#[derive(Clone, Copy)]
 pub enum ListVisit<'v, 'a> {
     /// The signed part, before what it holds.
     VisitTbsCertList(&'v TbsCertList<'a>),

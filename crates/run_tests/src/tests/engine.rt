@@ -1,14 +1,10 @@
-//! What no contract says: the texts and statuses of whole runs, from words to standard error, and what they do where a
-//! device fails.
-mod rows;
+//! What no contract says: what is written and told of streams whose devices fail or have no end.
 
 use crate::tests::devices::{Full, Giver, Repeater, Taker};
+use crate::tests::framing::{FIRST, THIRD};
 use asn1_device::{ReadSource, WriteSink};
-use certpath_engine::{
-    Command, End, FrameError, FrameOutcome, WordFault, frame, frame_status, read_words,
-};
-use rows::{ROWS, TWO_CERTIFICATES};
-use std::alloc::AllocError;
+use certpath_engine::{End, FrameError, frame};
+use std::alloc::{AllocError, Global};
 use std::fmt::Debug;
 use std::process::Abort;
 use std::test::Fail;
@@ -20,45 +16,28 @@ fn same<R: Abort, T: PartialEq + Debug + Drop>(rt: &R, got: T, want: T) {
 
 const NEVER: usize = usize::MAX;
 
-// The words, as the program is given them.
-fn words_of(rt: &HostRuntime, line: &str) -> Result<Vec<String>, AllocError> {
-    let mut words = Vec::new(rt.alloc());
-    for word in line.split(' ') {
-        words.push(String::from_str(rt.alloc(), word)?)?;
-    }
-    Ok(words)
-}
-
-// What the program writes, ends with and says, where the file that its words name has these octets.
+// What a device answers, and what the other was given.
 #[derive(Drop)]
-struct Run {
-    text: Vec<u8>,
-    status: u8,
-    said: String,
+struct Framed {
+    answer: Result<End, FrameError>,
+    taken: Vec<u8>,
 }
 
-fn run_on(rt: &HostRuntime, line: &str, giver: Giver<'_>, taker: Taker) -> Result<Run, Fail> {
-    let words = words_of(rt, line)?;
+// The limit is that of certificates as long as the longer one.
+fn frame_on(alloc: Global, giver: Giver<'_>, taker: Taker) -> Framed {
     let mut source = ReadSource::new(giver);
     let mut sink = WriteSink::new(taker);
-    let outcome = match read_words(rt.alloc(), words.as_slice()) {
-        Ok(Command::Frame { file, limit }) => {
-            FrameOutcome::Framed(file, frame(rt.alloc(), &mut source, limit, &mut sink))
-        }
-        // (no line of these tests asks for a path)
-        Ok(Command::Path { .. }) => FrameOutcome::Words(WordFault::Moment),
-        Err(fault) => FrameOutcome::Words(fault),
-    };
-    let exit = frame_status(outcome);
-    let said = match &exit.message {
-        Some(message) => message.to_string(rt.alloc())?,
-        None => String::new(rt.alloc()),
-    };
-    Ok(Run {
-        text: sink.into_inner().taken,
-        status: exit.status,
-        said,
-    })
+    let answer = frame(alloc, &mut source, 87, &mut sink);
+    Framed {
+        answer,
+        taken: sink.into_inner().taken,
+    }
+}
+
+fn two_certificates(alloc: Global) -> Result<Vec<u8>, AllocError> {
+    let mut octets = FIRST.to_vec(alloc)?;
+    octets.extend_from_slice(&THIRD)?;
+    Ok(octets)
 }
 
 // A taker that takes all.
@@ -67,115 +46,17 @@ fn taker(rt: &HostRuntime) -> Taker {
 }
 
 #[test]
-fn streams_from_words_to_status(rt: HostRuntime) -> Result<(), Fail> {
-    for row in ROWS.iter() {
-        for step in [1, NEVER] {
-            let (name, limit) = (row.name, row.limit);
-            let line = format!(in rt.alloc(); "certpath frame FILE --limit {limit}")?;
-            let giver = Giver::new(row.octets, step, NEVER);
-            let done = run_on(&rt, line.as_str(), giver, taker(&rt))?;
-            assert!(rt;
-                done.text.as_slice() == row.text.as_bytes(),
-                "{name} by {step}"
-            );
-            assert!(rt; done.status == row.status, "{name} by {step}");
-            assert!(rt; done.said.as_str() == "", "{name} by {step}");
-        }
-    }
-    Ok(())
-}
-
-#[test]
-fn a_thousand_items(rt: HostRuntime) -> Result<(), Fail> {
-    let mut octets = Vec::new(rt.alloc());
-    let mut wanted = String::new(rt.alloc());
-    for k in 0..1000usize {
-        octets.extend_from_slice(&[0x30, 0x01, 0x05])?;
-        writeln!(wanted, "{k} {} 3", 3 * k)?;
-    }
-    wanted.push_str("end clean\n")?;
-    let giver = Giver::new(octets.as_slice(), 7, NEVER);
-    let done = run_on(&rt, "certpath frame FILE", giver, taker(&rt))?;
-    same(&rt, done.text.as_slice(), wanted.as_bytes());
-    same(&rt, done.status, 0);
-    Ok(())
-}
-
-#[test]
-fn words_that_ask_for_nothing(rt: HostRuntime) -> Result<(), Fail> {
-    let lines = [
-        ("certpath frame FILE --limit 4294967296", "bad number\n"),
-        ("certpath frame FILE --limit 10000000000", "bad number\n"),
-        ("certpath frame FILE --limit +5", "bad number\n"),
-        ("certpath frame FILE --limit 5_0", "bad number\n"),
-        ("certpath frame FILE --limit=-1", "bad number\n"),
-        ("certpath frame FILE --limit=", "bad number\n"),
-        ("certpath frame FILE --limit ٣", "bad number\n"),
-        ("certpath", "error: "),
-        ("certpath frame", "error: "),
-        ("certpath frame FILE FILE", "error: "),
-        ("certpath frame FILE --limit", "error: "),
-        ("certpath frame FILE --limit 1 --limit 1", "error: "),
-        ("certpath path BUNDLE ANCHORS VOUCHERS", "error: "),
-        (
-            "certpath path BUNDLE ANCHORS VOUCHERS --target x --at 2026-01-01T00:00:00",
-            "bad number\n",
-        ),
-        (
-            "certpath path BUNDLE ANCHORS VOUCHERS --target 0 --at 2026-02-29T00:00:00",
-            "bad moment\n",
-        ),
-        ("certpath walk FILE", "error: "),
-        ("certpath --help", "Reads certificates "),
-        ("certpath frame --help", "Tells where "),
-    ];
-    for (line, begins) in lines {
-        let giver = Giver::new(TWO_CERTIFICATES, NEVER, NEVER);
-        let done = run_on(&rt, line, giver, taker(&rt))?;
-        assert!(rt; done.status == 2, "{line}");
-        assert!(rt; done.said.as_str().starts_with(begins), "{line}");
-        assert!(rt; done.said.as_str().ends_with('\n'), "{line}");
-        assert!(rt; done.text.is_empty(), "{line}");
-    }
-    Ok(())
-}
-
-#[test]
-fn the_limit_is_read_or_the_default(rt: HostRuntime) -> Result<(), Fail> {
-    let lines = [
-        ("certpath frame FILE", 16777216),
-        ("certpath frame FILE --limit 0", 0),
-        (
-            "certpath frame --limit=00000000004294967295 FILE",
-            4294967295,
-        ),
-    ];
-    for (line, wanted) in lines {
-        let words = words_of(&rt, line)?;
-        match read_words(rt.alloc(), words.as_slice()) {
-            Ok(Command::Frame { file, limit }) => {
-                assert!(rt; file == "FILE", "{line}");
-                assert!(rt; limit == wanted, "{line}");
-            }
-            Ok(Command::Path { .. }) => panic!(rt; "{line}: it isn't framed"),
-            Err(fault) => panic!(rt; "{line}: {fault:?}"),
-        }
-    }
-    Ok(())
-}
-
-#[test]
 fn a_read_that_fails(rt: HostRuntime) -> Result<(), Fail> {
     // 158 octets by 40 are four reads, and the fifth meets the end
+    let octets = two_certificates(rt.alloc())?;
     for fails_at in 0..6 {
-        let giver = Giver::new(TWO_CERTIFICATES, 40, fails_at);
-        let done = run_on(&rt, "certpath frame a/FILE", giver, taker(&rt))?;
+        let giver = Giver::new(octets.as_slice(), 40, fails_at);
+        let done = frame_on(rt.alloc(), giver, taker(&rt));
         if fails_at < 5 {
-            same(&rt, done.status, 4);
-            same(&rt, done.said.as_str(), "cannot read a/FILE\n");
-            assert!(rt; done.text.is_empty(), "at {fails_at}");
+            same(&rt, done.answer, Err(FrameError::Read));
+            assert!(rt; done.taken.is_empty(), "at {fails_at}");
         } else {
-            same(&rt, done.status, 0);
+            same(&rt, done.answer, Ok(End::Clean));
         }
     }
     Ok(())
@@ -184,19 +65,19 @@ fn a_read_that_fails(rt: HostRuntime) -> Result<(), Fail> {
 #[test]
 fn a_write_that_fails(rt: HostRuntime) -> Result<(), Fail> {
     let text = b"0 0 69\n1 69 89\nend clean\n";
+    let octets = two_certificates(rt.alloc())?;
     for (room, _) in text.iter().enumerate() {
         for full in [Full::Refuses, Full::TakesNone] {
             for step in [3, NEVER] {
-                let giver = Giver::new(TWO_CERTIFICATES, NEVER, NEVER);
+                let giver = Giver::new(octets.as_slice(), NEVER, NEVER);
                 let taker = Taker::new(rt.alloc(), step, room, full);
-                let done = run_on(&rt, "certpath frame FILE", giver, taker)?;
-                assert!(rt; done.status == 7, "{full:?} after {room} by {step}");
+                let done = frame_on(rt.alloc(), giver, taker);
                 assert!(rt;
-                    done.said.as_str() == "cannot write\n",
+                    done.answer == Err(FrameError::Write),
                     "{full:?} after {room} by {step}"
                 );
                 assert!(rt;
-                    done.text.as_slice() == &text[..room],
+                    done.taken.as_slice() == &text[..room],
                     "{full:?} after {room} by {step}"
                 );
             }
@@ -243,55 +124,6 @@ fn a_reader_without_an_end(rt: HostRuntime) -> Result<(), Fail> {
         same(&rt, frame(rt.alloc(), &mut source, 0, &mut sink), wanted);
         same(&rt, source.into_inner().left, 0);
         same(&rt, sink.into_inner().taken.is_empty(), wanted.is_err());
-    }
-    Ok(())
-}
-
-#[test]
-fn statuses_and_texts(rt: HostRuntime) -> Result<(), Fail> {
-    let rows = [
-        (FrameOutcome::Framed("FILE", Ok(End::Clean)), 0, ""),
-        (FrameOutcome::Framed("FILE", Ok(End::Cut(0))), 1, ""),
-        (FrameOutcome::Framed("FILE", Ok(End::Fault(0))), 1, ""),
-        (FrameOutcome::Words(WordFault::Number), 2, "bad number\n"),
-        (FrameOutcome::Words(WordFault::Moment), 2, "bad moment\n"),
-        (FrameOutcome::Unopened("a b"), 4, "cannot read a b\n"),
-        (
-            FrameOutcome::Framed("", Err(FrameError::Read)),
-            4,
-            "cannot read \n",
-        ),
-        (
-            FrameOutcome::Framed("FILE", Err(FrameError::TooLong)),
-            4,
-            "cannot read FILE\n",
-        ),
-        (
-            FrameOutcome::Framed("FILE", Err(FrameError::OutOfMemory)),
-            6,
-            "out of memory\n",
-        ),
-        (
-            FrameOutcome::Words(WordFault::OutOfMemory),
-            6,
-            "out of memory\n",
-        ),
-        (
-            FrameOutcome::Framed("FILE", Err(FrameError::Write)),
-            7,
-            "cannot write\n",
-        ),
-    ];
-    for (outcome, status, said) in rows {
-        let exit = frame_status(outcome);
-        assert!(rt; exit.status == status, "{said}");
-        match &exit.message {
-            Some(message) => {
-                let text = message.to_string(rt.alloc())?;
-                same(&rt, text.as_str(), said);
-            }
-            None => same(&rt, "", said),
-        }
     }
     Ok(())
 }
