@@ -1,7 +1,9 @@
 //! The fields of a certificate and of a list, a line each.
 
 use crate::parts::{add_line, algorithm_text, bits_text, extension_text, name_text};
-use cert_model::fields::{BitField, CertFields, EntryFields, ExtField, ListFields};
+use cert_model::fields::{
+    AlgField, BitField, CertFields, EntryFields, ExtField, ListFields, NameFields,
+};
 use hex_rows::{hex_of, literal};
 use jiff::civil::DateTime;
 use std::alloc::Global;
@@ -12,38 +14,18 @@ pub fn certificate_text(alloc: Global, fields: &CertFields<'_>) -> io::Result<St
     let mut text = literal(alloc, "certificate")?;
     add_line(&mut text, "version", number_text(alloc, fields.version)?)?;
     add_line(&mut text, "serial", hex_of(alloc, fields.serial)?)?;
-    add_line(
-        &mut text,
-        "signature",
-        algorithm_text(alloc, &fields.signature)?,
-    )?;
-    add_line(&mut text, "issuer", name_text(alloc, &fields.issuer)?)?;
-    add_line(
-        &mut text,
-        "not before",
-        date_text(alloc, &fields.not_before)?,
-    )?;
-    add_line(&mut text, "not after", date_text(alloc, &fields.not_after)?)?;
-    add_line(&mut text, "subject", name_text(alloc, &fields.subject)?)?;
-    add_line(
-        &mut text,
-        "key algorithm",
-        algorithm_text(alloc, &fields.key.algorithm)?,
-    )?;
-    add_line(&mut text, "key", bits_text(alloc, &fields.key.key)?)?;
-    add_bits(alloc, &mut text, "issuer id", &fields.issuer_id)?;
-    add_bits(alloc, &mut text, "subject id", &fields.subject_id)?;
+    add_algorithm(alloc, &mut text, "signature", &fields.signature)?;
+    add_name(alloc, &mut text, "issuer", &fields.issuer)?;
+    add_date(alloc, &mut text, "not before", &fields.not_before)?;
+    add_date(alloc, &mut text, "not after", &fields.not_after)?;
+    add_name(alloc, &mut text, "subject", &fields.subject)?;
+    add_algorithm(alloc, &mut text, "key algorithm", &fields.key.algorithm)?;
+    add_bits(alloc, &mut text, "key", &fields.key.key)?;
+    add_identifier(alloc, &mut text, "issuer id", &fields.issuer_id)?;
+    add_identifier(alloc, &mut text, "subject id", &fields.subject_id)?;
     add_extensions(alloc, &mut text, "extension", fields.extensions.as_slice())?;
-    add_line(
-        &mut text,
-        "algorithm",
-        algorithm_text(alloc, &fields.algorithm)?,
-    )?;
-    add_line(
-        &mut text,
-        "signature value",
-        bits_text(alloc, &fields.signature_value)?,
-    )?;
+    add_algorithm(alloc, &mut text, "algorithm", &fields.algorithm)?;
+    add_bits(alloc, &mut text, "signature value", &fields.signature_value)?;
     Ok(text)
 }
 
@@ -53,34 +35,18 @@ pub fn list_text(alloc: Global, fields: &ListFields<'_>) -> io::Result<String> {
     if let Some(version) = fields.version {
         add_line(&mut text, "version", number_text(alloc, version)?)?;
     }
-    add_line(
-        &mut text,
-        "signature",
-        algorithm_text(alloc, &fields.signature)?,
-    )?;
-    add_line(&mut text, "issuer", name_text(alloc, &fields.issuer)?)?;
-    add_line(
-        &mut text,
-        "this update",
-        date_text(alloc, &fields.this_update)?,
-    )?;
+    add_algorithm(alloc, &mut text, "signature", &fields.signature)?;
+    add_name(alloc, &mut text, "issuer", &fields.issuer)?;
+    add_date(alloc, &mut text, "this update", &fields.this_update)?;
     if let Some(date) = &fields.next_update {
-        add_line(&mut text, "next update", date_text(alloc, date)?)?;
+        add_date(alloc, &mut text, "next update", date)?;
     }
     for entry in &fields.entries {
         add_entry(alloc, &mut text, entry)?;
     }
     add_extensions(alloc, &mut text, "extension", fields.extensions.as_slice())?;
-    add_line(
-        &mut text,
-        "algorithm",
-        algorithm_text(alloc, &fields.algorithm)?,
-    )?;
-    add_line(
-        &mut text,
-        "signature value",
-        bits_text(alloc, &fields.signature_value)?,
-    )?;
+    add_algorithm(alloc, &mut text, "algorithm", &fields.algorithm)?;
+    add_bits(alloc, &mut text, "signature value", &fields.signature_value)?;
     Ok(text)
 }
 
@@ -106,16 +72,46 @@ fn add_extensions(
 }
 
 /// A line for bits that stand.
-fn add_bits(
+fn add_identifier(
     alloc: Global,
     text: &mut String,
     name: &str,
     bits: &Option<BitField<'_>>,
 ) -> io::Result<()> {
     if let Some(bits) = bits {
-        add_line(text, name, bits_text(alloc, bits)?)?;
+        add_bits(alloc, text, name, bits)?;
     }
     Ok(())
+}
+
+/// A line for bits.
+fn add_bits(alloc: Global, text: &mut String, name: &str, bits: &BitField<'_>) -> io::Result<()> {
+    add_line(text, name, bits_text(alloc, bits)?)
+}
+
+/// A line for an algorithm.
+fn add_algorithm(
+    alloc: Global,
+    text: &mut String,
+    name: &str,
+    algorithm: &AlgField<'_>,
+) -> io::Result<()> {
+    add_line(text, name, algorithm_text(alloc, algorithm)?)
+}
+
+/// A line for a name.
+fn add_name(
+    alloc: Global,
+    text: &mut String,
+    name: &str,
+    names: &NameFields<'_>,
+) -> io::Result<()> {
+    add_line(text, name, name_text(alloc, names)?)
+}
+
+/// A line for a civil date and time.
+fn add_date(alloc: Global, text: &mut String, name: &str, date: &DateTime) -> io::Result<()> {
+    add_line(text, name, date_text(alloc, date)?)
 }
 
 /// A number in decimal digits.

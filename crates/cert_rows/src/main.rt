@@ -41,25 +41,40 @@ fn outcome(alloc: Global, row: &str) -> io::Result<String> {
         Some((question, digits)) => (Some(question), digits),
         None => (None, row),
     };
-    let Some(octets) = octets_of(alloc, digits)? else {
-        return literal(alloc, "no octets");
-    };
-    let Ok(class) = read_tree(alloc, octets.as_slice()) else {
+    match octets_of(alloc, digits)? {
+        Some(octets) => told_of(alloc, question, octets.as_slice()),
+        None => literal(alloc, "no octets"),
+    }
+}
+
+/// What there is to tell of an item, where both readers find one class.
+fn told_of(alloc: Global, question: Option<&str>, item: &[u8]) -> io::Result<String> {
+    let Ok(class) = read_tree(alloc, item) else {
         return Err(io::Error::from(io::ErrorKind::OutOfMemory));
     };
-    let Ok(typed) = read_typed(alloc, octets.as_slice()) else {
-        return Err(io::Error::from(io::ErrorKind::OutOfMemory));
-    };
-    if typed != class {
+    if !is_typed_so(alloc, &class, item)? {
         return literal(alloc, "two classes");
     }
     match question {
         Some("keys") => keys_text(alloc, &class),
-        Some(question) => match bounds_of(question) {
-            Some(bounds) => literal(alloc, within_text(alloc, &bounds, octets.as_slice())?),
-            None => literal(alloc, range_text(class, number_of(question))),
-        },
-        None => class_text(alloc, &class, octets.as_slice()),
+        Some(question) => asked(alloc, question, class, item),
+        None => class_text(alloc, &class, item),
+    }
+}
+
+/// Whether `read_typed` finds this class too.
+fn is_typed_so(alloc: Global, class: &ItemClass<'_>, item: &[u8]) -> io::Result<bool> {
+    match read_typed(alloc, item) {
+        Ok(typed) => Ok(typed == *class),
+        Err(_) => Err(io::Error::from(io::ErrorKind::OutOfMemory)),
+    }
+}
+
+/// Whether a reader keeps to its bounds, or the fields are in range with another version.
+fn asked(alloc: Global, question: &str, class: ItemClass<'_>, item: &[u8]) -> io::Result<String> {
+    match bounds_of(question) {
+        Some(bounds) => literal(alloc, within_text(alloc, &bounds, item)?),
+        None => literal(alloc, range_text(class, number_of(question))),
     }
 }
 

@@ -2,6 +2,7 @@
 
 use asn1_any::Any;
 use asn1_core::{Class, Err as Refusal};
+use asn1_traits::FromDer;
 use asn1_values::BitString;
 use hex_rows::{hex_of, literal, told};
 use std::alloc::Global;
@@ -12,6 +13,14 @@ use x509_core::{X509Error, X509Result};
 pub(crate) trait Words {
     /// The value's parts, in the order of its fields.
     fn words(&self, alloc: Global) -> io::Result<String>;
+}
+
+/// The words of the value that begins the octets, and the octets after it, or the refusal.
+pub(crate) fn read_of<'a, T: FromDer<'a, X509Error> + Words + Drop>(
+    alloc: Global,
+    octets: &'a [u8],
+) -> io::Result<String> {
+    told_of(alloc, T::from_der(alloc, octets))
 }
 
 /// The value's words and the octets after it, or the refusal.
@@ -48,6 +57,18 @@ pub(crate) fn error_text(alloc: Global, error: X509Error) -> io::Result<String> 
         X509Error::Der(_) => literal(alloc, "Der"),
         X509Error::NomError(_) => literal(alloc, "NomError"),
         error => told(alloc, error),
+    }
+}
+
+/// Whether octets are read, and whether the number of headers that were tried is in its bounds: at most eight for each octet, and
+/// of what is read the least number at least.
+pub(crate) fn count_text(is_read: bool, tried: u64, least: u64, octets: usize) -> &'static str {
+    let is_bounded = u128::from(tried) <= octets as u128 * 8;
+    match (is_read, is_bounded) {
+        (true, true) if least <= tried => "read, headers in bounds",
+        (true, _) => "read, headers out of bounds",
+        (false, true) => "refused, headers in bounds",
+        (false, false) => "refused, headers out of bounds",
     }
 }
 

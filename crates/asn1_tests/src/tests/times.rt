@@ -6,6 +6,7 @@ mod moments;
 use super::same;
 use asn1_times::{ASN1DateTime, ASN1TimeZone, GeneralizedTime, UtcTime};
 use asn1_traits::ToDer;
+use std::process::Abort;
 
 const NOON: ASN1DateTime = ASN1DateTime {
     year: 2026,
@@ -46,72 +47,105 @@ fn in_form<T: ToDer>(value: &T) -> bool {
     value.in_der_form()
 }
 
+// A UTCTime of these fields isn't in DER form.
+fn is_bad_utc<R: Abort>(rt: &R, time: ASN1DateTime) {
+    same(rt, in_form(&UtcTime::new(time)), false);
+}
+
+// Nor is a GeneralizedTime.
+fn is_bad_generalized<R: Abort>(rt: &R, time: ASN1DateTime) {
+    same(rt, in_form(&GeneralizedTime::new(time)), false);
+}
+
 #[test]
 fn utc_times_out_of_form(rt: HostRuntime) {
     let nines = ASN1DateTime { year: 99, ..SHORT };
     same(&rt, in_form(&UtcTime::new(SHORT)), true);
     same(&rt, in_form(&UtcTime::new(nines)), true);
-    let bad = [
-        ASN1DateTime { year: 100, ..SHORT },
-        NOON,
-        ASN1DateTime { month: 0, ..SHORT },
+    is_bad_utc(&rt, ASN1DateTime { year: 100, ..SHORT });
+    is_bad_utc(&rt, NOON);
+    is_bad_utc(&rt, ASN1DateTime { month: 0, ..SHORT });
+    is_bad_utc(
+        &rt,
         ASN1DateTime {
             month: 255,
             ..SHORT
         },
+    );
+    is_bad_utc(
+        &rt,
         ASN1DateTime {
             millisecond: Some(5),
             ..SHORT
         },
+    );
+    is_bad_utc(
+        &rt,
         ASN1DateTime {
             tz: ASN1TimeZone::Undefined,
             ..SHORT
         },
+    );
+    is_bad_utc(
+        &rt,
         ASN1DateTime {
             tz: offset(-5, -30),
             ..SHORT
         },
+    );
+    is_bad_utc(
+        &rt,
         ASN1DateTime {
             tz: offset(24, 0),
             ..SHORT
         },
+    );
+    is_bad_utc(
+        &rt,
         ASN1DateTime {
             tz: offset(-128, 0),
             ..SHORT
         },
-    ];
-    for time in bad {
-        assert!(rt; !in_form(&UtcTime::new(time)), "{time:?}");
-    }
+    );
 }
 
 #[test]
 fn generalized_times_out_of_form(rt: HostRuntime) {
     same(&rt, in_form(&GeneralizedTime::new(NOON)), true);
-    let bad = [
+    is_bad_generalized(
+        &rt,
         ASN1DateTime {
             year: 10000,
             ..NOON
         },
-        ASN1DateTime { second: 60, ..NOON },
+    );
+    is_bad_generalized(&rt, ASN1DateTime { second: 60, ..NOON });
+    is_bad_generalized(
+        &rt,
         ASN1DateTime {
             millisecond: Some(0),
             ..NOON
         },
+    );
+    is_bad_generalized(
+        &rt,
         ASN1DateTime {
             millisecond: Some(1000),
             ..NOON
         },
+    );
+    is_bad_generalized(
+        &rt,
         ASN1DateTime {
             tz: offset(0, 0),
             ..NOON
         },
+    );
+    is_bad_generalized(
+        &rt,
         ASN1DateTime {
             tz: ASN1TimeZone::Undefined,
             ..NOON
         },
-    ];
-    for time in bad {
-        assert!(rt; !in_form(&GeneralizedTime::new(time)), "{time:?}");
-    }
+    );
 }

@@ -1,6 +1,6 @@
 //! Versions, extensions and certificates.
 
-use crate::words::{Words, add, bits_text, error_text, refusal_text};
+use crate::words::{Words, add, bits_text, count_text, error_text, refusal_text};
 use asn1_core::HeaderCount;
 use asn1_oid::Oid;
 use asn1_traits::FromDer;
@@ -52,11 +52,18 @@ pub(crate) fn first_extension(
     let Some(identifier) = octets_of(alloc, identifier)? else {
         return literal(alloc, "no identifier");
     };
-    let Some(extensions) = extensions_of(alloc, octets) else {
-        return literal(alloc, "out of memory");
-    };
-    let oid = Oid::new(identifier.as_slice());
-    match find_extension(extensions.as_slice(), &oid) {
+    match extensions_of(alloc, octets) {
+        Some(extensions) => first_text(alloc, &Oid::new(identifier.as_slice()), &extensions),
+        None => literal(alloc, "out of memory"),
+    }
+}
+
+fn first_text(
+    alloc: Global,
+    oid: &Oid<'_>,
+    extensions: &[X509Extension<'_>],
+) -> io::Result<String> {
+    match find_extension(extensions, oid) {
         Some(extension) => extension.words(alloc),
         None => literal(alloc, "none"),
     }
@@ -71,11 +78,18 @@ pub(crate) fn unique_extension(
     let Some(identifier) = octets_of(alloc, identifier)? else {
         return literal(alloc, "no identifier");
     };
-    let Some(extensions) = extensions_of(alloc, octets) else {
-        return literal(alloc, "out of memory");
-    };
-    let oid = Oid::new(identifier.as_slice());
-    match get_extension_unique(extensions.as_slice(), &oid) {
+    match extensions_of(alloc, octets) {
+        Some(extensions) => unique_text(alloc, &Oid::new(identifier.as_slice()), &extensions),
+        None => literal(alloc, "out of memory"),
+    }
+}
+
+fn unique_text(
+    alloc: Global,
+    oid: &Oid<'_>,
+    extensions: &[X509Extension<'_>],
+) -> io::Result<String> {
+    match get_extension_unique(extensions, oid) {
         Ok(Some(extension)) => extension.words(alloc),
         Ok(None) => literal(alloc, "none"),
         Err(error) => error_text(alloc, error),
@@ -98,21 +112,10 @@ fn extensions_of<'a>(alloc: Global, octets: &'a [u8]) -> Option<Vec<X509Extensio
 /// octet, and at least 17 of a certificate.
 pub(crate) fn counted(alloc: Global, octets: &[u8]) -> io::Result<String> {
     let mut count = HeaderCount::new();
-    let read = X509CertificateParser::new().parse_counted(alloc, octets, &mut count);
-    let (told, least) = if read.is_ok() {
-        ("read", 17)
-    } else {
-        ("refused", 0)
-    };
-    let tried = u128::from(count.get());
-    let is_bounded = least <= tried && tried <= octets.len() as u128 * 8;
-    let bounds = if is_bounded {
-        "in bounds"
-    } else {
-        "out of bounds"
-    };
-    let text = format!(in alloc; "{told}, headers {bounds}")?;
-    Ok(text)
+    let is_read = X509CertificateParser::new()
+        .parse_counted(alloc, octets, &mut count)
+        .is_ok();
+    literal(alloc, count_text(is_read, count.get(), 17, octets.len()))
 }
 
 /// The octets in hexadecimal, with a colon between two.

@@ -50,9 +50,13 @@ pub(crate) fn exponent(alloc: Global, octets: &[u8]) -> io::Result<String> {
 
 /// What the key's octets are by their algorithm, and the key's size.
 pub(crate) fn parsed(alloc: Global, octets: &[u8]) -> io::Result<String> {
-    let Ok((_, key)) = SubjectPublicKeyInfo::from_der(alloc, octets) else {
-        return literal(alloc, "no key");
-    };
+    match SubjectPublicKeyInfo::from_der(alloc, octets) {
+        Ok((_, key)) => parsed_of(alloc, &key),
+        Err(_) => literal(alloc, "no key"),
+    }
+}
+
+fn parsed_of(alloc: Global, key: &SubjectPublicKeyInfo<'_>) -> io::Result<String> {
     match key.parsed() {
         Ok(key) => {
             let kind = kind_text(alloc, &key)?;

@@ -86,9 +86,13 @@ fn attribute_with(octets: &[u8]) -> Option<AttributeTypeAndValue<'_>> {
 
 /// The attributes of the name, one behind the other.
 pub(crate) fn attributes_of(alloc: Global, octets: &[u8]) -> io::Result<String> {
-    let Ok((_, name)) = X509Name::from_der(alloc, octets) else {
-        return literal(alloc, "no name");
-    };
+    match X509Name::from_der(alloc, octets) {
+        Ok((_, name)) => attributes_text(alloc, &name),
+        Err(_) => literal(alloc, "no name"),
+    }
+}
+
+fn attributes_text(alloc: Global, name: &X509Name<'_>) -> io::Result<String> {
     let mut text = String::new(alloc);
     for attribute in name.iter_attributes() {
         add_attribute(alloc, &mut text, attribute)?;
@@ -98,10 +102,14 @@ pub(crate) fn attributes_of(alloc: Global, octets: &[u8]) -> io::Result<String> 
 
 /// The attributes of one type, by the name of the type's call.
 pub(crate) fn attributes_under(alloc: Global, call: &str, octets: &[u8]) -> io::Result<String> {
-    let Ok((_, name)) = X509Name::from_der(alloc, octets) else {
-        return literal(alloc, "no name");
-    };
-    let Some(attributes) = attributes_by(&name, call) else {
+    match X509Name::from_der(alloc, octets) {
+        Ok((_, name)) => attributes_text_by(alloc, call, &name),
+        Err(_) => literal(alloc, "no name"),
+    }
+}
+
+fn attributes_text_by(alloc: Global, call: &str, name: &X509Name<'_>) -> io::Result<String> {
+    let Some(attributes) = attributes_by(name, call) else {
         return literal(alloc, "no call");
     };
     let mut text = String::new(alloc);

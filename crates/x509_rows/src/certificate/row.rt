@@ -10,8 +10,7 @@ use crate::certificate::objects::name_of;
 use crate::certificate::times::{
     from_timestamp, is_valid_at, next_update_of, time, time_left, validity,
 };
-use crate::words::told_of;
-use asn1_traits::FromDer;
+use crate::words::read_of;
 use hex_rows::{literal, octets_of};
 use std::alloc::Global;
 use std::io;
@@ -30,18 +29,18 @@ pub(crate) fn outcome(alloc: Global, row: &str) -> io::Result<String> {
     };
     let octets = octets.as_slice();
     match call {
-        "algorithm" => told_of(alloc, AlgorithmIdentifier::from_der(alloc, octets)),
-        "attribute" => told_of(alloc, AttributeTypeAndValue::from_der(alloc, octets)),
-        "relative" => told_of(alloc, RelativeDistinguishedName::from_der(alloc, octets)),
-        "name" => told_of(alloc, X509Name::from_der(alloc, octets)),
-        "key" => told_of(alloc, SubjectPublicKeyInfo::from_der(alloc, octets)),
+        "algorithm" => read_of::<AlgorithmIdentifier<'_>>(alloc, octets),
+        "attribute" => read_of::<AttributeTypeAndValue<'_>>(alloc, octets),
+        "relative" => read_of::<RelativeDistinguishedName<'_>>(alloc, octets),
+        "name" => read_of::<X509Name<'_>>(alloc, octets),
+        "key" => read_of::<SubjectPublicKeyInfo<'_>>(alloc, octets),
         "time" => time(alloc, octets),
         "validity" => validity(alloc, octets),
-        "rsa" => told_of(alloc, RSAPublicKey::from_der(alloc, octets)),
+        "rsa" => read_of::<RSAPublicKey<'_>>(alloc, octets),
         "version" => version(alloc, octets),
-        "extension" => told_of(alloc, X509Extension::from_der(alloc, octets)),
-        "tbs" => told_of(alloc, TbsCertificate::from_der(alloc, octets)),
-        "certificate" => told_of(alloc, X509Certificate::from_der(alloc, octets)),
+        "extension" => read_of::<X509Extension<'_>>(alloc, octets),
+        "tbs" => read_of::<TbsCertificate<'_>>(alloc, octets),
+        "certificate" => read_of::<X509Certificate<'_>>(alloc, octets),
         _ => called(alloc, call, octets),
     }
 }

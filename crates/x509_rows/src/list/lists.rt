@@ -1,6 +1,6 @@
 //! Revocation lists and their entries.
 
-use crate::words::{Words, add};
+use crate::words::{Words, add, count_text};
 use asn1_core::HeaderCount;
 use asn1_traits::FromDer;
 use hex_rows::{hex_of, literal};
@@ -14,28 +14,21 @@ use x509_lists::{
 /// and at least nine of a list.
 pub(crate) fn counted(alloc: Global, octets: &[u8]) -> io::Result<String> {
     let mut count = HeaderCount::new();
-    let read = CertificateRevocationListParser::new().parse_counted(alloc, octets, &mut count);
-    let (told, least) = if read.is_ok() {
-        ("read", 9)
-    } else {
-        ("refused", 0)
-    };
-    let tried = u128::from(count.get());
-    let is_bounded = least <= tried && tried <= octets.len() as u128 * 8;
-    let bounds = if is_bounded {
-        "in bounds"
-    } else {
-        "out of bounds"
-    };
-    let text = format!(in alloc; "{told}, headers {bounds}")?;
-    Ok(text)
+    let is_read = CertificateRevocationListParser::new()
+        .parse_counted(alloc, octets, &mut count)
+        .is_ok();
+    literal(alloc, count_text(is_read, count.get(), 9, octets.len()))
 }
 
 /// The number of the list.
 pub(crate) fn crl_number(alloc: Global, octets: &[u8]) -> io::Result<String> {
-    let Ok((_, list)) = CertificateRevocationList::from_der(alloc, octets) else {
-        return literal(alloc, "no list");
-    };
+    match CertificateRevocationList::from_der(alloc, octets) {
+        Ok((_, list)) => number_of(alloc, &list),
+        Err(_) => literal(alloc, "no list"),
+    }
+}
+
+fn number_of(alloc: Global, list: &CertificateRevocationList<'_>) -> io::Result<String> {
     match list.crl_number() {
         Some(number) => {
             let text = hex_of(alloc, number.as_bytes())?;
@@ -47,9 +40,13 @@ pub(crate) fn crl_number(alloc: Global, octets: &[u8]) -> io::Result<String> {
 
 /// Why the entry's certificate was revoked.
 pub(crate) fn reason_code(alloc: Global, octets: &[u8]) -> io::Result<String> {
-    let Ok((_, entry)) = RevokedCertificate::from_der(alloc, octets) else {
-        return literal(alloc, "no entry");
-    };
+    match RevokedCertificate::from_der(alloc, octets) {
+        Ok((_, entry)) => reason_of(alloc, &entry),
+        Err(_) => literal(alloc, "no entry"),
+    }
+}
+
+fn reason_of(alloc: Global, entry: &RevokedCertificate<'_>) -> io::Result<String> {
     match entry.reason_code() {
         Some((critical, reason)) => {
             let text = format!(in alloc; "{reason}, critical {critical}")?;
@@ -61,9 +58,13 @@ pub(crate) fn reason_code(alloc: Global, octets: &[u8]) -> io::Result<String> {
 
 /// Since when the entry's certificate is thought to be invalid.
 pub(crate) fn invalidity_date(alloc: Global, octets: &[u8]) -> io::Result<String> {
-    let Ok((_, entry)) = RevokedCertificate::from_der(alloc, octets) else {
-        return literal(alloc, "no entry");
-    };
+    match RevokedCertificate::from_der(alloc, octets) {
+        Ok((_, entry)) => date_of(alloc, &entry),
+        Err(_) => literal(alloc, "no entry"),
+    }
+}
+
+fn date_of(alloc: Global, entry: &RevokedCertificate<'_>) -> io::Result<String> {
     match entry.invalidity_date() {
         Some((critical, date)) => {
             let text = format!(in alloc; "{}, critical {critical}", date.timestamp())?;

@@ -5,17 +5,24 @@ use asn1_oid::Oid;
 use asn1_traits::FromDer;
 use hex_rows::{hex_of, literal, told};
 use std::alloc::Global;
+use std::collections::BTreeMap;
 use std::io;
 use x509_requests::{
     ExtensionRequest, ParsedCriAttribute, X509CertificationRequest, X509CertificationRequestInfo,
     X509CriAttribute,
 };
 
+type Attributes<'n, 'a> = BTreeMap<Oid<'a>, &'n X509CriAttribute<'a>>;
+
 /// What the requested extensions were parsed as, one behind the other.
 pub(crate) fn requested(alloc: Global, octets: &[u8]) -> io::Result<String> {
-    let Ok((_, request)) = X509CertificationRequest::from_der(alloc, octets) else {
-        return literal(alloc, "no request");
-    };
+    match X509CertificationRequest::from_der(alloc, octets) {
+        Ok((_, request)) => extensions_of(alloc, &request),
+        Err(_) => literal(alloc, "no request"),
+    }
+}
+
+fn extensions_of(alloc: Global, request: &X509CertificationRequest<'_>) -> io::Result<String> {
     let Some(extensions) = request.requested_extensions() else {
         return literal(alloc, "none");
     };
@@ -29,9 +36,13 @@ pub(crate) fn requested(alloc: Global, octets: &[u8]) -> io::Result<String> {
 
 /// The first challenge password.
 pub(crate) fn found_attribute(alloc: Global, octets: &[u8]) -> io::Result<String> {
-    let Ok((_, info)) = X509CertificationRequestInfo::from_der(alloc, octets) else {
-        return literal(alloc, "no request");
-    };
+    match X509CertificationRequestInfo::from_der(alloc, octets) {
+        Ok((_, info)) => password_of(alloc, &info),
+        Err(_) => literal(alloc, "no request"),
+    }
+}
+
+fn password_of(alloc: Global, info: &X509CertificationRequestInfo<'_>) -> io::Result<String> {
     match info.find_attribute(&Oid::new(b"\x2a\x86\x48\x86\xf7\x0d\x01\x09\x07")) {
         Some(attribute) => attribute.words(alloc),
         None => literal(alloc, "none"),
@@ -40,20 +51,26 @@ pub(crate) fn found_attribute(alloc: Global, octets: &[u8]) -> io::Result<String
 
 /// How many attributes a map by identifier has, and each behind its key, in the keys' order.
 pub(crate) fn mapped_attributes(alloc: Global, octets: &[u8]) -> io::Result<String> {
-    let Ok((_, info)) = X509CertificationRequestInfo::from_der(alloc, octets) else {
-        return literal(alloc, "no request");
-    };
+    match X509CertificationRequestInfo::from_der(alloc, octets) {
+        Ok((_, info)) => map_of(alloc, &info),
+        Err(_) => literal(alloc, "no request"),
+    }
+}
+
+fn map_of(alloc: Global, info: &X509CertificationRequestInfo<'_>) -> io::Result<String> {
     match info.attributes_map(alloc) {
-        Ok(by_oid) => {
-            let mut text = format!(in alloc; "{}", by_oid.len())?;
-            for (oid, attribute) in by_oid.iter() {
-                let words = attribute.words(alloc)?;
-                write!(text, "\n  at {oid}: {words}")?;
-            }
-            Ok(text)
-        }
+        Ok(by_oid) => map_text(alloc, &by_oid),
         Err(e) => told(alloc, e),
     }
+}
+
+fn map_text(alloc: Global, by_oid: &Attributes<'_, '_>) -> io::Result<String> {
+    let mut text = format!(in alloc; "{}", by_oid.len())?;
+    for (oid, attribute) in by_oid.iter() {
+        let words = attribute.words(alloc)?;
+        write!(text, "\n  at {oid}: {words}")?;
+    }
+    Ok(text)
 }
 
 impl Words for ExtensionRequest<'_> {

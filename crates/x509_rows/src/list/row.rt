@@ -2,8 +2,7 @@
 
 use crate::list::lists::{counted, crl_number, invalidity_date, reason_code};
 use crate::list::requests::{found_attribute, mapped_attributes, requested};
-use crate::words::told_of;
-use asn1_traits::FromDer;
+use crate::words::{read_of, told_of};
 use hex_rows::{literal, octets_of};
 use std::alloc::Global;
 use std::io;
@@ -23,9 +22,9 @@ pub(crate) fn outcome(alloc: Global, row: &str) -> io::Result<String> {
     };
     let octets = octets.as_slice();
     match call {
-        "entry" => told_of(alloc, RevokedCertificate::from_der(alloc, octets)),
-        "tbs" => told_of(alloc, TbsCertList::from_der(alloc, octets)),
-        "list" => told_of(alloc, CertificateRevocationList::from_der(alloc, octets)),
+        "entry" => read_of::<RevokedCertificate<'_>>(alloc, octets),
+        "tbs" => read_of::<TbsCertList<'_>>(alloc, octets),
+        "list" => read_of::<CertificateRevocationList<'_>>(alloc, octets),
         "parse" => told_of(
             alloc,
             CertificateRevocationListParser::new()
@@ -49,10 +48,10 @@ pub(crate) fn outcome(alloc: Global, row: &str) -> io::Result<String> {
 /// The same of the calls on requests.
 fn of_requests(alloc: Global, call: &str, octets: &[u8]) -> io::Result<String> {
     match call {
-        "extensions" => told_of(alloc, ExtensionRequest::from_der(alloc, octets)),
-        "attribute" => told_of(alloc, X509CriAttribute::from_der(alloc, octets)),
-        "info" => told_of(alloc, X509CertificationRequestInfo::from_der(alloc, octets)),
-        "request" => told_of(alloc, X509CertificationRequest::from_der(alloc, octets)),
+        "extensions" => read_of::<ExtensionRequest<'_>>(alloc, octets),
+        "attribute" => read_of::<X509CriAttribute<'_>>(alloc, octets),
+        "info" => read_of::<X509CertificationRequestInfo<'_>>(alloc, octets),
+        "request" => read_of::<X509CertificationRequest<'_>>(alloc, octets),
         "requested_extensions" => requested(alloc, octets),
         "find_attribute" => found_attribute(alloc, octets),
         "attributes_map" => mapped_attributes(alloc, octets),

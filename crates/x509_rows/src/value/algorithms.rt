@@ -1,6 +1,6 @@
 //! Rows of algorithms, their parameters and values of signatures.
 
-use crate::words::{error_text, refusal_text};
+use crate::words::{Words, error_text, read_of};
 use asn1_any::Any;
 use asn1_traits::FromDer;
 use hex_rows::{hex_of, literal};
@@ -15,10 +15,10 @@ use x509_names::AlgorithmIdentifier;
 /// What the reader of the row's type answers.
 pub(crate) fn of_algorithms(alloc: Global, name: &str, octets: &[u8]) -> io::Result<String> {
     match name {
-        "EcdsaSigValue" => signature_value(alloc, octets),
-        "RsaSsaPssParams" => pss(alloc, octets),
+        "EcdsaSigValue" => read_of::<EcdsaSigValue<'_>>(alloc, octets),
+        "RsaSsaPssParams" => read_of::<RsaSsaPssParams<'_>>(alloc, octets),
         "RsaSsaPssParamsElement" => pss_element(alloc, octets),
-        "RsaAesOaepParams" => oaep(alloc, octets),
+        "RsaAesOaepParams" => read_of::<RsaAesOaepParams<'_>>(alloc, octets),
         "RsaAesOaepParamsElement" => oaep_element(alloc, octets),
         "RsaAesOaepParamsEmpty" => algorithm_text(alloc, &RsaAesOaepParams::empty()),
         "SignatureAlgorithm" => signature_algorithm(alloc, octets),
@@ -26,40 +26,24 @@ pub(crate) fn of_algorithms(alloc: Global, name: &str, octets: &[u8]) -> io::Res
     }
 }
 
-fn signature_value(alloc: Global, octets: &[u8]) -> io::Result<String> {
-    match EcdsaSigValue::from_der(alloc, octets) {
-        Ok((rest, value)) => {
-            let r = hex_of(alloc, value.r.content)?;
-            let s = hex_of(alloc, value.s.content)?;
-            let rest = hex_of(alloc, rest)?;
-            let text = format!(in alloc; "{r}, {s}; rest {rest}")?;
-            Ok(text)
-        }
-        Err(refusal) => refusal_text(alloc, refusal),
+impl Words for EcdsaSigValue<'_> {
+    fn words(&self, alloc: Global) -> io::Result<String> {
+        let r = hex_of(alloc, self.r.content)?;
+        let s = hex_of(alloc, self.s.content)?;
+        let text = format!(in alloc; "{r}, {s}")?;
+        Ok(text)
     }
 }
 
-fn pss(alloc: Global, octets: &[u8]) -> io::Result<String> {
-    match RsaSsaPssParams::from_der(alloc, octets) {
-        Ok((rest, value)) => {
-            let words = pss_text(alloc, &value)?;
-            let rest = hex_of(alloc, rest)?;
-            let text = format!(in alloc; "{words}; rest {rest}")?;
-            Ok(text)
-        }
-        Err(refusal) => refusal_text(alloc, refusal),
+impl Words for RsaSsaPssParams<'_> {
+    fn words(&self, alloc: Global) -> io::Result<String> {
+        pss_text(alloc, self)
     }
 }
 
-fn oaep(alloc: Global, octets: &[u8]) -> io::Result<String> {
-    match RsaAesOaepParams::from_der(alloc, octets) {
-        Ok((rest, value)) => {
-            let words = oaep_text(alloc, &value)?;
-            let rest = hex_of(alloc, rest)?;
-            let text = format!(in alloc; "{words}; rest {rest}")?;
-            Ok(text)
-        }
-        Err(refusal) => refusal_text(alloc, refusal),
+impl Words for RsaAesOaepParams<'_> {
+    fn words(&self, alloc: Global) -> io::Result<String> {
+        oaep_text(alloc, self)
     }
 }
 
@@ -87,10 +71,14 @@ fn oaep_element(alloc: Global, octets: &[u8]) -> io::Result<String> {
 
 /// What the algorithm is that begins the octets.
 fn signature_algorithm(alloc: Global, octets: &[u8]) -> io::Result<String> {
-    let Ok((_, algorithm)) = AlgorithmIdentifier::from_der(alloc, octets) else {
-        return literal(alloc, "no algorithm");
-    };
-    match SignatureAlgorithm::try_from(alloc, &algorithm) {
+    match AlgorithmIdentifier::from_der(alloc, octets) {
+        Ok((_, algorithm)) => kind_of(alloc, &algorithm),
+        Err(_) => literal(alloc, "no algorithm"),
+    }
+}
+
+fn kind_of(alloc: Global, algorithm: &AlgorithmIdentifier<'_>) -> io::Result<String> {
+    match SignatureAlgorithm::try_from(alloc, algorithm) {
         Ok(kind) => kind_text(alloc, &kind),
         Err(error) => error_text(alloc, error),
     }

@@ -1,7 +1,7 @@
 //! Rows of values of one element, and of texts.
 
 use crate::value::algorithms::of_algorithms;
-use crate::value::told::{fault_of, shown, told_of};
+use crate::value::told::{fault, fault_of, read_of, shown, told_of};
 use crate::words::refusal_text;
 use asn1_traits::FromDer;
 use hex_rows::{hex_of, literal};
@@ -14,16 +14,16 @@ use x509_points::CRLDistributionPoints;
 /// What the reader of the row's type answers.
 pub(crate) fn of_leaves(alloc: Global, name: &str, octets: &[u8]) -> io::Result<String> {
     match name {
-        "BasicConstraints" => told_of(alloc, BasicConstraints::from_der(alloc, octets)),
-        "BasicConstraintsFault" => fault_of(alloc, BasicConstraints::from_der(alloc, octets)),
+        "BasicConstraints" => read_of::<BasicConstraints>(alloc, octets),
+        "BasicConstraintsFault" => fault_of::<BasicConstraints>(alloc, octets),
         "CRLNumber" => number(alloc, octets),
         "ReasonCode" => told_of(alloc, reason_code(octets)),
-        "ReasonCodeFault" => fault_of(alloc, reason_code(octets)),
+        "ReasonCodeFault" => fault(alloc, reason_code(octets)),
         "InvalidityDate" => date(alloc, octets),
         "NetscapeComment" => comment(alloc, octets),
-        "KeyUsageText" => shown(alloc, KeyUsage::from_der(alloc, octets)),
-        "NSCertTypeText" => shown(alloc, NSCertType::from_der(alloc, octets)),
-        "KeyIdentifierText" => shown(alloc, KeyIdentifier::from_der(alloc, octets)),
+        "KeyUsageText" => shown::<KeyUsage>(alloc, octets),
+        "NSCertTypeText" => shown::<NSCertType>(alloc, octets),
+        "KeyIdentifierText" => shown::<KeyIdentifier<'_>>(alloc, octets),
         "ReasonFlagsText" => reasons(alloc, octets),
         _ => of_algorithms(alloc, name, octets),
     }

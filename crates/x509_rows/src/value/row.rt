@@ -1,8 +1,7 @@
 //! A row, taken apart.
 
 use crate::value::leaves::of_leaves;
-use crate::value::told::told_of;
-use asn1_traits::FromDer;
+use crate::value::told::{read_of, told_of};
 use hex_rows::{literal, octets_of};
 use std::alloc::Global;
 use std::io;
@@ -23,16 +22,16 @@ pub(crate) fn outcome(alloc: Global, row: &str) -> io::Result<String> {
     };
     let octets = octets.as_slice();
     match name {
-        "KeyIdentifier" => told_of(alloc, KeyIdentifier::from_der(alloc, octets)),
-        "KeyUsage" => told_of(alloc, KeyUsage::from_der(alloc, octets)),
-        "NSCertType" => told_of(alloc, NSCertType::from_der(alloc, octets)),
-        "PolicyConstraints" => told_of(alloc, PolicyConstraints::from_der(alloc, octets)),
-        "InhibitAnyPolicy" => told_of(alloc, InhibitAnyPolicy::from_der(alloc, octets)),
+        "KeyIdentifier" => read_of::<KeyIdentifier<'_>>(alloc, octets),
+        "KeyUsage" => read_of::<KeyUsage>(alloc, octets),
+        "NSCertType" => read_of::<NSCertType>(alloc, octets),
+        "PolicyConstraints" => read_of::<PolicyConstraints>(alloc, octets),
+        "InhibitAnyPolicy" => read_of::<InhibitAnyPolicy>(alloc, octets),
         "CertificatePolicies" => told_of(alloc, certificate_policies(alloc, octets)),
-        "PolicyMapping" => told_of(alloc, PolicyMapping::from_der(alloc, octets)),
-        "PolicyMappings" => told_of(alloc, PolicyMappings::from_der(alloc, octets)),
-        "ExtendedKeyUsage" => told_of(alloc, ExtendedKeyUsage::from_der(alloc, octets)),
-        "CRLDistributionPoints" => told_of(alloc, CRLDistributionPoints::from_der(alloc, octets)),
+        "PolicyMapping" => read_of::<PolicyMapping<'_>>(alloc, octets),
+        "PolicyMappings" => read_of::<PolicyMappings<'_>>(alloc, octets),
+        "ExtendedKeyUsage" => read_of::<ExtendedKeyUsage<'_>>(alloc, octets),
+        "CRLDistributionPoints" => read_of::<CRLDistributionPoints<'_>>(alloc, octets),
         "IssuingDistributionPoint" => told_of(alloc, issuing_distribution_point(alloc, octets)),
         "Timestamps" => {
             told_of(
@@ -47,13 +46,13 @@ pub(crate) fn outcome(alloc: Global, row: &str) -> io::Result<String> {
 /// The same of types that hold general names.
 fn of_names(alloc: Global, name: &str, octets: &[u8]) -> io::Result<String> {
     match name {
-        "GeneralName" => told_of(alloc, GeneralName::from_der(alloc, octets)),
-        "SubjectAlternativeName" => told_of(alloc, SubjectAlternativeName::from_der(alloc, octets)),
-        "IssuerAlternativeName" => told_of(alloc, IssuerAlternativeName::from_der(alloc, octets)),
-        "AuthorityKeyIdentifier" => told_of(alloc, AuthorityKeyIdentifier::from_der(alloc, octets)),
-        "NameConstraints" => told_of(alloc, NameConstraints::from_der(alloc, octets)),
-        "AuthorityInfoAccess" => told_of(alloc, AuthorityInfoAccess::from_der(alloc, octets)),
-        "SubjectInfoAccess" => told_of(alloc, SubjectInfoAccess::from_der(alloc, octets)),
+        "GeneralName" => read_of::<GeneralName<'_>>(alloc, octets),
+        "SubjectAlternativeName" => read_of::<SubjectAlternativeName<'_>>(alloc, octets),
+        "IssuerAlternativeName" => read_of::<IssuerAlternativeName<'_>>(alloc, octets),
+        "AuthorityKeyIdentifier" => read_of::<AuthorityKeyIdentifier<'_>>(alloc, octets),
+        "NameConstraints" => read_of::<NameConstraints<'_>>(alloc, octets),
+        "AuthorityInfoAccess" => read_of::<AuthorityInfoAccess<'_>>(alloc, octets),
+        "SubjectInfoAccess" => read_of::<SubjectInfoAccess<'_>>(alloc, octets),
         _ => of_leaves(alloc, name, octets),
     }
 }

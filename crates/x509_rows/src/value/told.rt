@@ -1,10 +1,19 @@
 //! What a reader answers, in words.
 
 use crate::words::refusal_text;
+use asn1_traits::FromDer;
 use hex_rows::{hex_of, literal, told};
 use std::alloc::Global;
 use std::{fmt, io};
-use x509_core::X509Result;
+use x509_core::{X509Error, X509Result};
+
+/// The value that begins the octets, with its fields, and the octets after it, or the refusal.
+pub(crate) fn read_of<'a, T: FromDer<'a, X509Error> + fmt::Debug + Drop>(
+    alloc: Global,
+    octets: &'a [u8],
+) -> io::Result<String> {
+    told_of(alloc, T::from_der(alloc, octets))
+}
 
 /// The value with its fields and the octets after it, or the refusal.
 pub(crate) fn told_of<T: fmt::Debug + Drop>(
@@ -21,12 +30,12 @@ pub(crate) fn told_of<T: fmt::Debug + Drop>(
     }
 }
 
-/// The same, the value by its text.
-pub(crate) fn shown<T: fmt::Display + Drop>(
+/// The value that begins the octets by its text, and the octets after it, or the refusal.
+pub(crate) fn shown<'a, T: FromDer<'a, X509Error> + fmt::Display + Drop>(
     alloc: Global,
-    read: X509Result<'_, T>,
+    octets: &'a [u8],
 ) -> io::Result<String> {
-    match read {
+    match T::from_der(alloc, octets) {
         Ok((rest, value)) => {
             let rest = hex_of(alloc, rest)?;
             let text = format!(in alloc; "{value}; rest {rest}")?;
@@ -36,8 +45,16 @@ pub(crate) fn shown<T: fmt::Display + Drop>(
     }
 }
 
-/// Why octets are refused, where it is promised which error that is.
-pub(crate) fn fault_of<T: Drop>(alloc: Global, read: X509Result<'_, T>) -> io::Result<String> {
+/// Why octets are refused as a value of this type, where it is promised which error that is.
+pub(crate) fn fault_of<'a, T: FromDer<'a, X509Error> + Drop>(
+    alloc: Global,
+    octets: &'a [u8],
+) -> io::Result<String> {
+    fault(alloc, T::from_der(alloc, octets))
+}
+
+/// Why a reader refuses octets.
+pub(crate) fn fault<T: Drop>(alloc: Global, read: X509Result<'_, T>) -> io::Result<String> {
     match read {
         Ok(_) => literal(alloc, "no fault"),
         Err(refusal) => told(alloc, refusal),
