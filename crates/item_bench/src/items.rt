@@ -8,6 +8,7 @@ use certpath_typed::read_typed;
 use der_tree::parse_der;
 use std::alloc::Global;
 use x509_certs::{X509Certificate, X509CertificateParser};
+use x509_core::X509Error;
 use x509_lists::CertificateRevocationList;
 
 /// How many items the octets are, each behind the other.
@@ -19,9 +20,9 @@ pub(crate) fn count_items(alloc: Global, reader: &str, octets: &[u8]) -> Result<
         }
         let after = match reader {
             "objects" => after_object(alloc, rest),
-            "typed" => after_certificate(alloc, rest),
+            "typed" => after_typed::<X509Certificate<'_>>(alloc, rest),
             "plain" => after_plain(alloc, rest),
-            "list" => after_list(alloc, rest),
+            "list" => after_typed::<CertificateRevocationList<'_>>(alloc, rest),
             "tree" | "road" => after_item(alloc, reader, rest),
             _ => bail!("no file is read as {reader:?}"),
         };
@@ -41,9 +42,12 @@ fn after_object(alloc: Global, octets: &[u8]) -> Option<&[u8]> {
     }
 }
 
-/// What is left behind a certificate, read as its types.
-fn after_certificate(alloc: Global, octets: &[u8]) -> Option<&[u8]> {
-    match X509Certificate::from_der(alloc, octets) {
+/// What is left behind a value of the type.
+fn after_typed<'a, T: FromDer<'a, X509Error> + Drop>(
+    alloc: Global,
+    octets: &'a [u8],
+) -> Option<&'a [u8]> {
+    match T::from_der(alloc, octets) {
         Ok((rest, _)) => Some(rest),
         Err(_) => None,
     }
@@ -53,14 +57,6 @@ fn after_certificate(alloc: Global, octets: &[u8]) -> Option<&[u8]> {
 fn after_plain(alloc: Global, octets: &[u8]) -> Option<&[u8]> {
     let parser = X509CertificateParser::new().with_deep_parse_extensions(false);
     match parser.parse(alloc, octets) {
-        Ok((rest, _)) => Some(rest),
-        Err(_) => None,
-    }
-}
-
-/// What is left behind a revocation list, read as its types.
-fn after_list(alloc: Global, octets: &[u8]) -> Option<&[u8]> {
-    match CertificateRevocationList::from_der(alloc, octets) {
         Ok((rest, _)) => Some(rest),
         Err(_) => None,
     }

@@ -1,4 +1,4 @@
-use Rattle.read_bench.proofs.elements.+count_levels.Given as goal
+use Rattle.item_bench.proofs.elements.+count_levels.Given as goal
 
 abbrev pub decreases-count_levels : goal.decreases-count_levels
 decreases-count_levels l = l.levels
