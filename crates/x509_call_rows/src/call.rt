@@ -11,13 +11,12 @@
 //!
 //! On values that the row makes: `built_name` of texts, `key_usage` of a number, `validate` of a number that warns of itself where it is above 10.
 
-mod copies;
-mod extensions;
+pub(crate) mod copies;
+pub(crate) mod extensions;
 mod flags;
 mod maps;
-mod names;
+pub(crate) mod names;
 mod parsers;
-mod read;
 mod row;
 mod warned;
 

@@ -5,6 +5,7 @@
 #![tactic(auto)]
 
 mod call;
+mod called;
 mod row;
 mod validator;
 mod walk;

@@ -12,13 +12,14 @@ pub(crate) fn outcome(alloc: Global, line: &str) -> io::Result<String> {
     match group {
         "walk" => walk::outcome(alloc, row),
         "validator" => validator::outcome(alloc, row),
-        "call" => called(alloc, row),
+        "call" => call::outcome(alloc, row),
         _ => literal(alloc, "no group"),
     }
 }
 
-fn called(alloc: Global, row: &str) -> io::Result<String> {
-    match call::outcome(alloc, row) {
+/// The answer, or that memory is wanted.
+pub(crate) fn said(alloc: Global, answer: Result<String, OutOfMemory>) -> io::Result<String> {
+    match answer {
         Ok(text) => Ok(text),
         Err(OutOfMemory) => literal(alloc, "want of memory"),
     }

@@ -10,4 +10,6 @@ mod loggers;
 mod part;
 mod row;
 
+pub(crate) use crate::validator::certificate::{of_certificate, of_tbs};
+pub(crate) use crate::validator::part::{of_key, of_name};
 pub(crate) use crate::validator::row::outcome;

@@ -13,4 +13,6 @@ mod methods;
 mod record;
 mod row;
 
+pub(crate) use crate::walk::certificate::{of_certificate, of_tbs_certificate};
+pub(crate) use crate::walk::list::{of_list, of_tbs_list};
 pub(crate) use crate::walk::row::outcome;

@@ -1,72 +1,76 @@
 //! Copies, and numbers as text.
 
-use crate::call::read;
 use crate::call::row::answer;
 use asn1_core::OutOfMemory;
-use asn1_traits::FromDer;
 use std::alloc::Global;
+use x509_certs::{TbsCertificate, X509Certificate};
+use x509_lists::CertificateRevocationList;
 use x509_requests::X509CriAttribute;
 
-/// Whether the copy of a certificate is the same.
-pub(crate) fn certificate(alloc: Global, octets: &[u8]) -> Result<String, OutOfMemory> {
-    let Some(certificate) = read::certificate(alloc, octets) else {
-        return answer(alloc, "no certificate");
-    };
+/// Whether the copy of the certificate is the same.
+pub(crate) fn certificate(
+    alloc: Global,
+    certificate: &X509Certificate<'_>,
+) -> Result<String, OutOfMemory> {
     let copy = certificate.clone(alloc)?;
-    same(alloc, copy == certificate)
+    same(alloc, copy == *certificate)
 }
 
-/// Whether the copy of a list is the same, part by part.
-pub(crate) fn list(alloc: Global, octets: &[u8]) -> Result<String, OutOfMemory> {
-    let Some(list) = read::list(alloc, octets) else {
-        return answer(alloc, "no list");
-    };
+/// Whether the copy of the list is the same, part by part.
+pub(crate) fn list(
+    alloc: Global,
+    list: &CertificateRevocationList<'_>,
+) -> Result<String, OutOfMemory> {
     let copy = list.clone(alloc)?;
-    same(
-        alloc,
-        copy.tbs_cert_list == list.tbs_cert_list
-            && copy.signature_algorithm == list.signature_algorithm
-            && copy.signature_value == list.signature_value
-            && copy.as_raw() == list.as_raw(),
-    )
+    same(alloc, are_same(&copy, list))
 }
 
-/// Whether the copy of an attribute is the same.
-pub(crate) fn attribute(alloc: Global, octets: &[u8]) -> Result<String, OutOfMemory> {
-    let Ok((_, attribute)) = X509CriAttribute::from_der(alloc, octets) else {
-        return answer(alloc, "no attribute");
-    };
+fn are_same<'a>(
+    copy: &CertificateRevocationList<'a>,
+    list: &CertificateRevocationList<'a>,
+) -> bool {
+    copy.tbs_cert_list == list.tbs_cert_list
+        && copy.signature_algorithm == list.signature_algorithm
+        && copy.signature_value == list.signature_value
+        && copy.as_raw() == list.as_raw()
+}
+
+/// Whether the copy of the attribute is the same.
+pub(crate) fn attribute(
+    alloc: Global,
+    attribute: &X509CriAttribute<'_>,
+) -> Result<String, OutOfMemory> {
     let copy = attribute.clone(alloc)?;
-    same(alloc, copy == attribute)
+    same(alloc, copy == *attribute)
 }
 
 fn same(alloc: Global, is_same: bool) -> Result<String, OutOfMemory> {
     answer(alloc, if is_same { "the same" } else { "another" })
 }
 
-/// The serial number of a certificate.
-pub(crate) fn serial(alloc: Global, octets: &[u8]) -> Result<String, OutOfMemory> {
-    let Some(certificate) = read::certificate(alloc, octets) else {
-        return answer(alloc, "no certificate");
-    };
+/// The serial number of the certificate.
+pub(crate) fn serial(
+    alloc: Global,
+    certificate: &X509Certificate<'_>,
+) -> Result<String, OutOfMemory> {
     let text = certificate.raw_serial_as_string(alloc)?;
     Ok(text)
 }
 
 /// The serial number of a certificate's first part.
-pub(crate) fn first_part_serial(alloc: Global, octets: &[u8]) -> Result<String, OutOfMemory> {
-    let Some(tbs) = read::first_part(alloc, octets) else {
-        return answer(alloc, "no first part");
-    };
+pub(crate) fn first_part_serial(
+    alloc: Global,
+    tbs: &TbsCertificate<'_>,
+) -> Result<String, OutOfMemory> {
     let text = tbs.raw_serial_as_string(alloc)?;
     Ok(text)
 }
 
-/// The serial numbers of a list's entries, each behind a blank.
-pub(crate) fn entry_serials(alloc: Global, octets: &[u8]) -> Result<String, OutOfMemory> {
-    let Some(list) = read::list(alloc, octets) else {
-        return answer(alloc, "no list");
-    };
+/// The serial numbers of the list's entries, each behind a blank.
+pub(crate) fn entry_serials(
+    alloc: Global,
+    list: &CertificateRevocationList<'_>,
+) -> Result<String, OutOfMemory> {
     let mut text = String::from_str(alloc, "serials")?;
     for entry in list.iter_revoked_certificates() {
         let serial = entry.raw_serial_as_string(alloc)?;

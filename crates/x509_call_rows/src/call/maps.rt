@@ -76,20 +76,36 @@ pub(crate) fn mappings(alloc: Global, octets: &[u8]) -> Result<String, OutOfMemo
         return answer(alloc, "no mappings");
     };
     let mut text = String::from_str(alloc, "lent")?;
-    for (issuer, subjects) in mappings.as_hashmap(alloc)?.iter() {
-        write!(text, " {issuer}")?;
-        for subject in subjects.iter() {
-            write!(text, " {subject}")?;
-        }
-        write!(text, ";")?;
-    }
+    policies_lent(&mappings.as_hashmap(alloc)?, &mut text)?;
     write!(text, " given")?;
-    for (issuer, subjects) in mappings.into_hashmap(alloc)?.iter() {
+    policies_given(&mappings.into_hashmap(alloc)?, &mut text)?;
+    Ok(text)
+}
+
+fn policies_lent(
+    groups: &BTreeMap<Oid<'_>, Vec<&Oid<'_>>>,
+    text: &mut String,
+) -> Result<(), OutOfMemory> {
+    for (issuer, subjects) in groups.iter() {
         write!(text, " {issuer}")?;
         for subject in subjects.iter() {
             write!(text, " {subject}")?;
         }
         write!(text, ";")?;
     }
-    Ok(text)
+    Ok(())
+}
+
+fn policies_given(
+    groups: &BTreeMap<Oid<'_>, Vec<Oid<'_>>>,
+    text: &mut String,
+) -> Result<(), OutOfMemory> {
+    for (issuer, subjects) in groups.iter() {
+        write!(text, " {issuer}")?;
+        for subject in subjects.iter() {
+            write!(text, " {subject}")?;
+        }
+        write!(text, ";")?;
+    }
+    Ok(())
 }

@@ -1,30 +1,22 @@
 //! Names as text.
 
-use crate::call::read;
 use crate::call::row::answer;
 use asn1_any::Any;
 use asn1_core::{OutOfMemory, Tag};
 use asn1_oid::Oid;
-use asn1_traits::FromDer;
 use std::alloc::Global;
 use x509_general::SubjectAlternativeName;
 use x509_names::{AttributeTypeAndValue, RelativeDistinguishedName, X509Name};
 use x509_objects::{OidEntry, oid_registry};
 
 /// The name, its types named as they are known.
-pub(crate) fn name(alloc: Global, octets: &[u8]) -> Result<String, OutOfMemory> {
-    let Some(name) = read::name(alloc, octets) else {
-        return answer(alloc, "no name");
-    };
+pub(crate) fn name(alloc: Global, name: &X509Name<'_>) -> Result<String, OutOfMemory> {
     let text = format!(in alloc; "{name}")?;
     Ok(text)
 }
 
 /// The name, its types named by a registry that knows 1.2.3 as `own` too.
-pub(crate) fn registered(alloc: Global, octets: &[u8]) -> Result<String, OutOfMemory> {
-    let Some(name) = read::name(alloc, octets) else {
-        return answer(alloc, "no name");
-    };
+pub(crate) fn registered(alloc: Global, name: &X509Name<'_>) -> Result<String, OutOfMemory> {
     let mut registry = oid_registry(alloc)?;
     registry.insert(
         alloc,
@@ -38,10 +30,10 @@ pub(crate) fn registered(alloc: Global, octets: &[u8]) -> Result<String, OutOfMe
 }
 
 /// The names of an alternative name, each behind a blank.
-pub(crate) fn general(alloc: Global, octets: &[u8]) -> Result<String, OutOfMemory> {
-    let Ok((_, names)) = SubjectAlternativeName::from_der(alloc, octets) else {
-        return answer(alloc, "no names");
-    };
+pub(crate) fn general(
+    alloc: Global,
+    names: &SubjectAlternativeName<'_>,
+) -> Result<String, OutOfMemory> {
     let mut text = String::from_str(alloc, "names")?;
     for name in names.general_names.iter() {
         write!(text, " {name}")?;
@@ -56,6 +48,17 @@ fn printable<'a>(octets: &'a [u8]) -> Any<'a> {
 /// A name of five attributes: country, state, organization, and two common names in one set; their texts are
 /// the words, which a bar divides.
 pub(crate) fn built_name(alloc: Global, words: &str) -> Result<String, OutOfMemory> {
+    let sets = sets_of(alloc, words)?;
+    let name = X509Name::try_from_iter(alloc, sets.into_iter())?;
+    let text = format!(in alloc; "{name}")?;
+    Ok(text)
+}
+
+/// The sets of such a name.
+fn sets_of<'a>(
+    alloc: Global,
+    words: &'a str,
+) -> Result<Vec<RelativeDistinguishedName<'a>>, OutOfMemory> {
     let mut sets = Vec::new(alloc);
     let mut types = [
         b"\x55\x04\x06".as_slice(),
@@ -67,16 +70,21 @@ pub(crate) fn built_name(alloc: Global, words: &str) -> Result<String, OutOfMemo
     for word in words.split('|') {
         let value = printable(word.as_bytes());
         match types.next() {
-            Some(attr_type) => {
-                let mut set = Vec::new(alloc);
-                set.push(AttributeTypeAndValue::new(Oid::new(attr_type), value))?;
-                sets.push(RelativeDistinguishedName::new(set))?;
-            }
+            Some(attr_type) => sets.push(set_of(alloc, attr_type, value)?)?,
             None => last.push(AttributeTypeAndValue::new(Oid::new(b"\x55\x04\x03"), value))?,
         }
     }
     sets.push(RelativeDistinguishedName::try_from_iter(alloc, last.into_iter())?)?;
-    let name = X509Name::try_from_iter(alloc, sets.into_iter())?;
-    let text = format!(in alloc; "{name}")?;
-    Ok(text)
+    Ok(sets)
+}
+
+/// A set of one attribute.
+fn set_of<'a>(
+    alloc: Global,
+    attr_type: &'a [u8],
+    value: Any<'a>,
+) -> Result<RelativeDistinguishedName<'a>, OutOfMemory> {
+    let mut set = Vec::new(alloc);
+    set.push(AttributeTypeAndValue::new(Oid::new(attr_type), value))?;
+    Ok(RelativeDistinguishedName::new(set))
 }

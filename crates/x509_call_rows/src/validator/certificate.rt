@@ -5,24 +5,25 @@ use crate::validator::row::told;
 use hex_rows::literal;
 use std::alloc::Global;
 use std::io;
-use x509_parser::FromDer;
 use x509_parser::certificate::{TbsCertificate, X509Certificate};
 use x509_parser::validate::{
     LogError, TbsCertificateStructureValidator, Validate, Validator, VecLogger,
     X509CertificateValidator, X509ExtensionsValidator, X509StructureValidator,
 };
 
-pub(crate) fn of_certificate(alloc: Global, validator: &str, octets: &[u8]) -> io::Result<String> {
-    let Ok((_, certificate)) = X509Certificate::from_der(alloc, octets) else {
-        return literal(alloc, "no certificate");
-    };
+/// What the validator says of the certificate.
+pub(crate) fn of_certificate(
+    alloc: Global,
+    validator: &str,
+    certificate: &X509Certificate<'_>,
+) -> io::Result<String> {
     match validator {
-        "validate" => of_itself(alloc, &certificate),
-        "written" => written(alloc, &certificate),
-        "handed" => handed(alloc, &certificate),
+        "validate" => of_itself(alloc, certificate),
+        "written" => written(alloc, certificate),
+        "handed" => handed(alloc, certificate),
         _ => {
             let mut l = VecLogger::new(alloc);
-            match answer_of(alloc, validator, &certificate, &mut l) {
+            match answer_of(alloc, validator, certificate, &mut l) {
                 Ok(answer) => told(alloc, answer, l.warnings(), l.errors()),
                 Err(_) => literal(alloc, "refused"),
             }
@@ -30,16 +31,17 @@ pub(crate) fn of_certificate(alloc: Global, validator: &str, octets: &[u8]) -> i
     }
 }
 
-/// The same of the signed part that begins the octets.
-pub(crate) fn of_tbs(alloc: Global, validator: &str, octets: &[u8]) -> io::Result<String> {
-    let Ok((_, tbs)) = TbsCertificate::from_der(alloc, octets) else {
-        return literal(alloc, "no signed part");
-    };
+/// The same of a signed part.
+pub(crate) fn of_tbs(
+    alloc: Global,
+    validator: &str,
+    tbs: &TbsCertificate<'_>,
+) -> io::Result<String> {
     if validator == "tbs-validate" {
-        return of_itself(alloc, &tbs);
+        return of_itself(alloc, tbs);
     }
     let mut l = VecLogger::new(alloc);
-    match TbsCertificateStructureValidator.validate(alloc, &tbs, &mut l) {
+    match TbsCertificateStructureValidator.validate(alloc, tbs, &mut l) {
         Ok(answer) => told(alloc, answer, l.warnings(), l.errors()),
         Err(_) => literal(alloc, "refused"),
     }

@@ -1,11 +1,12 @@
 //! What a row means.
 
-use crate::validator::certificate::{of_certificate, of_tbs};
+use crate::called::of;
 use crate::validator::loggers::refusal;
-use crate::validator::part::{of_key, of_name};
 use hex_rows::{literal, octets_of};
 use std::alloc::Global;
 use std::io;
+use x509_parser::certificate::{TbsCertificate, X509Certificate};
+use x509_parser::prelude::{SubjectPublicKeyInfo, X509Name};
 
 /// What the row's validator says of the row's octets.
 pub(crate) fn outcome(alloc: Global, line: &str) -> io::Result<String> {
@@ -19,10 +20,12 @@ pub(crate) fn outcome(alloc: Global, line: &str) -> io::Result<String> {
         return literal(alloc, "no octets");
     };
     match validator {
-        "name" => of_name(alloc, &octets),
-        "key" => of_key(alloc, &octets),
-        "tbs-structure" | "tbs-validate" => of_tbs(alloc, validator, &octets),
-        _ => of_certificate(alloc, validator, &octets),
+        "name" => of::<X509Name<'_>>(alloc, validator, &octets, "no name"),
+        "key" => of::<SubjectPublicKeyInfo<'_>>(alloc, validator, &octets, "no key"),
+        "tbs-structure" | "tbs-validate" => {
+            of::<TbsCertificate<'_>>(alloc, validator, &octets, "no signed part")
+        }
+        _ => of::<X509Certificate<'_>>(alloc, validator, &octets, "no certificate"),
     }
 }
 

@@ -1,10 +1,12 @@
 //! What a row means.
 
-use crate::walk::certificate::{of_certificate, of_tbs_certificate};
-use crate::walk::list::{of_list, of_tbs_list};
+use crate::called::of;
+use crate::walk::{certificate, list};
 use hex_rows::{literal, octets_of};
 use std::alloc::Global;
 use std::io;
+use x509_certs::{TbsCertificate, X509Certificate};
+use x509_lists::{CertificateRevocationList, TbsCertList};
 
 /// The calls of a walk over what the row's octets are.
 pub(crate) fn outcome(alloc: Global, line: &str) -> io::Result<String> {
@@ -15,12 +17,12 @@ pub(crate) fn outcome(alloc: Global, line: &str) -> io::Result<String> {
         return literal(alloc, "no octets");
     };
     match kind {
-        "certificate" => of_certificate(alloc, &octets, true),
-        "shallow-certificate" => of_certificate(alloc, &octets, false),
-        "tbs-certificate" => of_tbs_certificate(alloc, &octets),
-        "list" => of_list(alloc, &octets, true),
-        "shallow-list" => of_list(alloc, &octets, false),
-        "tbs-list" => of_tbs_list(alloc, &octets),
+        "certificate" => of::<X509Certificate<'_>>(alloc, kind, &octets, "no certificate"),
+        "shallow-certificate" => certificate::of_shallow(alloc, &octets),
+        "tbs-certificate" => of::<TbsCertificate<'_>>(alloc, kind, &octets, "no signed part"),
+        "list" => of::<CertificateRevocationList<'_>>(alloc, kind, &octets, "no list"),
+        "shallow-list" => list::of_shallow(alloc, &octets),
+        "tbs-list" => of::<TbsCertList<'_>>(alloc, kind, &octets, "no signed part"),
         _ => literal(alloc, "no row"),
     }
 }
