@@ -1,5 +1,4 @@
 //! Worked streams: their items and ends, whole, octet by octet, and with empty pieces between.
-ghost use Rattle.std.specs.Prelude.{◌<◌};
 
 use cert_framing::{
     Bundle, BundleError, End, Items, any_cutting, one_bundle, one_framing, one_item, one_stream,
@@ -85,11 +84,9 @@ fn stream_of(alloc: Global, items: &[&[u8]], rest: &[u8]) -> Result<Vec<u8>, All
 }
 
 /// The stream in pieces of so many octets, with an empty piece behind each.
-fn framed(alloc: Global, limit: u32, stream: &[u8], size: usize) -> Result<Items, BundleError>
-    requires { 0 < size }
-{
+fn framed(alloc: Global, limit: u32, stream: &[u8], size: usize) -> Result<Items, BundleError> {
     let mut bundle = Bundle::new(alloc, limit);
-    for piece in stream.chunks(size) {
+    for piece in stream.chunks(size.max(1)) {
         bundle.feed(piece)?;
         bundle.feed(&[])?;
     }
@@ -108,11 +105,24 @@ fn assert_items(rt: &impl Abort, found: &Items, items: &[&[u8]], end: End) {
 /// By octets, by pieces, and whole: none is longer than 256 octets.
 #[test]
 fn frames_streams_in_pieces(rt: HostRuntime) -> Result<(), Fail> {
-    for (limit, items, rest, end) in ROWS {
+    for (limit, items, rest, end) in ROWS.iter() {
         let stream = stream_of(rt.alloc(), items, rest)?;
-        for size in [1, 2, 3, 64, 256] {
-            assert_items(&rt, &framed(rt.alloc(), limit, &stream, size)?, items, end);
-        }
+        frames_in_pieces(&rt, rt.alloc(), *limit, &stream, items, *end)?;
+    }
+    Ok(())
+}
+
+fn frames_in_pieces<R: Abort>(
+    rt: &R,
+    alloc: Global,
+    limit: u32,
+    stream: &[u8],
+    items: &[&[u8]],
+    end: End,
+) -> Result<(), Fail> {
+    for size in [1, 2, 3, 64, 256] {
+        let found = framed(alloc, limit, stream, size)?;
+        assert_items(rt, &found, items, end);
     }
     Ok(())
 }
