@@ -6,7 +6,7 @@ use asn1_traits::FromDer;
 use asn1_values::BitString;
 use hex_rows::{hex_of, literal, told};
 use std::alloc::Global;
-use std::io;
+use std::{io, slice};
 use x509_core::{X509Error, X509Result};
 
 /// A value that has words.
@@ -106,6 +106,19 @@ pub(crate) fn add<T: Words>(
 ) -> io::Result<()> {
     let words = part.words(alloc)?;
     write!(text, "\n  {name} {words}")?;
+    Ok(())
+}
+
+/// Adds a line of each part.
+pub(crate) fn add_each<T: Words>(
+    alloc: Global,
+    text: &mut String,
+    name: &str,
+    parts: slice::Iter<'_, T>,
+) -> io::Result<()> {
+    for part in parts {
+        add(alloc, text, name, part)?;
+    }
     Ok(())
 }
 

@@ -1,6 +1,3 @@
-pub mod Messages
-pub mod Logging
-pub mod Kept
 pub mod Names
 pub mod Saying
 pub mod Keys
@@ -9,4 +6,3 @@ pub mod Extensions
 pub mod Structure
 pub mod Repeats
 pub mod Before
-pub mod View

@@ -1,16 +1,13 @@
 //! Validators of lists of extensions.
 
 ghost use Rattle.std.specs.Prelude.{◌≡◌, ◌++◌, IfOk, IfErr, OnOk, map};
-ghost use Rattle.x509_validate.specs.Logging.{TakesAll, TakesSome};
-ghost use Rattle.x509_validate.specs.Messages.{all_pass};
+ghost use Rattle.x509_loggers.specs.Logging.{TakesAll, TakesSome};
+ghost use Rattle.x509_loggers.specs.Messages.{all_pass};
 ghost use Rattle.x509_validate.specs.Repeats.{critical_messages, half_messages, authority_messages, policy_messages, duplicate_messages, usage_messages, kind_messages, each_kind, list_messages};
-ghost use Rattle.x509_validate.specs.View.{message_view};
+ghost use Rattle.x509_loggers.specs.View.{message_view};
 
 use crate::extensions::push_alternative;
-use crate::logger::{LogError, Logger};
-use crate::message::{Message, Weight, push_text};
 use crate::repeats::push_repeat;
-use crate::telling::tell_all;
 use crate::validator::Validator;
 use std::alloc::{AllocError, Global};
 use std::collections::BTreeSet;
@@ -18,6 +15,7 @@ use x509_certs::X509Certificate;
 use x509_ext::{ParsedExtension, X509Extension};
 use x509_flags::KeyUsage;
 use x509_general::AuthorityKeyIdentifier;
+use x509_loggers::{LogError, Logger, Message, Weight, push_text, tell_all};
 use x509_policies::PolicyInformation;
 
 /// Looks at extensions: whether an identifier stands twice, and at what their values are parsed as.
@@ -179,7 +177,7 @@ fn push_list(
 
 impl X509ExtensionsValidator {
     /// Tells a logger all that is said of the extensions, as `Validator::validate` does.
-    #[tactic(auto, using(crate::proofs::Told::untold))]
+    #[tactic(auto, using(x509_loggers::proofs::Told::untold))]
     pub fn validate<L: Logger>(
         &self,
         alloc: Global,

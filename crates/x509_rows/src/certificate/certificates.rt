@@ -1,6 +1,6 @@
 //! Versions, extensions and certificates.
 
-use crate::words::{Words, add, bits_text, count_text, error_text, refusal_text};
+use crate::words::{Words, add, add_each, bits_text, count_text, error_text, refusal_text};
 use asn1_core::HeaderCount;
 use asn1_oid::Oid;
 use asn1_traits::FromDer;
@@ -153,9 +153,7 @@ impl Words for TbsCertificate<'_> {
         add(alloc, &mut text, "key", self.public_key())?;
         add_identifier(alloc, &mut text, "issuer id", &self.issuer_uid)?;
         add_identifier(alloc, &mut text, "subject id", &self.subject_uid)?;
-        for extension in self.iter_extensions() {
-            add(alloc, &mut text, "extension", extension)?;
-        }
+        add_each(alloc, &mut text, "extension", self.iter_extensions())?;
         Ok(text)
     }
 }

@@ -1,6 +1,6 @@
 //! Revocation lists and their entries.
 
-use crate::words::{Words, add, count_text};
+use crate::words::{Words, add, add_each, count_text};
 use asn1_core::HeaderCount;
 use asn1_traits::FromDer;
 use hex_rows::{hex_of, literal};
@@ -80,10 +80,7 @@ impl Words for RevokedCertificate<'_> {
         let number = hex_of(alloc, self.serial().as_bytes())?;
         let date = self.revocation_date.words(alloc)?;
         let mut text = format!(in alloc; "{serial}, number {number}, {date}")?;
-        for extension in self.iter_extensions() {
-            let words = extension.words(alloc)?;
-            write!(text, "\n    extension {words}")?;
-        }
+        add_each(alloc, &mut text, "  extension", self.iter_extensions())?;
         Ok(text)
     }
 }
@@ -100,12 +97,13 @@ impl Words for TbsCertList<'_> {
         if let Some(time) = &self.next_update {
             add(alloc, &mut text, "next update", time)?;
         }
-        for entry in self.revoked_certificates.iter() {
-            add(alloc, &mut text, "revoked", entry)?;
-        }
-        for extension in self.iter_extensions() {
-            add(alloc, &mut text, "extension", extension)?;
-        }
+        add_each(
+            alloc,
+            &mut text,
+            "revoked",
+            self.revoked_certificates.iter(),
+        )?;
+        add_each(alloc, &mut text, "extension", self.iter_extensions())?;
         Ok(text)
     }
 }

@@ -1,6 +1,6 @@
 //! Certification requests and their attributes.
 
-use crate::words::{Words, add};
+use crate::words::{Words, add, add_each};
 use asn1_oid::Oid;
 use asn1_traits::FromDer;
 use hex_rows::{hex_of, literal, told};
@@ -11,8 +11,6 @@ use x509_requests::{
     ExtensionRequest, ParsedCriAttribute, X509CertificationRequest, X509CertificationRequestInfo,
     X509CriAttribute,
 };
-
-type Attributes<'n, 'a> = BTreeMap<Oid<'a>, &'n X509CriAttribute<'a>>;
 
 /// What the requested extensions were parsed as, one behind the other.
 pub(crate) fn requested(alloc: Global, octets: &[u8]) -> io::Result<String> {
@@ -64,7 +62,7 @@ fn map_of(alloc: Global, info: &X509CertificationRequestInfo<'_>) -> io::Result<
     }
 }
 
-fn map_text(alloc: Global, by_oid: &Attributes<'_, '_>) -> io::Result<String> {
+fn map_text<T: Words>(alloc: Global, by_oid: &BTreeMap<Oid<'_>, &T>) -> io::Result<String> {
     let mut text = format!(in alloc; "{}", by_oid.len())?;
     for (oid, attribute) in by_oid.iter() {
         let words = attribute.words(alloc)?;
@@ -76,10 +74,7 @@ fn map_text(alloc: Global, by_oid: &Attributes<'_, '_>) -> io::Result<String> {
 impl Words for ExtensionRequest<'_> {
     fn words(&self, alloc: Global) -> io::Result<String> {
         let mut text = literal(alloc, "extensions")?;
-        for extension in self.extensions.iter() {
-            let words = extension.words(alloc)?;
-            write!(text, "\n    extension {words}")?;
-        }
+        add_each(alloc, &mut text, "  extension", self.extensions.iter())?;
         Ok(text)
     }
 }

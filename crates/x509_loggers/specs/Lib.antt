@@ -1,0 +1,4 @@
+pub mod Messages
+pub mod Logging
+pub mod Kept
+pub mod View

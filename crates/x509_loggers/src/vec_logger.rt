@@ -1,0 +1,85 @@
+//! A logger that keeps what it is told.
+
+ghost use Rattle.std.specs.Prelude.{◌≡◌, [], ◌∷◌, ◌++◌, map, string_bytes, OnOk, OnErr};
+
+use crate::logger::{LogError, Logger};
+use std::alloc::{AllocError, Global};
+
+/// Keeps warnings and errors, each in their order.
+#[derive(Debug, Drop)]
+pub struct VecLogger {
+    warnings: Vec<String>,
+    errors: Vec<String>,
+    alloc: Global,
+}
+
+impl VecLogger {
+    /// One that was told nothing.
+    pub fn new(alloc: Global) -> VecLogger
+        ensures warnings { result.warnings.items ≡ [] }
+        ensures errors { result.errors.items ≡ [] }
+    {
+        VecLogger {
+            warnings: Vec::new(alloc),
+            errors: Vec::new(alloc),
+            alloc,
+        }
+    }
+
+    /// The warnings.
+    pub fn warnings(&self) -> &[String]
+        ensures { result.now ≡ self.now.warnings.items }
+    {
+        &self.warnings
+    }
+
+    /// The errors.
+    pub fn errors(&self) -> &[String]
+        ensures { result.now ≡ self.now.errors.items }
+    {
+        &self.errors
+    }
+
+    /// The warnings and the errors.
+    pub fn into_parts(self) -> (Vec<String>, Vec<String>)
+        ensures { result ≡ (self.warnings, self.errors) }
+    {
+        let VecLogger {
+            warnings,
+            errors,
+            alloc: _,
+        } = self;
+        (warnings, errors)
+    }
+}
+
+fn keep(alloc: Global, message: &str, texts: &mut Vec<String>) -> Result<(), AllocError>
+    ensures kept { OnOk result (map string_bytes texts.new.items ≡ map string_bytes texts.old.items ++ message.now ∷ []) }
+    ensures refused { OnErr result (texts.new.items ≡ texts.old.items) }
+{
+    let text = String::from_str(alloc, message)?;
+    texts.push(text)?;
+    Ok(())
+}
+
+impl Logger for VecLogger {
+    ghost use Rattle.x509_loggers.specs.Kept.{KeepsWarning, KeepsError};
+
+    ghost warns = { KeepsWarning };
+
+    ghost errs = { KeepsError };
+
+    fn warn(&mut self, message: &str) -> Result<(), LogError> {
+        match keep(self.alloc, message, &mut self.warnings) {
+            Ok(()) => Ok(()),
+            Err(_) => Err(LogError::OutOfMemory),
+        }
+    }
+
+    fn err(&mut self, message: &str) -> Result<(), LogError> {
+        match keep(self.alloc, message, &mut self.errors) {
+            Ok(()) => Ok(()),
+            Err(_) => Err(LogError::OutOfMemory),
+        }
+    }
+}
