@@ -17,6 +17,11 @@ fn same<R: Abort, T: PartialEq + Debug + Drop>(rt: &R, got: T, want: T) {
     assert_eq!(rt; got, want);
 }
 
+// What the text names is as it should be; a row's name and a number tell which run it was.
+fn holds<R: Abort>(rt: &R, it: bool, what: &str, row: &str, number: usize) {
+    assert!(rt; it, "{what}: {row}, {number}");
+}
+
 const NEVER: usize = usize::MAX;
 
 const INPUTS: [Input; 3] = [Input::Bundle, Input::Anchors, Input::Vouchers];
@@ -75,21 +80,33 @@ fn taker(alloc: Global) -> Taker {
 fn a_report_or_want_of_memory(rt: HostRuntime) -> Result<(), Fail> {
     for row in ROWS.iter() {
         for step in [1, 40, NEVER] {
-            let name = row.name;
             let ran = run_on(rt.alloc(), row, step, [NEVER; 3], taker(rt.alloc()));
-            if ran.answer == Err(RunError::OutOfMemory) {
-                assert!(rt; ran.taken.is_empty(), "{name} by {step}");
-            } else {
-                assert!(rt; ran.answer == Ok(row.outcome), "{name} by {step}");
-                assert!(rt;
-                    ran.taken.as_slice() == row.text.as_bytes(),
-                    "{name} by {step}"
-                );
-                assert!(rt; ran.flushes == 1, "{name} by {step}");
-            }
+            is_report_or_want(&rt, row, step, &ran);
         }
     }
     Ok(())
+}
+
+fn is_report_or_want<R: Abort>(rt: &R, row: &Row, step: usize, ran: &Ran) {
+    if ran.answer == Err(RunError::OutOfMemory) {
+        holds(
+            rt,
+            ran.taken.is_empty(),
+            "nothing is written",
+            row.name,
+            step,
+        );
+    } else {
+        holds(rt, ran.answer == Ok(row.outcome), "answer", row.name, step);
+        holds(
+            rt,
+            ran.taken.as_slice() == row.text.as_bytes(),
+            "report",
+            row.name,
+            step,
+        );
+        holds(rt, ran.flushes == 1, "flushes", row.name, step);
+    }
 }
 
 // How many reads of so many octets an input takes, the one that meets the end with them.
@@ -107,16 +124,17 @@ fn each_read_fails_once(rt: HostRuntime) -> Result<(), Fail> {
         ];
         for (place, input) in INPUTS.iter().enumerate() {
             for fails_at in 0..whole[place] {
-                let name = row.name;
                 let mut fails = [NEVER; 3];
                 fails[place] = fails_at;
                 let ran = run_on(rt.alloc(), row, 40, fails, taker(rt.alloc()));
-                assert!(rt;
+                holds(
+                    &rt,
                     ran.answer == Err(RunError::Read(*input)),
-                    "{name}, {input:?} at {fails_at}"
+                    "answer",
+                    row.name,
+                    fails_at,
                 );
-                assert!(rt; ran.taken.is_empty(), "{name}, {input:?} at {fails_at}");
-                assert!(rt; ran.flushes == 0, "{name}, {input:?} at {fails_at}");
+                wrote_nothing(&rt, row.name, fails_at, &ran);
                 for (other, count) in ran.reads.iter().enumerate() {
                     let wanted = if other < place {
                         whole[other]
@@ -125,10 +143,7 @@ fn each_read_fails_once(rt: HostRuntime) -> Result<(), Fail> {
                     } else {
                         0
                     };
-                    assert!(rt;
-                        *count == wanted,
-                        "{name}, {input:?} at {fails_at}: {other}"
-                    );
+                    holds(&rt, *count == wanted, "reads", row.name, fails_at);
                 }
             }
         }
@@ -136,26 +151,37 @@ fn each_read_fails_once(rt: HostRuntime) -> Result<(), Fail> {
     Ok(())
 }
 
+fn wrote_nothing<R: Abort>(rt: &R, row: &str, number: usize, ran: &Ran) {
+    holds(rt, ran.taken.is_empty(), "nothing is written", row, number);
+    holds(rt, ran.flushes == 0, "flushes", row, number);
+}
+
 #[test]
 fn a_write_fails_behind_each_octet(rt: HostRuntime) -> Result<(), Fail> {
     for row in ROWS.iter() {
-        let (name, text) = (row.name, row.text.as_bytes());
-        for room in 0..text.len() {
+        for room in 0..row.text.len() {
             for (full, step) in [(Full::Refuses, 3), (Full::TakesNone, NEVER)] {
                 let taker = Taker::new(rt.alloc(), step, room, full);
                 let ran = run_on(rt.alloc(), row, NEVER, [NEVER; 3], taker);
-                assert!(rt;
-                    ran.answer == Err(RunError::Write),
-                    "{name}: {full:?} after {room} by {step}"
-                );
-                assert!(rt;
-                    ran.taken.as_slice() == &text[..room],
-                    "{name}: {full:?} after {room} by {step}"
-                );
+                wrote_a_front(&rt, row, room, &ran);
             }
         }
     }
     Ok(())
+}
+
+// A write failed, with so many octets written.
+fn wrote_a_front<R: Abort>(rt: &R, row: &Row, room: usize, ran: &Ran) {
+    holds(
+        rt,
+        ran.answer == Err(RunError::Write),
+        "answer",
+        row.name,
+        room,
+    );
+    let taken = ran.taken.as_slice();
+    let is_front = taken.len() == room && row.text.as_bytes().starts_with(taken);
+    holds(rt, is_front, "front of the report", row.name, room);
 }
 
 #[test]
