@@ -119,103 +119,92 @@ fn parse_ber(
     Ok((rest.len(), value))
 }
 
+type Parsed = Result<(usize, Seen), Refusal<Error>>;
+
+fn der_is<R: Abort>(rt: &R, alloc: Global, octets: &[u8], wanted: Parsed) {
+    same(
+        rt,
+        parse_der(&OptTaggedParser::from(1), alloc, octets),
+        wanted,
+    );
+}
+
+fn ber_is<R: Abort>(rt: &R, alloc: Global, octets: &[u8], wanted: Parsed) {
+    same(
+        rt,
+        parse_ber(&OptTaggedParser::from(1), alloc, octets),
+        wanted,
+    );
+}
+
+// So many octets are left, and the element is this one, of tag number 1.
+fn found(left: usize, constructed: bool, length: Length) -> Parsed {
+    Ok((left, Some((Class::ContextSpecific, constructed, length, 7))))
+}
+
+fn refused(error: Error) -> Parsed {
+    Err(Refusal::Error(error))
+}
+
+fn missing(octets: usize) -> Parsed {
+    Err(Refusal::Incomplete(Needed::Size(octets)))
+}
+
 #[test]
-fn parsers(rt: HostRuntime) -> Result<(), Fail> {
-    let parser = OptTaggedParser::from(1);
+fn parsers_find(rt: HostRuntime) {
+    let alloc = rt.alloc();
     same(
         &rt,
-        parser,
+        OptTaggedParser::from(1),
         OptTaggedParser::new(Class::ContextSpecific, Tag(1)),
     );
-    same(&rt, parse_der(&parser, rt.alloc(), &[]), Ok((0, None)));
-    same(&rt, parse_ber(&parser, rt.alloc(), &[]), Ok((0, None)));
-    same(
-        &rt,
-        parse_der(&parser, rt.alloc(), &[0xa1, 4, 2, 1, 7, 0xff, 9]),
-        Ok((
-            1,
-            Some((Class::ContextSpecific, true, Length::Definite(4), 7)),
-        )),
-    );
+    let whole = found(1, true, Length::Definite(4));
+    der_is(&rt, alloc, &[0xa1, 4, 2, 1, 7, 0xff, 9], whole);
 
     // the constructed bit isn't looked at
-    same(
-        &rt,
-        parse_der(&parser, rt.alloc(), &[0x81, 3, 2, 1, 7]),
-        Ok((
-            0,
-            Some((Class::ContextSpecific, false, Length::Definite(3), 7)),
-        )),
-    );
-    same(
-        &rt,
-        parse_ber(&parser, rt.alloc(), &[0xa1, 0x80, 2, 2, 0, 7, 0, 0, 5]),
-        Ok((
-            1,
-            Some((Class::ContextSpecific, true, Length::Indefinite, 7)),
-        )),
-    );
+    let primitive = found(0, false, Length::Definite(3));
+    der_is(&rt, alloc, &[0x81, 3, 2, 1, 7], primitive);
+    let indefinite = found(1, true, Length::Indefinite);
+    ber_is(&rt, alloc, &[0xa1, 0x80, 2, 2, 0, 7, 0, 0, 5], indefinite);
+}
+
+#[test]
+fn parsers_find_none(rt: HostRuntime) {
+    let alloc = rt.alloc();
+    der_is(&rt, alloc, &[], Ok((0, None)));
+    ber_is(&rt, alloc, &[], Ok((0, None)));
 
     // another tag number, of whatever class, is another element, which has to be whole
-    same(
-        &rt,
-        parse_der(&parser, rt.alloc(), &[0xa2, 1, 0]),
-        Ok((3, None)),
-    );
-    same(
-        &rt,
-        parse_der(&parser, rt.alloc(), &[2, 1, 0, 9]),
-        Ok((4, None)),
-    );
-    same(
-        &rt,
-        parse_ber(&parser, rt.alloc(), &[0x30, 0x80, 0, 0]),
-        Ok((4, None)),
-    );
-    same(
-        &rt,
-        parse_der(&parser, rt.alloc(), &[0xa2, 3, 0]),
-        Err(Refusal::Incomplete(Needed::Size(2))),
-    );
-    same(
-        &rt,
-        parse_ber(&parser, rt.alloc(), &[0xa2, 3, 0]),
-        Err(Refusal::Incomplete(Needed::Size(2))),
-    );
-    same(
-        &rt,
-        parse_der(&parser, rt.alloc(), &[0xa1, 3, 2]),
-        Err(Refusal::Incomplete(Needed::Size(2))),
-    );
-    same(
-        &rt,
-        parse_der(&parser, rt.alloc(), &[0x61, 3, 2, 1, 7]),
-        Err(Refusal::Error(wrong_class(Some(Class::ContextSpecific), Class::Application))),
-    );
-    same(
-        &rt,
-        parse_ber(&parser, rt.alloc(), &[1, 1, 0]),
-        Err(Refusal::Error(wrong_class(Some(Class::ContextSpecific), Class::Universal))),
-    );
+    der_is(&rt, alloc, &[0xa2, 1, 0], Ok((3, None)));
+    der_is(&rt, alloc, &[2, 1, 0, 9], Ok((4, None)));
+    ber_is(&rt, alloc, &[0x30, 0x80, 0, 0], Ok((4, None)));
+    der_is(&rt, alloc, &[0xa2, 3, 0], missing(2));
+    ber_is(&rt, alloc, &[0xa2, 3, 0], missing(2));
+}
+
+#[test]
+fn parsers_refuse(rt: HostRuntime) {
+    let alloc = rt.alloc();
+    der_is(&rt, alloc, &[0xa1, 3, 2], missing(2));
+    let application = wrong_class(Some(Class::ContextSpecific), Class::Application);
+    der_is(&rt, alloc, &[0x61, 3, 2, 1, 7], refused(application));
+    let universal = wrong_class(Some(Class::ContextSpecific), Class::Universal);
+    ber_is(&rt, alloc, &[1, 1, 0], refused(universal));
 
     // the closure's refusal is handed on
+    let negative = refused(Error::IntegerNegative);
+    der_is(&rt, alloc, &[0xa1, 3, 2, 1, 0xff], negative);
+    ber_is(&rt, alloc, &[0xa1, 2, 2, 5], missing(5));
+}
+
+#[test]
+fn parsers_of_other_classes(rt: HostRuntime) {
+    let sequence = OptTaggedParser::new(Class::Universal, Tag(16));
     same(
         &rt,
-        parse_der(&parser, rt.alloc(), &[0xa1, 3, 2, 1, 0xff]),
-        Err(Refusal::Error(Error::IntegerNegative)),
-    );
-    same(
-        &rt,
-        parse_ber(&parser, rt.alloc(), &[0xa1, 2, 2, 5]),
-        Err(Refusal::Incomplete(Needed::Size(5))),
-    );
-    let universal = OptTaggedParser::new(Class::Universal, Tag(16));
-    same(
-        &rt,
-        parse_der(&universal, rt.alloc(), &[0x30, 3, 2, 1, 7]),
+        parse_der(&sequence, rt.alloc(), &[0x30, 3, 2, 1, 7]),
         Ok((0, Some((Class::Universal, true, Length::Definite(3), 7)))),
     );
-    Ok(())
 }
 
 // An octet string that no memory is ever found for.
@@ -320,10 +309,12 @@ fn hungry_by_ber(parser: &OptTaggedParser, alloc: Global, octets: &[u8]) -> Opti
     }
 }
 
+const WANT: Option<Refusal<Error>> = Some(Refusal::Failure(Error::OutOfMemory));
+
 #[test]
-fn want_of_memory_is_told(rt: HostRuntime) -> Result<(), Fail> {
+fn want_of_memory_behind_a_tag(rt: HostRuntime) -> Result<(), Fail> {
     let alloc = rt.alloc();
-    let wanted = Some(Refusal::Failure(Error::OutOfMemory));
+    let wanted = WANT;
     let octets = [0xa0, 2, 4, 0];
     let came = der_refusal::<Error, TaggedExplicit<Hungry, Error, 0>>(alloc, &octets);
     same(&rt, came, wanted);
@@ -336,6 +327,13 @@ fn want_of_memory_is_told(rt: HostRuntime) -> Result<(), Fail> {
     let parser = OptTaggedParser::from(0);
     same(&rt, hungry_by_der(&parser, alloc, &octets), wanted);
     same(&rt, hungry_by_ber(&parser, alloc, &octets), wanted);
+    Ok(())
+}
+
+#[test]
+fn want_of_memory_in_place_of_a_tag(rt: HostRuntime) -> Result<(), Fail> {
+    let alloc = rt.alloc();
+    let wanted = WANT;
     let octets = [0x80, 0];
     let came = der_refusal::<Error, TaggedImplicit<Hungry, Error, 0>>(alloc, &octets);
     same(&rt, came, wanted);

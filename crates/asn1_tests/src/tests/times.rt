@@ -79,34 +79,19 @@ fn utc_times_out_of_form(rt: HostRuntime) {
             ..SHORT
         },
     );
-    is_bad_utc(
-        &rt,
-        ASN1DateTime {
-            tz: ASN1TimeZone::Undefined,
-            ..SHORT
-        },
-    );
-    is_bad_utc(
-        &rt,
-        ASN1DateTime {
-            tz: offset(-5, -30),
-            ..SHORT
-        },
-    );
-    is_bad_utc(
-        &rt,
-        ASN1DateTime {
-            tz: offset(24, 0),
-            ..SHORT
-        },
-    );
-    is_bad_utc(
-        &rt,
-        ASN1DateTime {
-            tz: offset(-128, 0),
-            ..SHORT
-        },
-    );
+}
+
+// Nor is one in this zone.
+fn is_bad_zone<R: Abort>(rt: &R, tz: ASN1TimeZone) {
+    is_bad_utc(rt, ASN1DateTime { tz, ..SHORT });
+}
+
+#[test]
+fn utc_times_in_zones_out_of_form(rt: HostRuntime) {
+    is_bad_zone(&rt, ASN1TimeZone::Undefined);
+    is_bad_zone(&rt, offset(-5, -30));
+    is_bad_zone(&rt, offset(24, 0));
+    is_bad_zone(&rt, offset(-128, 0));
 }
 
 #[test]

@@ -5,6 +5,7 @@ use asn1_unsigned::{UnsignedBytes, laws};
 use std::cmp::Ordering;
 use std::collections::hash_map::DefaultHasher;
 use std::hash::{Hash, Hasher};
+use std::process::Abort;
 
 fn from(octets: &[u8]) -> UnsignedBytes<'_> {
     UnsignedBytes::from_bytes_be(octets)
@@ -48,6 +49,18 @@ fn leading_zeros_are_trimmed(rt: HostRuntime) {
     }
 }
 
+fn are_ordered<'a, R: Abort>(
+    rt: &R,
+    left: &UnsignedBytes<'a>,
+    right: &UnsignedBytes<'a>,
+    order: Ordering,
+) {
+    same(rt, left.cmp(right), order);
+    same(rt, left.partial_cmp(right), Some(order));
+    same(rt, left == right, order == Ordering::Equal);
+    same(rt, left < right, order == Ordering::Less);
+}
+
 #[test]
 fn numbers_are_compared(rt: HostRuntime) {
     let rows = [
@@ -66,12 +79,8 @@ fn numbers_are_compared(rt: HostRuntime) {
         (b"\x01\x01", b"\x01\x02", Ordering::Less),
         (b"\x01\x02\x00", b"\x02\x01", Ordering::Greater),
     ];
-    for (left, right, order) in rows {
-        let (left, right) = (from(left), from(right));
-        same(&rt, left.cmp(&right), order);
-        same(&rt, left.partial_cmp(&right), Some(order));
-        same(&rt, left == right, order == Ordering::Equal);
-        same(&rt, left < right, order == Ordering::Less);
+    for (left, right, order) in rows.iter() {
+        are_ordered(&rt, &from(left), &from(right), *order);
     }
     let greatest = greatest(from(b"\x00\x00\x00\x09"), from(b"\x01\x00"));
     same(&rt, greatest.as_u64(), Some(256));
