@@ -8,7 +8,7 @@ import os
 import re
 
 # The most memory that a check is likely to take: from nothing, and over what an earlier one kept.
-FROM_NOTHING, OVER_KEPT = 4 << 30, 3 << 30
+FROM_NOTHING, OVER_KEPT = 5 << 30, 3 << 30
 
 
 def lanes(a_check):
