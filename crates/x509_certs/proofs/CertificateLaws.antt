@@ -36,6 +36,7 @@ use Rattle.x509_certs.specs.Fields.{Tbs, Certificate}
 use Rattle.x509_certs.specs.Reading.{tbs_in, tbs_at, certificate_in, certificate_at}
 use Rattle.x509_certs.specs.View.{tbs_view, certificate_view}
 use Rattle.x509_certs.specs.declared.tbs.TbsCertificate.{TbsCertificate as Signed}
+use Rattle.x509_certs.proofs.Runs.{Ended, Named, Begun, end_by, names_by, begin_by, made, tbs_is}
 use Rattle.x509_certs.specs.declared.certificate.X509Certificate.{X509Certificate as Whole}
 
 serials : IsReading (One IsSerial) serial_at
@@ -53,46 +54,7 @@ keys = next_reading (HoldsWindow 16 KeyParts (λ k. k.raw)) key_in key_meaning
 bits : IsReading (One IsBits) bits_at
 bits = next_reading IsBits (λ q. bits_in q.element) bits_meaning
 
--- ---- the signed part, in three runs of parts: each is read with what it is put into
-
-abbrev Ended : Type 0
-Ended = Option Bits → Option Bits → List Extension → Tbs
-
-abbrev Named : Type 0
-Named = Name → Period → Name → Key → Ended
-
-abbrev Begun : Type 0
-Begun = ℕ → List ℕ → Algorithm → Named
-
-unfoldable end_by : ValueReading → Ended → List ℕ → Answer Tbs
-end_by parse put i = do
-  issuer_id ← naming errors.InvalidIssuerUID (id_at 1 i)
-  subject_id ← naming errors.InvalidSubjectUID (id_at 2 issuer_id.1)
-  extensions ← extensions_at parse 3 subject_id.1
-  Ok (put issuer_id.0 subject_id.0 extensions)
-
-unfoldable names_by : ValueReading → Named → List ℕ → Answer Tbs
-names_by parse put i = do
-  issuer ← name_at i
-  validity ← validity_at issuer.1
-  subject ← name_at validity.1
-  key ← key_at subject.1
-  end_by parse (put issuer.0 validity.0 subject.0 key.0) key.1
-
-unfoldable begin_by : ValueReading → Begun → List ℕ → Answer Tbs
-begin_by parse put i = do
-  version ← naming errors.InvalidVersion (any_version_at i)
-  serial ← naming errors.InvalidSerial (serial_at version.1)
-  signature ← algorithm_at serial.1
-  names_by parse (put version.0 serial.0 signature.0) signature.1
-
-abbrev made : List ℕ → Begun
-made raw version serial signature issuer validity subject key issuer_id subject_id extensions =
-    record { version = version; serial = serial; signature = signature; issuer = issuer; validity = validity; subject = subject; key = key; issuer_id = issuer_id; subject_id = subject_id; extensions = extensions; raw = raw }
-
-tbs_is : (parse : ValueReading) (q : Piece) → tbs_in parse q ≡ content_in 16 q.element >>= begin_by parse (made q.octets)
-unfolding tbs_in begin_by names_by end_by
-tbs_is parse q = refl
+-- ---- the signed part, in three runs of parts
 
 record End (Means : ValueMeaning) (put : Ended) (i : List ℕ) (v : Tbs) : Type 0 where
   issuer_id : Option Bits

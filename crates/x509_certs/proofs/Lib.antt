@@ -1,3 +1,4 @@
 pub mod CertificateLaws
 pub mod Items
+pub mod Runs
 mod Seen

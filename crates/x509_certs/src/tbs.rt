@@ -1,15 +1,19 @@
 //! The signed part of a certificate (RFC 5280, 4.1.2).
 
 ghost use Rattle.std.specs.Prelude.{◌≡◌, ◌+◌, ◌*◌, ◌^◌, ◌<◌, ◌≤◌, length, All, IfOk, map, option_map, string_bytes};
+ghost use Rattle.std.specs.Int.Digits.{number_from_digits};
 ghost use Rattle.std.specs.Slice.Iter.{iter_rest};
 ghost use Rattle.asn1_core.specs.Counts.{attempts};
 ghost use Rattle.asn1_any.specs.CutViews.{piece_of};
+ghost use Rattle.asn1_unsigned.specs.Numbers.{number_of};
 ghost use Rattle.x509_core.specs.Answers.{Gives};
+ghost use Rattle.x509_names.specs.View.{algorithm_view, name_view, key_view};
+ghost use Rattle.x509_time.specs.View.{validity_view};
 ghost use Rattle.x509_ext.specs.Values.{serial_text};
 ghost use Rattle.x509_ext.specs.Fields.{reading_of};
 ghost use Rattle.x509_ext.specs.Lookup.{all_of, first_of, only_of, seen};
-ghost use Rattle.x509_ext.specs.View.{WantsNoMemory, extension_error};
-ghost use Rattle.x509_certs.specs.Reading.{tbs_in, tbs_at};
+ghost use Rattle.x509_ext.specs.View.{WantsNoMemory, extension_error, extension_view, identifier_view};
+ghost use Rattle.x509_certs.specs.Reading.{start_at, binding_at, end_at, tbs_in, tbs_at};
 ghost use Rattle.x509_certs.specs.View.{tbs_view, HasSerial};
 
 use asn1_any::Element;
@@ -184,8 +188,113 @@ fn copy_id<'a>(id: &Option<UniqueIdentifier<'a>>) -> Option<UniqueIdentifier<'a>
     }
 }
 
+/// What a signed part begins with.
+#[derive(Drop)]
+struct Start<'a> {
+    version: X509Version,
+    serial: UnsignedBytes<'a>,
+    raw_serial: &'a [u8],
+    signature: AlgorithmIdentifier<'a>,
+}
+
+/// Who says whose a key is, and for how long.
+#[derive(Drop)]
+struct Binding<'a> {
+    issuer: X509Name<'a>,
+    validity: Validity,
+    subject: X509Name<'a>,
+    subject_pki: SubjectPublicKeyInfo<'a>,
+}
+
+/// What a signed part ends with, none of which has to be there.
+#[derive(Drop)]
+struct End<'a> {
+    issuer_uid: Option<UniqueIdentifier<'a>>,
+    subject_uid: Option<UniqueIdentifier<'a>>,
+    extensions: Vec<X509Extension<'a>>,
+}
+
+/// The parts that a signed part begins with, at the front.
+#[tactic(auto, unfolding(crate::specs::Reading::start_at))]
+fn next_start<'a>(
+    alloc: Global,
+    parts: &mut Parts<'a>,
+    count: &mut HeaderCount,
+) -> Result<Start<'a>, Refusal<X509Error>>
+    requires { attempts count.old + length parts.old.octets < 2 ^ 128 }
+    ensures read { Gives (λ v. ((v.version.0, v.raw_serial.now, algorithm_view v.signature), parts.new.octets)) result (start_at parts.old.octets) }
+    ensures serial { IfOk result (λ v. number_of v.serial ≡ number_from_digits 256 v.raw_serial.now) }
+    ensures elements { IfOk result (λ _. parts.new.elements + 2 ≤ parts.old.elements) }
+    ensures least { IfOk result (λ _. attempts count.old + 1 ≤ attempts count.new) }
+    ensures grows { attempts count.old ≤ attempts count.new }
+    ensures most { attempts count.new ≤ attempts count.old + length parts.old.octets }
+    ensures taken { IfOk result (λ _. attempts count.new + length parts.new.octets ≤ attempts count.old + length parts.old.octets) }
+{
+    let version = next_version(alloc, parts, count)?;
+    let raw_serial = next_serial(parts)?;
+    let signature = next_algorithm(alloc, parts, count)?;
+    Ok(Start {
+        version,
+        serial: UnsignedBytes::from_bytes_be(raw_serial),
+        raw_serial,
+        signature,
+    })
+}
+
+/// The issuer, the validity, the subject and its key, at the front.
+#[tactic(auto, unfolding(crate::specs::Reading::binding_at))]
+fn next_binding<'a>(
+    alloc: Global,
+    parts: &mut Parts<'a>,
+    count: &mut HeaderCount,
+) -> Result<Binding<'a>, Refusal<X509Error>>
+    requires { attempts count.old + 3 * length parts.old.octets < 2 ^ 128 }
+    ensures read { Gives (λ v. ((name_view v.issuer, validity_view v.validity, name_view v.subject, key_view v.subject_pki), parts.new.octets)) result (binding_at parts.old.octets) }
+    ensures elements { IfOk result (λ _. parts.old.elements ≡ parts.new.elements + 4) }
+    ensures least { IfOk result (λ _. attempts count.old + 5 ≤ attempts count.new) }
+    ensures grows { attempts count.old ≤ attempts count.new }
+    ensures most { attempts count.new + 3 * length parts.new.octets ≤ attempts count.old + 3 * length parts.old.octets }
+{
+    let issuer = next_name(alloc, parts, count)?;
+    let validity = match next_validity(alloc, parts, count) {
+        Ok(validity) => validity,
+        Err(refusal) => return Err(refusal),
+    };
+    let subject = next_name(alloc, parts, count)?;
+    let subject_pki = next_key(alloc, parts, count)?;
+    Ok(Binding {
+        issuer,
+        validity,
+        subject,
+        subject_pki,
+    })
+}
+
+/// What is left of a signed part, the values of extensions parsed too where `deep` says so.
+#[tactic(auto, unfolding(crate::specs::Reading::end_at))]
+fn next_end<'a>(
+    alloc: Global,
+    parts: &mut Parts<'a>,
+    deep: bool,
+    count: &mut HeaderCount,
+) -> Result<End<'a>, Refusal<X509Error>>
+    requires { attempts count.old + 6 * length parts.old.octets < 2 ^ 128 }
+    ensures read { Gives (λ v. (option_map identifier_view v.issuer_uid, option_map identifier_view v.subject_uid, map extension_view v.extensions.items)) result (end_at (reading_of deep) parts.old.octets) }
+    ensures memory { IfOk result (λ v. All WantsNoMemory v.extensions.items) }
+    ensures grows { attempts count.old ≤ attempts count.new }
+    ensures most { attempts count.new ≤ attempts count.old + 6 * length parts.old.octets }
+{
+    let issuer_uid = next_issuer_id(alloc, parts, count)?;
+    let subject_uid = next_subject_id(alloc, parts, count)?;
+    let extensions = extensions_of(alloc, 3, parts.left(), deep, count)?;
+    Ok(End {
+        issuer_uid,
+        subject_uid,
+        extensions,
+    })
+}
+
 /// The signed part that an element is, the values of extensions parsed too where `deep` says so.
-#[tactic(auto, unfolding(crate::specs::Reading::tbs_in))]
 pub(crate) fn tbs_of<'a>(
     alloc: Global,
     element: Element<'a>,
@@ -201,32 +310,22 @@ pub(crate) fn tbs_of<'a>(
     ensures most { attempts count.new ≤ attempts count.old + 7 * length element.entry.any.content.now }
 {
     let mut parts = parts_of(alloc, 16, element, count)?;
-    let version = next_version(alloc, &mut parts, count)?;
-    let raw_serial = next_serial(&mut parts)?;
-    let signature = next_algorithm(alloc, &mut parts, count)?;
-    let issuer = next_name(alloc, &mut parts, count)?;
-    let validity = match next_validity(alloc, &mut parts, count) {
-        Ok(validity) => validity,
-        Err(refusal) => return Err(refusal),
-    };
-    let subject = next_name(alloc, &mut parts, count)?;
-    let subject_pki = next_key(alloc, &mut parts, count)?;
-    let issuer_uid = next_issuer_id(alloc, &mut parts, count)?;
-    let subject_uid = next_subject_id(alloc, &mut parts, count)?;
-    let extensions = extensions_of(alloc, 3, parts.left(), deep, count)?;
+    let start = next_start(alloc, &mut parts, count)?;
+    let binding = next_binding(alloc, &mut parts, count)?;
+    let end = next_end(alloc, &mut parts, deep, count)?;
     Ok(TbsCertificate {
-        version,
-        serial: UnsignedBytes::from_bytes_be(raw_serial),
-        signature,
-        issuer,
-        validity,
-        subject,
-        subject_pki,
-        issuer_uid,
-        subject_uid,
-        extensions,
+        version: start.version,
+        serial: start.serial,
+        signature: start.signature,
+        issuer: binding.issuer,
+        validity: binding.validity,
+        subject: binding.subject,
+        subject_pki: binding.subject_pki,
+        issuer_uid: end.issuer_uid,
+        subject_uid: end.subject_uid,
+        extensions: end.extensions,
         raw: element.octets,
-        raw_serial,
+        raw_serial: start.raw_serial,
     })
 }
 
