@@ -1,3 +1,4 @@
 pub mod EntryLaws
 pub mod ListLaws
 pub mod Seen
+mod StepLaws

@@ -9,7 +9,8 @@ ghost use Rattle.x509_ext.specs.Fields.{reading_of};
 ghost use Rattle.x509_ext.specs.Lookup.{all_of, first_of};
 ghost use Rattle.x509_ext.specs.View.{WantsNoMemory, extension_error};
 ghost use Rattle.x509_lists.specs.Reading.{version_at, tbs_in, tbs_at};
-ghost use Rattle.x509_lists.specs.View.{tbs_view, entry_errors, HaveSerials, EntriesWantNoMemory};
+ghost use Rattle.x509_lists.specs.Steps.{signer_at, dates_at, revoked_at, signed_at, signer_view, dates_view, revoked_view};
+ghost use Rattle.x509_lists.specs.View.{tbs_view, entry_errors, HasSerial, EntryWantsNoMemory, HaveSerials, EntriesWantNoMemory};
 
 use crate::entries::{copy_entries, next_entries};
 use crate::entry::RevokedCertificate;
@@ -111,8 +112,151 @@ fn next_version(parts: &mut Parts<'_>) -> Option<X509Version>
     Some(version)
 }
 
+/// Who signed, and how.
+#[derive(Drop)]
+struct Signer<'a> {
+    version: Option<X509Version>,
+    signature: AlgorithmIdentifier<'a>,
+    issuer: X509Name<'a>,
+}
+
+/// When the list was issued, and by when the next one is.
+#[derive(Clone, Copy)]
+struct Dates {
+    this_update: ASN1Time,
+    next_update: Option<ASN1Time>,
+}
+
+/// What was revoked, and the extensions behind that.
+#[derive(Drop)]
+struct Revoked<'a> {
+    entries: Vec<RevokedCertificate<'a>>,
+    extensions: Vec<X509Extension<'a>>,
+}
+
+/// What stands before the dates.
+#[tactic(auto, unfolding(crate::specs::Steps::signer_at))]
+fn next_signer<'a>(
+    alloc: Global,
+    parts: &mut Parts<'a>,
+    count: &mut HeaderCount,
+) -> Result<Signer<'a>, Refusal<X509Error>>
+    requires { attempts count.old + 3 * length parts.old.octets < 2 ^ 128 }
+    ensures read { Gives (λ v. (signer_view v, parts.new.octets)) result (signer_at parts.old.octets) }
+    ensures elements { IfOk result (λ _. parts.new.elements + 2 ≤ parts.old.elements) }
+    ensures least { IfOk result (λ _. attempts count.old + 1 ≤ attempts count.new) }
+    ensures grows { attempts count.old ≤ attempts count.new }
+    ensures ends { length parts.new.octets ≤ length parts.old.octets }
+    ensures most { attempts count.new + 3 * length parts.new.octets ≤ attempts count.old + 3 * length parts.old.octets }
+{
+    let version = next_version(parts);
+    let signature = next_algorithm(alloc, parts, count)?;
+    let issuer = next_name(alloc, parts, count)?;
+    Ok(Signer {
+        version,
+        signature,
+        issuer,
+    })
+}
+
+/// Both dates.
+#[tactic(auto, unfolding(crate::specs::Steps::dates_at))]
+fn next_dates(parts: &mut Parts<'_>, count: &mut HeaderCount) -> Result<Dates, Refusal<X509Error>>
+    requires { attempts count.old + 1 < 2 ^ 128 }
+    ensures read { Gives (λ v. (dates_view v, parts.new.octets)) result (dates_at parts.old.octets) }
+    ensures elements { IfOk result (λ _. parts.new.elements + 1 ≤ parts.old.elements) }
+    ensures grows { attempts count.old ≤ attempts count.new }
+    ensures ends { length parts.new.octets ≤ length parts.old.octets }
+    ensures most { attempts count.new ≤ attempts count.old + 1 }
+{
+    let this_update = match next_time(parts) {
+        Ok(time) => time,
+        Err(refusal) => return Err(refusal),
+    };
+    match next_update(parts, count) {
+        Ok(next_update) => Ok(Dates {
+            this_update,
+            next_update,
+        }),
+        Err(refusal) => Err(refusal),
+    }
+}
+
+/// What stands behind the dates, to the end.
+#[tactic(auto, unfolding(crate::specs::Steps::revoked_at))]
+fn revoked_of<'a>(
+    alloc: Global,
+    parts: &mut Parts<'a>,
+    deep: bool,
+    count: &mut HeaderCount,
+) -> Result<Revoked<'a>, Refusal<X509Error>>
+    requires { attempts count.old + 4 * length parts.old.octets < 2 ^ 128 }
+    ensures read { Gives revoked_view result (revoked_at (reading_of deep) parts.old.octets) }
+    ensures serials { IfOk result (λ r. All HasSerial r.entries.items) }
+    ensures memory { IfOk result (λ r. All WantsNoMemory r.extensions.items) }
+    ensures entries { IfOk result (λ r. All EntryWantsNoMemory r.entries.items) }
+    ensures grows { attempts count.old ≤ attempts count.new }
+    ensures most { attempts count.new ≤ attempts count.old + 4 * length parts.old.octets }
+{
+    let entries = next_entries(alloc, parts, deep, count)?;
+    let extensions = extensions_of(alloc, 0, parts.left(), deep, count)?;
+    Ok(Revoked {
+        entries,
+        extensions,
+    })
+}
+
+/// The signed part of these octets and parts.
+fn joined<'a>(
+    raw: &'a [u8],
+    signer: Signer<'a>,
+    dates: Dates,
+    revoked: Revoked<'a>,
+) -> TbsCertList<'a>
+    ensures { result ≡ record { version = signer.entry.version; signature = signer.entry.signature; issuer = signer.entry.issuer; this_update = dates.this_update; next_update = dates.next_update; revoked_certificates = revoked.entry.entries; extensions = revoked.entry.extensions; raw = raw.entry } }
+{
+    TbsCertList {
+        version: signer.version,
+        signature: signer.signature,
+        issuer: signer.issuer,
+        this_update: dates.this_update,
+        next_update: dates.next_update,
+        revoked_certificates: revoked.entries,
+        extensions: revoked.extensions,
+        raw,
+    }
+}
+
+/// The signed part of these octets whose content the parts are, read so too.
+fn signed_of<'a>(
+    alloc: Global,
+    raw: &'a [u8],
+    parts: &mut Parts<'a>,
+    deep: bool,
+    count: &mut HeaderCount,
+) -> Result<TbsCertList<'a>, Refusal<X509Error>>
+    requires { attempts count.old + 6 * length parts.old.octets < 2 ^ 128 }
+    ensures read { Gives tbs_view result (signed_at (reading_of deep) raw.now parts.old.octets) }
+    ensures serials { IfOk result HaveSerials }
+    ensures memory { IfOk result (λ t. All WantsNoMemory t.extensions.items) }
+    ensures entries { IfOk result EntriesWantNoMemory }
+    ensures elements { IfOk result (λ _. 3 ≤ parts.old.elements) }
+    ensures least { IfOk result (λ _. attempts count.old + 1 ≤ attempts count.new) }
+    ensures grows { attempts count.old ≤ attempts count.new }
+    ensures most { attempts count.new ≤ attempts count.old + 6 * length parts.old.octets }
+{
+    let signer = next_signer(alloc, parts, count)?;
+    let dates = match next_dates(parts, count) {
+        Ok(dates) => dates,
+        Err(refusal) => return Err(refusal),
+    };
+    match revoked_of(alloc, parts, deep, count) {
+        Ok(revoked) => Ok(joined(raw, signer, dates, revoked)),
+        Err(refusal) => Err(refusal),
+    }
+}
+
 /// The signed part that an element is, the values of extensions parsed too where `deep` says so.
-#[tactic(auto, unfolding(crate::specs::Reading::tbs_in))]
 pub(crate) fn tbs_of<'a>(
     alloc: Global,
     element: Element<'a>,
@@ -128,30 +272,10 @@ pub(crate) fn tbs_of<'a>(
     ensures grows { attempts count.old ≤ attempts count.new }
     ensures most { attempts count.new ≤ attempts count.old + 7 * length element.entry.any.content.now }
 {
-    let mut parts = parts_of(alloc, 16, element, count)?;
-    let version = next_version(&mut parts);
-    let signature = next_algorithm(alloc, &mut parts, count)?;
-    let issuer = next_name(alloc, &mut parts, count)?;
-    let this_update = match next_time(&mut parts) {
-        Ok(time) => time,
-        Err(refusal) => return Err(refusal),
-    };
-    let next_update = match next_update(&mut parts, count) {
-        Ok(time) => time,
-        Err(refusal) => return Err(refusal),
-    };
-    let revoked_certificates = next_entries(alloc, &mut parts, deep, count)?;
-    let extensions = extensions_of(alloc, 0, parts.left(), deep, count)?;
-    Ok(TbsCertList {
-        version,
-        signature,
-        issuer,
-        this_update,
-        next_update,
-        revoked_certificates,
-        extensions,
-        raw: element.octets,
-    })
+    match parts_of(alloc, 16, element, count) {
+        Ok(mut parts) => signed_of(alloc, element.octets, &mut parts, deep, count),
+        Err(refusal) => Err(refusal),
+    }
 }
 
 /// The signed part at the front, read so too.
