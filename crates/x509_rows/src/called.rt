@@ -1,6 +1,8 @@
 //! Calls on what the octets of a row begin with.
 
 use crate::call::{copies, extensions, maps, names, parsers};
+use crate::certificate::{keys, names as attributes};
+use crate::list::{lists, requests};
 use crate::row::said;
 use crate::{validator, walk};
 use asn1_traits::FromDer;
@@ -9,10 +11,10 @@ use std::alloc::Global;
 use std::io;
 use x509_core::X509Error;
 use x509_general::SubjectAlternativeName;
-use x509_lists::{CertificateRevocationList, TbsCertList};
+use x509_lists::{CertificateRevocationList, RevokedCertificate, TbsCertList};
 use x509_parser::certificate::{TbsCertificate, X509Certificate};
 use x509_parser::prelude::{SubjectPublicKeyInfo, X509Name};
-use x509_requests::X509CriAttribute;
+use x509_requests::{X509CertificationRequest, X509CertificationRequestInfo, X509CriAttribute};
 
 /// What a call is on.
 #[derive(Clone, Copy)]
@@ -21,6 +23,9 @@ pub(crate) enum Kind {
     SignedPart,
     List,
     SignedList,
+    Entry,
+    Request,
+    RequestInfo,
     Attribute,
     Name,
     Key,
@@ -40,6 +45,11 @@ pub(crate) fn call_on(alloc: Global, kind: Kind, call: &str, octets: &[u8]) -> i
         Kind::SignedPart => of::<TbsCertificate<'_>>(alloc, call, octets, "no signed part"),
         Kind::List => of::<CertificateRevocationList<'_>>(alloc, call, octets, "no list"),
         Kind::SignedList => of::<TbsCertList<'_>>(alloc, call, octets, "no signed part"),
+        Kind::Entry => of::<RevokedCertificate<'_>>(alloc, call, octets, "no entry"),
+        Kind::Request => of::<X509CertificationRequest<'_>>(alloc, call, octets, "no request"),
+        Kind::RequestInfo => {
+            of::<X509CertificationRequestInfo<'_>>(alloc, call, octets, "no request")
+        }
         Kind::Attribute => of::<X509CriAttribute<'_>>(alloc, call, octets, "no attribute"),
         Kind::Name => of::<X509Name<'_>>(alloc, call, octets, "no name"),
         Kind::Key => of::<SubjectPublicKeyInfo<'_>>(alloc, call, octets, "no key"),
@@ -101,6 +111,7 @@ impl Called for CertificateRevocationList<'_> {
             "copy_list" => said(alloc, copies::list(alloc, self)),
             "entry_serials" => said(alloc, copies::entry_serials(alloc, self)),
             "list_extensions_map" => said(alloc, extensions::of_list(alloc, self)),
+            "crl_number" => lists::crl_number(alloc, self),
             _ => walk::of_list(alloc, self),
         }
     }
@@ -109,6 +120,30 @@ impl Called for CertificateRevocationList<'_> {
 impl Called for TbsCertList<'_> {
     fn called(&self, alloc: Global, _call: &str) -> io::Result<String> {
         walk::of_tbs_list(alloc, self)
+    }
+}
+
+impl Called for RevokedCertificate<'_> {
+    fn called(&self, alloc: Global, call: &str) -> io::Result<String> {
+        match call {
+            "reason_code" => lists::reason_code(alloc, self),
+            _ => lists::invalidity_date(alloc, self),
+        }
+    }
+}
+
+impl Called for X509CertificationRequest<'_> {
+    fn called(&self, alloc: Global, _call: &str) -> io::Result<String> {
+        requests::requested(alloc, self)
+    }
+}
+
+impl Called for X509CertificationRequestInfo<'_> {
+    fn called(&self, alloc: Global, call: &str) -> io::Result<String> {
+        match call {
+            "find_attribute" => requests::found_attribute(alloc, self),
+            _ => requests::mapped_attributes(alloc, self),
+        }
     }
 }
 
@@ -123,14 +158,20 @@ impl Called for X509Name<'_> {
         match call {
             "shown" => said(alloc, names::name(alloc, self)),
             "registered" => said(alloc, names::registered(alloc, self)),
-            _ => validator::of_name(alloc, self),
+            _ => match call.strip_prefix("iter_") {
+                Some(walked) => attributes::attributes(alloc, walked, self),
+                None => validator::of_name(alloc, self),
+            },
         }
     }
 }
 
 impl Called for SubjectPublicKeyInfo<'_> {
-    fn called(&self, alloc: Global, _call: &str) -> io::Result<String> {
-        validator::of_key(alloc, self)
+    fn called(&self, alloc: Global, call: &str) -> io::Result<String> {
+        match call {
+            "parsed" => keys::parsed(alloc, self),
+            _ => validator::of_key(alloc, self),
+        }
     }
 }
 

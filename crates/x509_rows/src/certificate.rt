@@ -3,8 +3,8 @@
 mod certificates;
 mod extensions;
 mod getters;
-mod keys;
-mod names;
+pub(crate) mod keys;
+pub(crate) mod names;
 mod objects;
 mod row;
 mod times;

@@ -1,7 +1,7 @@
 //! Revocation lists and certification requests.
 
-mod lists;
-mod requests;
+pub(crate) mod lists;
+pub(crate) mod requests;
 mod row;
 
 pub(crate) use crate::list::row::outcome;

@@ -5,14 +5,15 @@ use asn1_core::{Class, Err as Refusal};
 use asn1_traits::FromDer;
 use asn1_values::BitString;
 use hex_rows::{hex_of, literal, told};
-use std::alloc::Global;
+use std::alloc::{AllocError, Global};
+use std::fmt::Display;
 use std::{io, slice};
 use x509_core::{X509Error, X509Result};
 
 /// A value that has words.
 pub(crate) trait Words {
-    /// The value's parts, in the order of its fields.
-    fn words(&self, alloc: Global) -> io::Result<String>;
+    /// Adds the value's parts to the text, in the order of its fields.
+    fn add_words(&self, text: &mut String) -> Result<(), AllocError>;
 }
 
 /// The words of the value that begins the octets, and the octets after it, or the refusal.
@@ -29,14 +30,62 @@ pub(crate) fn told_of<T: Words + Drop>(
     read: X509Result<'_, T>,
 ) -> io::Result<String> {
     match read {
-        Ok((rest, value)) => {
-            let words = value.words(alloc)?;
-            let rest = hex_of(alloc, rest)?;
-            let text = format!(in alloc; "{words}; rest {rest}")?;
-            Ok(text)
-        }
+        Ok((rest, value)) => words_before(alloc, &value, rest),
         Err(refusal) => refusal_text(alloc, refusal),
     }
+}
+
+/// The value's words.
+pub(crate) fn words_of<T: Words>(alloc: Global, value: &T) -> io::Result<String> {
+    let mut text = String::new(alloc);
+    value.add_words(&mut text)?;
+    Ok(text)
+}
+
+/// The value's words, or the error.
+pub(crate) fn words_or_error<T: Words + Drop>(
+    alloc: Global,
+    made: Result<T, X509Error>,
+) -> io::Result<String> {
+    match made {
+        Ok(value) => words_of(alloc, &value),
+        Err(error) => error_text(alloc, error),
+    }
+}
+
+/// The value's words, and the octets after it.
+pub(crate) fn words_before<T: Words>(alloc: Global, value: &T, rest: &[u8]) -> io::Result<String> {
+    let mut text = String::new(alloc);
+    value.add_words(&mut text)?;
+    add_rest(&mut text, rest)?;
+    Ok(text)
+}
+
+/// The value as text, and the octets after it.
+pub(crate) fn text_before<T: Display>(alloc: Global, value: &T, rest: &[u8]) -> io::Result<String> {
+    let mut text = String::new(alloc);
+    write!(text, "{value}")?;
+    add_rest(&mut text, rest)?;
+    Ok(text)
+}
+
+/// The octets of a value in hex, and those after it.
+pub(crate) fn hex_before(alloc: Global, octets: &[u8], rest: &[u8]) -> io::Result<String> {
+    let mut text = hex_of(alloc, octets)?;
+    add_rest(&mut text, rest)?;
+    Ok(text)
+}
+
+/// Adds the octets after a value.
+pub(crate) fn add_rest(text: &mut String, rest: &[u8]) -> Result<(), AllocError> {
+    text.push_str("; rest ")?;
+    add_hex(text, rest)
+}
+
+/// Adds the octets in hex.
+pub(crate) fn add_hex(text: &mut String, octets: &[u8]) -> Result<(), AllocError> {
+    let hex = hex_of(*text.allocator(), octets)?;
+    text.push_str(hex.as_str())
 }
 
 /// The refusal; of an error of the readers below its kind alone, since which one it is isn't promised.
@@ -53,10 +102,17 @@ pub(crate) fn refusal_text(alloc: Global, refusal: Refusal<X509Error>) -> io::Re
 
 /// The error's name.
 pub(crate) fn error_text(alloc: Global, error: X509Error) -> io::Result<String> {
+    let mut text = String::new(alloc);
+    add_error(&mut text, &error)?;
+    Ok(text)
+}
+
+/// Adds the error's name.
+pub(crate) fn add_error(text: &mut String, error: &X509Error) -> Result<(), AllocError> {
     match error {
-        X509Error::Der(_) => literal(alloc, "Der"),
-        X509Error::NomError(_) => literal(alloc, "NomError"),
-        error => told(alloc, error),
+        X509Error::Der(_) => text.push_str("Der"),
+        X509Error::NomError(_) => text.push_str("NomError"),
+        error => write!(text, "{error:?}"),
     }
 }
 
@@ -72,8 +128,13 @@ pub(crate) fn count_text(is_read: bool, tried: u64, least: u64, octets: usize) -
     }
 }
 
-/// An element: class, form, tag number and content.
-pub(crate) fn element_text(alloc: Global, any: &Any<'_>) -> io::Result<String> {
+/// A truth value's name.
+pub(crate) fn truth_text(is_true: bool) -> &'static str {
+    if is_true { "true" } else { "false" }
+}
+
+/// Adds an element: class, form, tag number and content.
+pub(crate) fn add_element(text: &mut String, any: &Any<'_>) -> Result<(), AllocError> {
     let class = match any.header.class() {
         Class::Universal => "universal",
         Class::Application => "application",
@@ -85,45 +146,32 @@ pub(crate) fn element_text(alloc: Global, any: &Any<'_>) -> io::Result<String> {
     } else {
         "primitive"
     };
-    let content = hex_of(alloc, any.content)?;
-    let text = format!(in alloc; "{class} {form} {} {content}", any.tag().0)?;
-    Ok(text)
-}
-
-/// The number of unused bits, and the octets.
-pub(crate) fn bits_text(alloc: Global, bits: &BitString<'_>) -> io::Result<String> {
-    let octets = hex_of(alloc, bits.content)?;
-    let text = format!(in alloc; "{} unused of {octets}", bits.unused_bits)?;
-    Ok(text)
+    write!(text, "{class} {form} {} ", any.tag().0)?;
+    add_hex(text, any.content)
 }
 
 /// Adds a line of a part.
-pub(crate) fn add<T: Words>(
-    alloc: Global,
-    text: &mut String,
-    name: &str,
-    part: &T,
-) -> io::Result<()> {
-    let words = part.words(alloc)?;
-    write!(text, "\n  {name} {words}")?;
-    Ok(())
+pub(crate) fn add<T: Words>(text: &mut String, name: &str, part: &T) -> Result<(), AllocError> {
+    write!(text, "\n  {name} ")?;
+    part.add_words(text)
 }
 
 /// Adds a line of each part.
 pub(crate) fn add_each<T: Words>(
-    alloc: Global,
     text: &mut String,
     name: &str,
     parts: slice::Iter<'_, T>,
-) -> io::Result<()> {
+) -> Result<(), AllocError> {
     for part in parts {
-        add(alloc, text, name, part)?;
+        add(text, name, part)?;
     }
     Ok(())
 }
 
 impl Words for BitString<'_> {
-    fn words(&self, alloc: Global) -> io::Result<String> {
-        bits_text(alloc, self)
+    /// The number of unused bits, and the octets.
+    fn add_words(&self, text: &mut String) -> Result<(), AllocError> {
+        write!(text, "{} unused of ", self.unused_bits)?;
+        add_hex(text, self.content)
     }
 }

@@ -10,8 +10,13 @@ pub(crate) fn key_usage(alloc: Global, word: &str) -> Result<String, OutOfMemory
     let Ok(flags) = word.parse::<u16>() else {
         return answer(alloc, "no number");
     };
-    let usage = KeyUsage { flags };
     let mut text = String::from_str(alloc, "usages")?;
+    add_usages(&mut text, KeyUsage { flags })?;
+    Ok(text)
+}
+
+/// Adds each usage that stands, behind a blank.
+fn add_usages(text: &mut String, usage: KeyUsage) -> Result<(), OutOfMemory> {
     for (name, stands) in [
         ("digital_signature", usage.digital_signature()),
         ("non_repudiation", usage.non_repudiation()),
@@ -27,5 +32,5 @@ pub(crate) fn key_usage(alloc: Global, word: &str) -> Result<String, OutOfMemory
             write!(text, " {name}")?;
         }
     }
-    Ok(text)
+    Ok(())
 }

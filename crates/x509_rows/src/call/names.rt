@@ -5,6 +5,7 @@ use asn1_any::Any;
 use asn1_core::{OutOfMemory, Tag};
 use asn1_oid::Oid;
 use std::alloc::Global;
+use std::str::Split;
 use x509_general::SubjectAlternativeName;
 use x509_names::{AttributeTypeAndValue, RelativeDistinguishedName, X509Name};
 use x509_objects::{OidEntry, oid_registry};
@@ -60,22 +61,42 @@ fn sets_of<'a>(
     words: &'a str,
 ) -> Result<Vec<RelativeDistinguishedName<'a>>, OutOfMemory> {
     let mut sets = Vec::new(alloc);
-    let mut types = [
+    let mut words = words.split('|');
+    add_sets(alloc, &mut words, &mut sets)?;
+    sets.push(common_names(alloc, words)?)?;
+    Ok(sets)
+}
+
+/// Adds a set for each of the first three words.
+fn add_sets<'a>(
+    alloc: Global,
+    words: &mut Split<'a, char>,
+    sets: &mut Vec<RelativeDistinguishedName<'a>>,
+) -> Result<(), OutOfMemory> {
+    for attr_type in [
         b"\x55\x04\x06".as_slice(),
         b"\x55\x04\x08".as_slice(),
         b"\x55\x04\x0a".as_slice(),
-    ]
-    .into_iter();
-    let mut last = Vec::new(alloc);
-    for word in words.split('|') {
-        let value = printable(word.as_bytes());
-        match types.next() {
-            Some(attr_type) => sets.push(set_of(alloc, attr_type, value)?)?,
-            None => last.push(AttributeTypeAndValue::new(Oid::new(b"\x55\x04\x03"), value))?,
+    ] {
+        if let Some(word) = words.next() {
+            sets.push(set_of(alloc, attr_type, printable(word.as_bytes()))?)?;
         }
     }
-    sets.push(RelativeDistinguishedName::try_from_iter(alloc, last.into_iter())?)?;
-    Ok(sets)
+    Ok(())
+}
+
+/// The set of all other words.
+fn common_names<'a>(
+    alloc: Global,
+    words: Split<'a, char>,
+) -> Result<RelativeDistinguishedName<'a>, OutOfMemory> {
+    let mut names = Vec::new(alloc);
+    for word in words {
+        let value = printable(word.as_bytes());
+        names.push(AttributeTypeAndValue::new(Oid::new(b"\x55\x04\x03"), value))?;
+    }
+    let set = RelativeDistinguishedName::try_from_iter(alloc, names.into_iter())?;
+    Ok(set)
 }
 
 /// A set of one attribute.

@@ -1,11 +1,12 @@
 //! Versions, extensions and certificates.
 
-use crate::words::{Words, add, add_each, bits_text, count_text, error_text, refusal_text};
+use crate::words::{
+    Words, add, add_each, add_hex, count_text, error_text, refusal_text, text_before, words_of,
+};
 use asn1_core::HeaderCount;
 use asn1_oid::Oid;
-use asn1_traits::FromDer;
-use hex_rows::{hex_of, literal, octets_of};
-use std::alloc::Global;
+use hex_rows::{literal, octets_of};
+use std::alloc::{AllocError, Global};
 use std::io;
 use x509_certs::{TbsCertificate, X509Certificate, X509CertificateParser};
 use x509_core::Parts;
@@ -15,18 +16,6 @@ use x509_ext::{
 };
 use x509_values::format_serial;
 
-/// The version that begins the octets.
-pub(crate) fn version(alloc: Global, octets: &[u8]) -> io::Result<String> {
-    match X509Version::from_der(alloc, octets) {
-        Ok((rest, version)) => {
-            let rest = hex_of(alloc, rest)?;
-            let text = format!(in alloc; "{version}, {}; rest {rest}", version.0)?;
-            Ok(text)
-        }
-        Err(refusal) => refusal_text(alloc, refusal),
-    }
-}
-
 /// The version that begins a certificate's content, or the first one where none is written; then the octets that are left.
 pub(crate) fn version_at(alloc: Global, octets: &[u8]) -> io::Result<String> {
     let mut count = HeaderCount::new();
@@ -34,63 +23,63 @@ pub(crate) fn version_at(alloc: Global, octets: &[u8]) -> io::Result<String> {
         return literal(alloc, "out of memory");
     };
     match next_version(alloc, &mut parts, &mut count) {
-        Ok(version) => {
-            let rest = hex_of(alloc, parts.left())?;
-            let text = format!(in alloc; "{version}; rest {rest}")?;
-            Ok(text)
-        }
+        Ok(version) => text_before(alloc, &version, parts.left()),
         Err(refusal) => refusal_text(alloc, refusal),
     }
 }
 
-/// The first extension of this identifier among those that the octets are.
-pub(crate) fn first_extension(
+/// The extension of this identifier among those that the octets are, as the call of this name looks for it.
+pub(crate) fn extension_among(
     alloc: Global,
+    call: &str,
     identifier: &str,
     octets: &[u8],
 ) -> io::Result<String> {
-    let Some(identifier) = octets_of(alloc, identifier)? else {
-        return literal(alloc, "no identifier");
-    };
+    match octets_of(alloc, identifier)? {
+        Some(identifier) => found_by(alloc, call, &Oid::new(identifier.as_slice()), octets),
+        None => literal(alloc, "no identifier"),
+    }
+}
+
+fn found_by(alloc: Global, call: &str, oid: &Oid<'_>, octets: &[u8]) -> io::Result<String> {
     match extensions_of(alloc, octets) {
-        Some(extensions) => first_text(alloc, &Oid::new(identifier.as_slice()), &extensions),
+        Some(extensions) => found_text(alloc, call, oid, &extensions),
         None => literal(alloc, "out of memory"),
     }
 }
 
+fn found_text(
+    alloc: Global,
+    call: &str,
+    oid: &Oid<'_>,
+    extensions: &[X509Extension<'_>],
+) -> io::Result<String> {
+    match call {
+        "find_extension" => first_text(alloc, oid, extensions),
+        _ => unique_text(alloc, oid, extensions),
+    }
+}
+
+/// The first extension of this identifier.
 fn first_text(
     alloc: Global,
     oid: &Oid<'_>,
     extensions: &[X509Extension<'_>],
 ) -> io::Result<String> {
     match find_extension(extensions, oid) {
-        Some(extension) => extension.words(alloc),
+        Some(extension) => words_of(alloc, extension),
         None => literal(alloc, "none"),
     }
 }
 
-/// The only extension of this identifier among those that the octets are.
-pub(crate) fn unique_extension(
-    alloc: Global,
-    identifier: &str,
-    octets: &[u8],
-) -> io::Result<String> {
-    let Some(identifier) = octets_of(alloc, identifier)? else {
-        return literal(alloc, "no identifier");
-    };
-    match extensions_of(alloc, octets) {
-        Some(extensions) => unique_text(alloc, &Oid::new(identifier.as_slice()), &extensions),
-        None => literal(alloc, "out of memory"),
-    }
-}
-
+/// The only extension of this identifier.
 fn unique_text(
     alloc: Global,
     oid: &Oid<'_>,
     extensions: &[X509Extension<'_>],
 ) -> io::Result<String> {
     match get_extension_unique(extensions, oid) {
-        Ok(Some(extension)) => extension.words(alloc),
+        Ok(Some(extension)) => words_of(alloc, extension),
         Ok(None) => literal(alloc, "none"),
         Err(error) => error_text(alloc, error),
     }
@@ -126,59 +115,56 @@ pub(crate) fn serial(alloc: Global, octets: &[u8]) -> io::Result<String> {
     }
 }
 
+impl Words for X509Version {
+    fn add_words(&self, text: &mut String) -> Result<(), AllocError> {
+        write!(text, "{self}, {}", self.0)
+    }
+}
+
 impl Words for X509Extension<'_> {
-    fn words(&self, alloc: Global) -> io::Result<String> {
-        let value = hex_of(alloc, self.value)?;
+    fn add_words(&self, text: &mut String) -> Result<(), AllocError> {
         let critical = if self.critical { "critical, " } else { "" };
-        let parsed = self.parsed_extension().words(alloc)?;
-        let text = format!(in alloc; "{}, {critical}{value}, {parsed}", self.oid)?;
-        Ok(text)
+        write!(text, "{}, {critical}", self.oid)?;
+        add_hex(text, self.value)?;
+        text.push_str(", ")?;
+        self.parsed_extension().add_words(text)
     }
 }
 
 impl Words for TbsCertificate<'_> {
-    fn words(&self, alloc: Global) -> io::Result<String> {
-        let mut text = String::new(alloc);
-        let raw = hex_of(alloc, self.as_ref())?;
-        let serial = hex_of(alloc, self.raw_serial())?;
-        write!(
-            text,
-            "{raw}\n  version {}\n  serial {serial}",
-            self.version()
-        )?;
-        add(alloc, &mut text, "signature", &self.signature)?;
-        add(alloc, &mut text, "issuer", self.issuer())?;
-        add(alloc, &mut text, "validity", self.validity())?;
-        add(alloc, &mut text, "subject", self.subject())?;
-        add(alloc, &mut text, "key", self.public_key())?;
-        add_identifier(alloc, &mut text, "issuer id", &self.issuer_uid)?;
-        add_identifier(alloc, &mut text, "subject id", &self.subject_uid)?;
-        add_each(alloc, &mut text, "extension", self.iter_extensions())?;
-        Ok(text)
+    fn add_words(&self, text: &mut String) -> Result<(), AllocError> {
+        add_hex(text, self.as_ref())?;
+        write!(text, "\n  version {}\n  serial ", self.version())?;
+        add_hex(text, self.raw_serial())?;
+        add(text, "signature", &self.signature)?;
+        add(text, "issuer", self.issuer())?;
+        add(text, "validity", self.validity())?;
+        add(text, "subject", self.subject())?;
+        add(text, "key", self.public_key())?;
+        add_identifier(text, "issuer id", &self.issuer_uid)?;
+        add_identifier(text, "subject id", &self.subject_uid)?;
+        add_each(text, "extension", self.iter_extensions())
     }
 }
 
 impl Words for X509Certificate<'_> {
-    fn words(&self, alloc: Global) -> io::Result<String> {
-        let mut text = self.tbs_certificate.words(alloc)?;
-        add(alloc, &mut text, "algorithm", &self.signature_algorithm)?;
-        add(alloc, &mut text, "signature value", &self.signature_value)?;
-        let raw = hex_of(alloc, self.as_raw())?;
-        write!(text, "\n  of {raw}")?;
-        Ok(text)
+    fn add_words(&self, text: &mut String) -> Result<(), AllocError> {
+        self.tbs_certificate.add_words(text)?;
+        add(text, "algorithm", &self.signature_algorithm)?;
+        add(text, "signature value", &self.signature_value)?;
+        text.push_str("\n  of ")?;
+        add_hex(text, self.as_raw())
     }
 }
 
 /// Adds a line of an identifier that stands.
 fn add_identifier(
-    alloc: Global,
     text: &mut String,
     name: &str,
     identifier: &Option<UniqueIdentifier<'_>>,
-) -> io::Result<()> {
-    if let Some(identifier) = identifier {
-        let bits = bits_text(alloc, &identifier.0)?;
-        write!(text, "\n  {name} {bits}")?;
+) -> Result<(), AllocError> {
+    match identifier {
+        Some(identifier) => add(text, name, &identifier.0),
+        None => Ok(()),
     }
-    Ok(())
 }

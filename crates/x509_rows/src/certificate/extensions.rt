@@ -1,50 +1,44 @@
 //! What the values of extensions were parsed as.
 
-use crate::words::Words;
-use hex_rows::{hex_of, literal};
-use std::alloc::Global;
-use std::io;
+use crate::words::{Words, add_hex};
+use std::alloc::AllocError;
 use x509_ext::ParsedExtension;
 use x509_values::CRLDistributionPoints;
 
 impl Words for ParsedExtension<'_> {
     /// The value's case and its fields; of one that its type refuses the case alone, since which error is told isn't promised.
-    fn words(&self, alloc: Global) -> io::Result<String> {
+    fn add_words(&self, text: &mut String) -> Result<(), AllocError> {
         if self.unsupported() {
-            return literal(alloc, "unsupported");
+            return text.push_str("unsupported");
         }
         if self.error().is_some() {
-            return literal(alloc, "ParseError");
+            return text.push_str("ParseError");
         }
-        let text = match self {
-            ParsedExtension::KeyUsage(usage) => format!(in alloc;
-                "KeyUsage {}, {usage}",
-                usage.flags
-            )?,
-            ParsedExtension::NSCertType(kinds) => format!(in alloc; "NSCertType {kinds}")?,
-            ParsedExtension::ReasonCode(reason) => format!(in alloc; "ReasonCode {}", reason.0)?,
+        match self {
+            ParsedExtension::KeyUsage(usage) => write!(text, "KeyUsage {}, {usage}", usage.flags),
+            ParsedExtension::NSCertType(kinds) => write!(text, "NSCertType {kinds}"),
+            ParsedExtension::ReasonCode(reason) => write!(text, "ReasonCode {}", reason.0),
             ParsedExtension::CRLNumber(number) => {
-                let octets = hex_of(alloc, number.as_bytes())?;
-                format!(in alloc; "CRLNumber {octets}")?
+                text.push_str("CRLNumber ")?;
+                add_hex(text, number.as_bytes())
             }
             ParsedExtension::InvalidityDate(date) => {
-                let words = date.words(alloc)?;
-                format!(in alloc; "InvalidityDate {words}")?
+                text.push_str("InvalidityDate ")?;
+                date.add_words(text)
             }
-            ParsedExtension::CRLDistributionPoints(points) => points_text(alloc, points)?,
-            parsed => format!(in alloc; "{parsed:?}")?,
-        };
-        Ok(text)
+            ParsedExtension::CRLDistributionPoints(points) => add_points(text, points),
+            parsed => write!(text, "{parsed:?}"),
+        }
     }
 }
 
-/// The points, and the text of each one's reasons.
-fn points_text(alloc: Global, points: &CRLDistributionPoints<'_>) -> io::Result<String> {
-    let mut text = format!(in alloc; "CRLDistributionPoints({points:?})")?;
+/// Adds the points, and the text of each one's reasons.
+fn add_points(text: &mut String, points: &CRLDistributionPoints<'_>) -> Result<(), AllocError> {
+    write!(text, "CRLDistributionPoints({points:?})")?;
     for point in points.points.iter() {
         if let Some(reasons) = &point.reasons {
             write!(text, ", {reasons}")?;
         }
     }
-    Ok(text)
+    Ok(())
 }

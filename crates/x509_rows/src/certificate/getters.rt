@@ -1,6 +1,6 @@
 //! The calls on certificates that look for one kind of extension.
 
-use crate::words::{error_text, refusal_text};
+use crate::words::{error_text, refusal_text, truth_text};
 use asn1_traits::FromDer;
 use hex_rows::literal;
 use std::alloc::Global;
@@ -27,7 +27,7 @@ fn told_by(alloc: Global, name: &str, certificate: &X509Certificate<'_>) -> io::
         "policy_mappings" => value_text(alloc, certificate.policy_mappings()),
         "subject_alternative_name" => value_text(alloc, certificate.subject_alternative_name()),
         "name_constraints" => value_text(alloc, certificate.name_constraints()),
-        "is_ca" => literal(alloc, if certificate.is_ca() { "true" } else { "false" }),
+        "is_ca" => literal(alloc, truth_text(certificate.is_ca())),
         _ => literal(alloc, "no call"),
     }
 }

@@ -1,59 +1,60 @@
 //! Algorithms, attributes and names.
 
-use crate::words::{Words, element_text, error_text};
+use crate::words::{Words, add_element, add_hex, error_text};
 use asn1_any::Any;
 use asn1_oid::Oid;
 use asn1_traits::FromDer;
 use hex_rows::{hex_of, literal};
-use std::alloc::Global;
+use std::alloc::{AllocError, Global};
 use std::io;
 use x509_names::{
     AlgorithmIdentifier, AttributeTypeAndValue, AttributesOf, RelativeDistinguishedName, X509Name,
 };
 
 impl Words for AlgorithmIdentifier<'_> {
-    fn words(&self, alloc: Global) -> io::Result<String> {
-        let text = match self.parameters() {
+    fn add_words(&self, text: &mut String) -> Result<(), AllocError> {
+        write!(text, "{}", self.oid())?;
+        match self.parameters() {
             Some(parameters) => {
-                let parameters = element_text(alloc, parameters)?;
-                format!(in alloc; "{}, {parameters}", self.oid())?
+                text.push_str(", ")?;
+                add_element(text, parameters)
             }
-            None => format!(in alloc; "{}", self.oid())?,
-        };
-        Ok(text)
+            None => Ok(()),
+        }
     }
 }
 
 impl Words for AttributeTypeAndValue<'_> {
-    fn words(&self, alloc: Global) -> io::Result<String> {
-        let value = element_text(alloc, self.attr_value())?;
-        let text = format!(in alloc; "{}, {value}", self.attr_type())?;
-        Ok(text)
+    fn add_words(&self, text: &mut String) -> Result<(), AllocError> {
+        write!(text, "{}, ", self.attr_type())?;
+        add_element(text, self.attr_value())
     }
 }
 
 impl Words for RelativeDistinguishedName<'_> {
-    fn words(&self, alloc: Global) -> io::Result<String> {
-        let mut text = String::new(alloc);
+    fn add_words(&self, text: &mut String) -> Result<(), AllocError> {
         for attribute in self.iter() {
-            let words = attribute.words(alloc)?;
-            write!(text, "({words})")?;
+            add_attribute(text, attribute)?;
         }
-        Ok(text)
+        Ok(())
     }
 }
 
 impl Words for X509Name<'_> {
-    fn words(&self, alloc: Global) -> io::Result<String> {
-        let mut text = String::new(alloc);
+    fn add_words(&self, text: &mut String) -> Result<(), AllocError> {
         for set in self.iter_rdn() {
-            let words = set.words(alloc)?;
-            write!(text, "[{words}]")?;
+            add_set(text, set)?;
         }
-        let raw = hex_of(alloc, self.as_raw())?;
-        write!(text, " of {raw}")?;
-        Ok(text)
+        text.push_str(" of ")?;
+        add_hex(text, self.as_raw())
     }
+}
+
+/// Adds a set in brackets.
+fn add_set(text: &mut String, set: &RelativeDistinguishedName<'_>) -> Result<(), AllocError> {
+    text.push_str("[")?;
+    set.add_words(text)?;
+    text.push_str("]")
 }
 
 /// What `as_str` answers of an attribute whose value is the element.
@@ -84,37 +85,29 @@ fn attribute_with(octets: &[u8]) -> Option<AttributeTypeAndValue<'_>> {
     }
 }
 
-/// The attributes of the name, one behind the other.
-pub(crate) fn attributes_of(alloc: Global, octets: &[u8]) -> io::Result<String> {
-    match X509Name::from_der(alloc, octets) {
-        Ok((_, name)) => attributes_text(alloc, &name),
-        Err(_) => literal(alloc, "no name"),
+/// What a name's call of this name walks over, one attribute behind the other.
+pub(crate) fn attributes(alloc: Global, call: &str, name: &X509Name<'_>) -> io::Result<String> {
+    match call {
+        "attributes" => all_attributes(alloc, name),
+        _ => attributes_of_type(alloc, call, name),
     }
 }
 
-fn attributes_text(alloc: Global, name: &X509Name<'_>) -> io::Result<String> {
+fn all_attributes(alloc: Global, name: &X509Name<'_>) -> io::Result<String> {
     let mut text = String::new(alloc);
     for attribute in name.iter_attributes() {
-        add_attribute(alloc, &mut text, attribute)?;
+        add_attribute(&mut text, attribute)?;
     }
     Ok(text)
 }
 
-/// The attributes of one type, by the name of the type's call.
-pub(crate) fn attributes_under(alloc: Global, call: &str, octets: &[u8]) -> io::Result<String> {
-    match X509Name::from_der(alloc, octets) {
-        Ok((_, name)) => attributes_text_by(alloc, call, &name),
-        Err(_) => literal(alloc, "no name"),
-    }
-}
-
-fn attributes_text_by(alloc: Global, call: &str, name: &X509Name<'_>) -> io::Result<String> {
+fn attributes_of_type(alloc: Global, call: &str, name: &X509Name<'_>) -> io::Result<String> {
     let Some(attributes) = attributes_by(name, call) else {
         return literal(alloc, "no call");
     };
     let mut text = String::new(alloc);
     for attribute in attributes {
-        add_attribute(alloc, &mut text, attribute)?;
+        add_attribute(&mut text, attribute)?;
     }
     Ok(text)
 }
@@ -135,11 +128,10 @@ fn attributes_by<'n, 'a>(name: &'n X509Name<'a>, call: &str) -> Option<Attribute
 
 /// Adds an attribute in parentheses.
 fn add_attribute(
-    alloc: Global,
     text: &mut String,
     attribute: &AttributeTypeAndValue<'_>,
-) -> io::Result<()> {
-    let words = attribute.words(alloc)?;
-    write!(text, "({words})")?;
-    Ok(())
+) -> Result<(), AllocError> {
+    text.push_str("(")?;
+    attribute.add_words(text)?;
+    text.push_str(")")
 }

@@ -1,33 +1,27 @@
 //! A row, taken apart.
 
-use crate::certificate::certificates::{
-    counted, first_extension, serial, unique_extension, version, version_at,
-};
+use crate::called::{Kind, call_on};
+use crate::certificate::certificates::{counted, extension_among, serial, version_at};
 use crate::certificate::getters::extension_under;
-use crate::certificate::keys::{exponent, parsed};
-use crate::certificate::names::{as_slice, as_str, attributes_of, attributes_under};
+use crate::certificate::keys::exponent;
+use crate::certificate::names::{as_slice, as_str};
 use crate::certificate::objects::name_of;
 use crate::certificate::times::{
     from_timestamp, is_valid_at, next_update_of, time, time_left, validity,
 };
 use crate::words::read_of;
-use hex_rows::{literal, octets_of};
+use hex_rows::literal;
 use std::alloc::Global;
 use std::io;
 use x509_certs::{TbsCertificate, X509Certificate};
-use x509_ext::X509Extension;
+use x509_ext::{X509Extension, X509Version};
 use x509_names::{
     AlgorithmIdentifier, AttributeTypeAndValue, RSAPublicKey, RelativeDistinguishedName,
     SubjectPublicKeyInfo, X509Name,
 };
 
 /// What the call of the row answers.
-pub(crate) fn outcome(alloc: Global, row: &str) -> io::Result<String> {
-    let (call, digits) = row.split_once(' ').unwrap_or((row, ""));
-    let Some(octets) = octets_of(alloc, digits)? else {
-        return literal(alloc, "no octets");
-    };
-    let octets = octets.as_slice();
+pub(crate) fn outcome(alloc: Global, call: &str, octets: &[u8]) -> io::Result<String> {
     match call {
         "algorithm" => read_of::<AlgorithmIdentifier<'_>>(alloc, octets),
         "attribute" => read_of::<AttributeTypeAndValue<'_>>(alloc, octets),
@@ -37,7 +31,7 @@ pub(crate) fn outcome(alloc: Global, row: &str) -> io::Result<String> {
         "time" => time(alloc, octets),
         "validity" => validity(alloc, octets),
         "rsa" => read_of::<RSAPublicKey<'_>>(alloc, octets),
-        "version" => version(alloc, octets),
+        "version" => read_of::<X509Version>(alloc, octets),
         "extension" => read_of::<X509Extension<'_>>(alloc, octets),
         "tbs" => read_of::<TbsCertificate<'_>>(alloc, octets),
         "certificate" => read_of::<X509Certificate<'_>>(alloc, octets),
@@ -54,14 +48,13 @@ fn called(alloc: Global, call: &str, octets: &[u8]) -> io::Result<String> {
         "oid2sn" | "oid2description" | "oid2abbrev" => name_of(alloc, call, octets),
         "as_str" => as_str(alloc, octets),
         "as_slice" => as_slice(alloc, octets),
-        "iter_attributes" => attributes_of(alloc, octets),
         "try_exponent" => exponent(alloc, octets),
-        "parsed" => parsed(alloc, octets),
+        "parsed" => call_on(alloc, Kind::Key, call, octets),
         "next_version" => version_at(alloc, octets),
-        _ => match (call.strip_prefix("iter_"), call.split_once(':')) {
-            (Some(name), _) => attributes_under(alloc, name, octets),
-            (None, Some((call, word))) => called_with(alloc, call, word, octets),
-            (None, None) => extension_under(alloc, call, octets),
+        _ if call.starts_with("iter_") => call_on(alloc, Kind::Name, call, octets),
+        _ => match call.split_once(':') {
+            Some((call, word)) => called_with(alloc, call, word, octets),
+            None => extension_under(alloc, call, octets),
         },
     }
 }
@@ -72,8 +65,7 @@ fn called_with(alloc: Global, call: &str, word: &str, octets: &[u8]) -> io::Resu
         "from_timestamp" => from_timestamp(alloc, word),
         "is_valid_at" => is_valid_at(alloc, word, octets),
         "time_to_expiration" => time_left(alloc, word, octets),
-        "find_extension" => first_extension(alloc, word, octets),
-        "get_extension_unique" => unique_extension(alloc, word, octets),
+        "find_extension" | "get_extension_unique" => extension_among(alloc, call, word, octets),
         _ => literal(alloc, "no call"),
     }
 }

@@ -1,44 +1,39 @@
 //! Times and validities.
 
-use crate::words::{Words, error_text, refusal_text};
+use crate::words::{
+    Words, error_text, refusal_text, text_before, truth_text, words_before, words_of,
+};
 use asn1_core::HeaderCount;
 use asn1_traits::FromDer;
-use hex_rows::{hex_of, literal};
-use std::alloc::Global;
+use hex_rows::literal;
+use std::alloc::{AllocError, Global};
 use std::io;
 use x509_core::Parts;
 use x509_time::{ASN1Time, Validity, next_update};
 
 impl Words for ASN1Time {
-    fn words(&self, alloc: Global) -> io::Result<String> {
+    fn add_words(&self, text: &mut String) -> Result<(), AllocError> {
         let kind = if self.is_generalizedtime() {
             "generalized"
         } else {
             "utc"
         };
-        let text = format!(in alloc; "{kind} {self}, {}", self.timestamp())?;
-        Ok(text)
+        write!(text, "{kind} {self}, {}", self.timestamp())
     }
 }
 
 impl Words for Validity {
-    fn words(&self, alloc: Global) -> io::Result<String> {
-        let first = self.not_before.words(alloc)?;
-        let last = self.not_after.words(alloc)?;
-        let text = format!(in alloc; "{first} to {last}")?;
-        Ok(text)
+    fn add_words(&self, text: &mut String) -> Result<(), AllocError> {
+        self.not_before.add_words(text)?;
+        text.push_str(" to ")?;
+        self.not_after.add_words(text)
     }
 }
 
 /// The time that begins the octets.
 pub(crate) fn time(alloc: Global, octets: &[u8]) -> io::Result<String> {
     match ASN1Time::from_der(alloc, octets) {
-        Ok((rest, time)) => {
-            let words = time.words(alloc)?;
-            let rest = hex_of(alloc, rest)?;
-            let text = format!(in alloc; "{words}; rest {rest}")?;
-            Ok(text)
-        }
+        Ok((rest, time)) => words_before(alloc, &time, rest),
         Err(refusal) => refusal_text(alloc, refusal),
     }
 }
@@ -46,12 +41,7 @@ pub(crate) fn time(alloc: Global, octets: &[u8]) -> io::Result<String> {
 /// The validity that begins the octets.
 pub(crate) fn validity(alloc: Global, octets: &[u8]) -> io::Result<String> {
     match Validity::from_der(alloc, octets) {
-        Ok((rest, validity)) => {
-            let words = validity.words(alloc)?;
-            let rest = hex_of(alloc, rest)?;
-            let text = format!(in alloc; "{words}; rest {rest}")?;
-            Ok(text)
-        }
+        Ok((rest, validity)) => words_before(alloc, &validity, rest),
         Err(refusal) => refusal_text(alloc, refusal),
     }
 }
@@ -62,10 +52,7 @@ pub(crate) fn is_valid_at(alloc: Global, seconds: &str, octets: &[u8]) -> io::Re
         return literal(alloc, "no time");
     };
     match Validity::from_der(alloc, octets) {
-        Ok((_, validity)) => {
-            let text = format!(in alloc; "{}", validity.is_valid_at(now))?;
-            Ok(text)
-        }
+        Ok((_, validity)) => literal(alloc, truth_text(validity.is_valid_at(now))),
         Err(refusal) => refusal_text(alloc, refusal),
     }
 }
@@ -105,15 +92,8 @@ pub(crate) fn next_update_of(alloc: Global, octets: &[u8]) -> io::Result<String>
         return literal(alloc, "out of memory");
     };
     match next_update(&mut parts, &mut count) {
-        Ok(time) => {
-            let words = match time {
-                Some(time) => time.words(alloc)?,
-                None => literal(alloc, "none")?,
-            };
-            let rest = hex_of(alloc, parts.left())?;
-            let text = format!(in alloc; "{words}; rest {rest}")?;
-            Ok(text)
-        }
+        Ok(Some(time)) => words_before(alloc, &time, parts.left()),
+        Ok(None) => text_before(alloc, &"none", parts.left()),
         Err(refusal) => refusal_text(alloc, refusal),
     }
 }
@@ -123,15 +103,18 @@ pub(crate) fn from_timestamp(alloc: Global, seconds: &str) -> io::Result<String>
     let Ok(seconds) = seconds.parse::<i64>() else {
         return literal(alloc, "no number");
     };
-    let time = match ASN1Time::from_timestamp(seconds) {
-        Ok(time) => time,
-        Err(error) => return error_text(alloc, error),
-    };
-    let words = time.words(alloc)?;
+    match ASN1Time::from_timestamp(seconds) {
+        Ok(time) => words_and_mail(alloc, &time),
+        Err(error) => error_text(alloc, error),
+    }
+}
+
+fn words_and_mail(alloc: Global, time: &ASN1Time) -> io::Result<String> {
+    let mut text = words_of(alloc, time)?;
     let mail = match time.to_rfc2822(alloc) {
         Ok(mail) => mail,
         Err(error) => error_text(alloc, error)?,
     };
-    let text = format!(in alloc; "{words}; {mail}")?;
+    write!(text, "; {mail}")?;
     Ok(text)
 }

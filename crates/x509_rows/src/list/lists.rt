@@ -1,13 +1,15 @@
 //! Revocation lists and their entries.
 
-use crate::words::{Words, add, add_each, count_text};
+use crate::words::{Words, add, add_each, add_hex, count_text, told_of};
 use asn1_core::HeaderCount;
 use asn1_traits::FromDer;
 use hex_rows::{hex_of, literal};
-use std::alloc::Global;
+use std::alloc::{AllocError, Global};
 use std::io;
+use x509_core::X509Result;
 use x509_lists::{
     CertificateRevocationList, CertificateRevocationListParser, RevokedCertificate, TbsCertList,
+    parse_crl_der, parse_x509_crl,
 };
 
 /// Whether a list is read, and whether the number of headers that were tried is in its bounds: at most eight for each octet,
@@ -20,15 +22,32 @@ pub(crate) fn counted(alloc: Global, octets: &[u8]) -> io::Result<String> {
     literal(alloc, count_text(is_read, count.get(), 9, octets.len()))
 }
 
-/// The number of the list.
-pub(crate) fn crl_number(alloc: Global, octets: &[u8]) -> io::Result<String> {
-    match CertificateRevocationList::from_der(alloc, octets) {
-        Ok((_, list)) => number_of(alloc, &list),
-        Err(_) => literal(alloc, "no list"),
+/// What the parser's call of this name makes of the list that begins the octets.
+pub(crate) fn parsed(alloc: Global, call: &str, octets: &[u8]) -> io::Result<String> {
+    told_of(alloc, list_by(alloc, call, octets))
+}
+
+fn list_by<'a>(
+    alloc: Global,
+    call: &str,
+    octets: &'a [u8],
+) -> X509Result<'a, CertificateRevocationList<'a>> {
+    match call {
+        "list" => CertificateRevocationList::from_der(alloc, octets),
+        "parse_x509_crl" => parse_x509_crl(alloc, octets),
+        "parse_crl_der" => parse_crl_der(alloc, octets),
+        "parse_deep" => CertificateRevocationListParser::new().parse(alloc, octets),
+        _ => CertificateRevocationListParser::new()
+            .with_deep_parse_extensions(false)
+            .parse(alloc, octets),
     }
 }
 
-fn number_of(alloc: Global, list: &CertificateRevocationList<'_>) -> io::Result<String> {
+/// The number of the list.
+pub(crate) fn crl_number(
+    alloc: Global,
+    list: &CertificateRevocationList<'_>,
+) -> io::Result<String> {
     match list.crl_number() {
         Some(number) => {
             let text = hex_of(alloc, number.as_bytes())?;
@@ -39,14 +58,7 @@ fn number_of(alloc: Global, list: &CertificateRevocationList<'_>) -> io::Result<
 }
 
 /// Why the entry's certificate was revoked.
-pub(crate) fn reason_code(alloc: Global, octets: &[u8]) -> io::Result<String> {
-    match RevokedCertificate::from_der(alloc, octets) {
-        Ok((_, entry)) => reason_of(alloc, &entry),
-        Err(_) => literal(alloc, "no entry"),
-    }
-}
-
-fn reason_of(alloc: Global, entry: &RevokedCertificate<'_>) -> io::Result<String> {
+pub(crate) fn reason_code(alloc: Global, entry: &RevokedCertificate<'_>) -> io::Result<String> {
     match entry.reason_code() {
         Some((critical, reason)) => {
             let text = format!(in alloc; "{reason}, critical {critical}")?;
@@ -57,14 +69,7 @@ fn reason_of(alloc: Global, entry: &RevokedCertificate<'_>) -> io::Result<String
 }
 
 /// Since when the entry's certificate is thought to be invalid.
-pub(crate) fn invalidity_date(alloc: Global, octets: &[u8]) -> io::Result<String> {
-    match RevokedCertificate::from_der(alloc, octets) {
-        Ok((_, entry)) => date_of(alloc, &entry),
-        Err(_) => literal(alloc, "no entry"),
-    }
-}
-
-fn date_of(alloc: Global, entry: &RevokedCertificate<'_>) -> io::Result<String> {
+pub(crate) fn invalidity_date(alloc: Global, entry: &RevokedCertificate<'_>) -> io::Result<String> {
     match entry.invalidity_date() {
         Some((critical, date)) => {
             let text = format!(in alloc; "{}, critical {critical}", date.timestamp())?;
@@ -75,46 +80,39 @@ fn date_of(alloc: Global, entry: &RevokedCertificate<'_>) -> io::Result<String> 
 }
 
 impl Words for RevokedCertificate<'_> {
-    fn words(&self, alloc: Global) -> io::Result<String> {
-        let serial = hex_of(alloc, self.raw_serial())?;
-        let number = hex_of(alloc, self.serial().as_bytes())?;
-        let date = self.revocation_date.words(alloc)?;
-        let mut text = format!(in alloc; "{serial}, number {number}, {date}")?;
-        add_each(alloc, &mut text, "  extension", self.iter_extensions())?;
-        Ok(text)
+    fn add_words(&self, text: &mut String) -> Result<(), AllocError> {
+        add_hex(text, self.raw_serial())?;
+        text.push_str(", number ")?;
+        add_hex(text, self.serial().as_bytes())?;
+        text.push_str(", ")?;
+        self.revocation_date.add_words(text)?;
+        add_each(text, "  extension", self.iter_extensions())
     }
 }
 
 impl Words for TbsCertList<'_> {
-    fn words(&self, alloc: Global) -> io::Result<String> {
-        let mut text = hex_of(alloc, self.as_ref())?;
+    fn add_words(&self, text: &mut String) -> Result<(), AllocError> {
+        add_hex(text, self.as_ref())?;
         if let Some(version) = &self.version {
             write!(text, "\n  version {version}")?;
         }
-        add(alloc, &mut text, "signature", &self.signature)?;
-        add(alloc, &mut text, "issuer", &self.issuer)?;
-        add(alloc, &mut text, "this update", &self.this_update)?;
+        add(text, "signature", &self.signature)?;
+        add(text, "issuer", &self.issuer)?;
+        add(text, "this update", &self.this_update)?;
         if let Some(time) = &self.next_update {
-            add(alloc, &mut text, "next update", time)?;
+            add(text, "next update", time)?;
         }
-        add_each(
-            alloc,
-            &mut text,
-            "revoked",
-            self.revoked_certificates.iter(),
-        )?;
-        add_each(alloc, &mut text, "extension", self.iter_extensions())?;
-        Ok(text)
+        add_each(text, "revoked", self.revoked_certificates.iter())?;
+        add_each(text, "extension", self.iter_extensions())
     }
 }
 
 impl Words for CertificateRevocationList<'_> {
-    fn words(&self, alloc: Global) -> io::Result<String> {
-        let mut text = self.tbs_cert_list.words(alloc)?;
-        add(alloc, &mut text, "algorithm", &self.signature_algorithm)?;
-        add(alloc, &mut text, "signature value", &self.signature_value)?;
-        let raw = hex_of(alloc, self.as_raw())?;
-        write!(text, "\n  of {raw}")?;
-        Ok(text)
+    fn add_words(&self, text: &mut String) -> Result<(), AllocError> {
+        self.tbs_cert_list.add_words(text)?;
+        add(text, "algorithm", &self.signature_algorithm)?;
+        add(text, "signature value", &self.signature_value)?;
+        text.push_str("\n  of ")?;
+        add_hex(text, self.as_raw())
     }
 }

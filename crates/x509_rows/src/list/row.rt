@@ -1,46 +1,27 @@
 //! A row, taken apart.
 
-use crate::list::lists::{counted, crl_number, invalidity_date, reason_code};
-use crate::list::requests::{found_attribute, mapped_attributes, requested};
-use crate::words::{read_of, told_of};
-use hex_rows::{literal, octets_of};
+use crate::called::{Kind, call_on};
+use crate::list::lists::{counted, parsed};
+use crate::words::read_of;
+use hex_rows::literal;
 use std::alloc::Global;
 use std::io;
-use x509_lists::{
-    CertificateRevocationList, CertificateRevocationListParser, RevokedCertificate, TbsCertList,
-    parse_crl_der, parse_x509_crl,
-};
+use x509_lists::{RevokedCertificate, TbsCertList};
 use x509_requests::{
     ExtensionRequest, X509CertificationRequest, X509CertificationRequestInfo, X509CriAttribute,
 };
 
 /// What the call of the row answers.
-pub(crate) fn outcome(alloc: Global, row: &str) -> io::Result<String> {
-    let (call, digits) = row.split_once(' ').unwrap_or((row, ""));
-    let Some(octets) = octets_of(alloc, digits)? else {
-        return literal(alloc, "no octets");
-    };
-    let octets = octets.as_slice();
+pub(crate) fn outcome(alloc: Global, call: &str, octets: &[u8]) -> io::Result<String> {
     match call {
         "entry" => read_of::<RevokedCertificate<'_>>(alloc, octets),
         "tbs" => read_of::<TbsCertList<'_>>(alloc, octets),
-        "list" => read_of::<CertificateRevocationList<'_>>(alloc, octets),
-        "parse" => told_of(
-            alloc,
-            CertificateRevocationListParser::new()
-                .with_deep_parse_extensions(false)
-                .parse(alloc, octets),
+        "list" | "parse" | "parse_deep" | "parse_x509_crl" | "parse_crl_der" => parsed(
+            alloc, call, octets,
         ),
-        "parse_deep" => told_of(
-            alloc,
-            CertificateRevocationListParser::new().parse(alloc, octets),
-        ),
-        "parse_x509_crl" => told_of(alloc, parse_x509_crl(alloc, octets)),
-        "parse_crl_der" => told_of(alloc, parse_crl_der(alloc, octets)),
         "parse_counted" => counted(alloc, octets),
-        "crl_number" => crl_number(alloc, octets),
-        "reason_code" => reason_code(alloc, octets),
-        "invalidity_date" => invalidity_date(alloc, octets),
+        "crl_number" => call_on(alloc, Kind::List, call, octets),
+        "reason_code" | "invalidity_date" => call_on(alloc, Kind::Entry, call, octets),
         _ => of_requests(alloc, call, octets),
     }
 }
@@ -52,9 +33,8 @@ fn of_requests(alloc: Global, call: &str, octets: &[u8]) -> io::Result<String> {
         "attribute" => read_of::<X509CriAttribute<'_>>(alloc, octets),
         "info" => read_of::<X509CertificationRequestInfo<'_>>(alloc, octets),
         "request" => read_of::<X509CertificationRequest<'_>>(alloc, octets),
-        "requested_extensions" => requested(alloc, octets),
-        "find_attribute" => found_attribute(alloc, octets),
-        "attributes_map" => mapped_attributes(alloc, octets),
+        "requested_extensions" => call_on(alloc, Kind::Request, call, octets),
+        "find_attribute" | "attributes_map" => call_on(alloc, Kind::RequestInfo, call, octets),
         _ => literal(alloc, "no call"),
     }
 }

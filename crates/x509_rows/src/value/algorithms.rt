@@ -1,10 +1,11 @@
 //! Rows of algorithms, their parameters and values of signatures.
 
-use crate::words::{Words, error_text, read_of};
+use crate::words::{Words, add_error, add_hex, read_of, words_or_error};
 use asn1_any::Any;
+use asn1_oid::Oid;
 use asn1_traits::FromDer;
-use hex_rows::{hex_of, literal};
-use std::alloc::Global;
+use hex_rows::literal;
+use std::alloc::{AllocError, Global};
 use std::io;
 use x509_algorithms::{
     EcdsaSigValue, MaskGenAlgorithm, RsaAesOaepParams, RsaSsaPssParams, SignatureAlgorithm,
@@ -27,23 +28,42 @@ pub(crate) fn of_algorithms(alloc: Global, name: &str, octets: &[u8]) -> io::Res
 }
 
 impl Words for EcdsaSigValue<'_> {
-    fn words(&self, alloc: Global) -> io::Result<String> {
-        let r = hex_of(alloc, self.r.content)?;
-        let s = hex_of(alloc, self.s.content)?;
-        let text = format!(in alloc; "{r}, {s}")?;
-        Ok(text)
+    fn add_words(&self, text: &mut String) -> Result<(), AllocError> {
+        add_hex(text, self.r.content)?;
+        text.push_str(", ")?;
+        add_hex(text, self.s.content)
     }
 }
 
 impl Words for RsaSsaPssParams<'_> {
-    fn words(&self, alloc: Global) -> io::Result<String> {
-        pss_text(alloc, self)
+    fn add_words(&self, text: &mut String) -> Result<(), AllocError> {
+        add_hash(
+            text,
+            &self.hash_algorithm_oid(),
+            self.hash_algorithm().is_none(),
+        )?;
+        add_mask(text, self.mask_gen_algorithm())?;
+        let told = by_default(self.mask_gen_algorithm_raw().is_none());
+        let salt = self.salt_length();
+        write!(
+            text,
+            "{told}, salt {salt}, trailer {}",
+            self.trailer_field()
+        )
     }
 }
 
 impl Words for RsaAesOaepParams<'_> {
-    fn words(&self, alloc: Global) -> io::Result<String> {
-        oaep_text(alloc, self)
+    fn add_words(&self, text: &mut String) -> Result<(), AllocError> {
+        add_hash(
+            text,
+            &self.hash_algorithm_oid(),
+            self.hash_algorithm().is_none(),
+        )?;
+        add_mask(text, self.mask_gen_algorithm())?;
+        text.push_str(by_default(self.mask_gen_algorithm_raw().is_none()))?;
+        text.push_str(", source ")?;
+        add_algorithm(text, &self.p_source_alg())
     }
 }
 
@@ -52,10 +72,7 @@ fn pss_element(alloc: Global, octets: &[u8]) -> io::Result<String> {
     let Ok((_, any)) = Any::from_der(octets) else {
         return literal(alloc, "no element");
     };
-    match RsaSsaPssParams::try_from(alloc, any) {
-        Ok(value) => pss_text(alloc, &value),
-        Err(error) => error_text(alloc, error),
-    }
+    words_or_error(alloc, RsaSsaPssParams::try_from(alloc, any))
 }
 
 /// The parameters that the element at the front holds.
@@ -63,91 +80,64 @@ fn oaep_element(alloc: Global, octets: &[u8]) -> io::Result<String> {
     let Ok((_, any)) = Any::from_der(octets) else {
         return literal(alloc, "no element");
     };
-    match RsaAesOaepParams::try_from(alloc, any) {
-        Ok(value) => oaep_text(alloc, &value),
-        Err(error) => error_text(alloc, error),
-    }
+    words_or_error(alloc, RsaAesOaepParams::try_from(alloc, any))
 }
 
 /// What the algorithm is that begins the octets.
 fn signature_algorithm(alloc: Global, octets: &[u8]) -> io::Result<String> {
     match AlgorithmIdentifier::from_der(alloc, octets) {
-        Ok((_, algorithm)) => kind_of(alloc, &algorithm),
+        Ok((_, algorithm)) => {
+            words_or_error(alloc, SignatureAlgorithm::try_from(alloc, &algorithm))
+        }
         Err(_) => literal(alloc, "no algorithm"),
     }
 }
 
-fn kind_of(alloc: Global, algorithm: &AlgorithmIdentifier<'_>) -> io::Result<String> {
-    match SignatureAlgorithm::try_from(alloc, algorithm) {
-        Ok(kind) => kind_text(alloc, &kind),
-        Err(error) => error_text(alloc, error),
+impl Words for SignatureAlgorithm<'_> {
+    fn add_words(&self, text: &mut String) -> Result<(), AllocError> {
+        match self {
+            SignatureAlgorithm::RSA => text.push_str("RSA"),
+            SignatureAlgorithm::RSASSA_PSS(value) => {
+                text.push_str("RSASSA_PSS, ")?;
+                value.add_words(text)
+            }
+            SignatureAlgorithm::RSAAES_OAEP(value) => {
+                text.push_str("RSAAES_OAEP, ")?;
+                value.add_words(text)
+            }
+            SignatureAlgorithm::DSA => text.push_str("DSA"),
+            SignatureAlgorithm::ECDSA => text.push_str("ECDSA"),
+            SignatureAlgorithm::ED25519 => text.push_str("ED25519"),
+        }
     }
 }
 
-fn kind_text(alloc: Global, kind: &SignatureAlgorithm<'_>) -> io::Result<String> {
-    match kind {
-        SignatureAlgorithm::RSA => literal(alloc, "RSA"),
-        SignatureAlgorithm::RSASSA_PSS(value) => {
-            let words = pss_text(alloc, value)?;
-            let text = format!(in alloc; "RSASSA_PSS, {words}")?;
-            Ok(text)
-        }
-        SignatureAlgorithm::RSAAES_OAEP(value) => {
-            let words = oaep_text(alloc, value)?;
-            let text = format!(in alloc; "RSAAES_OAEP, {words}")?;
-            Ok(text)
-        }
-        SignatureAlgorithm::DSA => literal(alloc, "DSA"),
-        SignatureAlgorithm::ECDSA => literal(alloc, "ECDSA"),
-        SignatureAlgorithm::ED25519 => literal(alloc, "ED25519"),
-    }
+fn add_hash(text: &mut String, hash: &Oid<'_>, is_default: bool) -> Result<(), AllocError> {
+    write!(text, "hash {hash}{}, mask ", by_default(is_default))
 }
 
-fn pss_text(alloc: Global, value: &RsaSsaPssParams<'_>) -> io::Result<String> {
-    let hash = value.hash_algorithm_oid();
-    let told_hash = by_default(value.hash_algorithm().is_none());
-    let mask = mask_text(alloc, value.mask_gen_algorithm())?;
-    let told_mask = by_default(value.mask_gen_algorithm_raw().is_none());
-    let salt = value.salt_length();
-    let trailer = value.trailer_field();
-    let text = format!(in alloc;
-        "hash {hash}{told_hash}, mask {mask}{told_mask}, salt {salt}, trailer {trailer}"
-    )?;
-    Ok(text)
-}
-
-fn oaep_text(alloc: Global, value: &RsaAesOaepParams<'_>) -> io::Result<String> {
-    let hash = value.hash_algorithm_oid();
-    let told_hash = by_default(value.hash_algorithm().is_none());
-    let mask = mask_text(alloc, value.mask_gen_algorithm())?;
-    let told_mask = by_default(value.mask_gen_algorithm_raw().is_none());
-    let source = algorithm_text(alloc, &value.p_source_alg())?;
-    let text = format!(in alloc;
-        "hash {hash}{told_hash}, mask {mask}{told_mask}, source {source}"
-    )?;
-    Ok(text)
-}
-
-fn mask_text(
-    alloc: Global,
+fn add_mask(
+    text: &mut String,
     mask: Result<MaskGenAlgorithm<'_, '_>, X509Error>,
-) -> io::Result<String> {
+) -> Result<(), AllocError> {
     match mask {
-        Ok(mask) => {
-            let text = format!(in alloc; "{} with {}", mask.mgf, mask.hash)?;
-            Ok(text)
-        }
-        Err(error) => error_text(alloc, error),
+        Ok(mask) => write!(text, "{} with {}", mask.mgf, mask.hash),
+        Err(error) => add_error(text, &error),
     }
 }
 
 fn algorithm_text(alloc: Global, algorithm: &AlgorithmIdentifier<'_>) -> io::Result<String> {
+    let mut text = String::new(alloc);
+    add_algorithm(&mut text, algorithm)?;
+    Ok(text)
+}
+
+fn add_algorithm(text: &mut String, algorithm: &AlgorithmIdentifier<'_>) -> Result<(), AllocError> {
     let parameters = match algorithm.parameters() {
         Some(_) => "with parameters",
         None => "without parameters",
     };
-    let text = format!(in alloc; "{} {parameters}", algorithm.oid())?;
-    Ok(text)
+    write!(text, "{} {parameters}", algorithm.oid())
 }
 
 fn by_default(absent: bool) -> &'static str {

@@ -2,9 +2,9 @@
 
 use crate::value::algorithms::of_algorithms;
 use crate::value::told::{fault, fault_of, read_of, shown, told_of};
-use crate::words::refusal_text;
+use crate::words::{hex_before, refusal_text, text_before};
 use asn1_traits::FromDer;
-use hex_rows::{hex_of, literal};
+use hex_rows::literal;
 use std::alloc::Global;
 use std::io;
 use x509_flags::{KeyIdentifier, KeyUsage, NSCertType};
@@ -31,44 +31,34 @@ pub(crate) fn of_leaves(alloc: Global, name: &str, octets: &[u8]) -> io::Result<
 
 fn number(alloc: Global, octets: &[u8]) -> io::Result<String> {
     match crl_number(octets) {
-        Ok((rest, number)) => {
-            let number = hex_of(alloc, number.as_bytes())?;
-            let rest = hex_of(alloc, rest)?;
-            let text = format!(in alloc; "{number}; rest {rest}")?;
-            Ok(text)
-        }
+        Ok((rest, number)) => hex_before(alloc, number.as_bytes(), rest),
         Err(refusal) => refusal_text(alloc, refusal),
     }
 }
 
 fn date(alloc: Global, octets: &[u8]) -> io::Result<String> {
     match invalidity_date(octets) {
-        Ok((rest, time)) => {
-            let rest = hex_of(alloc, rest)?;
-            let text = format!(in alloc; "{time}; rest {rest}")?;
-            Ok(text)
-        }
+        Ok((rest, time)) => text_before(alloc, &time, rest),
         Err(refusal) => refusal_text(alloc, refusal),
     }
 }
 
 fn comment(alloc: Global, octets: &[u8]) -> io::Result<String> {
     match netscape_comment(octets) {
-        Ok((rest, comment)) => {
-            let comment = hex_of(alloc, comment.as_bytes())?;
-            let rest = hex_of(alloc, rest)?;
-            let text = format!(in alloc; "{comment}; rest {rest}")?;
-            Ok(text)
-        }
+        Ok((rest, comment)) => hex_before(alloc, comment.as_bytes(), rest),
         Err(refusal) => refusal_text(alloc, refusal),
     }
 }
 
 /// The reasons of the first of the places that the octets tell.
 fn reasons(alloc: Global, octets: &[u8]) -> io::Result<String> {
-    let Ok((_, places)) = CRLDistributionPoints::from_der(alloc, octets) else {
-        return literal(alloc, "no places");
-    };
+    match CRLDistributionPoints::from_der(alloc, octets) {
+        Ok((_, places)) => first_reasons(alloc, &places),
+        Err(_) => literal(alloc, "no places"),
+    }
+}
+
+fn first_reasons(alloc: Global, places: &CRLDistributionPoints<'_>) -> io::Result<String> {
     let Some(place) = places.points.first() else {
         return literal(alloc, "no place");
     };

@@ -2,7 +2,6 @@
 
 use crate::value::leaves::of_leaves;
 use crate::value::told::{read_of, told_of};
-use hex_rows::{literal, octets_of};
 use std::alloc::Global;
 use std::io;
 use x509_flags::{InhibitAnyPolicy, KeyIdentifier, KeyUsage, NSCertType, PolicyConstraints};
@@ -15,12 +14,7 @@ use x509_policies::{ExtendedKeyUsage, PolicyMapping, PolicyMappings, certificate
 use x509_timestamps::parse_ct_signed_certificate_timestamp_list;
 
 /// What the reader of the row's type answers.
-pub(crate) fn outcome(alloc: Global, row: &str) -> io::Result<String> {
-    let (name, digits) = row.split_once(' ').unwrap_or((row, ""));
-    let Some(octets) = octets_of(alloc, digits)? else {
-        return literal(alloc, "no octets");
-    };
-    let octets = octets.as_slice();
+pub(crate) fn outcome(alloc: Global, name: &str, octets: &[u8]) -> io::Result<String> {
     match name {
         "KeyIdentifier" => read_of::<KeyIdentifier<'_>>(alloc, octets),
         "KeyUsage" => read_of::<KeyUsage>(alloc, octets),

@@ -1,8 +1,8 @@
 //! What a reader answers, in words.
 
-use crate::words::refusal_text;
+use crate::words::{add_rest, refusal_text, text_before};
 use asn1_traits::FromDer;
-use hex_rows::{hex_of, literal, told};
+use hex_rows::{literal, told};
 use std::alloc::Global;
 use std::{fmt, io};
 use x509_core::{X509Error, X509Result};
@@ -21,13 +21,17 @@ pub(crate) fn told_of<T: fmt::Debug + Drop>(
     read: X509Result<'_, T>,
 ) -> io::Result<String> {
     match read {
-        Ok((rest, value)) => {
-            let rest = hex_of(alloc, rest)?;
-            let text = format!(in alloc; "{value:?}; rest {rest}")?;
-            Ok(text)
-        }
+        Ok((rest, value)) => fields_before(alloc, &value, rest),
         Err(refusal) => refusal_text(alloc, refusal),
     }
+}
+
+/// The value with its fields, and the octets after it.
+fn fields_before<T: fmt::Debug>(alloc: Global, value: &T, rest: &[u8]) -> io::Result<String> {
+    let mut text = String::new(alloc);
+    write!(text, "{value:?}")?;
+    add_rest(&mut text, rest)?;
+    Ok(text)
 }
 
 /// The value that begins the octets by its text, and the octets after it, or the refusal.
@@ -36,11 +40,7 @@ pub(crate) fn shown<'a, T: FromDer<'a, X509Error> + fmt::Display + Drop>(
     octets: &'a [u8],
 ) -> io::Result<String> {
     match T::from_der(alloc, octets) {
-        Ok((rest, value)) => {
-            let rest = hex_of(alloc, rest)?;
-            let text = format!(in alloc; "{value}; rest {rest}")?;
-            Ok(text)
-        }
+        Ok((rest, value)) => text_before(alloc, &value, rest),
         Err(refusal) => refusal_text(alloc, refusal),
     }
 }
