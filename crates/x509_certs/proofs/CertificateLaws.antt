@@ -4,10 +4,9 @@ use Rattle.std.specs.Int.Digits.{AllBelowBase}
 use Rattle.asn1_core.specs.declared.error.Needed.TheVariants as needed
 use Rattle.asn1_core.specs.declared.outcome.Err.{Err as Refusal}
 use Rattle.asn1_core.specs.Reading.{header_at, identity_at}
-use Rattle.asn1_any.specs.Cutting.{Piece}
 use Rattle.asn1_any.specs.Reading.{der_element_at}
 use Rattle.asn1_traits.specs.Elements.{EndsWithinElement}
-use Rattle.x509_core.specs.Answers.{Answer, unnamed, naming, ◌>>=◌}
+use Rattle.x509_core.specs.Answers.{unnamed, naming, ◌>>=◌}
 use Rattle.x509_core.specs.Grammar.{One, HoldsWindow, Holds, HoldsWhole}
 use Rattle.x509_core.specs.Reading.{content_in}
 use Rattle.x509_core.specs.declared.error.X509Error.{X509Error}
