@@ -1,7 +1,7 @@
 -- A header takes two octets at least.
-use Rattle.std.proofs.Common.{◌≡◌, ℕ, ◌+◌, ◌≤◌, Bool, Option, Some, None, List, ◌++◌, length, inl, inr, ap, arith, length-append}
+use Rattle.std.proofs.Common.{ℕ, ◌+◌, ◌≤◌, Bool, Option, Some, None, List, length, inl, inr, ap, arith, length-append}
 use Rattle.asn1_core.specs.Strict.{Head, strict_header}
-use Rattle.asn1_core.specs.Lenient.{BerHead, ber_head_of_head, SpellsIdentifier, SpellsLength, SpellsHeader, SpellsBerLength, SpellsBerHeader}
+use Rattle.asn1_core.specs.Lenient.{BerHead, ber_head_of_head, SpellsIdentifier, SpellsLength, SpellsBerLength, SpellsBerHeader}
 use Rattle.asn1_core.proofs.Headers.{BeginsWith, BeginsWithBer}
 use Rattle.asn1_core.proofs.LenientLaws.{lenient_is_ber_lem}
 use Rattle.asn1_core.proofs.StrictLaws.{BeginsStrictly, header_is_lenient}

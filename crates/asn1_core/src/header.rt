@@ -98,6 +98,7 @@ impl Header {
     /// Refusals, in their order: `Incomplete` where no octet is left; `InvalidTag` where a high tag number is cut or too
     /// large; `Incomplete` where the length is cut; `InvalidLength` where it begins with ff or is too large;
     /// `ConstructExpected` for the indefinite form on a primitive element.
+    #[inline]
     pub fn from_ber(i: &[u8]) -> ParseResult<'_, Header>
         ensures found { IfOk result (λ r. IsBerHead (ber_head_of r.1)
             × ((octets : List ℕ) × SpellsBerHeader octets (ber_head_of r.1) × (i.now ≡ octets ++ r.0.now))) }
@@ -116,6 +117,7 @@ impl Header {
     ///
     /// Refusals are those of `from_ber`, but for the indefinite form: it is `DerConstraintFailed(IndefiniteLength)`
     /// (X.690, 10.1).
+    #[inline]
     pub fn from_der(i: &[u8]) -> ParseResult<'_, Header>
         ensures found { IfOk result (λ r. IsHead (head_of r.1)
             × ((octets : List ℕ) × SpellsHeader octets (head_of r.1) × (i.now ≡ octets ++ r.0.now))) }
@@ -135,6 +137,7 @@ impl Header {
     /// Refusals, in their order: those of the identifier as in `from_ber`; `InvalidTag` where its high form is longer than
     /// need be or stands for a number below 31; those of the length as in `from_der`; `InvalidLength` where the length is
     /// longer than need be.
+    #[inline]
     pub fn strict(i: &[u8]) -> ParseResult<'_, Header>
         ensures found { IfOk result (λ r. IsHead (head_of r.1)
             × (i.now ≡ strict_header (head_of r.1) ++ r.0.now)) }
@@ -164,6 +167,7 @@ impl Header {
     }
 
     /// `from_der`, and one header attempt more in the count.
+    #[inline]
     pub fn from_der_counted<'a>(i: &'a [u8], count: &mut HeaderCount) -> ParseResult<'a, Header>
         requires { attempts count.old + 1 < 2 ^ 128 }
         ensures count { attempts count.new ≡ attempts count.old + 1 }
@@ -182,6 +186,7 @@ impl Header {
     }
 
     /// `strict`, and one header attempt more in the count.
+    #[inline]
     pub fn strict_counted<'a>(i: &'a [u8], count: &mut HeaderCount) -> ParseResult<'a, Header>
         requires { attempts count.old + 1 < 2 ^ 128 }
         ensures count { attempts count.new ≡ attempts count.old + 1 }

@@ -3,7 +3,7 @@
 //! Each reader gives what a function on lists of `specs/Reading.antt` gives, refusals included; the meaning stands at the
 //! public readers of `Header`.
 
-ghost use Rattle.std.specs.Prelude.{◌≡◌, ◌+◌, ◌*◌, ◌/◌, ◌^◌, ◌<◌, SomeIff, IfOk};
+ghost use Rattle.std.specs.Prelude.{◌≡◌, ◌+◌, ◌*◌, ◌/◌, ◌^◌, ◌<◌, SomeIff, IfOk, IfSome, Ok};
 ghost use Rattle.std.specs.Int.Digits.{number_from_digits};
 ghost use Rattle.asn1_core.specs.Answers.{Gives};
 ghost use Rattle.asn1_core.specs.Reading.{high_tag_after, tag_at, identity_at, size_at, length_at, ber_header_at, header_at, is_short_identifier, is_short_length, strict_at};
@@ -91,8 +91,20 @@ fn read_identifier(i: &[u8]) -> ParseResult<'_, Identifier>
     Ok((after, found))
 }
 
-// The number of these digits of base 256, where it fits.
+// The number of these digits of base 256, where it fits; most lengths have one digit or two.
+#[inline]
 fn number_of(digits: &[u8]) -> Option<usize>
+    ensures { SomeIff result (number_from_digits 256 digits.now < 2 ^ 64) (number_from_digits 256 digits.now) }
+{
+    match digits {
+        [digit] => Some(usize::from(*digit)),
+        [high, low] => Some(usize::from(*high) * 256 + usize::from(*low)),
+        _ => large_number_of(digits),
+    }
+}
+
+// The same of any number of digits, one after the other.
+fn large_number_of(digits: &[u8]) -> Option<usize>
     ensures { SomeIff result (number_from_digits 256 digits.now < 2 ^ 64) (number_from_digits 256 digits.now) }
 {
     let mut number = 0usize;
@@ -150,9 +162,47 @@ fn header_of(identifier: Identifier, length: Length) -> Header
     )
 }
 
+// The header of two octets that begins the octets: a low tag number and a short length (X.690, 8.1.2.2 and 8.1.3.4). It is
+// read alike by all rules.
+#[inline]
+#[tactic(auto, unfolding(crate::specs::Reading::identity_at, crate::specs::Reading::length_at, crate::specs::Reading::ber_header_at, crate::specs::Reading::header_at, crate::specs::Reading::strict_at))]
+fn short_header(i: &[u8]) -> Option<(&[u8], Header)>
+    ensures ber { IfSome result (λ r. ber_header_at i.now ≡ Ok (ber_head_of r.1, r.0.now)) }
+    ensures definite { IfSome result (λ r. header_at i.now ≡ Ok (head_of r.1, r.0.now)) }
+    ensures strict { IfSome result (λ r. strict_at i.now ≡ Ok (head_of r.1, r.0.now)) }
+    ensures length { IfSome result (λ r. IsDefinite r.1.length) }
+{
+    let [octet, size, rest @ ..] = i else {
+        return None;
+    };
+    let low = *octet & 0x1f;
+    if low == 31 || *size >= 128 {
+        return None;
+    }
+    let header = Header::new(
+        class_of(*octet),
+        (*octet >> 5) & 1 == 1,
+        Tag(u32::from(low)),
+        Length::Definite(usize::from(*size)),
+    );
+    Some((rest, header))
+}
+
 /// A BER header.
-#[tactic(auto, unfolding(crate::specs::Reading::ber_header_at))]
+#[inline]
 pub(crate) fn ber_header(i: &[u8]) -> ParseResult<'_, Header>
+    ensures { Gives (λ r. (ber_head_of r.1, r.0.now)) result (ber_header_at i.now) }
+{
+    match short_header(i) {
+        Some(read) => Ok(read),
+        None => long_ber_header(i),
+    }
+}
+
+// A BER header, octet by octet. It stays a function of its own, so that callers hold the form of two octets alone.
+#[inline(never)]
+#[tactic(auto, unfolding(crate::specs::Reading::ber_header_at))]
+fn long_ber_header(i: &[u8]) -> ParseResult<'_, Header>
     ensures { Gives (λ r. (ber_head_of r.1, r.0.now)) result (ber_header_at i.now) }
 {
     let (after, identifier) = read_identifier(i)?;
@@ -164,8 +214,21 @@ pub(crate) fn ber_header(i: &[u8]) -> ParseResult<'_, Header>
 }
 
 /// A header of definite length, in any of its forms.
-#[tactic(auto, unfolding(crate::specs::Reading::header_at))]
+#[inline]
 pub(crate) fn definite_header(i: &[u8]) -> ParseResult<'_, Header>
+    ensures exact { Gives (λ r. (head_of r.1, r.0.now)) result (header_at i.now) }
+    ensures definite { IfOk result (λ r. IsDefinite r.1.length) }
+{
+    match short_header(i) {
+        Some(read) => Ok(read),
+        None => long_definite_header(i),
+    }
+}
+
+// A header of definite length, octet by octet, apart as `long_ber_header` is.
+#[inline(never)]
+#[tactic(auto, unfolding(crate::specs::Reading::header_at))]
+fn long_definite_header(i: &[u8]) -> ParseResult<'_, Header>
     ensures exact { Gives (λ r. (head_of r.1, r.0.now)) result (header_at i.now) }
     ensures definite { IfOk result (λ r. IsDefinite r.1.length) }
 {
@@ -200,8 +263,21 @@ fn has_short_length(i: &[u8], size: usize) -> bool
 }
 
 /// A header of shortest form.
-#[tactic(auto, unfolding(crate::specs::Reading::strict_at))]
+#[inline]
 pub(crate) fn strict_header(i: &[u8]) -> ParseResult<'_, Header>
+    ensures exact { Gives (λ r. (head_of r.1, r.0.now)) result (strict_at i.now) }
+    ensures definite { IfOk result (λ r. IsDefinite r.1.length) }
+{
+    match short_header(i) {
+        Some(read) => Ok(read),
+        None => long_strict_header(i),
+    }
+}
+
+// A header of shortest form, octet by octet, apart as `long_ber_header` is.
+#[inline(never)]
+#[tactic(auto, unfolding(crate::specs::Reading::strict_at))]
+fn long_strict_header(i: &[u8]) -> ParseResult<'_, Header>
     ensures exact { Gives (λ r. (head_of r.1, r.0.now)) result (strict_at i.now) }
     ensures definite { IfOk result (λ r. IsDefinite r.1.length) }
 {

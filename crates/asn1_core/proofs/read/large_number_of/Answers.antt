@@ -2,7 +2,7 @@ use Rattle.std.proofs.Common.{rules, ◌≡◌, ◌+◌, ◌*◌, ◌∷◌, sym
 use Rattle.std.specs.Int.Digits.{number_from_digits_after}
 use Rattle.std.proofs.lemmas.Int.Digits.{number_after_ge}
 use Rattle.asn1_core.proofs.Numbers.{empty_of}
-use Rattle.asn1_core.proofs.read.number_of.Goals as goal
+use Rattle.asn1_core.proofs.read.large_number_of.Goals as goal
 
 -- nothing is left, so the number so far is the whole
 pub returns : goal.returns

@@ -1,6 +1,6 @@
 use Rattle.std.proofs.Common.{◌≡◌, ◌^◌, ◌<◌, length}
 use Rattle.std.specs.Int.Digits.{number_from_digits, number_from_digits_after}
-use Rattle.asn1_core.proofs.read.number_of.Given as goal
+use Rattle.asn1_core.proofs.read.large_number_of.Given as goal
 
 -- the digits that are left, behind the number so far, make the number of all of them
 abbrev pub invariant-loop-digit : goal.invariant-loop-digit
