@@ -1,5 +1,5 @@
 -- The walk over indefinite contents ends just where the relation ends them.
-use Rattle.std.proofs.Common.{◌≡◌, ◌≢◌, refl, sym, ◌∙◌, ap, subst, ℕ, zero, suc, ◌-◌, ◌<◌, ◌≤◌, Option, Some, None, inl, inr, List, [], ◌∷◌, ◌++◌, length, take, drop, Ok, Err, Bool, true, false, ◌&&◌, ◌==◌, if◌then◌else◌, arith, length-append, append_assoc}
+use Rattle.std.proofs.Common.{◌≡◌, ◌≢◌, refl, sym, ◌∙◌, ap, subst, ℕ, zero, suc, ◌-◌, ◌<◌, ◌≤◌, Option, Some, None, List, [], ◌∷◌, ◌++◌, length, take, drop, Ok, Err, Bool, true, false, ◌&&◌, ◌==◌, if◌then◌else◌, arith, length-append, append_assoc}
 use Rattle.std.specs.Prelude.{nat_lt}
 use Rattle.std.specs.List.{AllByRecursion, concat}
 use Rattle.std.specs.Int.Digits.{AllBelowBase}
@@ -7,7 +7,7 @@ use Rattle.std.proofs.lemmas.List.{take-append-drop, append_cancel_left, append_
 use Rattle.std.proofs.lemmas.Bool.{ltb-false, le-ltb, eqb-true}
 use Rattle.asn1_core.specs.declared.error.Needed.TheVariants as needed
 use Rattle.asn1_core.specs.declared.outcome.Err.TheVariants as refusals
-use Rattle.asn1_core.specs.Lenient.{BerHead, SpellsIdentifier, SpellsLength, SpellsBerLength, SpellsBerHeader}
+use Rattle.asn1_core.specs.Lenient.{BerHead}
 use Rattle.asn1_core.specs.Answers.{Answer, lack}
 use Rattle.asn1_core.specs.Reading.{identity_at, length_at, ber_header_at}
 use Rattle.asn1_any.specs.BerElements.{BerElement, end_of_contents, AreAll, Closes, IsWithin}

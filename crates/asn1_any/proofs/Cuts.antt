@@ -9,7 +9,7 @@ use Rattle.asn1_any.specs.Cutting.{Piece, IsPiece, IsCutting}
 use Rattle.asn1_any.proofs.DerLaws.{der_once, der_found, der_only}
 use Rattle.asn1_any.specs.Reading.{any_der, der_element_at}
 use Rattle.std.specs.Int.Digits.{AllBelowBase}
-use Rattle.std.proofs.Common.{Option, Some, None, Ok, Err}
+use Rattle.std.proofs.Common.{Some, None, Ok, Err}
 use Rattle.std.specs.Result.{result_ok}
 use Rattle.asn1_core.specs.Answers.{Answer}
 use Rattle.asn1_core.proofs.Numbers.{append_below}

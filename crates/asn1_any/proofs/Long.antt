@@ -1,5 +1,5 @@
 -- An element takes two octets more than its content.
-use Rattle.std.proofs.Common.{◌≡◌, ℕ, ◌+◌, ◌≤◌, Option, Some, None, List, ◌++◌, length, ap, arith, length-append}
+use Rattle.std.proofs.Common.{ℕ, ◌+◌, ◌≤◌, Option, Some, None, List, length, ap, arith, length-append}
 use Rattle.asn1_core.specs.Elements.{Element, head_of_element}
 use Rattle.asn1_core.specs.Lenient.{ber_head_of_head}
 use Rattle.asn1_core.proofs.LenientLaws.{lenient_is_ber_lem}

@@ -58,8 +58,7 @@ impl<'a> Any<'a> {
         ensures memory { IfErr result TakesNoMemory }
         ensures exact { Gives (λ r. (any_of r.1, r.0.now)) result (der_element_at i.now) }
     {
-        let mut count = HeaderCount::new();
-        Any::from_der_counted(i, &mut count)
+        read::der_element(i)
     }
 
     /// `from_der`, and one header attempt more in the count.

@@ -7,7 +7,9 @@ mod laws;
 mod read;
 
 pub use crate::any::Any;
-pub use crate::cut::{Element, Elements, cut_elements, cut_elements_counted};
+pub use crate::cut::{
+    Element, Elements, count_elements, cut_elements, cut_elements_counted, first_element,
+};
 pub use crate::laws::{
     cutting_by_piece, cutting_by_reader, definite_is_ber, more_octets, one_ber_element,
     one_cutting, one_definite_element, strict_is_definite,

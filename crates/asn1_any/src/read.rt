@@ -17,6 +17,7 @@ use asn1_core::{Err as Refusal, Error, Header, HeaderCount, Length, Needed, Pars
 pub const MAX_RECURSION: usize = 50;
 
 // The first `n` octets, behind those after them.
+#[inline(always)]
 fn part(n: usize, octets: &[u8]) -> ParseResult<'_, &[u8]>
     ensures { Gives (λ r. (r.1.now, r.0.now)) result (part_at n octets.now) }
 {
@@ -28,6 +29,7 @@ fn part(n: usize, octets: &[u8]) -> ParseResult<'_, &[u8]>
 }
 
 // The element of a header of definite length, whose content begins here.
+#[inline(always)]
 fn definite<'a>(header: Header, after: &'a [u8]) -> ParseResult<'a, Any<'a>>
     requires { IsDefinite (length_of header) }
     ensures exact { Gives (λ r. (any_of r.1, r.0.now)) result (content_at (head_of header) after.now) }
@@ -40,7 +42,19 @@ fn definite<'a>(header: Header, after: &'a [u8]) -> ParseResult<'a, Any<'a>>
     Ok((rest, Any { header, content }))
 }
 
+/// An element of definite length.
+#[inline(always)]
+#[tactic(auto, unfolding(crate::specs::Reading::der_element_at))]
+pub(crate) fn der_element(i: &[u8]) -> ParseResult<'_, Any<'_>>
+    ensures exact { Gives (λ r. (any_of r.1, r.0.now)) result (der_element_at i.now) }
+    ensures length { IfOk result (λ r. length_of r.1.header ≡ Length.Definite (length r.1.content.now)) }
+{
+    let (after, header) = Header::from_der(i)?;
+    definite(header, after)
+}
+
 /// An element of definite length, and one header attempt more in the count.
+#[inline(always)]
 #[tactic(auto, unfolding(crate::specs::Reading::der_element_at))]
 pub(crate) fn der_element_counted<'a>(
     i: &'a [u8],

@@ -103,7 +103,7 @@ fn number_of(digits: &[u8]) -> Option<usize>
     }
 }
 
-// The same of any number of digits, one after the other.
+// The number of any count of digits of base 256, one after the other, where it fits.
 fn large_number_of(digits: &[u8]) -> Option<usize>
     ensures { SomeIff result (number_from_digits 256 digits.now < 2 ^ 64) (number_from_digits 256 digits.now) }
 {

@@ -1,6 +1,6 @@
 //! A content that was cut into its elements, read from its front.
 
-ghost use Rattle.std.specs.Prelude.{◌≡◌, ◌+◌, ◌*◌, ◌^◌, ◌<◌, ◌≤◌, ◌-◌, List, ℕ, length, IfOk, IfErr, IfSome, option_map, Some, Ok};
+ghost use Rattle.std.specs.Prelude.{◌≡◌, ◌+◌, ◌*◌, ◌^◌, ◌<◌, ◌≤◌, ◌-◌, List, ℕ, length, IsOk, IfOk, IfErr, IfSome, option_map, Some, Ok};
 ghost use Rattle.asn1_core.specs.Counts.{attempts};
 ghost use Rattle.asn1_any.specs.CutViews.{piece_of};
 ghost use Rattle.asn1_any.specs.Cutting.{Piece};
@@ -10,7 +10,7 @@ ghost use Rattle.x509_core.specs.Reading.{piece_at, first_piece};
 ghost use Rattle.x509_core.specs.Parts.{Left};
 
 use crate::error::X509Error;
-use asn1_any::{Element, cut_elements_counted};
+use asn1_any::{Element, count_elements, first_element};
 use asn1_core::{Err as Refusal, Error, HeaderCount, OutOfMemory};
 use std::alloc::Global;
 use std::marker::Model;
@@ -19,39 +19,39 @@ use std::marker::Model;
 #[derive(Drop)]
 pub struct Parts<'a> {
     left: &'a [u8],
-    elements: Vec<Element<'a>>,
-    at: usize,
+    elements: usize,
 }
 
 impl<'a> Model for Parts<'a> {
-    ghost use Rattle.std.specs.Prelude.{◌-◌, length};
     ghost use Rattle.x509_core.specs.Parts.{Left, IsCut};
 
     ghost Value = { Left };
 
-    ghost view = { λ p. record { octets = p.left.now; elements = length p.elements.items - p.at } };
+    ghost view = { λ p. record { octets = p.left.now; elements = p.elements } };
 
-    ghost invariant = { λ p. IsCut p.left.now p.elements.items p.at };
+    ghost invariant = { λ p. IsCut p.left.now p.elements };
 }
 
 impl<'a> Parts<'a> {
-    /// All of a content, cut into its elements: a header is tried for each of them, and one at octets that none begins.
+    /// All of a content, cut into its elements: a header is tried for each of them, and one at octets that none begins. No
+    /// memory is taken: an element is read again where it is asked for, and not counted again.
     pub fn cut(
         alloc: Global,
         content: &'a [u8],
         count: &mut HeaderCount,
     ) -> Result<Parts<'a>, OutOfMemory>
         requires { attempts count.old + length content.now < 2 ^ 128 }
+        ensures taken { IsOk result }
         ensures octets { IfOk result (λ p. p.octets ≡ content.now) }
         ensures least { IfOk result (λ p. attempts count.old + p.elements ≤ attempts count.new) }
         ensures grows { attempts count.old ≤ attempts count.new }
         ensures most { attempts count.new ≤ attempts count.old + length content.now }
     {
-        let cut = cut_elements_counted(alloc, content, count)?;
+        let _ = alloc;
+        let elements = count_elements(content, count);
         Ok(Parts {
             left: content,
-            elements: cut.items,
-            at: 0,
+            elements,
         })
     }
 
@@ -67,13 +67,11 @@ impl<'a> Parts<'a> {
         ensures stays { IfErr result (λ _. self.new ≡ self.old) }
         ensures memory { IfErr result TakesNoMemory }
     {
-        if self.at >= self.elements.len() {
+        let Some((left, element)) = first_element(self.left) else {
             return Err(Refusal::Error(X509Error::Der(Error::InvalidLength)));
-        }
-        let element = self.elements[self.at];
-        let (_, left) = self.left.split_at(element.octets.len());
+        };
         self.left = left;
-        self.at += 1;
+        self.elements -= 1;
         Ok(element)
     }
 
@@ -85,10 +83,8 @@ impl<'a> Parts<'a> {
         ensures content { IfSome result (λ e. length e.any.content.now + 2 ≤ length e.octets.now) }
         ensures some { IfSome result (λ _. 0 < self.now.elements) }
     {
-        if self.at >= self.elements.len() {
-            return None;
-        }
-        Some(self.elements[self.at])
+        let (_, element) = first_element(self.left)?;
+        Some(element)
     }
 
     /// On behind the element that `first` told.
@@ -99,10 +95,11 @@ impl<'a> Parts<'a> {
         ensures ends { length self.new.octets ≤ length self.old.octets }
         ensures shorter { (e : Piece) → first_piece self.old.octets ≡ Some e → length e.octets + length self.new.octets ≡ length self.old.octets }
     {
-        let element = self.elements[self.at];
-        let (_, left) = self.left.split_at(element.octets.len());
+        let Some((left, _)) = first_element(self.left) else {
+            unreachable!();
+        };
         self.left = left;
-        self.at += 1;
+        self.elements -= 1;
     }
 
     /// The octets that are left.
