@@ -10,11 +10,11 @@ ghost use Rattle.cert_model.specs.View.{ext_view, certificate_view};
 ghost use Rattle.certpath_find.specs.Contents.{HasContent};
 
 use asn1_any::Any;
-use asn1_core::{Err as Refusal, OutOfMemory};
+use asn1_core::OutOfMemory;
 use asn1_traits::FromDer;
 use cert_model::fields::{CertFields, ExtField};
 use cert_model::identifiers::{AUTHORITY_KEY_IDENTIFIER, SUBJECT_KEY_IDENTIFIER, is_ce};
-use der_tree::{MAX_RECURSION, parse_der_recursive};
+use der_tree::{MAX_RECURSION, is_der_object};
 use std::alloc::Global;
 use x509_flags::KeyIdentifier;
 
@@ -39,16 +39,10 @@ fn first_value<'a>(extensions: &[ExtField<'a>], n: u8) -> Option<&'a [u8]>
 }
 
 /// Whether the octets are one DER object of at most 50 levels.
-fn is_object(alloc: Global, octets: &[u8]) -> Result<bool, OutOfMemory>
-    ensures { IfOk result (λ yes. IsTrue yes ↔ IsDerObject 50 octets.now) }
+fn is_object(octets: &[u8]) -> bool
+    ensures { IsTrue result ↔ IsDerObject 50 octets.now }
 {
-    match parse_der_recursive(alloc, octets, MAX_RECURSION) {
-        Ok((rest, _)) => Ok(rest.is_empty()),
-        Err(e) => match e {
-            Refusal::Failure(_) => Err(OutOfMemory),
-            _ => Ok(false),
-        },
-    }
+    is_der_object(octets, MAX_RECURSION)
 }
 
 /// The content of the element that begins the octets, where its first octet is this.
@@ -82,7 +76,7 @@ fn octets_at<'a>(alloc: Global, octets: &'a [u8]) -> Option<&'a [u8]>
 /// The key identifier that a certificate names for its issuer (RFC 5280, 4.2.1.1): the content of the first element of the first
 /// authorityKeyIdentifier value, where that value is a DER object and the element is a [0] without parts.
 pub(crate) fn named_key_id<'a>(
-    alloc: Global,
+    _alloc: Global,
     fields: &CertFields<'a>,
 ) -> Result<Option<&'a [u8]>, OutOfMemory>
     ensures found { IfOk result (λ r. IfSome r (λ id. IsAuthorityKeyId (certificate_view fields.now) id.now)) }
@@ -91,7 +85,7 @@ pub(crate) fn named_key_id<'a>(
     let Some(value) = first_value(&fields.extensions, AUTHORITY_KEY_IDENTIFIER) else {
         return Ok(None);
     };
-    if !is_object(alloc, value)? {
+    if !is_object(value) {
         return Ok(None);
     }
     let Some(parts) = content_under(SEQUENCE, value) else {
@@ -113,7 +107,7 @@ pub(crate) fn own_key_id<'a>(
     let Some(value) = first_value(&fields.extensions, SUBJECT_KEY_IDENTIFIER) else {
         return Ok(None);
     };
-    if !is_object(alloc, value)? {
+    if !is_object(value) {
         return Ok(None);
     }
     Ok(octets_at(alloc, value))

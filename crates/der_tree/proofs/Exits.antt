@@ -3,7 +3,7 @@ use Rattle.std.proofs.Common.{◌≡◌, sym, ap, subst, ℕ, List, ◌++◌, Re
 use Rattle.std.specs.Result.{IsErrAnd}
 use Rattle.asn1_core.specs.Answers.{Answer, TakesNoMemory}
 use Rattle.asn1_core.specs.Missing.{IsMissing}
-use Rattle.asn1_core.specs.Conversions.{RefusesWith, TellsWhole}
+use Rattle.asn1_core.specs.Conversions.{TellsWhole}
 use Rattle.asn1_core.specs.declared.error.Error.TheVariants as errors
 use Rattle.asn1_core.specs.declared.error.Error.{Error}
 use Rattle.asn1_core.specs.declared.error.Needed.TheVariants as needed

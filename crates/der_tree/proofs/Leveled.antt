@@ -60,12 +60,12 @@ to_bit a true v x y p = (false, eqb-true a 0 x)
 to_bit a false true x y p = (true, eqb-true a 255 y)
 to_bit a false false x y p = absurd cc
 
-to_boolean : (a : List ℕ) → is_boolean a ≡ true → (b : Bool) × (a ≡ (if b then 255 else 0) ∷ [])
+pub to_boolean : (a : List ℕ) → is_boolean a ≡ true → (b : Bool) × (a ≡ (if b then 255 else 0) ∷ [])
 to_boolean [] p = absurd cc
 to_boolean (a ∷ []) p = let m = to_bit a (a == 0) (a == 255) refl refl p in (m.0, ap (λ z. z ∷ []) m.1)
 to_boolean (a ∷ b ∷ s) p = absurd cc
 
-to_bits : (s : List ℕ) → is_bit_string s ≡ true → (unused : ℕ) × (bits : List ℕ) × (s ≡ unused ∷ bits)
+pub to_bits : (s : List ℕ) → is_bit_string s ≡ true → (unused : ℕ) × (bits : List ℕ) × (s ≡ unused ∷ bits)
 to_bits [] p = absurd cc
 to_bits (unused ∷ bits) p = (unused, bits, refl)
 

@@ -11,3 +11,5 @@ pub mod Encoded
 pub mod OneTree
 pub mod Fronts
 pub mod Told
+pub mod Skipped
+pub mod Leaves

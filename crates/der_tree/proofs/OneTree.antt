@@ -11,19 +11,19 @@ use Rattle.der_tree.proofs.Objects.{kind_at, kind_listed, no_leaf, object_once, 
 
 -- what an element without parts holds, by its tag number
 
-is_true : List ℕ → Bool
+unfoldable pub is_true : List ℕ → Bool
 is_true [] = false
 is_true (a ∷ s) = a == 255
 
-bits_in : List ℕ → Leaf
+unfoldable pub bits_in : List ℕ → Leaf
 bits_in [] = null
 bits_in (a ∷ s) = bit_string a s
 
-plain_in : Option Kind → List ℕ → Leaf
+unfoldable pub plain_in : Option Kind → List ℕ → Leaf
 plain_in None s = null
 plain_in (Some k) s = plain k s
 
-abbrev listed_leaf : ℕ → Element → Leaf
+abbrev pub listed_leaf : ℕ → Element → Leaf
 listed_leaf n e =
     if n == 1 then boolean (is_true e.content) else
     if n == 3 then bits_in e.content else
@@ -35,7 +35,7 @@ listed_leaf n e =
 abbrev leaf_at : Element → Leaf
 leaf_at e = if (e.class == 0) && is_listed e.tag then listed_leaf e.tag e else raw e
 
-at_listed : (e : Element) (n : ℕ) → e.class ≡ 0 → e.tag ≡ n → is_listed n ≡ true → leaf_at e ≡ listed_leaf n e
+pub at_listed : (e : Element) (n : ℕ) → e.class ≡ 0 → e.tag ≡ n → is_listed n ≡ true → leaf_at e ≡ listed_leaf n e
 at_listed e n class tag l =
     let first : (e.class == 0) ≡ true = eq-eqb e.class 0 class in
     let second : is_listed e.tag ≡ true = ap is_listed tag ∙ l in
@@ -45,7 +45,7 @@ at_raw : (e : Element) (b : Bool) → (e.class == 0) ≡ b → (e.class ≡ 0 �
 at_raw e true is left = ap (λ c. if c && is_listed e.tag then listed_leaf e.tag e else raw e) is ∙ ap (λ c. if c then listed_leaf e.tag e else raw e) (left (eqb-true e.class 0 is))
 at_raw e false is left = ap (λ c. if c && is_listed e.tag then listed_leaf e.tag e else raw e) is
 
-plain_leaf : (k : Kind) (e : Element) → listed_leaf (tag_of k) e ≡ plain k e.content
+pub plain_leaf : (k : Kind) (e : Element) → listed_leaf (tag_of k) e ≡ plain k e.content
 unfolding plain_in
 plain_leaf integer e = refl
 plain_leaf octet_string e = refl
@@ -65,7 +65,7 @@ plain_leaf general_string e = refl
 plain_leaf universal_string e = refl
 plain_leaf bmp_string e = refl
 
-held_is : (e : Element) (v : Leaf) → Holds e v → leaf_at e ≡ v
+pub held_is : (e : Element) (v : Leaf) → Holds e v → leaf_at e ≡ v
 unfolding is_true bits_in
 held_is e end_of_content p = absurd p
 held_is e (boolean true) p = at_listed e 1 p.0.class p.0.tag refl ∙ ap (λ s. boolean (is_true s)) p.1

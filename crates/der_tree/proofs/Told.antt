@@ -13,11 +13,11 @@ use Rattle.der_tree.specs.declared.object.BerObject.{BerObject, fold-roll-BerObj
 use Rattle.der_tree.specs.declared.object.BerObjectContent.{BerObjectContent, fold-roll-BerObjectContent}
 use Rattle.der_tree.specs.declared.object.BerObjectContent.TheOpen.{BerObjectContent-F}
 use Rattle.der_tree.specs.declared.object.BerObjectContent.TheVariants.{Sequence, Set, rolls-Sequence, rolls-Set}
-use Rattle.der_tree.specs.Lengths.{content_step, object_step, lengths_told, lengths_within, lengths_of_all, lengths_read, lengths_held, all_lengths, definite_length, TellsDefinite, HoldsDefinite, HoldsOne}
+use Rattle.der_tree.specs.Lengths.{content_step, object_step, lengths_told, lengths_within, lengths_of_all, lengths_read, lengths_held, all_lengths, definite_length, HoldsOne}
 use Rattle.der_tree.specs.Shape.{HoldsLeaf}
-use Rattle.der_tree.specs.Tree.{Tree, node, Content, leaf, sequence, set, octets}
+use Rattle.der_tree.specs.Tree.{node, Content, leaf, sequence, set}
 use Rattle.der_tree.specs.View.{view, content_view, views}
-use Rattle.der_tree.proofs.Views.{at_sequence, at_set, at_object}
+use Rattle.der_tree.proofs.Views.{at_sequence, at_set}
 
 in_sequence : (v : Vec BerObject Global) → lengths_within (Sequence v) ≡ lengths_of_all v.items
 in_sequence v = ap lengths_within (sym (rolls-Sequence v)) ∙ fold-roll-BerObjectContent (List Length) (List Length) content_step object_step (BerObjectContent-F.Sequence v)

@@ -3,15 +3,15 @@
 ghost use Rattle.std.specs.Prelude.{◌≡◌, ◌≢◌, ◌↔◌, IsTrue, IfOk, IfErr, true, false};
 ghost use Rattle.asn1_core.specs.Views.{class_number, length_of};
 ghost use Rattle.der_tree.specs.Lengths.{HoldsOne};
-ghost use Rattle.der_tree.specs.Table.{is_listed};
+ghost use Rattle.der_tree.specs.Table.{is_listed, is_boolean};
 ghost use Rattle.der_tree.specs.Tree.{Content};
 ghost use Rattle.der_tree.specs.Outcome.{leaf_error};
 ghost use Rattle.der_tree.specs.Shape.{HoldsLeaf};
 ghost use Rattle.der_tree.specs.View.{element_under, content_view};
 
-use crate::numbers::{enumerated_of, is_shortest_integer};
+use crate::numbers::{enumerated_of, is_enumerated, is_shortest_integer};
 use crate::object::BerObjectContent;
-use crate::strings::{Charset, bits_of, text_of};
+use crate::strings::{Charset, bits_of, is_bits, is_text, text_of};
 use crate::times::{is_generalized_time, is_utc_time};
 use asn1_any::Any;
 use asn1_core::{Class, Error, Header};
@@ -32,6 +32,65 @@ pub(crate) fn leaf_of<'a>(header: Header, content: &'a [u8]) -> Result<BerObject
         return Err(Error::ConstructUnexpected);
     }
     listed_of(header, content)
+}
+
+/// Whether an element without parts of this header may have this content.
+pub(crate) fn is_leaf(header: Header, content: &[u8]) -> bool
+    ensures found { IsTrue result → (c : Content) × HoldsLeaf (element_under header content.now) c }
+    ensures only { (c : Content) → HoldsLeaf (element_under header content.now) c → IsTrue result }
+{
+    if !is_universal(header) {
+        return true;
+    }
+    if !has_line(header.tag().0) {
+        return true;
+    }
+    !header.is_constructed() && is_listed_content(header, content)
+}
+
+/// Whether a universal primitive header whose tag number has a line may have this content.
+fn is_listed_content(header: Header, content: &[u8]) -> bool
+    requires class { class_number header.class ≡ 0 }
+    requires primitive { header.constructed ≡ false }
+    requires listed { is_listed header.tag.0 ≡ true }
+    ensures found { IsTrue result → (c : Content) × HoldsLeaf (element_under header content.now) c }
+    ensures only { (c : Content) → HoldsLeaf (element_under header content.now) c → IsTrue result }
+{
+    match header.tag().0 {
+        1 => is_boolean(content),
+        2 => is_shortest_integer(content),
+        3 => is_bits(content),
+        4 => true,
+        5 => content.is_empty(),
+        6 => is_oid_content(content),
+        7 => true,
+        10 => is_enumerated(content),
+        12 => is_text(content),
+        13 => is_oid_content(content),
+        18 => Charset::Numeric.has_all(content),
+        19 => Charset::Printable.has_all(content),
+        20 => true,
+        21 => true,
+        22 => Charset::Ia5.has_all(content),
+        23 => is_utc_time(content),
+        24 => is_generalized_time(content),
+        25 => true,
+        26 => Charset::Visible.has_all(content),
+        27 => true,
+        28 => true,
+        30 => true,
+        _ => false,
+    }
+}
+
+/// Whether the octets are the content of a BOOLEAN (X.690, 8.2 and 11.1).
+fn is_boolean(content: &[u8]) -> bool
+    ensures { result ≡ is_boolean content.now }
+{
+    match content {
+        [octet] => *octet == 0 || *octet == 255,
+        _ => false,
+    }
 }
 
 fn is_universal(header: Header) -> bool

@@ -10,6 +10,7 @@ mod numbers;
 mod object;
 mod parts;
 mod read;
+mod skip;
 mod strings;
 mod times;
 mod under;
@@ -26,6 +27,7 @@ pub use crate::object::{
 };
 pub use crate::parts::{end_of, first_of};
 pub use crate::read::{parse_der, parse_der_recursive, parse_der_recursive_counted};
+pub use crate::skip::{is_der_object, is_der_object_counted, skip_object_counted};
 pub use crate::strings::{bits_of, text_of};
 pub use crate::times::{Clock, generalized_of, utc_of};
 pub use crate::under::{content_under, leaf_under, object_with};

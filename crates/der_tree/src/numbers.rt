@@ -1,6 +1,6 @@
 //! Integers and enumerated values.
 
-ghost use Rattle.std.specs.Prelude.{◌≡◌, ℕ, ◌^◌, ◌<◌, ◌*◌, ◌+◌, MatchOption, Option};
+ghost use Rattle.std.specs.Prelude.{◌≡◌, ℕ, ◌^◌, ◌<◌, ◌*◌, ◌+◌, MatchOption, Option, ◌↔◌, IsTrue};
 ghost use Rattle.std.specs.Option.{SomeIff};
 ghost use Rattle.std.specs.Int.Digits.{number_from_digits};
 ghost use Rattle.der_tree.specs.Access.{below, integer_at};
@@ -69,4 +69,14 @@ pub(crate) fn enumerated_of(content: &[u8]) -> Option<u64>
         return None;
     }
     number_of(content)
+}
+
+/// Whether the octets are the content of such an enumerated value.
+pub(crate) fn is_enumerated(content: &[u8]) -> bool
+    ensures { IsTrue result ↔ IsEnumerated content.now }
+{
+    match enumerated_of(content) {
+        Some(_) => true,
+        None => false,
+    }
 }

@@ -150,7 +150,8 @@ fn objects_of<'a>(
     Ok(objects)
 }
 
-fn is_constructed(header: Header, tag: u32) -> bool
+/// Whether the header is a universal constructed one of this tag number.
+pub(crate) fn is_constructed(header: Header, tag: u32) -> bool
     ensures { (s : List ℕ) → IsTrue result ↔ IsConstructed (element_under header s) tag }
 {
     header.class() == Class::Universal && header.is_constructed() && header.tag().0 == tag

@@ -1,6 +1,6 @@
 //! Bit strings and texts.
 
-ghost use Rattle.std.specs.Prelude.{◌≡◌, ◌<◌, ◌∷◌, MatchOption, IsTrue, IsUtf8, false, true};
+ghost use Rattle.std.specs.Prelude.{◌≡◌, ◌↔◌, ◌<◌, ◌∷◌, MatchOption, IsTrue, IsUtf8, false, true};
 ghost use Rattle.der_tree.specs.Table.{is_bit_string, are_unused_zero};
 
 /// The unused count and the octets of the bits (X.690, 8.6.2), where the unused bits are 0 (X.690, 11.2).
@@ -15,6 +15,16 @@ pub fn bits_of<'a>(content: &'a [u8]) -> Option<(u8, &'a [u8])>
         Some((*unused, octets))
     } else {
         None
+    }
+}
+
+/// Whether there are such a count and octets.
+pub(crate) fn is_bits(content: &[u8]) -> bool
+    ensures { result ≡ is_bit_string content.now }
+{
+    match content {
+        [] => false,
+        [unused, octets @ ..] => *unused < 8 && has_unused_zero(*unused, octets),
     }
 }
 
@@ -33,6 +43,16 @@ pub fn text_of<'a>(content: &'a [u8]) -> Option<&'a str>
     ensures { MatchOption result (IsUtf8 content.now → ⊥) (λ t. (t.now ≡ content.now) × IsUtf8 content.now) }
 {
     str::from_utf8(content).ok()
+}
+
+/// Whether the octets are UTF-8 text.
+pub(crate) fn is_text(content: &[u8]) -> bool
+    ensures { IsTrue result ↔ IsUtf8 content.now }
+{
+    match text_of(content) {
+        Some(_) => true,
+        None => false,
+    }
 }
 
 /// The character sets of strings of one octet a character.
@@ -81,7 +101,8 @@ impl Charset {
         }
     }
 
-    fn has_all(self, content: &[u8]) -> bool
+    /// Whether each octet is one of these characters.
+    pub(crate) fn has_all(self, content: &[u8]) -> bool
         ensures { result ≡ list_all (has self) content.now }
     {
         content.iter().all(|octet| self.has(*octet))

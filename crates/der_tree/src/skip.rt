@@ -1,0 +1,111 @@
+//! Objects told by their octets alone: nothing is built, so no memory is taken.
+
+ghost use Rattle.std.specs.Prelude.{◌≡◌, ◌↔◌, ◌+◌, ◌<◌, ◌≤◌, ◌^◌, ◌++◌, length, MatchOption, IsTrue};
+ghost use Rattle.asn1_core.specs.Counts.{attempts};
+ghost use Rattle.der_tree.specs.Object.{IsDerObject};
+ghost use Rattle.der_tree.specs.Tree.{Tree, Trees, Content, octets, all_octets, element_count, part_count, all_count};
+ghost use Rattle.der_tree.specs.Shape.{IsObject, IsContent, AreObjects, BeginsWithObject};
+ghost use Rattle.der_tree.specs.View.{element_under};
+
+use crate::cut::cut_of;
+use crate::leaf::is_leaf;
+use crate::read::is_constructed;
+use asn1_core::{Header, HeaderCount};
+
+/// Whether the octets are one DER object of at most so many levels (X.690, 8, 10 and 11).
+pub fn is_der_object(i: &[u8], levels: usize) -> bool
+    ensures { IsTrue result ↔ IsDerObject levels i.now }
+{
+    let mut count = HeaderCount::new();
+    is_der_object_counted(i, levels, &mut count)
+}
+
+/// `is_der_object`, which raises the count as `parse_der_recursive_counted` does on these octets: by one for each element of
+/// the object that they are.
+pub fn is_der_object_counted(i: &[u8], levels: usize, count: &mut HeaderCount) -> bool
+    requires { attempts count.old + length i.now < 2 ^ 128 }
+    ensures object { IsTrue result ↔ IsDerObject levels i.now }
+    ensures each { (t : Tree) → IsObject levels t → octets t ≡ i.now
+        → attempts count.new ≡ attempts count.old + element_count t }
+    ensures grows { attempts count.old ≤ attempts count.new }
+    ensures at_most { attempts count.new ≤ attempts count.old + length i.now }
+{
+    match skip_object_counted(i, levels, count) {
+        Some(rest) => rest.is_empty(),
+        None => false,
+    }
+}
+
+/// The octets behind the DER object of at most so many levels that begins the octets (X.690, 8, 10 and 11), or none where
+/// no such object begins them. No tree is built. It recurses as deep as sequences and sets are nested.
+///
+/// The count is raised as `parse_der_recursive_counted` raises it, also where there is none: by one for each header tried.
+#[cycle(skipping)]
+pub fn skip_object_counted<'a>(
+    i: &'a [u8],
+    levels: usize,
+    count: &mut HeaderCount,
+) -> Option<&'a [u8]>
+    requires { attempts count.old + length i.now < 2 ^ 128 }
+    ensures skipped { MatchOption result (BeginsWithObject levels i.now → ⊥)
+        (λ rest. (t : Tree) × IsObject levels t × (i.now ≡ octets t ++ rest.now)
+        × (attempts count.new ≡ attempts count.old + element_count t)) }
+    ensures grows { attempts count.old ≤ attempts count.new }
+    ensures at_most { attempts count.new ≤ attempts count.old + length i.now }
+{
+    if levels == 0 {
+        return None;
+    }
+    if i.is_empty() {
+        return None;
+    }
+    match cut_of(i, count) {
+        Ok((after, cut)) => {
+            if is_content(cut.header, cut.content, levels - 1, count) {
+                Some(after)
+            } else {
+                None
+            }
+        }
+        Err(_) => None,
+    }
+}
+
+/// Whether the content is one of this header, its parts being of at most that many levels.
+#[cycle(skipping)]
+fn is_content(header: Header, content: &[u8], levels: usize, count: &mut HeaderCount) -> bool
+    requires { attempts count.old + length content.now < 2 ^ 128 }
+    ensures found { IsTrue result → (c : Content) × IsContent levels (element_under header content.now) c
+        × (attempts count.new ≡ attempts count.old + part_count c) }
+    ensures only { (c : Content) → IsContent levels (element_under header content.now) c → IsTrue result }
+    ensures grows { attempts count.old ≤ attempts count.new }
+    ensures at_most { attempts count.new ≤ attempts count.old + length content.now }
+{
+    if is_constructed(header, 16) {
+        return are_objects(content, levels, count);
+    }
+    if is_constructed(header, 17) {
+        return are_objects(content, levels, count);
+    }
+    is_leaf(header, content)
+}
+
+/// Whether the octets are objects to the end.
+#[cycle(skipping)]
+fn are_objects(content: &[u8], levels: usize, count: &mut HeaderCount) -> bool
+    requires { attempts count.old + length content.now < 2 ^ 128 }
+    ensures found { IsTrue result → (ts : Trees) × AreObjects levels ts × (content.now ≡ all_octets ts)
+        × (attempts count.new ≡ attempts count.old + all_count ts) }
+    ensures only { (ts : Trees) → AreObjects levels ts → content.now ≡ all_octets ts → IsTrue result }
+    ensures grows { attempts count.old ≤ attempts count.new }
+    ensures at_most { attempts count.new ≤ attempts count.old + length content.now }
+{
+    let mut rest = content;
+    while !rest.is_empty() {
+        match skip_object_counted(rest, levels, count) {
+            Some(after) => rest = after,
+            None => return false,
+        }
+    }
+    true
+}
