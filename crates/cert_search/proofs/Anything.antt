@@ -5,7 +5,7 @@ use Rattle.std.proofs.lemmas.Bool.{cases_lt}
 use Rattle.std.proofs.lemmas.List.{take_more, get_or_push, get_or_append_left, length_push}
 use Rattle.std.proofs.lemmas.List.Quantifiers.{Any-push}
 
-any_push : {X : Type 0} (P : X → Type 0) (xs : List X) (y : X) → Any P (xs ++ y ∷ []) ↔ (Any P xs ⊎ P y)
+pub any_push : {X : Type 0} (P : X → Type 0) (xs : List X) (y : X) → Any P (xs ++ y ∷ []) ↔ (Any P xs ⊎ P y)
 any_push P xs y = (
   λ a. let longer = length_push xs y in
       let inside = a.2 in

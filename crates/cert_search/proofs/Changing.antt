@@ -1,10 +1,7 @@
 -- Rows told by their changes, one change and one row after the other.
-use Rattle.std.proofs.Common.{◌≡◌, ℕ, suc, ◌+◌, ◌<◌, ◌≤◌, List, [], ◌∷◌, ◌++◌, length, take, drop, get_or, set, map, Vec, Global, arith, ap, sym, ◌∙◌, subst, refl, append_assoc}
-use Rattle.std.specs.Prelude.{◌↔◌}
-use Rattle.std.proofs.lemmas.List.{take_more, drop_more, length-map, length-set, set_past, map_push, length-take-le}
+use Rattle.std.proofs.Common.{◌≡◌, ℕ, suc, ◌+◌, ◌<◌, ◌≤◌, List, [], ◌∷◌, ◌++◌, length, take, get_or, set, map, Vec, Global, ap, sym, ◌∙◌, refl}
+use Rattle.std.proofs.lemmas.List.{take_more, length-map, length-set, set_past, map_push}
 use Rattle.cert_graph.specs.declared.reach.Reach.{Reach}
-use Rattle.cert_graph.specs.declared.reach.Reach.TheVariants.{No, UpTo, Any}
-use Rattle.cert_graph.specs.Reach.{IsAtMost}
 use Rattle.cert_search.specs.declared.changes.Change.{Change}
 use Rattle.cert_search.specs.Changes.{changed, rows_by}
 
@@ -35,52 +32,12 @@ pub length-rows_by : (row : List Reach) (steps : List (List Change)) → length 
 length-rows_by row [] = refl
 length-rows_by row (s ∷ steps) = ap (λ n. suc n) (length-rows_by (changed row s) steps)
 
--- a row that is changed up to a position, the rest of the one before it behind
-set_front : (front rest : List Reach) (i : ℕ) (x y : Reach) → length front ≡ i → set (front ++ x ∷ rest) i y ≡ front ++ y ∷ rest
-set_front [] rest i x y e = subst (λ (n : ℕ). set (x ∷ rest) n y ≡ y ∷ rest) e refl
-set_front (f ∷ front) rest i x y e = subst (λ (n : ℕ). set (f ∷ front ++ x ∷ rest) n y ≡ f ∷ front ++ y ∷ rest) e (ap (λ zs. f ∷ zs) (set_front front rest (length front) x y refl))
-
 pub changed_more : (row now : List Reach) (xs : List Change) (i : ℕ) (d : Change) → i < length xs → now ≡ changed row (take i xs) → set now (get_or xs i d).position (get_or xs i d).reach ≡ changed row (take (i + 1) xs)
 changed_more row now xs i d within e =
     ap (λ (rs : List Reach). set rs (get_or xs i d).position (get_or xs i d).reach) e ∙ sym (changed_push row (take i xs) (get_or xs i d)) ∙ sym (ap (λ (ys : List Change). changed row ys) (take_more xs i d within))
 
 pub unchanged_more : (row now : List Reach) (xs : List Change) (i : ℕ) (d : Change) → i < length xs → length now ≤ (get_or xs i d).position → now ≡ changed row (take i xs) → now ≡ changed row (take (i + 1) xs)
 unchanged_more row now xs i d within past e = sym (set_past now (get_or xs i d).position (get_or xs i d).reach past) ∙ changed_more row now xs i d within e
-
--- one position more, where the two rows hold the same, and where they differ
-pub more_same : (last row : List Reach) (i : ℕ) → i < length row → length last ≡ length row → get_or row i No ≡ get_or last i No → take i row ++ drop i last ≡ take (i + 1) row ++ drop (i + 1) last
-more_same last row i within same e =
-    let there : i < length last = omega (arith, within, same) in
-    ap (λ zs. take i row ++ zs) (drop_more last i No there) ∙ ap (λ (x : Reach). take i row ++ x ∷ drop (i + 1) last) (sym e)
-    ∙ sym (append_assoc (take i row) (get_or row i No ∷ []) (drop (i + 1) last)) ∙ ap (λ zs. zs ++ drop (i + 1) last) (sym (take_more row i No within))
-
-pub more_changed : (last row : List Reach) (i : ℕ) (x : Reach) → i < length row → length last ≡ length row → x ≡ get_or row i No → set (take i row ++ drop i last) i x ≡ take (i + 1) row ++ drop (i + 1) last
-more_changed last row i x within same e =
-    let there : i < length last = omega (arith, within, same) in
-    ap (λ zs. set (take i row ++ zs) i x) (drop_more last i No there)
-    ∙ set_front (take i row) (drop (i + 1) last) i (get_or last i No) x (length-take-le i row (omega (arith, within)))
-    ∙ ap (λ (y : Reach). take i row ++ y ∷ drop (i + 1) last) e
-    ∙ sym (append_assoc (take i row) (get_or row i No ∷ []) (drop (i + 1) last)) ∙ ap (λ zs. zs ++ drop (i + 1) last) (sym (take_more row i No within))
-
--- two reaches, each no further than the other, are one
-both_same : (r s : Reach) → IsAtMost r s → IsAtMost s r → r ≡ s
-both_same No No a b = refl
-both_same No (UpTo n) a b = absurd b
-both_same No Any a b = absurd b
-both_same (UpTo m) No a b = absurd a
-both_same (UpTo m) (UpTo n) a b = ap (λ k. UpTo k) (omega (arith, a, b))
-both_same (UpTo m) Any a b = absurd b
-both_same Any No a b = absurd a
-both_same Any (UpTo n) a b = absurd a
-both_same Any Any a b = refl
-
-itself : (r : Reach) → IsAtMost r r
-itself No = tt
-itself (UpTo n) = omega arith
-itself Any = tt
-
-pub same_both : (r s : Reach) → (r ≡ s) ↔ (IsAtMost r s × IsAtMost s r)
-same_both r s = (λ e. (subst (λ (x : Reach). IsAtMost r x) e (itself r), subst (λ (x : Reach). IsAtMost x r) e (itself r)), λ h. both_same r s h.0 h.1)
 
 -- the same of changes as the code keeps them
 abbrev pub items_by : List (Vec Change Global) → List (List Change)

@@ -8,3 +8,6 @@ pub mod Offering
 pub mod Changing
 pub mod Lowest
 pub mod Carried
+pub mod Placing
+pub mod Handing
+pub mod Rounding

@@ -1,21 +1,17 @@
 -- What a row offers, member by member and group by group.
-use Rattle.std.proofs.Common.{◌≡◌, ◌≢◌, ℕ, ◌+◌, ◌<◌, ◌≤◌, List, [], ◌∷◌, ◌++◌, length, take, get_or, set, arith, sym, subst, refl, inl, inr, get_or-set_same, get_or-set_other}
+use Rattle.std.proofs.Common.{◌≡◌, ◌≢◌, ℕ, ◌+◌, ◌<◌, List, [], ◌∷◌, ◌++◌, length, take, get_or, set, arith, sym, subst, refl, inl, inr, get_or-set_same, get_or-set_other}
 use Rattle.std.specs.Prelude.{◌⊎◌, ◌↔◌, Any, Contains}
 use Rattle.std.proofs.lemmas.Bool.{cases_lt}
-use Rattle.std.proofs.lemmas.List.{take_more, take_all, get_or_push, get_or_append_left, get_or_past}
+use Rattle.std.proofs.lemmas.List.{take_more}
 use Rattle.std.proofs.lemmas.List.Elements.{Contains-get_or, Contains-append_left, Contains-push, Contains-push_cases}
 use Rattle.cert_graph.specs.declared.reach.Reach.{Reach}
 use Rattle.cert_graph.specs.declared.reach.Reach.TheVariants.{No}
 use Rattle.cert_graph.specs.declared.nodes.Group.{Group}
 use Rattle.cert_graph.specs.declared.nodes.Nodes.{Nodes}
 use Rattle.cert_graph.specs.Reach.{Takes}
-use Rattle.cert_graph.specs.Graph.{Graph}
 use Rattle.cert_graph.specs.Adequate.{at_row}
-use Rattle.cert_graph.specs.Steps.{one_of}
-use Rattle.cert_graph.proofs.ReachFacts.{fewer_taken}
 use Rattle.cert_graph.specs.Nodes.{graph_of, Links, LinksToAnchor}
-use Rattle.cert_search.specs.Rows.{GroupOffers, GoesOn, AreOffers, IsRaisedBy}
-use Rattle.cert_search.proofs.Anything.{any_more}
+use Rattle.cert_search.specs.Rows.{GroupOffers, GoesOn}
 
 -- one position more is offered at least so much
 pub offered_more : (offers : List Reach) (x : ℕ) (new offer : Reach) → x < length offers → ((c : ℕ) → Takes new c ↔ (Takes (at_row offers x) c ⊎ Takes offer c))
@@ -67,35 +63,8 @@ issued_more first offers issued i new offer within inside h k v c =
 abbrev pub GroupsOffer : Nodes → List Reach → List Group → ℕ → ℕ → Type 0
 GroupsOffer nodes row groups v c = Any (λ group. Contains group.issued.items v × GroupOffers nodes row group c) groups
 
--- one more group
-groups_more : (nodes : Nodes) (row : List Reach) (groups : List Group) (i : ℕ) (x : Group) (v c : ℕ) → i < length groups → x ≡ get_or groups i x
-    → GroupsOffer nodes row (take (i + 1) groups) v c ↔ (GroupsOffer nodes row (take i groups) v c ⊎ (Contains x.issued.items v × GroupOffers nodes row x c))
-groups_more nodes row groups i x v c within is = any_more (λ group. Contains group.issued.items v × GroupOffers nodes row group c) groups i x within is
-
-pub offers_more : (nodes : Nodes) (row : List Reach) (groups : List Group) (i : ℕ) (x : Group) (old new : List Reach) (offer : Reach) → i < length groups → x ≡ get_or groups i x
-    → ((c : ℕ) → Takes offer c ↔ GroupOffers nodes row x c)
-    → ((v c : ℕ) → Takes (at_row old v) c ↔ GroupsOffer nodes row (take i groups) v c)
-    → ((v c : ℕ) → Takes (at_row new v) c ↔ (Takes (at_row old v) c ⊎ (Contains x.issued.items v × Takes offer c)))
-    → (v c : ℕ) → Takes (at_row new v) c ↔ GroupsOffer nodes row (take (i + 1) groups) v c
-offers_more nodes row groups i x old new offer within is best h k v c =
-    let m = groups_more nodes row groups i x v c within is in (
-      λ t. elim ((k v c).0 t) [ inl y ↦ m.1 (inl ((h v c).0 y)) | inr y ↦ m.1 (inr (y.0, (best c).0 y.1)) ],
-      λ o. elim (m.0 o) [ inl y ↦ (k v c).1 (inl ((h v c).1 y)) | inr y ↦ (k v c).1 (inr (y.0, (best c).1 y.1)) ],
-    )
-
--- a group that offers nothing changes nothing
-pub offers_same : (nodes : Nodes) (row : List Reach) (groups : List Group) (i : ℕ) (x : Group) (old : List Reach) (offer : Reach) → i < length groups → x ≡ get_or groups i x
-    → ((c : ℕ) → Takes offer c ↔ GroupOffers nodes row x c) → (Takes offer 0 → ⊥)
-    → ((v c : ℕ) → Takes (at_row old v) c ↔ GroupsOffer nodes row (take i groups) v c)
-    → (v c : ℕ) → Takes (at_row old v) c ↔ GroupsOffer nodes row (take (i + 1) groups) v c
-offers_same nodes row groups i x old offer within is best nothing h v c =
-    let m = groups_more nodes row groups i x v c within is in (
-      λ t. m.1 (inl ((h v c).0 t)),
-      λ o. elim (m.0 o) [ inl y ↦ (h v c).1 y | inr y ↦ absurd (nothing (fewer_taken offer 0 c (omega arith) ((best c).1 y.1))) ],
-    )
-
 -- what all groups offer is how a certificate may go on
-groups_go_on : (nodes : Nodes) (row : List Reach) (v c : ℕ) → GroupsOffer nodes row nodes.groups.items v c ↔ GoesOn (graph_of nodes) row v c
+pub groups_go_on : (nodes : Nodes) (row : List Reach) (v c : ℕ) → GroupsOffer nodes row nodes.groups.items v c ↔ GoesOn (graph_of nodes) row v c
 unfolding Links LinksToAnchor
 groups_go_on nodes row v c = (
   λ o. elim o.4.1 [
@@ -107,34 +76,3 @@ groups_go_on nodes row v c = (
     | inr w ↦ let e = w.2 in (e.0, e.1, e.2, e.3, (e.4.issued, inr (w.0, e.4.member, w.1, w.3)))
   ],
 )
-
-pub offers_all : (nodes : Nodes) (row offers : List Reach) (i : ℕ) → length nodes.groups.items ≤ i
-    → ((v c : ℕ) → Takes (at_row offers v) c ↔ GroupsOffer nodes row (take i nodes.groups.items) v c) → AreOffers (graph_of nodes) row offers
-offers_all nodes row offers i past h v c =
-    let all = groups_go_on nodes row v c in
-    let k = rw (take_all i nodes.groups.items past) at (h v c) in
-    (λ t. all.0 (k.0 t), λ x. k.1 (all.1 x))
-
--- the next row at one position
-abbrev pub IsRaisedAt : Graph → List Reach → List Reach → ℕ → Type 0
-IsRaisedAt g offers row v = (c : ℕ) → Takes (at_row row v) c ↔ (g.Fit v × Takes (g.limit v) c × Takes (at_row offers v) (c + one_of g v))
-
-pub raised_push : (g : Graph) (offers row : List Reach) (n : ℕ) (x : Reach) → length row ≡ n → ((v : ℕ) → v < n → IsRaisedAt g offers row v)
-    → ((c : ℕ) → Takes x c ↔ (g.Fit n × Takes (g.limit n) c × Takes (at_row offers n) (c + one_of g n))) → (v : ℕ) → v < n + 1 → IsRaisedAt g offers (row ++ x ∷ []) v
-raised_push g offers row n x e h k v lt c = elim (cases_lt v n) [
-  | inl below ↦ let within : v < length row = omega arith in
-      subst (λ (r : Reach). Takes r c ↔ (g.Fit v × Takes (g.limit v) c × Takes (at_row offers v) (c + one_of g v))) (sym (get_or_append_left row (x ∷ []) No v within)) (h v below c)
-  | inr above ↦ let same : n ≡ v = omega arith in
-      let last : length row ≡ v = omega arith in
-      subst (λ (r : Reach). Takes r c ↔ (g.Fit v × Takes (g.limit v) c × Takes (at_row offers v) (c + one_of g v))) (sym (get_or_push row x No v last))
-      (subst (λ (u : ℕ). Takes x c ↔ (g.Fit u × Takes (g.limit u) c × Takes (at_row offers u) (c + one_of g u))) same (k c))
-]
-
-pub raised_all : (nodes : Nodes) (offers row : List Reach) (n : ℕ) → length row ≡ n → length nodes.items.items ≤ n → ((v : ℕ) → v < n → IsRaisedAt (graph_of nodes) offers row v) → IsRaisedBy (graph_of nodes) offers row
-raised_all nodes offers row n e past h v c = elim (cases_lt v n) [
-  | inl below ↦ h v below c
-  | inr above ↦ let past_row : length row ≤ v = omega arith in (
-    λ t. absurd (subst (λ (r : Reach). Takes r c) (get_or_past row v No past_row) t),
-    λ x. let within = x.0.0 in absurd (omega arith),
-  )
-]

@@ -3,3 +3,4 @@ pub mod Rows
 pub mod Found
 pub mod Changes
 pub mod LawsOfTables
+pub mod Rising

@@ -1,8 +1,8 @@
-ghost use Rattle.std.specs.Prelude.{◌≡◌, ◌↔◌, length, map, replicate, IfOk, IsTrue};
+ghost use Rattle.std.specs.Prelude.{◌≡◌, map, replicate, IfOk};
 ghost use Rattle.cert_graph.specs.declared.reach.Reach.TheVariants.{No};
 ghost use Rattle.cert_search.specs.Changes.{changed, rows_by};
 
-use cert_graph::{Reach, reach_at};
+use cert_graph::Reach;
 use std::alloc::{AllocError, Global};
 
 /// What a row holds at a position where the row before it holds another reach.
@@ -10,37 +10,6 @@ use std::alloc::{AllocError, Global};
 pub(crate) struct Change {
     pub position: usize,
     pub reach: Reach,
-}
-
-/// Whether two reaches are one.
-fn is_same(first: Reach, second: Reach) -> bool
-    ensures { IsTrue result ↔ first ≡ second }
-{
-    if !first.is_at_most(second) {
-        return false;
-    }
-    second.is_at_most(first)
-}
-
-/// Where a row differs from the one before it, in ascending order.
-pub(crate) fn changes_between(
-    alloc: Global,
-    last: &[Reach],
-    row: &[Reach],
-) -> Result<Vec<Change>, AllocError>
-    requires { length last.now ≡ length row.now }
-    ensures { IfOk result (λ changes. changed last.now changes.items ≡ row.now) }
-{
-    let mut changes = Vec::new(alloc);
-    for (position, reach) in row.iter().enumerate() {
-        if !is_same(*reach, reach_at(last, position)) {
-            changes.push(Change {
-                position,
-                reach: *reach,
-            })?;
-        }
-    }
-    Ok(changes)
 }
 
 /// Makes a row the next one by its changes.

@@ -2,11 +2,11 @@ ghost use Rattle.std.specs.Prelude.{◌↔◌, IsTrue, IfOk};
 ghost use Rattle.cert_graph.specs.Reach.{Takes};
 ghost use Rattle.cert_graph.specs.Adequate.{at_row};
 ghost use Rattle.cert_graph.specs.Nodes.{graph_of};
-ghost use Rattle.cert_search.specs.Rows.{StandsUnder};
 ghost use Rattle.cert_search.specs.Found.{IsFound};
 
-use crate::changes::{changes_between, rows_of};
-use crate::offers::{offers_of, raise};
+use crate::changes::rows_of;
+use crate::places::places_of;
+use crate::rising::{begin, has_risen, rise};
 use cert_graph::{Nodes, Reach, reach_at};
 use std::alloc::{AllocError, Global};
 
@@ -18,18 +18,6 @@ pub(crate) enum Found {
 
     /// A row that is its own successor, and gives the target no path.
     Standing(Vec<Reach>),
-}
-
-/// Whether no entry of a row is above that of another.
-fn stands(next: &[Reach], last: &[Reach]) -> bool
-    ensures { IsTrue result ↔ StandsUnder next.now last.now }
-{
-    for (position, reach) in next.iter().enumerate() {
-        if !reach.is_at_most(reach_at(last, position)) {
-            return false;
-        }
-    }
-    true
 }
 
 /// Whether a usable target is offered a path.
@@ -46,22 +34,19 @@ pub(crate) fn rows_to(alloc: Global, nodes: &Nodes, target: usize) -> Result<Fou
     ensures { IfOk result (IsFound (graph_of nodes.now) target) }
 {
     let usable = nodes.is_usable(target);
+    let places = places_of(alloc, nodes)?;
+    let mut search = begin(alloc, nodes)?;
     let mut steps = Vec::new(alloc);
-    let mut last = vec![in alloc; Reach::No; nodes.items.len()]?;
-    let mut offers = offers_of(alloc, nodes, &last)?;
     'round: loop {
-        let row = raise(alloc, nodes, &offers)?;
-        let next = offers_of(alloc, nodes, &row)?;
-        if opens(usable, &next, target) {
+        let changes = rise(alloc, nodes, &places, &mut search)?;
+        if opens(usable, &search.offers, target) {
             let mut rows = rows_of(alloc, nodes.items.len(), &steps)?;
-            rows.push(row)?;
+            rows.push(search.row)?;
             return Ok(Found::Opening(rows));
         }
-        if stands(&next, &offers) {
-            return Ok(Found::Standing(row));
+        if !has_risen(&search) {
+            return Ok(Found::Standing(search.row));
         }
-        steps.push(changes_between(alloc, &last, &row)?)?;
-        last = row;
-        offers = next;
+        steps.push(changes)?;
     }
 }

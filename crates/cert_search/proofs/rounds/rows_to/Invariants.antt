@@ -2,6 +2,7 @@ use Rattle.std.proofs.Common.{◌≡◌, ◌+◌, ◌-◌, ◌*◌, length, repl
 use Rattle.cert_graph.specs.declared.reach.Reach.TheVariants.{No}
 use Rattle.cert_graph.specs.Nodes.{graph_of}
 use Rattle.cert_search.specs.Changes.{rows_by}
+use Rattle.cert_search.specs.Rising.{IsRising}
 use Rattle.cert_search.proofs.Changing.{items_by, last_by}
 use Rattle.cert_search.proofs.Exactness.{OffersExactly}
 use Rattle.cert_search.proofs.Ranking.{rank, bound_of}
@@ -10,12 +11,11 @@ use Rattle.cert_search.proofs.rounds.rows_to.Given as goal
 
 abbrev pub invariant-round : goal.invariant-round
 invariant-round l = record {
-  whole : length l.offers.items ≡ length l.nodes.items.items;
-  size : length l.last.items ≡ length l.nodes.items.items;
-  last : l.last.items ≡ last_by (replicate (length l.nodes.items.items) No) (items_by l.steps.items);
-  exact : OffersExactly (graph_of l.nodes) (length l.steps.items) l.offers.items;
+  rising : IsRising l.nodes l.search;
+  last : l.search.row.items ≡ last_by (replicate (length l.nodes.items.items) No) (items_by l.steps.items);
+  exact : OffersExactly (graph_of l.nodes) (length l.steps.items) l.search.offers.items;
   so_far : SoFar (graph_of l.nodes) l.target (rows_by (replicate (length l.nodes.items.items) No) (items_by l.steps.items));
 }
 
 abbrev pub decreases-round : goal.decreases-round
-decreases-round l = length l.offers.items * (bound_of l.nodes + 1) - rank (bound_of l.nodes) l.offers.items
+decreases-round l = length l.search.offers.items * (bound_of l.nodes + 1) - rank (bound_of l.nodes) l.search.offers.items

@@ -1,6 +1,0 @@
-use Rattle.std.proofs.Common.{◌≡◌, ◌++◌, take, drop}
-use Rattle.cert_search.specs.Changes.{changed}
-use Rattle.cert_search.proofs.changes.changes_between.Given as goal
-
-abbrev pub invariant-loop-position : goal.invariant-loop-position
-invariant-loop-position l = changed l.last l.changes.items ≡ take l.position l.row ++ drop l.position l.last
