@@ -1,2 +1,4 @@
-pub mod Found
 pub mod Classing
+pub mod Found
+pub mod NoPair
+pub mod PairOrder

@@ -11,12 +11,14 @@ mod list;
 mod names;
 mod parts;
 mod reading;
+mod remembered;
 mod stop;
 mod times;
 mod vouchers;
 
 pub use crate::class::{ItemClass, read_tree};
 pub use crate::judge::check;
+pub use crate::remembered::RememberedVouchers;
 pub use crate::vouchers::Vouchers;
 pub use asn1_core::OutOfMemory;
 pub use cert_framing::{

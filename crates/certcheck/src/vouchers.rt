@@ -1,6 +1,6 @@
 //! Vouching by pairs of digests.
 
-ghost use Rattle.std.specs.Prelude.{◌≡◌, ◌↔◌, ◌⊎◌, ℕ, List, OnOk, OnErr};
+ghost use Rattle.std.specs.Prelude.{◌≡◌, ◌↔◌, ◌⊎◌, ℕ, List, length, IsTrue, OnOk, OnErr};
 ghost use Rattle.certcheck.specs.Vouching.{HasPair};
 
 use asn1_core::OutOfMemory;
@@ -35,6 +35,23 @@ impl Vouchers {
             Err(_) => Err(OutOfMemory),
         }
     }
+
+    /// Whether a key's digest is in some pair. Takes as many comparisons as a look-up of a pair.
+    pub(crate) fn names_key(&self, key_digest: &[u8; 32]) -> bool
+        ensures { (item : List ℕ) → length item ≡ 32 → HasPair self.now.pairs key_digest.now item → IsTrue result }
+    {
+        let least = (*key_digest, [0; 32]);
+        match self.pairs.range(least..).next() {
+            Some(pair) => pair.0 == *key_digest,
+            None => false,
+        }
+    }
+
+    pub(crate) fn has_pair(&self, key_digest: [u8; 32], item_digest: [u8; 32]) -> bool
+        ensures { IsTrue result ↔ HasPair self.now.pairs key_digest item_digest }
+    {
+        self.pairs.contains(&(key_digest, item_digest))
+    }
 }
 
 impl Vouch for Vouchers {
@@ -45,7 +62,11 @@ impl Vouch for Vouchers {
     ghost vouches_for = { λ v key item. HasPair v.pairs (sha256 key) (sha256 item) };
 
     fn vouches(&self, key: &[u8], item: &[u8]) -> bool {
-        let pair = (Sha256::digest(key), Sha256::digest(item));
-        self.pairs.contains(&pair)
+        let key = Sha256::digest(key);
+        if !self.names_key(&key) {
+            return false;
+        }
+        let item = Sha256::digest(item);
+        self.has_pair(key, item)
     }
 }

@@ -2,6 +2,7 @@
 #![tactic(auto)]
 
 mod inputs;
+mod remembering;
 mod report;
 mod running;
 mod settings;

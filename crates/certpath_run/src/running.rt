@@ -8,6 +8,7 @@ ghost use Rattle.certpath_run.specs.Runs.{IsReport, VouchesBy, kind_of, Runs, Ru
 ghost use Rattle.certpath_run.specs.Uses.{UseReaders, failed_writes};
 
 use crate::inputs::{Inputs, read_inputs};
+use crate::remembering::remembered_for;
 use crate::report::report_of;
 use crate::settings::{Outcome, RunError, Settings};
 use asn1_core::OutOfMemory;
@@ -43,12 +44,13 @@ fn report_on(alloc: Global, inputs: &Inputs, settings: &Settings) -> Result<Repo
     let moment = policy.moment();
     let items = judged_items(alloc, &inputs.items, &moment)?;
     let anchors = judged_items(alloc, &inputs.anchors, &moment)?;
+    let remembered = remembered_for(alloc, &inputs.vouchers, &items, &anchors);
     let answer = find_judged(
         alloc,
         &items,
         target,
         &anchors,
-        &inputs.vouchers,
+        &remembered,
         policy.demands_lists(),
     )?;
     let said = check(
@@ -56,7 +58,7 @@ fn report_on(alloc: Global, inputs: &Inputs, settings: &Settings) -> Result<Repo
         &inputs.items,
         target,
         &inputs.anchors,
-        &inputs.vouchers,
+        &remembered,
         &policy,
         &answer,
     )?;
