@@ -52,6 +52,10 @@ impl<'a> Encode for FirstPart<'a> {
     fn put<S: Sink>(&self, writer: &mut S) -> Result<(), DeviceFault> {
         signed(self.0).put(writer)
     }
+
+    fn before<'w>(&self, whole: &'w [u8]) -> Option<&'w [u8]> {
+        signed(self.0).before(whole)
+    }
 }
 
 // What stands behind the issuer.
@@ -71,6 +75,10 @@ impl<'a> Encode for Holder<'a> {
     fn put<S: Sink>(&self, writer: &mut S) -> Result<(), DeviceFault> {
         held(self.0).put(writer)
     }
+
+    fn before<'w>(&self, whole: &'w [u8]) -> Option<&'w [u8]> {
+        held(self.0).before(whole)
+    }
 }
 
 // What stands behind the subject's key.
@@ -89,6 +97,10 @@ impl<'a> Encode for Additions<'a> {
 
     fn put<S: Sink>(&self, writer: &mut S) -> Result<(), DeviceFault> {
         added(self.0).put(writer)
+    }
+
+    fn before<'w>(&self, whole: &'w [u8]) -> Option<&'w [u8]> {
+        added(self.0).before(whole)
     }
 }
 

@@ -1,5 +1,5 @@
-//! What parts octets are made of. Each part tells how many octets it has, and writes them.
-ghost use Rattle.std.specs.Prelude.{◌≡◌, ◌<◌, ◌^◌, ℕ, List, [], ◌∷◌, ◌++◌, length};
+//! What parts octets are made of. Each part tells how many octets it has, writes them, and finds them at the end of others.
+ghost use Rattle.std.specs.Prelude.{◌≡◌, ◌≢◌, ◌<◌, ◌^◌, ℕ, List, [], ◌∷◌, ◌++◌, length, MatchOption};
 ghost use Rattle.std.specs.List.{flat_map};
 ghost use Rattle.asn1_core.specs.Strict.{strict_header};
 ghost use Rattle.asn1_core.specs.Elements.{element_octets};
@@ -24,6 +24,20 @@ pub(crate) trait Encode {
         requires { length (octets self.now) < 2 ^ 64 }
         ensures octets { Puts (S.contents writer.old) (S.contents writer.new) (S.failures writer.old) (S.failures writer.new) (octets self.now) result }
         ensures flushes { S.flushes writer.new ≡ S.flushes writer.old };
+
+    /// What stands before the octets where `whole` ends with them; none where it doesn't. Each part is met once, the last one
+    /// first, and none is counted ahead: what was taken tells the length of a content.
+    fn before<'w>(&self, whole: &'w [u8]) -> Option<&'w [u8]>
+        ensures { MatchOption result ((front : List ℕ) → whole.now ≢ front ++ octets self.now)
+            (λ front. whole.now ≡ front.now ++ octets self.now) };
+}
+
+// What stands before the octets where `whole` ends with them.
+fn before_octets<'w>(octets: &[u8], whole: &'w [u8]) -> Option<&'w [u8]>
+    ensures { MatchOption result ((front : List ℕ) → whole.now ≢ front ++ octets.now)
+        (λ front. whole.now ≡ front.now ++ octets.now) }
+{
+    whole.strip_suffix(octets)
 }
 
 /// Octets as they are.
@@ -40,6 +54,10 @@ impl<'a> Encode for Octets<'a> {
     fn put<S: Sink>(&self, writer: &mut S) -> Result<(), DeviceFault> {
         write_octets(writer, self.0)
     }
+
+    fn before<'w>(&self, whole: &'w [u8]) -> Option<&'w [u8]> {
+        before_octets(self.0, whole)
+    }
 }
 
 /// So many octets.
@@ -52,6 +70,10 @@ impl<const N: usize> Encode for [u8; N] {
 
     fn put<S: Sink>(&self, writer: &mut S) -> Result<(), DeviceFault> {
         write_octets(writer, self)
+    }
+
+    fn before<'w>(&self, whole: &'w [u8]) -> Option<&'w [u8]> {
+        before_octets(self, whole)
     }
 }
 
@@ -69,6 +91,13 @@ impl Encode for Octet {
     fn put<S: Sink>(&self, writer: &mut S) -> Result<(), DeviceFault> {
         write_octets(writer, &[self.0])
     }
+
+    fn before<'w>(&self, whole: &'w [u8]) -> Option<&'w [u8]> {
+        match whole.split_last() {
+            Some((last, front)) => { if *last == self.0 { Some(front) } else { None } }
+            None => None,
+        }
+    }
 }
 
 /// Nothing.
@@ -84,6 +113,10 @@ impl Encode for Nothing {
 
     fn put<S: Sink>(&self, _writer: &mut S) -> Result<(), DeviceFault> {
         Ok(())
+    }
+
+    fn before<'w>(&self, whole: &'w [u8]) -> Option<&'w [u8]> {
+        Some(whole)
     }
 }
 
@@ -104,6 +137,11 @@ impl<A: Encode, B: Encode> Encode for Both<A, B> {
         self.0.put(writer)?;
         self.1.put(writer)
     }
+
+    fn before<'w>(&self, whole: &'w [u8]) -> Option<&'w [u8]> {
+        let front = self.1.before(whole)?;
+        self.0.before(front)
+    }
 }
 
 /// A part that may be absent.
@@ -121,6 +159,13 @@ impl<A: Encode> Encode for Option<A> {
         match self {
             Some(part) => part.put(writer),
             None => Ok(()),
+        }
+    }
+
+    fn before<'w>(&self, whole: &'w [u8]) -> Option<&'w [u8]> {
+        match self {
+            Some(part) => part.before(whole),
+            None => Some(whole),
         }
     }
 }
@@ -198,6 +243,21 @@ impl<C> Element<C> {
             None => unreachable!(),
         }
     }
+
+    // What stands before the strict header of so many content octets where `whole` ends with it. A header of two octets is
+    // compared without a buffer (X.690, 8.1.2.2 and 8.1.3.4).
+    fn before_header<'w>(&self, size: usize, whole: &'w [u8]) -> Option<&'w [u8]>
+        ensures { let header = strict_header (record { class = class_number self.now.class; constructed = self.now.constructed; tag = self.now.tag.0; size = size }) in
+            MatchOption result ((front : List ℕ) → whole.now ≢ front ++ header) (λ front. whole.now ≡ front.now ++ header) }
+    {
+        if self.tag.0 < 31 && size < 128 {
+            let bit = if self.constructed { 32 } else { 0 };
+            let lead = 64 * (self.class as u8) + bit + self.tag.0 as u8;
+            Both(Octet(lead), Octet(size as u8)).before(whole)
+        } else {
+            before_octets(self.header(size).as_slice(), whole)
+        }
+    }
 }
 
 impl<C: Encode> Encode for Element<C> {
@@ -216,6 +276,11 @@ impl<C: Encode> Encode for Element<C> {
             }
             None => unreachable!(),
         }
+    }
+
+    fn before<'w>(&self, whole: &'w [u8]) -> Option<&'w [u8]> {
+        let front = self.content.before(whole)?;
+        self.before_header(whole.len() - front.len(), front)
     }
 }
 
@@ -243,5 +308,15 @@ impl<'a, A: Encode> Encode for Each<'a, A> {
             rest = after;
         }
         Ok(())
+    }
+
+    fn before<'w>(&self, whole: &'w [u8]) -> Option<&'w [u8]> {
+        let mut front = whole;
+        let mut rest = self.0;
+        while let Some((part, ahead)) = rest.split_last() {
+            front = part.before(front)?;
+            rest = ahead;
+        }
+        Some(front)
     }
 }

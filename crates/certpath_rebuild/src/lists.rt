@@ -50,6 +50,10 @@ impl<'a> Encode for FirstPart<'a> {
     fn put<S: Sink>(&self, writer: &mut S) -> Result<(), DeviceFault> {
         signed(self.0).put(writer)
     }
+
+    fn before<'w>(&self, whole: &'w [u8]) -> Option<&'w [u8]> {
+        signed(self.0).before(whole)
+    }
 }
 
 // What stands behind the issuer.
@@ -68,6 +72,10 @@ impl<'a> Encode for Contents<'a> {
 
     fn put<S: Sink>(&self, writer: &mut S) -> Result<(), DeviceFault> {
         listed(self.0).put(writer)
+    }
+
+    fn before<'w>(&self, whole: &'w [u8]) -> Option<&'w [u8]> {
+        listed(self.0).before(whole)
     }
 }
 
@@ -107,6 +115,10 @@ impl<'a> Encode for EntryFields<'a> {
 
     fn put<S: Sink>(&self, writer: &mut S) -> Result<(), DeviceFault> {
         entry(self).put(writer)
+    }
+
+    fn before<'w>(&self, whole: &'w [u8]) -> Option<&'w [u8]> {
+        entry(self).before(whole)
     }
 }
 

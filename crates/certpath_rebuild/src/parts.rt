@@ -162,6 +162,10 @@ impl<'a> Encode for AttrField<'a> {
     fn put<S: Sink>(&self, writer: &mut S) -> Result<(), DeviceFault> {
         attribute(*self).put(writer)
     }
+
+    fn before<'w>(&self, whole: &'w [u8]) -> Option<&'w [u8]> {
+        attribute(*self).before(whole)
+    }
 }
 
 // RelativeDistinguishedName
@@ -186,6 +190,10 @@ impl<'a> Encode for Vec<AttrField<'a>> {
 
     fn put<S: Sink>(&self, writer: &mut S) -> Result<(), DeviceFault> {
         relative_name(self.as_slice()).put(writer)
+    }
+
+    fn before<'w>(&self, whole: &'w [u8]) -> Option<&'w [u8]> {
+        relative_name(self.as_slice()).before(whole)
     }
 }
 
@@ -222,5 +230,9 @@ impl<'a> Encode for ExtField<'a> {
 
     fn put<S: Sink>(&self, writer: &mut S) -> Result<(), DeviceFault> {
         extension(*self).put(writer)
+    }
+
+    fn before<'w>(&self, whole: &'w [u8]) -> Option<&'w [u8]> {
+        extension(*self).before(whole)
     }
 }

@@ -1,5 +1,5 @@
 //! Fields written back.
-ghost use Rattle.std.specs.Prelude.{◌≡◌};
+ghost use Rattle.std.specs.Prelude.{◌≡◌, ◌↔◌, IsTrue};
 ghost use Rattle.cert_model.specs.Octets.{certificate_octets, list_octets};
 ghost use Rattle.cert_model.specs.View.{certificate_view, list_view};
 ghost use Rattle.certpath_rebuild.specs.Puts.{Rebuilds};
@@ -49,4 +49,29 @@ pub fn rebuild_list<S: Sink>(fields: &ListFields<'_>, writer: &mut S) -> Seriali
         },
         None => Err(SerializeError::InvalidLength),
     }
+}
+
+// Whether the octets are the part's, and nothing stands before them.
+fn is_whole<P: Encode>(part: &P, octets: &[u8]) -> bool
+    ensures { IsTrue result ↔ (P.octets part.now ≡ octets.now) }
+{
+    match part.before(octets) {
+        Some(front) => front.is_empty(),
+        None => false,
+    }
+}
+
+/// Whether the octets are those that these fields write (`rebuild_certificate`). They are compared from the end, nothing is
+/// written, and no memory is taken: each octet is read once.
+pub fn writes_certificate(fields: &CertFields<'_>, octets: &[u8]) -> bool
+    ensures { IsTrue result ↔ (certificate_octets (certificate_view fields.now) ≡ octets.now) }
+{
+    is_whole(&certificate(fields), octets)
+}
+
+/// Whether the octets are those that these fields write (`rebuild_list`), as `writes_certificate`.
+pub fn writes_list(fields: &ListFields<'_>, octets: &[u8]) -> bool
+    ensures { IsTrue result ↔ (list_octets (list_view fields.now) ≡ octets.now) }
+{
+    is_whole(&list(fields), octets)
 }

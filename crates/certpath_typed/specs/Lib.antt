@@ -1,4 +1,3 @@
 pub mod Told
 pub mod ToldItems
 pub mod Tried
-pub mod Met

@@ -13,10 +13,10 @@ use crate::certificates::certificate_fields;
 use crate::lists::list_fields;
 use crate::read::{certificate_read, list_read};
 use crate::written::{is_written_certificate, is_written_list};
-use asn1_core::{Err as Refusal, HeaderCount, OutOfMemory};
+use asn1_core::{HeaderCount, OutOfMemory};
 use cert_model::fields::{CertFields, ListFields};
 use certcheck::ItemClass;
-use der_tree::{MAX_RECURSION, parse_der_recursive_counted};
+use der_tree::{MAX_RECURSION, is_der_object_counted};
 use std::alloc::Global;
 
 /// The answer of `read_typed`, and the header attempts that it took, in the count: at most 17 for each octet, so none for no
@@ -33,7 +33,7 @@ pub fn read_typed_counted<'a>(
     ensures grows { attempts count.old ≤ attempts count.new }
     ensures most { attempts count.new ≤ attempts count.old + 17 * length item.now }
 {
-    if !is_object(alloc, item, count)? {
+    if !is_object(item, count) {
         return Ok(ItemClass::Other);
     }
     if let Some(fields) = certificate_of(alloc, item, count)? {
@@ -45,21 +45,16 @@ pub fn read_typed_counted<'a>(
     Ok(ItemClass::Other)
 }
 
-/// Whether the item is one DER object of at most 50 levels.
-fn is_object(alloc: Global, item: &[u8], count: &mut HeaderCount) -> Result<bool, OutOfMemory>
+/// Whether the item is one DER object of at most 50 levels. No memory is taken.
+#[tactic(auto, using(crate::proofs::Gate::each_tried))]
+fn is_object(item: &[u8], count: &mut HeaderCount) -> bool
     requires { attempts count.old + length item.now < 2 ^ 128 }
-    ensures object { IfOk result (λ b. IsTrue b ↔ IsDerObject 50 item.now) }
-    ensures each { IfOk result (λ b. IsTrue b → TriesTree item.now (attempts count.old) (attempts count.new)) }
+    ensures object { IsTrue result ↔ IsDerObject 50 item.now }
+    ensures each { IsTrue result → TriesTree item.now (attempts count.old) (attempts count.new) }
     ensures grows { attempts count.old ≤ attempts count.new }
     ensures most { attempts count.new ≤ attempts count.old + length item.now }
 {
-    match parse_der_recursive_counted(alloc, item, MAX_RECURSION, count) {
-        Ok((rest, _object)) => { if rest.is_empty() { Ok(true) } else { Ok(false) } }
-        Err(refusal) => match refusal {
-            Refusal::Failure(_) => Err(OutOfMemory),
-            _ => Ok(false),
-        },
-    }
+    is_der_object_counted(item, MAX_RECURSION, count)
 }
 
 /// The fields of the certificate that the item is.

@@ -7,7 +7,6 @@
 
 mod certificates;
 mod class;
-mod comparison;
 mod identifier;
 pub mod laws;
 mod lists;

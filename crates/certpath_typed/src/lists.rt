@@ -54,7 +54,7 @@ fn entries_fields<'a>(
 ) -> Result<Vec<EntryFields<'a>>, OutOfMemory>
     ensures { IfOk result (λ v. AllZip (TellsEntry item.now) entries.now (map entry_view v.items)) }
 {
-    let mut fields = Vec::new(alloc);
+    let mut fields = Vec::with_capacity(alloc, entries.len())?;
     for entry in entries {
         fields.push(entry_fields(alloc, item, entry)?)?;
     }

@@ -63,8 +63,9 @@ fn attribute_fields<'a>(
 ) -> Result<Vec<AttrField<'a>>, OutOfMemory>
     ensures { IfOk result (λ v. TellsSet item.now (set_view set.now) (map attr_view v.items)) }
 {
-    let mut fields = Vec::new(alloc);
-    for attribute in set.iter() {
+    let attributes = set.iter();
+    let mut fields = Vec::with_capacity(alloc, attributes.len())?;
+    for attribute in attributes {
         fields.push(attribute_field(item, attribute))?;
     }
     Ok(fields)
@@ -78,8 +79,9 @@ pub(crate) fn name_fields<'a>(
 ) -> Result<NameFields<'a>, OutOfMemory>
     ensures { IfOk result (λ f. TellsName item.now (read_name_view name.now) (name_view f)) }
 {
-    let mut sets = Vec::new(alloc);
-    for set in name.iter() {
+    let read = name.iter();
+    let mut sets = Vec::with_capacity(alloc, read.len())?;
+    for set in read {
         sets.push(attribute_fields(alloc, item, set)?)?;
     }
     Ok(NameFields { sets })
@@ -133,7 +135,7 @@ pub(crate) fn extension_fields<'a>(
 ) -> Result<Vec<ExtField<'a>>, OutOfMemory>
     ensures { IfOk result (λ v. TellsExtensions item.now (map extension_view extensions.now) (map ext_view v.items)) }
 {
-    let mut fields = Vec::new(alloc);
+    let mut fields = Vec::with_capacity(alloc, extensions.len())?;
     for extension in extensions {
         fields.push(extension_field(item, extension))?;
     }
