@@ -24,7 +24,7 @@ const WHOLE: Size = Size {
     authorities: 40,
     leaves: 1_400,
     entries: 30,
-    targets: 16,
+    targets: 24,
 };
 
 const SMALL: Size = Size {

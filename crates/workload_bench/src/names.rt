@@ -8,7 +8,7 @@ use crate::runs::note_run;
 use crate::shapes::{Numbers, Shapes};
 use std::alloc::Global;
 
-const CERTIFICATES: usize = 360;
+const CERTIFICATES: usize = 600;
 
 const FEW: usize = 8;
 

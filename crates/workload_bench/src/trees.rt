@@ -7,7 +7,7 @@ use crate::shapes::{Numbers, Shapes};
 use der_parser::{BerObject, parse_der};
 use std::alloc::Global;
 
-const CERTIFICATES: usize = 330_000;
+const CERTIFICATES: usize = 450_000;
 
 const FEW: usize = 12;
 
