@@ -120,6 +120,31 @@ pub(crate) fn content_of<'a>(
     }
 }
 
+/// How many elements `room_for` counts at most.
+const COUNTED: usize = 8;
+
+/// How many elements `room_for` expects from one of a long length on.
+const EXPECTED: usize = 3;
+
+/// For how many objects memory is taken before a content is read: the elements of short length that begin it, one after the other,
+/// and some more where one of a long length follows. Whether they are objects isn't asked.
+fn room_for(content: &[u8]) -> usize
+    ensures few { result ≤ 10 }
+{
+    let mut rest = content;
+    for counted in 0..COUNTED {
+        let [_, size, after @ ..] = rest else {
+            return counted;
+        };
+        let size = usize::from(*size);
+        if size >= 128 || after.len() < size {
+            return counted + EXPECTED;
+        }
+        rest = &after[size..];
+    }
+    COUNTED
+}
+
 /// Reads objects to the end.
 #[cycle(reading)]
 fn objects_of<'a>(
@@ -138,7 +163,7 @@ fn objects_of<'a>(
     ensures lengths { IfOk result (λ v. lengths_of_all v.items ≡ all_lengths definite_length (views v.items)) }
 {
     let mut rest = content;
-    let mut objects = Vec::new(alloc);
+    let mut objects = Vec::with_capacity(alloc, room_for(content))?;
     while !rest.is_empty() {
         let (after, object) = match parse_der_recursive_counted(alloc, rest, levels, count) {
             Ok(read) => read,

@@ -69,7 +69,7 @@ content_of-returns-in-Err-clause-none t c =
 
 pub objects_of-loop-rest-init : goal.objects_of-loop-rest-init
 unfolding AreObjects
-objects_of-loop-rest-init t c = rw c.new-objects.ensures.items (record { objects = tt; lengths = refl; each = omega arith; at_most = omega arith; so_far = refl; others = λ ts p e. (ts, p, e) })
+objects_of-loop-rest-init t c = rw c.in_ok-objects.ensures.items (record { objects = tt; lengths = refl; each = omega arith; at_most = omega arith; so_far = refl; others = λ ts p e. (ts, p, e) })
 
 pub objects_of-returns-in-Err-clause-none : goal.objects_of-returns-in-Err-clause-none
 objects_of-returns-in-Err-clause-none t c =
