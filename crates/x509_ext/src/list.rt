@@ -13,7 +13,21 @@ use crate::extension::{X509Extension, extension_of};
 use asn1_any::Element;
 use asn1_core::{Err as Refusal, Error, HeaderCount};
 use std::alloc::Global;
+use std::cmp;
 use x509_core::{Parts, X509Error, cut_all, front_header, parts_of, renamed};
+
+/// How many octets an extension is expected to take.
+const EXPECTED_OCTETS: usize = 16;
+
+/// For how many extensions `room_for` says that memory be taken at most.
+const MOST_ROOM: usize = 12;
+
+/// For how many extensions memory is taken before so many octets are read.
+fn room_for(octets: usize) -> usize
+    ensures few { result ≤ 12 }
+{
+    cmp::min(octets.div_ceil(EXPECTED_OCTETS), MOST_ROOM)
+}
 
 /// As many extensions as begin there, their values parsed too where `deep` says so.
 pub fn each_extension<'a>(
@@ -29,7 +43,7 @@ pub fn each_extension<'a>(
     ensures most { attempts count.new ≤ attempts count.old + length parts.old.octets }
     ensures shorter { length parts.new.octets ≤ length parts.old.octets }
 {
-    let mut extensions = Vec::new(alloc);
+    let mut extensions = Vec::with_capacity(alloc, room_for(parts.left().len()))?;
     while let Some(element) = parts.first() {
         match extension_of(alloc, element, deep, count) {
             Ok(extension) => {

@@ -16,6 +16,9 @@ use std::alloc::Global;
 use x509_core::{Parts, X509Error, parts_of, renamed};
 use x509_values::copy_all;
 
+/// How many octets an entry is expected to take at least: one with a serial number of 13 octets and no extension.
+const EXPECTED_OCTETS: usize = 32;
+
 /// As many entries as begin there, the values of their extensions parsed too where `deep` says so.
 fn each_entry<'a>(
     alloc: Global,
@@ -31,7 +34,7 @@ fn each_entry<'a>(
     ensures most { attempts count.new ≤ attempts count.old + 3 * length parts.old.octets }
     ensures shorter { length parts.new.octets ≤ length parts.old.octets }
 {
-    let mut entries = Vec::new(alloc);
+    let mut entries = Vec::with_capacity(alloc, parts.left().len() / EXPECTED_OCTETS)?;
     while let Some(element) = parts.first() {
         match entry_of(alloc, element, deep, count) {
             Ok(entry) => {

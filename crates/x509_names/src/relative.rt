@@ -86,7 +86,8 @@ fn attributes_of<'a>(
     ensures most { attempts count.new ≤ attempts count.old + length parts.old.octets }
     ensures shorter { length parts.new.octets ≤ length parts.old.octets }
 {
-    let mut attributes = Vec::new(alloc);
+    // nearly every set has one
+    let mut attributes = Vec::with_capacity(alloc, 1)?;
     while let Some(element) = parts.first() {
         match attribute_of(alloc, element, count) {
             Ok(attribute) => {
