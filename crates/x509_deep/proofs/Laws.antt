@@ -77,7 +77,7 @@ kind_there kinds.SCT = refl
 kind_there kinds.NSCertType = refl
 kind_there kinds.NsCertComment = refl
 
-kind_found : (identifier : List ℕ) (kind : Kind) → identifier ≡ identifier_of kind → kind_of identifier ≡ Some kind
+pub kind_found : (identifier : List ℕ) (kind : Kind) → identifier ≡ identifier_of kind → kind_of identifier ≡ Some kind
 kind_found identifier kind same = ap kind_of same ∙ kind_there kind
 
 -- ---- values

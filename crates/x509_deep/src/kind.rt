@@ -123,9 +123,46 @@ fn among(identifier: &[u8], kinds: &[Kind]) -> Option<Kind>
     None
 }
 
+// The only kind whose identifier may have this length and this last octet. Whether it is the kind isn't asked.
+fn likely_kind_of(identifier: &[u8]) -> Option<Kind> {
+    let [.., last] = identifier else {
+        return None;
+    };
+    match (identifier.len(), *last) {
+        (3, 0x0e) => Some(Kind::SubjectKeyIdentifier),
+        (3, 0x0f) => Some(Kind::KeyUsage),
+        (3, 0x11) => Some(Kind::SubjectAlternativeName),
+        (3, 0x12) => Some(Kind::IssuerAlternativeName),
+        (3, 0x13) => Some(Kind::BasicConstraints),
+        (3, 0x14) => Some(Kind::CRLNumber),
+        (3, 0x15) => Some(Kind::ReasonCode),
+        (3, 0x18) => Some(Kind::InvalidityDate),
+        (3, 0x1c) => Some(Kind::IssuingDistributionPoint),
+        (3, 0x1e) => Some(Kind::NameConstraints),
+        (3, 0x1f) => Some(Kind::CRLDistributionPoints),
+        (3, 0x20) => Some(Kind::CertificatePolicies),
+        (3, 0x21) => Some(Kind::PolicyMappings),
+        (3, 0x23) => Some(Kind::AuthorityKeyIdentifier),
+        (3, 0x24) => Some(Kind::PolicyConstraints),
+        (3, 0x25) => Some(Kind::ExtendedKeyUsage),
+        (3, 0x36) => Some(Kind::InhibitAnyPolicy),
+        (8, 0x01) => Some(Kind::AuthorityInfoAccess),
+        (8, 0x0b) => Some(Kind::SubjectInfoAccess),
+        (9, 0x01) => Some(Kind::NSCertType),
+        (9, 0x0d) => Some(Kind::NsCertComment),
+        (10, 0x02) => Some(Kind::SCT),
+        _ => None,
+    }
+}
+
 /// The kind of this identifier.
 pub(crate) fn kind_of(identifier: &[u8]) -> Option<Kind>
     ensures { result ≡ kind_of identifier.now }
 {
+    if let Some(kind) = likely_kind_of(identifier) {
+        if kind.identifier() == identifier {
+            return Some(kind);
+        }
+    }
     among(identifier, KNOWN.as_slice())
 }
