@@ -1,6 +1,7 @@
 //! The digits of times.
 
-ghost use Rattle.std.specs.Prelude.{◌≡◌, ◌+◌, ◌<◌, ◌≤◌, if◌then◌else◌, IfSome, option_map};
+ghost use Rattle.std.specs.Prelude.{◌≡◌, ◌+◌, ◌-◌, ◌*◌, ◌<◌, ◌≤◌, ◌&&◌, if◌then◌else◌, IfSome, Some, None, option_map};
+ghost use Rattle.std.specs.Char.{is_ascii_digit};
 ghost use Rattle.asn1_times.specs.Reading.{digit_at, pair_at, milliseconds_at, fraction_at, clock_at, behind, offset_at, zone_at, tail_at, utc_at, generalized_at};
 
 use crate::datetime::{ASN1DateTime, ASN1TimeZone};
@@ -137,11 +138,45 @@ fn zone_of(i: &[u8]) -> Option<ASN1TimeZone>
     }
 }
 
+// The number of two digits.
+fn two_digits(tens: u8, ones: u8) -> Option<u8>
+    ensures { result ≡ (if is_ascii_digit tens && is_ascii_digit ones then Some ((tens - 48) * 10 + (ones - 48)) else None) }
+{
+    if tens.is_ascii_digit() && ones.is_ascii_digit() {
+        Some((tens - b'0') * 10 + (ones - b'0'))
+    } else {
+        None
+    }
+}
+
+// A time behind the digits of its year in the one form that certificates may have, MMDDHHMMSSZ (RFC 5280, 4.1.2.5).
+#[tactic(auto, unfolding(crate::specs::Reading::pair_at, crate::specs::Reading::fraction_at, crate::specs::Reading::clock_at, crate::specs::Reading::zone_at, crate::specs::Reading::tail_at))]
+fn whole_tail_of(year: u32, i: &[u8]) -> Option<ASN1DateTime>
+    ensures { IfSome result (λ t. tail_at year i.now ≡ Some t) }
+{
+    let [m0, m1, d0, d1, h0, h1, n0, n1, s0, s1, b'Z'] = i else {
+        return None;
+    };
+    Some(ASN1DateTime {
+        year,
+        month: two_digits(*m0, *m1)?,
+        day: two_digits(*d0, *d1)?,
+        hour: two_digits(*h0, *h1)?,
+        minute: two_digits(*n0, *n1)?,
+        second: two_digits(*s0, *s1)?,
+        millisecond: None,
+        tz: ASN1TimeZone::Z,
+    })
+}
+
 /// A time behind the digits of its year, to the end. The fields' ranges aren't asked.
 #[tactic(auto, unfolding(crate::specs::Reading::tail_at))]
 pub(crate) fn tail_of(year: u32, i: &[u8]) -> Option<ASN1DateTime>
     ensures { result ≡ tail_at year i.now }
 {
+    if let Some(time) = whole_tail_of(year, i) {
+        return Some(time);
+    }
     let (month, i) = pair_of(i)?;
     let (day, i) = pair_of(i)?;
     let (hour, i) = pair_of(i)?;
