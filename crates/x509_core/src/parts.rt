@@ -35,6 +35,7 @@ impl<'a> Model for Parts<'a> {
 impl<'a> Parts<'a> {
     /// All of a content, cut into its elements: a header is tried for each of them, and one at octets that none begins. No
     /// memory is taken: an element is read again where it is asked for, and not counted again.
+    #[inline(always)]
     pub fn cut(
         alloc: Global,
         content: &'a [u8],
@@ -58,6 +59,7 @@ impl<'a> Parts<'a> {
     /// The element at the front, and on behind it. Where none is there the refusal is an error, whatever the octets are, and
     /// nothing is changed.
     #[tactic(auto, unfolding(crate::specs::Reading::piece_at))]
+    #[inline(always)]
     pub fn next(&mut self) -> Result<Element<'a>, Refusal<X509Error>>
         ensures read { Gives (λ e. (piece_of e, self.new.octets)) result (piece_at self.old.octets) }
         ensures elements { IfOk result (λ _. self.old.elements ≡ self.new.elements + 1) }
@@ -77,6 +79,7 @@ impl<'a> Parts<'a> {
 
     /// The element at the front, left where it is.
     #[tactic(auto, unfolding(crate::specs::Reading::piece_at))]
+    #[inline(always)]
     pub fn first(&self) -> Option<Element<'a>>
         ensures read { option_map piece_of result ≡ first_piece self.now.octets }
         ensures shorter { IfSome result (λ e. length e.octets.now ≤ length self.now.octets) }
@@ -88,6 +91,7 @@ impl<'a> Parts<'a> {
     }
 
     /// On behind the element that `first` told.
+    #[inline(always)]
     pub fn advance(&mut self)
         requires { 0 < self.old.elements }
         ensures read { (e : Piece) → first_piece self.old.octets ≡ Some e → piece_at self.old.octets ≡ Ok (e, self.new.octets) }
