@@ -24,11 +24,3 @@ pub record IsCutting (content : List ℕ) (pieces : List Piece) (tail : List ℕ
 abbrev pub attempts_at : List Piece → List ℕ → ℕ
 attempts_at pieces [] = length pieces
 attempts_at pieces (octet ∷ tail) = length pieces + 1
-
--- the content is cut into so many elements, and the attempts rise from `before` to `after`
-pub record IsCounted (content : List ℕ) (elements before after : ℕ) : Type 0 where
-  pub pieces : List Piece
-  pub tail : List ℕ
-  pub cutting : IsCutting content pieces tail
-  pub many : elements ≡ length pieces
-  pub tried : after ≡ before + attempts_at pieces tail

@@ -1,11 +1,10 @@
 //! A content cut into its elements.
 
-ghost use Rattle.std.specs.Prelude.{◌≡◌, ◌+◌, ◌^◌, ◌<◌, ◌≤◌, ◌++◌, All, IfOk, IfSome, length, option_map};
+ghost use Rattle.std.specs.Prelude.{◌≡◌, ◌+◌, ◌^◌, ◌<◌, ◌≤◌, ◌++◌, All, IfOk, IfSome, IfNone, length, min};
 ghost use Rattle.asn1_core.specs.Counts.{attempts};
-ghost use Rattle.asn1_any.specs.Cutting.{IsCutting, IsCounted, attempts_at};
-ghost use Rattle.asn1_any.specs.CutViews.{HasCountedContent, IsLongerThanContent, pieces_of};
-ghost use Rattle.asn1_any.specs.Reading.{any_der};
-ghost use Rattle.asn1_any.specs.Views.{any_of};
+ghost use Rattle.asn1_any.specs.Cutting.{IsCutting, IsPiece, attempts_at};
+ghost use Rattle.asn1_any.specs.CutViews.{HasCountedContent, IsLongerThanContent, piece_of, pieces_of};
+ghost use Rattle.asn1_any.specs.DerElements.{HasElement};
 
 use crate::any::Any;
 use crate::read;
@@ -68,39 +67,29 @@ pub fn cut_elements_counted<'a>(
     Ok(Elements { items, tail })
 }
 
-/// How many elements `cut_elements_counted` cuts a content into, and the same header attempts more in the count. Nothing is
-/// kept of the elements, so no memory is taken.
-pub fn count_elements(content: &[u8], count: &mut HeaderCount) -> usize
-    requires { attempts count.old + length content.now < 2 ^ 128 }
-    ensures cut { IsCounted content.now result (attempts count.old) (attempts count.new) }
-    ensures least { attempts count.old ≤ attempts count.new }
-    ensures most { attempts count.new ≤ attempts count.old + length content.now }
-{
-    let mut elements = 0usize;
-    let mut tail = content;
-    'walk: while !tail.is_empty() {
-        let Ok((rest, _)) = read::der_element_counted(tail, count) else {
-            return elements;
-        };
-        elements += 1;
-        tail = rest;
-    }
-    elements
-}
-
-/// The element that begins the octets, behind those after it; none where `Any::from_der` reads none. No attempt is counted.
+/// The element that begins the octets, behind those after it, by one header attempt more in the count. It is none where
+/// `Any::from_der` reads none; of no octets nothing is tried. So a content is cut as `cut_elements_counted` cuts it, one element at
+/// a time and without memory.
 #[inline(always)]
-pub fn first_element(octets: &[u8]) -> Option<(&[u8], Element<'_>)>
-    ensures read { option_map (λ r. (any_of r.1.any, r.0.now)) result ≡ any_der octets.now }
+pub fn first_element_counted<'a>(
+    octets: &'a [u8],
+    count: &mut HeaderCount,
+) -> Option<(&'a [u8], Element<'a>)>
+    requires { attempts count.old + 1 < 2 ^ 128 }
+    ensures counted { attempts count.new ≡ attempts count.old + min 1 (length octets.now) }
+    ensures found { IfSome result (λ r. IsPiece (piece_of r.1)) }
     ensures whole { IfSome result (λ r. octets.now ≡ r.1.octets.now ++ r.0.now) }
+    ensures none { IfNone result (¬ HasElement octets.now) }
+    ensures shorter { IfSome result (λ r. length r.0.now + 2 ≤ length octets.now) }
     ensures length { IfSome result (λ r. HasCountedContent r.1) }
     ensures longer { IfSome result (λ r. IsLongerThanContent r.1) }
 {
-    match read::der_element(octets) {
-        Ok((rest, any)) => {
-            let (front, _) = octets.split_at(octets.len() - rest.len());
-            Some((rest, Element { octets: front, any }))
-        }
-        Err(_) => None,
+    if octets.is_empty() {
+        return None;
     }
+    let Ok((rest, any)) = read::der_element_counted(octets, count) else {
+        return None;
+    };
+    let (front, _) = octets.split_at(octets.len() - rest.len());
+    Some((rest, Element { octets: front, any }))
 }

@@ -8,7 +8,7 @@ mod read;
 
 pub use crate::any::Any;
 pub use crate::cut::{
-    Element, Elements, count_elements, cut_elements, cut_elements_counted, first_element,
+    Element, Elements, cut_elements, cut_elements_counted, first_element_counted,
 };
 pub use crate::laws::{
     cutting_by_piece, cutting_by_reader, definite_is_ber, more_octets, one_ber_element,

@@ -1,5 +1,7 @@
+pub mod CutAhead
 pub mod FrontLaws
 pub mod Grammars
+pub mod InOrder
 pub mod Items
 pub mod LeafLaws
 pub mod Many

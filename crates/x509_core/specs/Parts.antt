@@ -1,17 +1,28 @@
 -- What is left of a content that was cut into its elements.
-use Rattle.std.specs.Prelude.{◌≡◌, ℕ, List, length}
+use Rattle.std.specs.Prelude.{ℕ, List, [], ◌∷◌, Option, Some, None, drop}
 use Rattle.std.specs.Int.Digits.{AllBelowBase}
-use Rattle.asn1_any.specs.Cutting.{Piece, IsCutting}
+use Rattle.asn1_any.specs.declared.cut.Element.{Element}
+use Rattle.asn1_any.specs.Cutting.{IsCutting}
+use Rattle.asn1_any.specs.CutViews.{pieces_of}
+use Rattle.x509_core.specs.declared.ahead.Ahead.{Ahead}
 
 -- the octets that are left, and how many elements stand in them
 pub record Left : Type 0 where
   pub octets : List ℕ
   pub elements : ℕ
 
--- so many elements are those of the octets
-pub record IsCut (octets : List ℕ) (elements : ℕ) : Type 0 where
+-- three elements by themselves, where they are there, and others behind them
+abbrev pub in_order : Option Element → Option Element → Option Element → List Element → List Element
+in_order None second third others = []
+in_order (Some front) None third others = front ∷ []
+in_order (Some front) (Some second) None others = front ∷ second ∷ []
+in_order (Some front) (Some second) (Some third) others = front ∷ second ∷ third ∷ others
+
+unfoldable pub ahead_of : Ahead → List Element
+ahead_of ahead = in_order ahead.front ahead.second ahead.third (drop ahead.at ahead.others.items)
+
+-- the elements are those of the octets
+pub record IsCut (octets : List ℕ) (elements : List Element) : Type 0 where
   pub below : AllBelowBase 256 octets
-  pub pieces : List Piece
   pub tail : List ℕ
-  pub cutting : IsCutting octets pieces tail
-  pub many : elements ≡ length pieces
+  pub cutting : IsCutting octets (pieces_of elements) tail

@@ -62,6 +62,7 @@ pub fn front_element<'a>(
 }
 
 /// The parts of an element of this tag number.
+#[inline(always)]
 pub fn parts_of<'a>(
     alloc: Global,
     tag: u32,
@@ -87,6 +88,7 @@ pub fn parts_of<'a>(
 }
 
 /// The elements of a content.
+#[inline(always)]
 pub fn cut_all<'a>(
     alloc: Global,
     content: &'a [u8],

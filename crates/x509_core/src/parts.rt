@@ -1,6 +1,6 @@
 //! A content that was cut into its elements, read from its front.
 
-ghost use Rattle.std.specs.Prelude.{◌≡◌, ◌+◌, ◌*◌, ◌^◌, ◌<◌, ◌≤◌, ◌-◌, List, ℕ, length, IsOk, IfOk, IfErr, IfSome, option_map, Some, Ok};
+ghost use Rattle.std.specs.Prelude.{◌≡◌, ◌+◌, ◌*◌, ◌^◌, ◌<◌, ◌≤◌, ◌-◌, List, ℕ, length, IfOk, IfErr, IfSome, option_map, Some, Ok};
 ghost use Rattle.asn1_core.specs.Counts.{attempts};
 ghost use Rattle.asn1_any.specs.CutViews.{piece_of};
 ghost use Rattle.asn1_any.specs.Cutting.{Piece};
@@ -9,8 +9,9 @@ ghost use Rattle.x509_core.specs.Fronts.{TakesNoMemory};
 ghost use Rattle.x509_core.specs.Reading.{piece_at, first_piece};
 ghost use Rattle.x509_core.specs.Parts.{Left};
 
+use crate::ahead::Ahead;
 use crate::error::X509Error;
-use asn1_any::{Element, count_elements, first_element};
+use asn1_any::Element;
 use asn1_core::{Err as Refusal, Error, HeaderCount, OutOfMemory};
 use std::alloc::Global;
 use std::marker::Model;
@@ -19,22 +20,23 @@ use std::marker::Model;
 #[derive(Drop)]
 pub struct Parts<'a> {
     left: &'a [u8],
-    elements: usize,
+    ahead: Ahead<'a>,
 }
 
 impl<'a> Model for Parts<'a> {
-    ghost use Rattle.x509_core.specs.Parts.{Left, IsCut};
+    ghost use Rattle.std.specs.Prelude.{length};
+    ghost use Rattle.x509_core.specs.Parts.{Left, IsCut, ahead_of};
 
     ghost Value = { Left };
 
-    ghost view = { λ p. record { octets = p.left.now; elements = p.elements } };
+    ghost view = { λ p. record { octets = p.left.now; elements = length (ahead_of p.ahead) } };
 
-    ghost invariant = { λ p. IsCut p.left.now p.elements };
+    ghost invariant = { λ p. IsCut p.left.now (ahead_of p.ahead) };
 }
 
 impl<'a> Parts<'a> {
-    /// All of a content, cut into its elements: a header is tried for each of them, and one at octets that none begins. No
-    /// memory is taken: an element is read again where it is asked for, and not counted again.
+    /// All of a content, cut into its elements: a header is tried for each of them, and one at octets that none begins. Memory is
+    /// taken where there are more than three.
     #[inline(always)]
     pub fn cut(
         alloc: Global,
@@ -42,17 +44,15 @@ impl<'a> Parts<'a> {
         count: &mut HeaderCount,
     ) -> Result<Parts<'a>, OutOfMemory>
         requires { attempts count.old + length content.now < 2 ^ 128 }
-        ensures taken { IsOk result }
         ensures octets { IfOk result (λ p. p.octets ≡ content.now) }
         ensures least { IfOk result (λ p. attempts count.old + p.elements ≤ attempts count.new) }
         ensures grows { attempts count.old ≤ attempts count.new }
         ensures most { attempts count.new ≤ attempts count.old + length content.now }
     {
-        let _ = alloc;
-        let elements = count_elements(content, count);
+        let ahead = Ahead::cut(alloc, content, count)?;
         Ok(Parts {
             left: content,
-            elements,
+            ahead,
         })
     }
 
@@ -69,11 +69,12 @@ impl<'a> Parts<'a> {
         ensures stays { IfErr result (λ _. self.new ≡ self.old) }
         ensures memory { IfErr result TakesNoMemory }
     {
-        let Some((left, element)) = first_element(self.left) else {
+        let Some(element) = self.ahead.front() else {
             return Err(Refusal::Error(X509Error::Der(Error::InvalidLength)));
         };
+        let (_, left) = self.left.split_at(element.octets.len());
         self.left = left;
-        self.elements -= 1;
+        self.ahead.pass();
         Ok(element)
     }
 
@@ -86,8 +87,10 @@ impl<'a> Parts<'a> {
         ensures content { IfSome result (λ e. length e.any.content.now + 2 ≤ length e.octets.now) }
         ensures some { IfSome result (λ _. 0 < self.now.elements) }
     {
-        let (_, element) = first_element(self.left)?;
-        Some(element)
+        match self.ahead.front() {
+            Some(element) => Some(element),
+            None => None,
+        }
     }
 
     /// On behind the element that `first` told.
@@ -99,11 +102,19 @@ impl<'a> Parts<'a> {
         ensures ends { length self.new.octets ≤ length self.old.octets }
         ensures shorter { (e : Piece) → first_piece self.old.octets ≡ Some e → length e.octets + length self.new.octets ≡ length self.old.octets }
     {
-        let Some((left, _)) = first_element(self.left) else {
+        let Some(element) = self.ahead.front() else {
             unreachable!();
         };
+        let (_, left) = self.left.split_at(element.octets.len());
         self.left = left;
-        self.elements -= 1;
+        self.ahead.pass();
+    }
+
+    /// How many elements stand in the octets that are left.
+    pub fn elements(&self) -> usize
+        ensures { result ≡ self.now.elements }
+    {
+        self.ahead.len()
     }
 
     /// The octets that are left.

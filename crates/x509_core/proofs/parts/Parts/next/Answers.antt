@@ -1,18 +1,25 @@
-use Rattle.std.proofs.Common.{ap, sym, arith}
-use Rattle.x509_core.specs.Parts.{Left}
-use Rattle.x509_core.proofs.Pieces.{at_front}
+use Rattle.std.proofs.Common.{◌≡◌, ◌∙◌, sym, subst, Ok, Err}
+use Rattle.asn1_any.specs.CutViews.{piece_of}
+use Rattle.x509_core.specs.Answers.{unnamed}
+use Rattle.x509_core.specs.Parts.{Left, ahead_of}
+use Rattle.x509_core.specs.Reading.{piece_at}
+use Rattle.x509_core.proofs.Pieces.{at_end, at_front}
 use Rattle.x509_core.proofs.parts.Parts.next.Goals as goal
 
-pub overflow_sub-self : goal.overflow_sub-self
-overflow_sub-self c =
-    (at_front c.self.inside.left.now c.in-Some.left.now c.self.inside.elements c.in-Some.element c.self.invariant (sym c.in-Some.ensures.read) c.in-Some.ensures.whole).some
+pub returns-in_default-clause-read : goal.returns-in_default-clause-read
+returns-in_default-clause-read c =
+    subst (λ (p : Left). piece_at p.octets ≡ Err unnamed) c.self.view_is
+    (at_end c.self.inside.left.now (ahead_of c.self.inside.ahead) c.self.invariant c.in_default.ensures.none)
+
+pub returns-clause-read : goal.returns-clause-read
+returns-clause-read c =
+    let e = c.in-Some.element in
+    let here = c.pass.ensures e (sym c.front.ensures.is ∙ c.in-Some.is) in
+    subst (λ (p : Left). piece_at p.octets ≡ Ok (piece_of e, c.split_at.result.1.now)) c.self.view_is
+    (at_front c.self.inside.left.now c.split_at.result.1.now (ahead_of c.self.inside.ahead) (ahead_of c.pass.new.self) e c.self.invariant here c.split_at.ensures.back).read
 
 pub invariant_of-self : goal.invariant_of-self
 invariant_of-self c =
-    (at_front c.self.inside.left.now c.in-Some.left.now c.self.inside.elements c.in-Some.element c.self.invariant (sym c.in-Some.ensures.read) c.in-Some.ensures.whole).cut
-
-pub returns-clause-elements : goal.returns-clause-elements
-returns-clause-elements c =
-    let some = (at_front c.self.inside.left.now c.in-Some.left.now c.self.inside.elements c.in-Some.element c.self.invariant (sym c.in-Some.ensures.read) c.in-Some.ensures.whole).some in
-    let is = ap (λ (p : Left). p.elements) c.self.view_is in
-    omega (arith, is, some)
+    let e = c.in-Some.element in
+    let here = c.pass.ensures e (sym c.front.ensures.is ∙ c.in-Some.is) in
+    (at_front c.self.inside.left.now c.split_at.result.1.now (ahead_of c.self.inside.ahead) (ahead_of c.pass.new.self) e c.self.invariant here c.split_at.ensures.back).cut

@@ -1,0 +1,122 @@
+//! The elements of a content that are still ahead of its reader.
+
+ghost use Rattle.std.specs.Prelude.{◌≡◌, ◌+◌, ◌^◌, ◌<◌, ◌≤◌, ◌∷◌, List, [], length, Some, IfOk, IfSome, IfNone};
+ghost use Rattle.asn1_any.specs.declared.cut.Element.{Element as Cut};
+ghost use Rattle.asn1_core.specs.Counts.{attempts};
+ghost use Rattle.x509_core.specs.Parts.{IsCut, ahead_of};
+
+use asn1_any::{Element, cut_elements_counted, first_element_counted};
+use asn1_core::{HeaderCount, OutOfMemory};
+use std::alloc::Global;
+
+/// Elements in their order. The first three are held in the value itself, since most contents have no more; a vector has the
+/// others.
+#[derive(Drop)]
+pub(crate) struct Ahead<'a> {
+    front: Option<Element<'a>>,
+    second: Option<Element<'a>>,
+    third: Option<Element<'a>>,
+    others: Vec<Element<'a>>,
+    at: usize,
+}
+
+// At most three elements.
+#[inline(always)]
+fn few<'a>(
+    alloc: Global,
+    front: Option<Element<'a>>,
+    second: Option<Element<'a>>,
+    third: Option<Element<'a>>,
+) -> Ahead<'a>
+    ensures front { result.front ≡ front.entry }
+    ensures second { result.second ≡ second.entry }
+    ensures third { result.third ≡ third.entry }
+    ensures others { result.others.items ≡ [] }
+    ensures at { result.at ≡ 0 }
+{
+    Ahead {
+        front,
+        second,
+        third,
+        others: Vec::new(alloc),
+        at: 0,
+    }
+}
+
+impl<'a> Ahead<'a> {
+    /// The elements of a content: a header is tried for each of them, and one at octets that none begins. Memory is taken for
+    /// those behind the third.
+    #[inline(always)]
+    #[tactic(auto, unfolding(crate::specs::Parts::ahead_of))]
+    pub(crate) fn cut(
+        alloc: Global,
+        content: &'a [u8],
+        count: &mut HeaderCount,
+    ) -> Result<Ahead<'a>, OutOfMemory>
+        requires { attempts count.old + length content.now < 2 ^ 128 }
+        ensures cut { IfOk result (λ ahead. IsCut content.now (ahead_of ahead)) }
+        ensures least { IfOk result (λ ahead. attempts count.old + length (ahead_of ahead) ≤ attempts count.new) }
+        ensures grows { attempts count.old ≤ attempts count.new }
+        ensures most { attempts count.new ≤ attempts count.old + length content.now }
+    {
+        if content.is_empty() {
+            return Ok(few(alloc, None, None, None));
+        }
+        let Some((tail, front)) = first_element_counted(content, count) else {
+            return Ok(few(alloc, None, None, None));
+        };
+        let Some((tail, second)) = first_element_counted(tail, count) else {
+            return Ok(few(alloc, Some(front), None, None));
+        };
+        let Some((tail, third)) = first_element_counted(tail, count) else {
+            return Ok(few(alloc, Some(front), Some(second), None));
+        };
+        let others = cut_elements_counted(alloc, tail, count)?;
+        Ok(Ahead {
+            front: Some(front),
+            second: Some(second),
+            third: Some(third),
+            others: others.items,
+            at: 0,
+        })
+    }
+
+    /// The first of the elements.
+    #[inline(always)]
+    #[tactic(auto, unfolding(crate::specs::Parts::ahead_of))]
+    pub(crate) fn front(&self) -> Option<Element<'a>>
+        ensures some { IfSome result (λ e. (rest : List Cut) × (ahead_of self.now ≡ e ∷ rest)) }
+        ensures none { IfNone result (ahead_of self.now ≡ []) }
+        ensures is { result ≡ self.now.front }
+    {
+        self.front
+    }
+
+    /// On behind the first of the elements.
+    #[inline(always)]
+    #[tactic(auto, unfolding(crate::specs::Parts::ahead_of))]
+    pub(crate) fn pass(&mut self)
+        ensures { (e : Cut) → self.old.front ≡ Some e → ahead_of self.old ≡ e ∷ ahead_of self.new }
+    {
+        self.front = self.second;
+        self.second = self.third;
+        self.third = None;
+        if self.at < self.others.len() {
+            self.third = Some(self.others[self.at]);
+            self.at += 1;
+        }
+    }
+
+    /// How many elements there are.
+    #[tactic(auto, unfolding(crate::specs::Parts::ahead_of))]
+    pub(crate) fn len(&self) -> usize
+        ensures { result ≡ length (ahead_of self.now) }
+    {
+        match (self.front, self.second, self.third) {
+            (None, _, _) => 0,
+            (Some(_), None, _) => 1,
+            (Some(_), Some(_), None) => 2,
+            (Some(_), Some(_), Some(_)) => 3 + self.others.len().saturating_sub(self.at),
+        }
+    }
+}
