@@ -1,9 +1,10 @@
 -- Rows raised in place, and what is handed on.
-use Rattle.std.proofs.Common.{◌≡◌, ℕ, ◌+◌, ◌<◌, ◌≤◌, List, [], ◌∷◌, ◌++◌, length, take, get_or, set, replicate, Vec, Global, arith, sym, ap, ◌∙◌, subst, refl, inl, inr, get_or-set_same, get_or-set_other}
+use Rattle.std.proofs.Common.{◌≡◌, ◌≢◌, ℕ, ◌+◌, ◌<◌, ◌≤◌, List, [], ◌∷◌, ◌++◌, length, take, get_or, set, replicate, arith, sym, ap, ◌∙◌, subst, refl, inl, inr, get_or-set_same, get_or-set_other}
 use Rattle.std.specs.Prelude.{◌⊎◌, ◌↔◌, All, Contains}
 use Rattle.std.proofs.lemmas.Bool.{cases_lt}
 use Rattle.std.proofs.lemmas.List.{take_more, get_or_past, get_or_default, get_or-map, get_or-replicate, length-replicate}
 use Rattle.std.proofs.lemmas.List.Elements.{Contains-get_or, Contains-append_left, Contains-push, Contains-push_cases}
+use Rattle.smallvec.specs.SmallVec.{SmallVec}
 use Rattle.cert_graph.specs.declared.reach.Reach.{Reach}
 use Rattle.cert_graph.specs.declared.reach.Reach.TheVariants.{No, UpTo, Any as Each}
 use Rattle.cert_graph.specs.declared.nodes.Group.{Group}
@@ -15,7 +16,7 @@ use Rattle.cert_graph.specs.Nodes.{graph_of}
 use Rattle.cert_graph.proofs.ReachFacts.{more_takes, at_most_from_takes}
 use Rattle.cert_search.specs.declared.changes.Change.{Change}
 use Rattle.cert_search.specs.Changes.{changed}
-use Rattle.cert_search.specs.Rows.{AreOffers, IsRaisedBy}
+use Rattle.cert_search.specs.Rows.{AreOffers, IsRaisedBy, GroupOffers}
 use Rattle.cert_search.specs.Rising.{IsGroup, AreAnchored, ArePlaces, AreRaised, HaveRisen, ChangeTakes, MemberTakes, LetsThrough, AreHanded, AreBests}
 use Rattle.cert_search.proofs.Anything.{any_push, any_more}
 use Rattle.cert_search.proofs.Changing.{changed_push}
@@ -134,10 +135,10 @@ pub all_within : (xs : List ℕ) (n : ℕ) → ((v : ℕ) → Contains xs v → 
 all_within xs n h i d lt = h (get_or xs i d) (Contains-get_or xs i d lt)
 
 -- places are those of groups
-pub places_within : (nodes : Nodes) (lists : List (Vec ℕ Global)) → ArePlaces nodes (lists_of lists) → All (λ (l : Vec ℕ Global). All (λ k. k < length nodes.groups.items) l.items) lists
+pub places_within : (nodes : Nodes) (lists : List (SmallVec ℕ)) → ArePlaces nodes (lists_of lists) → All (λ (l : SmallVec ℕ). All (λ k. k < length nodes.groups.items) l.items) lists
 places_within nodes lists p w d lt i e inside =
     let list = get_or lists w d in
-    let read = get_or-map (λ (y : Vec ℕ Global). y.items) lists w d [] lt in
+    let read = get_or-map (λ (y : SmallVec ℕ). y.items) lists w d [] lt in
     let x = (p w (get_or list.items i e)).0 (subst (λ (xs : List ℕ). Contains xs (get_or list.items i e)) (sym read) (Contains-get_or list.items i e inside)) in
     x.1.0
 
@@ -267,6 +268,70 @@ handed_all nodes bests first handed offered offers groups risen h listed k c = (
   h.below k c,
   λ t. elim (listed k) [ inl y ↦ h.done k y c t | inr f ↦ h.kept k c (f c t) ],
 )
+
+-- What groups may offer, raised group by group to what they offer by a row.
+pub record SoBest (nodes : Nodes) (row first bests : List Reach) (i : ℕ) (groups : List ℕ) : Type 0 where
+  pub done : (k : ℕ) (group : Group) → IsGroup nodes k group → k < i → (c : ℕ) → Takes (at_row bests k) c ↔ GroupOffers nodes row group c
+  pub rest : (k : ℕ) → i ≤ k → at_row bests k ≡ at_row first k
+  pub kept : (k c : ℕ) → Takes (at_row first k) c → Takes (at_row bests k) c
+  pub risen : HaveRisen first bests [] groups
+
+pub best_more : (nodes : Nodes) (row first bests : List Reach) (i : ℕ) (group : Group) (best : Reach) (groups : List ℕ) → i < length bests → IsGroup nodes i group
+    → ((c : ℕ) → Takes best c ↔ GroupOffers nodes row group c) → (IsAtMost best (at_row bests i) → ⊥)
+    → SoBest nodes row first bests i groups → SoBest nodes row first (set bests i best) (i + 1) (groups ++ i ∷ [])
+best_more nodes row first bests i group best groups inside is offers above h = record {
+  done = λ k x at lt c. elim (apart k i) [
+    | inl e ↦
+        let here : at_row (set bests i best) k ≡ best = subst (λ (u : ℕ). at_row (set bests i best) u ≡ best) e (get_or-set_same bests i best No inside) in
+        let same : x ≡ group = same_group nodes i x group (subst (λ (u : ℕ). IsGroup nodes u x) (sym e) at) is in (
+          λ t. subst (λ (g : Group). GroupOffers nodes row g c) (sym same) ((offers c).0 (subst (λ (r : Reach). Takes r c) here t)),
+          λ o. subst (λ (r : Reach). Takes r c) (sym here) ((offers c).1 (subst (λ (g : Group). GroupOffers nodes row g c) same o)),
+        )
+    | inr other ↦
+        let below : k < i = omega (arith, lt, other) in
+        let there : at_row (set bests i best) k ≡ at_row bests k = get_or-set_other bests i k best No other in (
+          λ t. (h.done k x at below c).0 (subst (λ (r : Reach). Takes r c) there t),
+          λ o. subst (λ (r : Reach). Takes r c) (sym there) ((h.done k x at below c).1 o),
+        )
+  ];
+  rest = λ k le.
+      let other : k ≢ i = omega (arith, le) in
+      let past : i ≤ k = omega (arith, le) in
+      get_or-set_other bests i k best No other ∙ h.rest k past;
+  kept = λ k c t. elim (apart k i) [
+    | inl e ↦ subst (λ (u : ℕ). Takes (at_row (set bests i best) u) c) e
+        (subst (λ (r : Reach). Takes r c) (sym (get_or-set_same bests i best No inside)) (higher best (at_row bests i) above c (subst (λ (u : ℕ). Takes (at_row bests u) c) (sym e) (h.kept k c t))))
+    | inr other ↦ subst (λ (r : Reach). Takes r c) (sym (get_or-set_other bests i k best No other)) (h.kept k c t)
+  ];
+  risen = risen_more first bests [] groups i best inside above h.kept h.risen;
+}
+
+pub best_still : (nodes : Nodes) (row first bests : List Reach) (i : ℕ) (group : Group) (best : Reach) (groups : List ℕ) → IsGroup nodes i group
+    → ((c : ℕ) → Takes best c ↔ GroupOffers nodes row group c) → IsAtMost best (at_row bests i) → ((c : ℕ) → Takes (at_row first i) c → GroupOffers nodes row group c)
+    → SoBest nodes row first bests i groups → SoBest nodes row first bests (i + 1) groups
+best_still nodes row first bests i group best groups is offers le below h = record {
+  done = λ k x at lt c. elim (apart k i) [
+    | inl e ↦
+        let same : x ≡ group = same_group nodes i x group (subst (λ (u : ℕ). IsGroup nodes u x) (sym e) at) is in
+        let self : i ≤ i = omega arith in (
+          λ t. subst (λ (g : Group). GroupOffers nodes row g c) (sym same)
+              (below c (subst (λ (r : Reach). Takes r c) (h.rest i self) (subst (λ (u : ℕ). Takes (at_row bests u) c) (sym e) t))),
+          λ o. subst (λ (u : ℕ). Takes (at_row bests u) c) e
+              (more_takes best (at_row bests i) c le ((offers c).1 (subst (λ (g : Group). GroupOffers nodes row g c) same o))),
+        )
+    | inr other ↦ let before : k < i = omega (arith, lt, other) in h.done k x at before c
+  ];
+  rest = λ k past. let at : i ≤ k = omega (arith, past) in h.rest k at;
+  kept = h.kept;
+  risen = h.risen;
+}
+
+-- all groups
+pub best_all : (nodes : Nodes) (row first bests : List Reach) (i : ℕ) (groups : List ℕ) → length nodes.groups.items ≤ i → SoBest nodes row first bests i groups → AreBests nodes row bests
+best_all nodes row first bests i groups past h k group is c =
+    let lt = is.0 in
+    let below : k < i = omega (arith, lt, past) in
+    h.done k group is below c
 
 -- what groups may offer by the next row
 pub bests_next : (nodes : Nodes) (places : List (List ℕ)) (row next bests after : List Reach) (changes : List Change) → ArePlaces nodes places → AreBests nodes row bests

@@ -1,9 +1,10 @@
 -- Groups told by their places.
-use Rattle.std.proofs.Common.{◌≡◌, ◌≢◌, ℕ, ◌+◌, ◌<◌, ◌≤◌, List, [], ◌∷◌, ◌++◌, length, take, get_or, set, map, Vec, Global, arith, sym, ap, ◌∙◌, subst, refl, inl, inr, get_or-set_same, get_or-set_other}
+use Rattle.std.proofs.Common.{◌≡◌, ◌≢◌, ℕ, ◌+◌, ◌<◌, ◌≤◌, List, [], ◌∷◌, ◌++◌, length, take, get_or, set, map, arith, sym, ap, ◌∙◌, subst, refl, inl, inr, get_or-set_same, get_or-set_other}
 use Rattle.std.specs.Prelude.{◌⊎◌, ◌↔◌, All, Contains}
 use Rattle.std.proofs.lemmas.Bool.{cases_lt}
 use Rattle.std.proofs.lemmas.List.{take_more, get_or_default, get_or_past, get_or-map, length-map, map-set}
 use Rattle.std.proofs.lemmas.List.Elements.{Contains-append_left, Contains-push, Contains-push_cases}
+use Rattle.smallvec.specs.SmallVec.{SmallVec}
 use Rattle.cert_graph.specs.declared.nodes.Group.{Group}
 use Rattle.cert_graph.specs.declared.nodes.Nodes.{Nodes}
 use Rattle.cert_graph.specs.Nodes.{graph_of}
@@ -28,18 +29,18 @@ pub nothing_in : (v : ℕ) → Contains {X = ℕ} [] v → ⊥
 nothing_in v h = omega (arith, h.1)
 
 -- lists of places, as the code keeps them
-abbrev pub lists_of : List (Vec ℕ Global) → List (List ℕ)
-lists_of lists = map (λ (l : Vec ℕ Global). l.items) lists
+abbrev pub lists_of : List (SmallVec ℕ) → List (List ℕ)
+lists_of lists = map (λ (l : SmallVec ℕ). l.items) lists
 
-pub read_list : (lists : List (Vec ℕ Global)) (x : ℕ) (l : Vec ℕ Global) → x < length lists → l ≡ get_or lists x l → get_or (lists_of lists) x [] ≡ l.items
-read_list lists x l within is = get_or-map (λ (y : Vec ℕ Global). y.items) lists x l [] within ∙ ap (λ (y : Vec ℕ Global). y.items) (sym is)
+pub read_list : (lists : List (SmallVec ℕ)) (x : ℕ) (l : SmallVec ℕ) → x < length lists → l ≡ get_or lists x l → get_or (lists_of lists) x [] ≡ l.items
+read_list lists x l within is = get_or-map (λ (y : SmallVec ℕ). y.items) lists x l [] within ∙ ap (λ (y : SmallVec ℕ). y.items) (sym is)
 
 -- one place more in one of the lists
-pub noted_once : (lists : List (Vec ℕ Global)) (x place : ℕ) (old new : Vec ℕ Global) → x < length lists → old ≡ get_or lists x old → new.items ≡ old.items ++ place ∷ []
+pub noted_once : (lists : List (SmallVec ℕ)) (x place : ℕ) (old new : SmallVec ℕ) → x < length lists → old ≡ get_or lists x old → new.items ≡ old.items ++ place ∷ []
     → (w k : ℕ) → Contains (get_or (lists_of (set lists x new)) w []) k ↔ (Contains (get_or (lists_of lists) w []) k ⊎ ((x ≡ w) × (k ≡ place)))
 noted_once lists x place old new within is push w k =
-    let all = map-set (λ (y : Vec ℕ Global). y.items) lists x new in
-    let size = length-map lists (λ (y : Vec ℕ Global). y.items) in
+    let all = map-set (λ (y : SmallVec ℕ). y.items) lists x new in
+    let size = length-map lists (λ (y : SmallVec ℕ). y.items) in
     let inside : x < length (lists_of lists) = omega arith in
     elim (apart w x) [
       | inl e ↦
@@ -65,7 +66,7 @@ abbrev pub NotedSoFar : Nodes → List ℕ → ℕ → List (List ℕ) → List 
 NotedSoFar nodes members place old new =
     (w k : ℕ) → Contains (get_or new w []) k ↔ (Contains (get_or old w []) k ⊎ ((k ≡ place) × (graph_of nodes).Fit w × Contains members w))
 
-pub noted_more : (nodes : Nodes) (members : List ℕ) (i place : ℕ) (first : List (List ℕ)) (lists : List (Vec ℕ Global)) (old new : Vec ℕ Global) → i < length members → get_or members i 0 < length lists
+pub noted_more : (nodes : Nodes) (members : List ℕ) (i place : ℕ) (first : List (List ℕ)) (lists : List (SmallVec ℕ)) (old new : SmallVec ℕ) → i < length members → get_or members i 0 < length lists
     → old ≡ get_or lists (get_or members i 0) old → new.items ≡ old.items ++ place ∷ [] → (graph_of nodes).Fit (get_or members i 0)
     → NotedSoFar nodes (take i members) place first (lists_of lists) → NotedSoFar nodes (take (i + 1) members) place first (lists_of (set lists (get_or members i 0) new))
 noted_more nodes members i place first lists old new within inside is push fit h w k =
@@ -103,11 +104,11 @@ abbrev pub PlacesBelow : Nodes → ℕ → List (List ℕ) → Type 0
 PlacesBelow nodes i places =
     (w k : ℕ) → Contains (get_or places w []) k ↔ ((k < i) × ((group : Group) × IsGroup nodes k group × (graph_of nodes).Fit w × Contains group.members.items w))
 
-pub places_none : (nodes : Nodes) (lists : List (Vec ℕ Global)) → All (λ l. l.items ≡ []) lists → PlacesBelow nodes 0 (lists_of lists)
+pub places_none : (nodes : Nodes) (lists : List (SmallVec ℕ)) → All (λ l. l.items ≡ []) lists → PlacesBelow nodes 0 (lists_of lists)
 places_none nodes lists empty w k =
     let same : get_or (lists_of lists) w [] ≡ [] = elim (cases_lt w (length lists)) [
-      | inl below ↦ let x = element_at lists w below in get_or-map (λ (y : Vec ℕ Global). y.items) lists w x.0 [] below ∙ empty w x.0 below
-      | inr above ↦ let size = length-map lists (λ (y : Vec ℕ Global). y.items) in
+      | inl below ↦ let x = element_at lists w below in get_or-map (λ (y : SmallVec ℕ). y.items) lists w x.0 [] below ∙ empty w x.0 below
+      | inr above ↦ let size = length-map lists (λ (y : SmallVec ℕ). y.items) in
           let past : length (lists_of lists) ≤ w = omega arith in
           get_or_past (lists_of lists) w [] past
     ] in (

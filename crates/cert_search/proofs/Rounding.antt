@@ -14,19 +14,17 @@ use Rattle.cert_search.specs.declared.changes.Change.{Change}
 use Rattle.cert_search.specs.declared.rising.Rising.{Rising}
 use Rattle.cert_search.specs.Changes.{changed}
 use Rattle.cert_search.specs.Rows.{IsRaisedBy, StandsUnder}
-use Rattle.cert_search.specs.Rising.{ArePlaces, AreRaised, HaveRisen, ChangeTakes, MemberTakes, AreHanded, AreBests, IsRising, IsRound, IsBegun}
+use Rattle.cert_search.specs.Rising.{HaveRisen, AreHanded, AreBests, IsRising, IsRound, IsBegun}
 use Rattle.cert_search.proofs.Placing.{nothing_in}
-use Rattle.cert_search.proofs.Handing.{bests_next, offers_handed, risen_within, none_takes}
+use Rattle.cert_search.proofs.Handing.{offers_handed, risen_within, none_takes}
 
-pub round : (nodes : Nodes) (places : List (List ℕ)) (old new : Rising) (changes : List Change) → ArePlaces nodes places → IsRising nodes old
-    → IsRaisedBy (graph_of nodes) old.offers.items new.row.items → changed old.row.items changes ≡ new.row.items → AreRaised old.row.items new.row.items (ChangeTakes changes)
-    → AreRaised old.bests.items new.bests.items (MemberTakes places changes)
+pub round : (nodes : Nodes) (old new : Rising) (changes : List Change) → IsRising nodes old
+    → IsRaisedBy (graph_of nodes) old.offers.items new.row.items → changed old.row.items changes ≡ new.row.items → AreBests nodes new.row.items new.bests.items
     → AreHanded nodes new.handed.items new.offers.items → ((k c : ℕ) → Takes (at_row new.handed.items k) c ↔ Takes (at_row new.bests.items k) c) → ((v c : ℕ) → Takes (at_row old.offers.items v) c → Takes (at_row new.offers.items v) c)
     → HaveRisen old.offers.items new.offers.items [] new.risen.items
     → length new.row.items ≡ length old.row.items → length new.bests.items ≡ length old.bests.items → length new.handed.items ≡ length old.handed.items → length new.offers.items ≡ length old.offers.items
     → IsRound nodes old new changes
-round nodes places old new changes p s raised made taken better handed all grown risen rl bl hl ol =
-    let bests : AreBests nodes new.row.items new.bests.items = bests_next nodes places old.row.items new.row.items old.bests.items new.bests.items changes p s.bests taken better in
+round nodes old new changes s raised made bests handed all grown risen rl bl hl ol =
     let offers_whole = ol ∙ s.offers_whole in record {
       rising = record {
         whole = rl ∙ s.whole;

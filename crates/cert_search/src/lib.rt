@@ -1,9 +1,10 @@
 //! The search for the first valid certification path over a graph of certificates.
 //!
 //! `find_nodes` raises rows of reaches, each from the one before it, until a row gives the target a path or stands
-//! still. A round goes on from the entries that changed in the last one. Where a row gives a path, a walk down the rows
-//! takes the least position at each step. The rows are the answer's table, by which `cert_graph::check_nodes` sees that
-//! the answer is true. Until the target has a path, one row is kept, and of each row before where the next differs.
+//! still. The first round goes over all groups, and each further one goes on from the entries that changed in the last.
+//! Where a row gives a path, a walk down the rows takes the least position at each step. The rows are the answer's
+//! table, by which `cert_graph::check_nodes` sees that the answer is true. Until the target has a path, one row is
+//! kept, and of each row before where the next differs.
 #![tactic(auto)]
 
 mod changes;

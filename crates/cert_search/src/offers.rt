@@ -2,8 +2,26 @@ ghost use Rattle.std.specs.Prelude.{ℕ, ◌+◌, ◌↔◌};
 ghost use Rattle.cert_graph.specs.Reach.{Takes};
 ghost use Rattle.cert_graph.specs.Steps.{one_of};
 ghost use Rattle.cert_graph.specs.Nodes.{graph_of};
+ghost use Rattle.cert_search.specs.Rows.{GroupOffers};
 
-use cert_graph::{Nodes, Reach};
+use crate::places::has_anchor;
+use cert_graph::{Group, Nodes, Reach, reach_at};
+
+/// What a group offers by a row to all that it issued.
+pub(crate) fn offer_of(nodes: &Nodes, row: &[Reach], group: &Group) -> Reach
+    ensures { (c : ℕ) → Takes result c ↔ GroupOffers nodes.now row.now group.now c }
+{
+    if has_anchor(group) {
+        return Reach::Any;
+    }
+    let mut best = Reach::No;
+    for w in &group.members {
+        if nodes.is_fit(*w) {
+            best = best.greater(reach_at(row, *w));
+        }
+    }
+    best
+}
 
 /// The entry of the next row at a position, by what it is offered.
 pub(crate) fn raised_at(nodes: &Nodes, position: usize, offer: Reach) -> Reach

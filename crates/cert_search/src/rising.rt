@@ -1,15 +1,16 @@
-ghost use Rattle.std.specs.Prelude.{◌≡◌, ℕ, ◌<◌, ◌⊎◌, ◌↔◌, [], length, map, replicate, All, Contains, IfOk, IsTrue, OnOk};
+ghost use Rattle.std.specs.Prelude.{◌≡◌, ℕ, ◌<◌, ◌⊎◌, ◌↔◌, [], length, map, replicate, All, Contains, IfOk, IfSome, IsTrue, OnOk, List};
 ghost use Rattle.cert_graph.specs.declared.reach.Reach.TheVariants.{No};
 ghost use Rattle.cert_graph.specs.Reach.{Takes};
 ghost use Rattle.cert_graph.specs.Adequate.{at_row};
 ghost use Rattle.cert_graph.specs.Nodes.{graph_of};
 ghost use Rattle.cert_search.specs.Changes.{changed};
-ghost use Rattle.cert_search.specs.Rows.{IsRaisedBy};
-ghost use Rattle.cert_search.specs.Rising.{ArePlaces, AreRaised, HaveRisen, ChangeTakes, MemberTakes, LetsThrough, AreHanded, IsRising, IsRound, IsBegun};
+ghost use Rattle.cert_search.specs.Rows.{IsRaisedBy, GroupOffers};
+ghost use Rattle.cert_graph.specs.declared.nodes.Group.{Group};
+ghost use Rattle.cert_search.specs.Rising.{IsGroup, ArePlaces, AreRaised, HaveRisen, ChangeTakes, MemberTakes, LetsThrough, AreHanded, AreBests, IsRising, IsRound, IsBegun};
 
 use crate::changes::Change;
-use crate::offers::raised_at;
-use crate::places::anchored_of;
+use crate::offers::{offer_of, raised_at};
+use crate::places::{Places, anchored_of};
 use cert_graph::{Nodes, Reach, reach_at};
 use std::alloc::{AllocError, Global};
 
@@ -84,7 +85,7 @@ fn raise_row(
 /// Raises what each group may offer by the changes of its members, and tells the groups where it rose.
 fn raise_bests(
     alloc: Global,
-    places: &[Vec<usize>],
+    places: &[Places],
     changes: &[Change],
     bests: &mut [Reach],
 ) -> Result<Vec<usize>, AllocError>
@@ -99,6 +100,53 @@ fn raise_bests(
         }
     }
     Ok(groups)
+}
+
+/// Raises what each group may offer to what it offers by a row, and tells the groups where it rose.
+fn raise_all_bests(
+    alloc: Global,
+    nodes: &Nodes,
+    row: &[Reach],
+    bests: &mut [Reach],
+) -> Result<Vec<usize>, AllocError>
+    requires whole { length bests.old ≡ length nodes.now.groups.items }
+    requires below { (k : ℕ) (group : Group) → IsGroup nodes.now k group → (c : ℕ) → Takes (at_row bests.old k) c → GroupOffers nodes.now row.now group c }
+    ensures bests { IfOk result (λ groups. AreBests nodes.now row.now bests.new) }
+    ensures grown { IfOk result (λ groups. (k c : ℕ) → Takes (at_row bests.old k) c → Takes (at_row bests.new k) c) }
+    ensures risen { IfOk result (λ groups. HaveRisen bests.old bests.new [] groups.items) }
+{
+    let mut groups = Vec::new(alloc);
+    for (place, group) in nodes.groups.iter().enumerate() {
+        let best = offer_of(nodes, row, group);
+        if !best.is_at_most(bests[place]) {
+            bests[place] = best;
+            groups.push(place)?;
+        }
+    }
+    Ok(groups)
+}
+
+/// Raises what each group may offer to what it offers by the next row, and tells the groups where it rose. Where no
+/// places are noted it looks at all members of all groups.
+fn next_bests(
+    alloc: Global,
+    nodes: &Nodes,
+    places: &Option<Vec<Places>>,
+    row: &[Reach],
+    changes: &[Change],
+    bests: &mut [Reach],
+) -> Result<Vec<usize>, AllocError>
+    requires whole { length bests.old ≡ length nodes.now.groups.items }
+    requires places { IfSome places.now (λ known. ArePlaces nodes.now (map (λ l. l.items) known.items)) }
+    requires changed { (last : List Reach) × AreBests nodes.now last bests.old × AreRaised last row.now (ChangeTakes changes.now) }
+    ensures bests { IfOk result (λ groups. AreBests nodes.now row.now bests.new) }
+    ensures grown { IfOk result (λ groups. (k c : ℕ) → Takes (at_row bests.old k) c → Takes (at_row bests.new k) c) }
+    ensures risen { IfOk result (λ groups. HaveRisen bests.old bests.new [] groups.items) }
+{
+    match places {
+        Some(known) => raise_bests(alloc, known, changes, bests),
+        None => raise_all_bests(alloc, nodes, row, bests),
+    }
 }
 
 /// Hands on what some groups may offer to all that they issued, and tells the positions whose offer rose. A group
@@ -161,19 +209,27 @@ pub(crate) fn begin(alloc: Global, nodes: &Nodes) -> Result<Rising, AllocError>
     })
 }
 
-/// One round: the row becomes the next one, by the changes that are returned.
+/// One round: the row becomes the next one, by the changes that are returned. It needs no places, but without them it
+/// goes over all groups.
 pub(crate) fn rise(
     alloc: Global,
     nodes: &Nodes,
-    places: &[Vec<usize>],
+    places: &Option<Vec<Places>>,
     search: &mut Rising,
 ) -> Result<Vec<Change>, AllocError>
-    requires places { ArePlaces nodes.now (map (λ l. l.items) places.now) }
+    requires places { IfSome places.now (λ known. ArePlaces nodes.now (map (λ l. l.items) known.items)) }
     requires rising { IsRising nodes.now search.old }
     ensures { IfOk result (λ changes. IsRound nodes.now search.old search.new changes.items) }
 {
     let changes = raise_row(alloc, nodes, &search.offers, &search.risen, &mut search.row)?;
-    let groups = raise_bests(alloc, places, &changes, &mut search.bests)?;
+    let groups = next_bests(
+        alloc,
+        nodes,
+        places,
+        &search.row,
+        &changes,
+        &mut search.bests,
+    )?;
     search.risen = hand_on(
         alloc,
         nodes,

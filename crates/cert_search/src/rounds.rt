@@ -5,7 +5,7 @@ ghost use Rattle.cert_graph.specs.Nodes.{graph_of};
 ghost use Rattle.cert_search.specs.Found.{IsFound};
 
 use crate::changes::rows_of;
-use crate::places::places_of;
+use crate::places::noted;
 use crate::rising::{begin, has_risen, rise};
 use cert_graph::{Nodes, Reach, reach_at};
 use std::alloc::{AllocError, Global};
@@ -29,12 +29,13 @@ fn opens(usable: bool, offers: &[Reach], target: usize) -> bool
 
 /// Rows raised from none, up to the first that gives the target a path or is its own successor.
 ///
-/// Of the rows before the last their changes alone are kept, until the target has a path.
+/// Of the rows before the last their changes alone are kept, until the target has a path. The groups of each item are
+/// noted only where a second round follows.
 pub(crate) fn rows_to(alloc: Global, nodes: &Nodes, target: usize) -> Result<Found, AllocError>
     ensures { IfOk result (IsFound (graph_of nodes.now) target) }
 {
     let usable = nodes.is_usable(target);
-    let places = places_of(alloc, nodes)?;
+    let mut places = None;
     let mut search = begin(alloc, nodes)?;
     let mut steps = Vec::new(alloc);
     'round: loop {
@@ -48,5 +49,6 @@ pub(crate) fn rows_to(alloc: Global, nodes: &Nodes, target: usize) -> Result<Fou
             return Ok(Found::Standing(search.row));
         }
         steps.push(changes)?;
+        places = Some(noted(alloc, nodes, places)?);
     }
 }

@@ -1,5 +1,6 @@
-use Rattle.std.proofs.Common.{ℕ, ◌+◌, ◌∙◌, sym, subst, ap, get_or, List, length, ◌≡◌, ◌≤◌, ◌<◌, Vec, Global, arith}
+use Rattle.std.proofs.Common.{ℕ, ◌+◌, ◌∙◌, sym, subst, ap, get_or, List, length, ◌≡◌, ◌≤◌, ◌<◌, arith}
 use Rattle.std.proofs.lemmas.List.{with_items_is}
+use Rattle.smallvec.specs.SmallVec.{SmallVec}
 use Rattle.cert_graph.specs.declared.nodes.Group.{Group}
 use Rattle.cert_search.specs.Rising.{IsGroup, AreNoted}
 use Rattle.cert_search.proofs.Placing.{PlacesBelow, lists_of, places_none, places_more, places_all}
@@ -17,9 +18,9 @@ loop-place-preserved c =
     let size : length c.note.new.places ≡ c.loop-place.places.len = c.note.auto.places ∙ c.deref_mut.ensures.len in
     let e = with_items_is c.loop-place.places c.note.new.places size in
     let noted : AreNoted nodes group i (lists_of c.loop-place.places.items) (lists_of c.note.new.places) =
-    subst (λ (ls : List (Vec ℕ Global)). AreNoted nodes group i (lists_of ls) (lists_of c.note.new.places)) c.deref_mut.ensures.value c.in_ok-note.ensures in record {
+    subst (λ (ls : List (SmallVec ℕ)). AreNoted nodes group i (lists_of ls) (lists_of c.note.new.places)) c.deref_mut.ensures.value c.in_ok-note.ensures in record {
       whole = ap length e ∙ c.note.auto.places ∙ ap length c.deref_mut.ensures.value ∙ c.loop-place.invariant.whole;
-      below = subst (λ (ls : List (Vec ℕ Global)). PlacesBelow nodes (i + 1) (lists_of ls)) (sym e) (places_more nodes i group (lists_of c.loop-place.places.items) (lists_of c.note.new.places) is c.loop-place.invariant.below noted);
+      below = subst (λ (ls : List (SmallVec ℕ)). PlacesBelow nodes (i + 1) (lists_of ls)) (sym e) (places_more nodes i group (lists_of c.loop-place.places.items) (lists_of c.note.new.places) is c.loop-place.invariant.below noted);
     }
 
 pub returns : goal.returns

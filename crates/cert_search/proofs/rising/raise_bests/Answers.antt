@@ -1,5 +1,6 @@
 use Rattle.std.proofs.Common.{◌≡◌, ℕ, ◌+◌, ◌∙◌, [], sym, subst, take, get_or, List, Vec, Global, arith, inl}
 use Rattle.std.proofs.lemmas.List.{take_all, length-map}
+use Rattle.smallvec.specs.SmallVec.{SmallVec}
 use Rattle.cert_graph.specs.declared.reach.Reach.{Reach}
 use Rattle.cert_graph.specs.declared.reach.Reach.TheVariants.{No}
 use Rattle.cert_search.specs.declared.changes.Change.{Change}
@@ -21,7 +22,7 @@ loop-change-preserved c =
     let before = c.loop-change.groups.items in
     elim c.if-change-places.branch [
       | then-change-places+in_ok-raise_to w ↦
-          let list : w.deref.result.now ≡ get_or places x.position [] = w.deref.ensures.value ∙ sym (read_list c.args.places.now x.position w.index-places-change.result w.if-change-places.true w.index-places-change.is) in
+          let list : w.deref.result.now ≡ get_or places x.position [] = w.deref.ensures ∙ sym (read_list c.args.places.now x.position w.index-places-change.result w.if-change-places.true w.index-places-change.is) in
           let new = w.raise_to.new.row in
           let raised = w.in_ok-raise_to.ensures.raised in
           record {
@@ -32,7 +33,7 @@ loop-change-preserved c =
                 (risen_twice first old new [] before w.raise_to.new.risen.items (λ v n t. (c.loop-change.invariant.raised v n).1 (inl t)) (λ v n t. (raised v n).1 (inl t)) c.loop-change.invariant.risen w.in_ok-raise_to.ensures.risen));
           }
       | else-change-places w ↦
-          let size = length-map c.args.places.now (λ (l : Vec ℕ Global). l.items) in
+          let size = length-map c.args.places.now (λ (l : SmallVec ℕ). l.items) in
           record {
             raised = subst (λ (r : List Reach). AreRaised first r (MemberTakes places (take (i + 1) changes))) (sym w.bests-is)
                 (members_still places changes i d first old c.loop-change-test.true (omega (arith, size, w.if-change-places.false)) c.loop-change.invariant.raised);

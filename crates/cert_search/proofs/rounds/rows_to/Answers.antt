@@ -9,8 +9,6 @@ use Rattle.cert_search.specs.declared.changes.Change.{Change}
 use Rattle.cert_search.specs.Changes.{rows_by}
 use Rattle.cert_search.specs.Exact.{HoldsExactly}
 use Rattle.cert_search.specs.Rows.{StandsUnder}
-use Rattle.cert_search.specs.Rising.{ArePlaces}
-use Rattle.cert_search.proofs.Placing.{lists_of}
 use Rattle.cert_search.proofs.Exactness.{OffersExactly, raised_exact, offers_exact, offers_rise, stands_fixed}
 use Rattle.cert_search.proofs.Ranking.{bound_of, rank_falls, offers_within, limits_within}
 use Rattle.cert_search.proofs.Running.{SoFar, items_of, so_far_more, run_more}
@@ -25,7 +23,7 @@ returns-then-opens c =
     let new = c.rise.new.search in
     let exact = raised_exact g (length c.round.steps.items) c.round.search.offers.items new.row.items c.round.invariant.exact r.raised in
     let shows = c.opens.ensures.0 c.if-opens.true in
-    let takes : Takes (at_row new.offers.items c.args.target) 0 = subst (λ (os : List Reach). Takes (at_row os c.args.target) 0) c.deref-in-round.ensures.value shows.1 in
+    let takes : Takes (at_row new.offers.items c.args.target) 0 = subst (λ (os : List Reach). Takes (at_row os c.args.target) 0) c.deref.ensures.value shows.1 in
     let none = replicate (length c.args.nodes.now.items.items) No in
     let count : c.len.result ≡ length c.args.nodes.now.items.items = omega arith in
     let same : items_of c.in_ok-rows.rows.items ≡ rows_by none (items_by c.round.steps.items) =
@@ -49,7 +47,7 @@ returns-then-not-has_risen c =
       r.rising.whole,
       stands_fixed g (length c.round.steps.items) c.round.search.offers.items new.row.items new.offers.items c.round.invariant.exact r.raised r.offered under,
       (length c.round.steps.items + 1, exact),
-      λ o. let takes : Takes (at_row c.deref-in-round.result.now c.args.target) 0 = subst (λ (os : List Reach). Takes (at_row os c.args.target) 0) (sym c.deref-in-round.ensures.value) ((r.offered c.args.target 0).1 o.1) in
+      λ o. let takes : Takes (at_row c.deref.result.now c.args.target) 0 = subst (λ (os : List Reach). Takes (at_row os c.args.target) 0) (sym c.deref.ensures.value) ((r.offered c.args.target 0).1 o.1) in
           cc (c.if-opens.false, c.opens.ensures.1 (c.is_usable-usable.ensures.1 o.0, takes)),
     )
 
@@ -76,15 +74,12 @@ round-preserved c =
     let exact = raised_exact g (length c.round.steps.items) c.round.search.offers.items new.row.items c.round.invariant.exact r.raised in
     let none = replicate (length c.args.nodes.now.items.items) No in
     let size : length c.push-in-round.new.self.items ≡ length c.round.steps.items + 1 = ap length c.in_ok-push-2.ensures.items ∙ length_push c.round.steps.items step in record {
+      places = c.in_ok-noted.ensures;
       rising = r.rising;
       last = last_grows none c.round.steps.items c.push-in-round.new.self.items step c.round.search.row.items new.row.items c.in_ok-push-2.ensures.items c.round.invariant.last r.changed;
       exact = subst (λ (n : ℕ). OffersExactly g n new.offers.items) (sym size) (offers_exact g (length c.round.steps.items + 1) new.row.items new.offers.items exact r.offered);
       so_far = so_far_more g c.args.target none c.round.steps.items c.push-in-round.new.self.items step c.round.search.row.items new.row.items c.in_ok-push-2.ensures.items c.round.invariant.last r.changed
           c.round.invariant.so_far r.rising.whole exact
-          (λ o. let takes : Takes (at_row c.deref-in-round.result.now c.args.target) 0 = subst (λ (os : List Reach). Takes (at_row os c.args.target) 0) (sym c.deref-in-round.ensures.value) ((r.offered c.args.target 0).1 o.1) in
+          (λ o. let takes : Takes (at_row c.deref.result.now c.args.target) 0 = subst (λ (os : List Reach). Takes (at_row os c.args.target) 0) (sym c.deref.ensures.value) ((r.offered c.args.target 0).1 o.1) in
           cc (c.if-opens.false, c.opens.ensures.1 (c.is_usable-usable.ensures.1 o.0, takes)));
     }
-
-pub rise-requires-clause-places : goal.rise-requires-clause-places
-rise-requires-clause-places c =
-    subst (λ (ls : List (Vec ℕ Global)). ArePlaces c.args.nodes.now (lists_of ls)) (sym c.deref.ensures.value) c.in_ok-places.ensures

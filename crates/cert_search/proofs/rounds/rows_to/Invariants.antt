@@ -1,8 +1,10 @@
 use Rattle.std.proofs.Common.{◌≡◌, ◌+◌, ◌-◌, ◌*◌, length, replicate}
+use Rattle.std.specs.Prelude.{IfSome}
 use Rattle.cert_graph.specs.declared.reach.Reach.TheVariants.{No}
 use Rattle.cert_graph.specs.Nodes.{graph_of}
 use Rattle.cert_search.specs.Changes.{rows_by}
-use Rattle.cert_search.specs.Rising.{IsRising}
+use Rattle.cert_search.specs.Rising.{IsRising, ArePlaces}
+use Rattle.cert_search.proofs.Placing.{lists_of}
 use Rattle.cert_search.proofs.Changing.{items_by, last_by}
 use Rattle.cert_search.proofs.Exactness.{OffersExactly}
 use Rattle.cert_search.proofs.Ranking.{rank, bound_of}
@@ -11,6 +13,7 @@ use Rattle.cert_search.proofs.rounds.rows_to.Given as goal
 
 abbrev pub invariant-round : goal.invariant-round
 invariant-round l = record {
+  places : IfSome l.places (λ known. ArePlaces l.nodes (lists_of known.items));
   rising : IsRising l.nodes l.search;
   last : l.search.row.items ≡ last_by (replicate (length l.nodes.items.items) No) (items_by l.steps.items);
   exact : OffersExactly (graph_of l.nodes) (length l.steps.items) l.search.offers.items;
