@@ -3,6 +3,7 @@
 mod ber_trees;
 mod combinators;
 mod der_trees;
+mod skipped_octets;
 
 use asn1_core::{Class, Err as Refusal, Error, Length};
 use asn1_device::WriteSink;

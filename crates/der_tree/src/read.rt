@@ -16,7 +16,7 @@ use crate::cut::cut_of;
 use crate::leaf::leaf_of;
 use crate::object::{BerObject, BerObjectContent, BerResult, MAX_RECURSION};
 use asn1_core::{Class, Err as Refusal, Error, Header, HeaderCount, Needed};
-use std::alloc::Global;
+use std::alloc::{AllocError, Global};
 
 /// Reads one DER object of at most `MAX_RECURSION` levels from the front of the octets (X.690, 8, 10 and 11).
 pub fn parse_der<'a>(alloc: Global, i: &'a [u8]) -> BerResult<'a>
@@ -120,29 +120,19 @@ pub(crate) fn content_of<'a>(
     }
 }
 
-/// How many elements `room_for` counts at most.
-const COUNTED: usize = 8;
+/// For how many objects room is taken at most with the first one of a content.
+const FIRST_ROOM: usize = 4;
 
-/// How many elements `room_for` expects from one of a long length on.
-const EXPECTED: usize = 3;
-
-/// For how many objects memory is taken before a content is read: the elements of short length that begin it, one after the other,
-/// and some more where one of a long length follows. Whether they are objects isn't asked.
-fn room_for(content: &[u8]) -> usize
-    ensures few { result ≤ 10 }
+/// Takes room for the first object of a content that has so many octets behind it: for as many objects as fit there, each
+/// being of two octets at least, and for no more than `FIRST_ROOM`. Later ones take theirs as they are pushed.
+#[inline(always)]
+fn take_room(objects: &mut Vec<BerObject<'_>>, behind: usize) -> Result<(), AllocError>
+    ensures items { objects.new.items ≡ objects.old.items }
 {
-    let mut rest = content;
-    for counted in 0..COUNTED {
-        let [_, size, after @ ..] = rest else {
-            return counted;
-        };
-        let size = usize::from(*size);
-        if size >= 128 || after.len() < size {
-            return counted + EXPECTED;
-        }
-        rest = &after[size..];
+    if objects.is_empty() {
+        return objects.reserve_exact((1 + behind / 2).min(FIRST_ROOM));
     }
-    COUNTED
+    Ok(())
 }
 
 /// Reads objects to the end.
@@ -163,12 +153,13 @@ fn objects_of<'a>(
     ensures lengths { IfOk result (λ v. lengths_of_all v.items ≡ all_lengths definite_length (views v.items)) }
 {
     let mut rest = content;
-    let mut objects = Vec::with_capacity(alloc, room_for(content))?;
+    let mut objects = Vec::new(alloc);
     while !rest.is_empty() {
         let (after, object) = match parse_der_recursive_counted(alloc, rest, levels, count) {
             Ok(read) => read,
             Err(refusal) => return Err(Refusal::within(refusal)),
         };
+        take_room(&mut objects, after.len())?;
         objects.push(object)?;
         rest = after;
     }

@@ -12,7 +12,8 @@ use crate::leaf::is_leaf;
 use crate::read::is_constructed;
 use asn1_core::{Header, HeaderCount};
 
-/// Whether the octets are one DER object of at most so many levels (X.690, 8, 10 and 11).
+/// Whether the octets are one DER object of at most so many levels (X.690, 8, 10 and 11). It recurses as deep as sequences
+/// and sets are nested.
 pub fn is_der_object(i: &[u8], levels: usize) -> bool
     ensures { IsTrue result ↔ IsDerObject levels i.now }
 {
@@ -21,7 +22,7 @@ pub fn is_der_object(i: &[u8], levels: usize) -> bool
 }
 
 /// `is_der_object`, which raises the count as `parse_der_recursive_counted` does on these octets: by one for each element of
-/// the object that they are.
+/// the object that they are. It recurses as `skip_object_counted` does.
 pub fn is_der_object_counted(i: &[u8], levels: usize, count: &mut HeaderCount) -> bool
     requires { attempts count.old + length i.now < 2 ^ 128 }
     ensures object { IsTrue result ↔ IsDerObject levels i.now }

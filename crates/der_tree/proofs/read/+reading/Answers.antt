@@ -69,7 +69,7 @@ content_of-returns-in-Err-clause-none t c =
 
 pub objects_of-loop-rest-init : goal.objects_of-loop-rest-init
 unfolding AreObjects
-objects_of-loop-rest-init t c = rw c.in_ok-objects.ensures.items (record { objects = tt; lengths = refl; each = omega arith; at_most = omega arith; so_far = refl; others = λ ts p e. (ts, p, e) })
+objects_of-loop-rest-init t c = rw c.new-objects.ensures.items (record { objects = tt; lengths = refl; each = omega arith; at_most = omega arith; so_far = refl; others = λ ts p e. (ts, p, e) })
 
 pub objects_of-returns-in-Err-clause-none : goal.objects_of-returns-in-Err-clause-none
 objects_of-returns-in-Err-clause-none t c =
@@ -91,7 +91,7 @@ objects_of-loop-rest-preserved t c =
     let before = c.loop-rest.objects.items in
     let last = c.in-Ok.read.1 in
     let after = c.in-Ok.read.0.now in
-    rw c.in_ok-push.ensures.items (record {
+    rw (c.in_ok-push.ensures.items, c.in_ok-take_room.ensures.items) (record {
       objects = objects_push c.args.levels before last c.loop-rest.invariant.objects found.0;
       lengths = all_push definite_length before last c.loop-rest.invariant.lengths c.in-Ok.ensures.lengths;
       each = omega (arith, c.loop-rest.invariant.each, c.in-Ok.ensures.each, counts_push before last);
