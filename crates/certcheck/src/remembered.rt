@@ -154,11 +154,12 @@ fn digest_in(memory: &RefCell<Memory<'_>>, text: &[u8]) -> [u8; 32]
     }
 }
 
-/// Vouchers with a memory: they vouch for the same, and hash a text that they were told of at most once, once it is asked for.
+/// Vouchers with a memory: they vouch for the same, and hash a text that they were told of at most once, once it is asked for,
+/// where all texts are told before the first question.
 ///
-/// The first question sorts what was told. Each takes as many comparisons of texts as a look-up in a sorted map, and two where
-/// it goes over the same items as before, in their order. A text that wasn't told is hashed each time; nothing else depends on
-/// what was told.
+/// The first question after a text was told sorts all that were told, compared whole. Each question takes as many comparisons of
+/// texts as a look-up in a sorted map, and two where it goes over the same items as before, in their order. A text that wasn't
+/// told is hashed each time; nothing else depends on what was told.
 #[derive(Drop)]
 pub struct RememberedVouchers<'a> {
     vouchers: &'a Vouchers,

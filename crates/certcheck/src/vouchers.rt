@@ -38,7 +38,8 @@ impl Vouchers {
 
     /// Whether a key's digest is in some pair. Takes as many comparisons as a look-up of a pair.
     pub(crate) fn names_key(&self, key_digest: &[u8; 32]) -> bool
-        ensures { (item : List ℕ) → length item ≡ 32 → HasPair self.now.pairs key_digest.now item → IsTrue result }
+        ensures named { (item : List ℕ) → length item ≡ 32 → HasPair self.now.pairs key_digest.now item → IsTrue result }
+        ensures only { IsTrue result → ((item : List ℕ) × HasPair self.now.pairs key_digest.now item) }
     {
         let least = (*key_digest, [0; 32]);
         match self.pairs.range(least..).next() {
