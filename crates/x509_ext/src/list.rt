@@ -14,20 +14,10 @@ use asn1_any::Element;
 use asn1_core::{Err as Refusal, Error, HeaderCount};
 use std::alloc::Global;
 use std::cmp;
-use x509_core::{Parts, X509Error, cut_all, front_header, parts_of, renamed};
+use x509_core::{Parts, X509Error, cut_all, front_header, parts_of, push_in_room, renamed};
 
-/// How many octets an extension is expected to take.
-const EXPECTED_OCTETS: usize = 16;
-
-/// For how many extensions `room_for` says that memory be taken at most.
-const MOST_ROOM: usize = 12;
-
-/// For how many extensions memory is taken before so many octets are read.
-fn room_for(octets: usize) -> usize
-    ensures few { result ≤ 12 }
-{
-    cmp::min(octets.div_ceil(EXPECTED_OCTETS), MOST_ROOM)
-}
+/// For how many extensions memory is taken at once, at most.
+const MOST_ROOM: usize = 16;
 
 /// As many extensions as begin there, their values parsed too where `deep` says so.
 pub fn each_extension<'a>(
@@ -43,11 +33,12 @@ pub fn each_extension<'a>(
     ensures most { attempts count.new ≤ attempts count.old + length parts.old.octets }
     ensures shorter { length parts.new.octets ≤ length parts.old.octets }
 {
-    let mut extensions = Vec::with_capacity(alloc, room_for(parts.left().len()))?;
+    let room = cmp::min(parts.elements(), MOST_ROOM);
+    let mut extensions = Vec::new(alloc);
     while let Some(element) = parts.first() {
         match extension_of(alloc, element, deep, count) {
             Ok(extension) => {
-                extensions.push(extension)?;
+                push_in_room(&mut extensions, extension, room)?;
                 parts.advance();
             }
             Err(refusal) => match refusal {
@@ -82,8 +73,30 @@ pub fn extension_list_of<'a>(
     }
 }
 
-/// A list of extensions, to the end.
+/// The one list of extensions that is left, to the end.
 #[tactic(auto, unfolding(crate::specs::Reading::extension_list_at))]
+fn last_list<'a>(
+    alloc: Global,
+    parts: &mut Parts<'a>,
+    deep: bool,
+    count: &mut HeaderCount,
+) -> Result<Vec<X509Extension<'a>>, Refusal<X509Error>>
+    requires { attempts count.old + 2 * length parts.old.octets < 2 ^ 128 }
+    ensures read { Gives (λ v. map extension_view v.items) result (extension_list_at (reading_of deep) parts.old.octets) }
+    ensures memory { IfOk result (λ v. All WantsNoMemory v.items) }
+    ensures grows { attempts count.old ≤ attempts count.new }
+    ensures most { attempts count.new ≤ attempts count.old + 2 * length parts.old.octets }
+{
+    let element = parts.next()?;
+    let extensions = extension_list_of(alloc, element, deep, count)?;
+    if parts.left().is_empty() {
+        Ok(extensions)
+    } else {
+        Err(Refusal::Error(X509Error::Der(Error::InvalidLength)))
+    }
+}
+
+/// A list of extensions, to the end.
 fn all_extensions<'a>(
     alloc: Global,
     octets: &'a [u8],
@@ -97,13 +110,7 @@ fn all_extensions<'a>(
     ensures most { attempts count.new ≤ attempts count.old + 3 * length octets.now }
 {
     let mut parts = cut_all(alloc, octets, count)?;
-    let element = parts.next()?;
-    let extensions = extension_list_of(alloc, element, deep, count)?;
-    if parts.left().is_empty() {
-        Ok(extensions)
-    } else {
-        Err(Refusal::Error(X509Error::Der(Error::InvalidLength)))
-    }
+    last_list(alloc, &mut parts, deep, count)
 }
 
 /// Extensions under this tag number, to the end, their values parsed too where `deep` says so; none where no octet is left. The

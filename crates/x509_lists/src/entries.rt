@@ -13,11 +13,12 @@ use crate::entry::{RevokedCertificate, entry_of};
 use asn1_any::Element;
 use asn1_core::{Err as Refusal, Error, HeaderCount, OutOfMemory};
 use std::alloc::Global;
-use x509_core::{Parts, X509Error, parts_of, renamed};
+use std::cmp;
+use x509_core::{Parts, X509Error, parts_of, push_in_room, renamed};
 use x509_values::copy_all;
 
-/// How many octets an entry is expected to take at least: one with a serial number of 13 octets and no extension.
-const EXPECTED_OCTETS: usize = 32;
+/// No entry takes fewer octets: it has a header, a serial number and a time of 13 octets or more.
+const LEAST_OCTETS: usize = 16;
 
 /// As many entries as begin there, the values of their extensions parsed too where `deep` says so.
 fn each_entry<'a>(
@@ -34,11 +35,12 @@ fn each_entry<'a>(
     ensures most { attempts count.new ≤ attempts count.old + 3 * length parts.old.octets }
     ensures shorter { length parts.new.octets ≤ length parts.old.octets }
 {
-    let mut entries = Vec::with_capacity(alloc, parts.left().len() / EXPECTED_OCTETS)?;
+    let room = cmp::min(parts.elements(), parts.left().len() / LEAST_OCTETS + 1);
+    let mut entries = Vec::new(alloc);
     while let Some(element) = parts.first() {
         match entry_of(alloc, element, deep, count) {
             Ok(entry) => {
-                entries.push(entry)?;
+                push_in_room(&mut entries, entry, room)?;
                 parts.advance();
             }
             Err(refusal) => match refusal {

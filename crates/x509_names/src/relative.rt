@@ -22,8 +22,8 @@ use asn1_any::Element;
 use asn1_core::{Err as Refusal, ErrorKind, HeaderCount, OutOfMemory};
 use asn1_traits::{DerMeaning, FromDer};
 use std::alloc::Global;
-use std::slice;
-use x509_core::{Parts, X509Error, X509Result, front_element, parts_of};
+use std::{cmp, slice};
+use x509_core::{Parts, X509Error, X509Result, front_element, parts_of, push_in_room};
 
 /// A set of attributes, in the order in which they were read: one or more in one that was read.
 #[derive(Debug, Drop, PartialEq, Eq)]
@@ -74,6 +74,9 @@ impl<'a> RelativeDistinguishedName<'a> {
     }
 }
 
+/// For how many attributes memory is taken at once, at most. Nearly every set has one.
+const MOST_ROOM: usize = 4;
+
 /// As many attributes as begin there.
 fn attributes_of<'a>(
     alloc: Global,
@@ -86,12 +89,12 @@ fn attributes_of<'a>(
     ensures most { attempts count.new ≤ attempts count.old + length parts.old.octets }
     ensures shorter { length parts.new.octets ≤ length parts.old.octets }
 {
-    // nearly every set has one
-    let mut attributes = Vec::with_capacity(alloc, 1)?;
+    let room = cmp::min(parts.elements(), MOST_ROOM);
+    let mut attributes = Vec::new(alloc);
     while let Some(element) = parts.first() {
         match attribute_of(alloc, element, count) {
             Ok(attribute) => {
-                attributes.push(attribute)?;
+                push_in_room(&mut attributes, attribute, room)?;
                 parts.advance();
             }
             Err(refusal) => match refusal {

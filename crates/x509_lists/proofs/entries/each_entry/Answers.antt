@@ -20,9 +20,9 @@ loop-element-preserved c =
     let grows = c.in-Ok.ensures.grows in
     let step = next_more (λ p. entry_in (reading_of c.args.deep) p.element) (map entry_view c.loop-element.entries.items) c.loop-element.parts.octets c.advance.new.self.octets e (entry_view c.in-Ok.entry) front c.advance.ensures.read c.in-Ok.ensures.read (omega (arith, shorter, content)) in
     record {
-      read = rw (c.in_ok-push-in-Ok.ensures.items, map-append) (sym step ∙ c.loop-element.invariant.read);
-      serials = subst (All HasSerial) (sym c.in_ok-push-in-Ok.ensures.items) (All-push HasSerial c.loop-element.entries.items _ c.loop-element.invariant.serials c.in-Ok.ensures.serial);
-      memory = subst (All EntryWantsNoMemory) (sym c.in_ok-push-in-Ok.ensures.items) (All-push EntryWantsNoMemory c.loop-element.entries.items _ c.loop-element.invariant.memory c.in-Ok.ensures.memory);
+      read = rw (c.in_ok-push_in_room-in-Ok.ensures.items, map-append) (sym step ∙ c.loop-element.invariant.read);
+      serials = subst (All HasSerial) (sym c.in_ok-push_in_room-in-Ok.ensures.items) (All-push HasSerial c.loop-element.entries.items _ c.loop-element.invariant.serials c.in-Ok.ensures.serial);
+      memory = subst (All EntryWantsNoMemory) (sym c.in_ok-push_in_room-in-Ok.ensures.items) (All-push EntryWantsNoMemory c.loop-element.entries.items _ c.loop-element.invariant.memory c.in-Ok.ensures.memory);
       grows = omega (arith, grows, c.loop-element.invariant.grows);
       shorter = omega (arith, shorter, c.loop-element.invariant.shorter);
       most = omega (arith, most, shorter, content, c.loop-element.invariant.most);

@@ -17,7 +17,7 @@ loop-element-preserved c =
     let grows = c.in-Ok.ensures.grows in
     let step = next_more (λ p. attribute_in p.element) (map attribute_view c.loop-element.attributes.items) c.loop-element.parts.octets c.advance.new.self.octets e (attribute_view c.in-Ok.attribute) front c.advance.ensures.read c.in-Ok.ensures.read (omega (arith, shorter, content)) in
     record {
-      read = rw (c.in_ok-push-in-Ok.ensures.items, map-append) (sym step ∙ c.loop-element.invariant.read);
+      read = rw (c.in_ok-push_in_room-in-Ok.ensures.items, map-append) (sym step ∙ c.loop-element.invariant.read);
       grows = omega (arith, grows, c.loop-element.invariant.grows);
       shorter = omega (arith, shorter, c.loop-element.invariant.shorter);
       most = omega (arith, most, shorter, content, c.loop-element.invariant.most);
