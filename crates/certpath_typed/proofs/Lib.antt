@@ -5,4 +5,6 @@ pub mod ToldCertificates
 pub mod ToldLists
 pub mod Taken
 pub mod Gate
+pub mod Meeting
+pub mod Compared
 pub use Rattle.x509_links.proofs.Strict

@@ -1,3 +1,4 @@
 pub mod Told
 pub mod ToldItems
 pub mod Tried
+pub mod Met

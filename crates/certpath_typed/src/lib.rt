@@ -7,6 +7,7 @@
 
 mod certificates;
 mod class;
+mod comparison;
 mod identifier;
 pub mod laws;
 mod lists;
