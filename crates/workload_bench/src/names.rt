@@ -8,18 +8,22 @@ use crate::runs::note_run;
 use crate::shapes::{Numbers, Shapes};
 use std::alloc::Global;
 
-const CERTIFICATES: usize = 600;
+const CERTIFICATES: usize = 360;
 
 const FEW: usize = 8;
 
-/// A run on the first of them. Of every four, one is vouched for by the key of the one before it; nobody vouches for the first.
-pub(crate) fn run_all(
+/// How many runs there are, each on certificates of its own.
+const RUNS: usize = 3;
+
+/// Runs on the first of so many certificates. Of every four, one is vouched for by the key of the one before it; nobody vouches for
+/// the first.
+fn note_names(
     alloc: Global,
+    digest: &mut Digest,
     shapes: &Shapes,
     random: &mut Random,
-    small: bool,
-) -> Result<Digest, Failure> {
-    let count = if small { FEW } else { CERTIFICATES };
+    count: usize,
+) -> Result<(), Failure> {
     let mut inputs = Inputs::new(alloc);
     let mut before = None;
     for turn in 0..count {
@@ -40,7 +44,24 @@ pub(crate) fn run_all(
         drawn: random.number(),
     };
     shapes.same.write(&mut inputs.anchors, &numbers)?;
+    note_run(alloc, digest, &inputs, 0, false)
+}
+
+/// One run after the other.
+pub(crate) fn run_all(
+    alloc: Global,
+    shapes: &Shapes,
+    random: &mut Random,
+    small: bool,
+) -> Result<Digest, Failure> {
+    let (runs, count) = if small {
+        (1, FEW)
+    } else {
+        (RUNS, CERTIFICATES)
+    };
     let mut digest = Digest::new();
-    note_run(alloc, &mut digest, &inputs, 0, false)?;
+    for _ in 0..runs {
+        note_names(alloc, &mut digest, shapes, random, count)?;
+    }
     Ok(digest)
 }

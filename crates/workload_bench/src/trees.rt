@@ -14,13 +14,24 @@ const FEW: usize = 12;
 /// How many levels of a tree are looked at.
 const LEVELS: usize = 6;
 
+/// The objects within one, where it is a sequence or a set.
+fn parts_of<'o, 'a>(object: &'o BerObject<'a>) -> Option<&'o [BerObject<'a>]> {
+    if let Ok(parts) = object.as_sequence() {
+        return Some(parts.as_slice());
+    }
+    match object.as_set() {
+        Ok(parts) => Some(parts.as_slice()),
+        Err(_) => None,
+    }
+}
+
 /// An object's octets in short, and those of the objects within it, so many levels deep.
 fn note_object(digest: &mut Digest, object: &BerObject<'_>, levels: usize) {
     digest.number(object.as_raw().len() as u64);
     if levels == 0 {
         return;
     }
-    if let Ok(parts) = object.as_sequence() {
+    if let Some(parts) = parts_of(object) {
         for part in parts {
             note_object(digest, part, levels - 1);
         }
