@@ -208,7 +208,7 @@ def roads_apart():
 
 
 # Readers that try headers and keep no count of their caller's.
-UNCOUNTED = re.compile(r"\b(?:from_ber|from_der|strict|parse|parse_(?:ber|der)(?:_recursive)?|cut_elements|read_tree|read_typed)\b")
+UNCOUNTED = re.compile(r"\b(?:from_ber|from_der|strict|parse|parse_(?:ber|der)(?:_recursive)?|cut_elements|is_der_object|read_tree|read_typed)\b")
 
 
 def headers_counted():
