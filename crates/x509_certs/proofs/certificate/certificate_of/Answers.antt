@@ -12,3 +12,12 @@ returns-in_err-signature_value-clause-most c =
     let ends = c.in_ok-tbs_certificate.ensures.ends in
     let algorithm = c.in_ok-signature_algorithm.ensures.most in
     omega (arith, ap length content, cut, tbs, ends, algorithm)
+
+pub returns-in_err-signature_algorithm-clause-most : goal.returns-in_err-signature_algorithm-clause-most
+returns-in_err-signature_algorithm-clause-most c =
+    let content = (content_found 16 (any_of c.args.element.any) c.in_ok-parts.parts.octets c.in_ok-parts.ensures.read).1 in
+    let cut = c.in_ok-parts.ensures.most in
+    let tbs = c.in_ok-tbs_certificate.ensures.most in
+    let ends = c.in_ok-tbs_certificate.ensures.ends in
+    let algorithm = c.in_err-signature_algorithm.ensures.most in
+    omega (arith, ap length content, cut, tbs, ends, algorithm)
