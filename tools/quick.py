@@ -9,9 +9,8 @@ import bundling
 import items
 import repo
 
-MOST_EDITS, MOST_OF_SMALL, SMALL = 8, 6, 30
-# Crates whose named wrong bodies need more places, at most 12.
-MOST_OF = {"cert_framing": 8, "cert_search": 8}
+# The gate tries the named wrong bodies alone: so many edits, in so many crates.
+MOST_EDITS, MOST_CRATES = 25, 12
 MOST_LINES = 800
 # How many files the gate may read for its sums of what libraries are made from: each takes it some 0.15 ms, one after another.
 MOST_READS = 20_000_000
@@ -61,19 +60,12 @@ def edits_apply():
                     yield f"crates/{crate}/{folder}/{edit} can't be applied: {why}"
 
 
-def functions(crate):
-    """How many functions a crate has beside its tests."""
-    sources = [it for it in FILES if it.startswith(f"crates/{crate}/src/") and not re.search(r"/tests?\b", it)]
-    return sum(len(re.findall(r"(?m)^\s*(?:pub(?:\(\w+\))? )?(?:const )?fn ", repo.read(it))) for it in sources)
-
-
 def few_edits():
-    """The gate tries few edits of a crate."""
+    """The gate tries few edits in few crates, and none that lies in wrong/ too."""
+    counts = {it: len(repo.edits(it, "must-fail")) for it in CRATES if repo.edits(it, "must-fail")}
+    if sum(counts.values()) > MOST_EDITS or len(counts) > MOST_CRATES:
+        yield f"must-fail/ has {sum(counts.values())} edits in {len(counts)} crates, and at most {MOST_EDITS} in {MOST_CRATES} are kept there: move others to wrong/"
     for crate in CRATES:
-        count = len(repo.edits(crate, "must-fail"))
-        most = MOST_OF.get(crate) or (MOST_OF_SMALL if functions(crate) < SMALL else MOST_EDITS)
-        if count > most:
-            yield f"crates/{crate}/must-fail has {count} edits, and at most {most} are kept there: move others to crates/{crate}/wrong"
         for edit in {*repo.edits(crate, "must-fail")} & {*repo.edits(crate, "wrong")}:
             yield f"crates/{crate}: {edit} stands in must-fail/ and in wrong/"
 
