@@ -2,6 +2,7 @@
 """Runs `rt ci`, and prints what each crate cost; or makes the table of docs/GATE.md from the log of a whole run.
 
     python3 tools/gate.py                runs `rt ci` as ./test does
+    python3 tools/gate.py anew           likewise, and takes nothing that earlier runs kept
     python3 tools/gate.py table LOG..    prints the table; of a crate that several logs name, the last one counts
     python3 tools/gate.py write LOG..    writes the table into docs/GATE.md
 
@@ -99,10 +100,10 @@ class Watch:
         return sums
 
 
-def gate():
+def gate(words):
     began = time.monotonic()
     side_by_side = os.environ.get("RT_JOBS") or str(lanes.lanes(lanes.FROM_NOTHING))
-    ran = subprocess.Popen(["rt", "ci"], env={**os.environ, "RT_JOBS": side_by_side})
+    ran = subprocess.Popen(["rt", "ci", *words], env={**os.environ, "RT_JOBS": side_by_side})
     watch = Watch(ran.pid)
     status = ran.wait()
     for (crate, kind), seconds in sorted(watch.end().items()):
@@ -178,7 +179,7 @@ if __name__ == "__main__":
         print("\n".join(table(sys.argv[2:])[0]))
     elif len(sys.argv) > 2 and sys.argv[1] == "write":
         write(sys.argv[2:])
-    elif len(sys.argv) == 1:
-        sys.exit(gate())
+    elif sys.argv[1:] in ([], ["anew"]):
+        sys.exit(gate(["--anew"] if sys.argv[1:] else []))
     else:
         sys.exit(__doc__)
