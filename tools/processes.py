@@ -76,7 +76,9 @@ def end(child):
     """Ends a child that leads a session, and all below it. Each is halted first, so that none
     starts another meanwhile."""
     halted = set()
-    while True:
+    # (once it has ended and was waited for, its number may be that of another process)
+    is_gone = child.poll() is not None
+    while not (is_gone and child.pid in table()):
         more = {*family(child.pid)} - halted
         if not more:
             break
