@@ -18,6 +18,7 @@ import sys
 import threading
 import time
 
+import building
 import lanes
 import repo
 
@@ -101,11 +102,13 @@ class Watch:
 
 
 def gate(words):
-    began = time.monotonic()
+    began, before = time.monotonic(), building.digests()
     side_by_side = os.environ.get("RT_JOBS") or str(lanes.lanes(lanes.FROM_NOTHING))
     ran = subprocess.Popen(["rt", "ci", *words], env={**os.environ, "RT_JOBS": side_by_side})
     watch = Watch(ran.pid)
     status = ran.wait()
+    if status == 0:
+        building.keep_the_gates(before)
     for (crate, kind), seconds in sorted(watch.end().items()):
         print(f"gate: {crate} {kind} {seconds:.1f}")
     spent = resource.getrusage(resource.RUSAGE_CHILDREN)
