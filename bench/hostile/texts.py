@@ -136,9 +136,9 @@ def bundle_blanks(size):
     return [pem(ITEM), b"-----BEGIN x", (b"-----" + b" " * 1000) * (size // 1005), b"x\n", b" " * size]
 
 
-@of_octets("bundle-parts", "an item of NULLs alone", "bundle", sizes=(2_000_000, 4_000_000, 8_000_000, 16_000_000))
+@of_octets("bundle-parts", "an item whose signed part is NULLs alone", "bundle", sizes=(2_000_000, 4_000_000, 8_000_000, 16_000_000))
 def bundle_parts(size):
-    return [element(0x30, b"\x05\x00" * (size // 2))]
+    return [element(0x30, element(0x30, b"\x05\x00" * (size // 2 - 20)), b"\x30\x00\x03\x00")]
 
 
 @of_octets("bundle-2", "items of two octets, each left out", "bundle")
