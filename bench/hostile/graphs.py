@@ -188,11 +188,11 @@ def ladder_rungs(count):
     return Files([certificate(LEAF, NOWHERE, COMMON_KEY), *items], [ANCHOR], lines)
 
 
-@family("rises", "n/3 certificates below such a ladder of n/3 steps: the reach of each of them rises in each round", sizes=(1_500, 3_000, 6_000, 12_000),
+@family("rises", "n/2 certificates below such a ladder of n/4 steps: the reach of each of them rises in each round", sizes=(1_500, 3_000, 6_000, 12_000),
         small=(500, 2_000))
 def rises(count):
-    items, lines = rising(count // 3)
-    below = own_keys(count // 3, LEAF, X)
+    items, lines = rising(count // 4)
+    below = own_keys(count // 2, LEAF, X)
     return Files([certificate(LEAF, NOWHERE, COMMON_KEY), *items, *below], [ANCHOR], lines + [voucher(COMMON_KEY, it) for it in below])
 
 

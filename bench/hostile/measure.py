@@ -5,7 +5,7 @@ import subprocess
 from typing import NamedTuple
 
 MEGABYTE = 1_000_000
-# What a run may take before the kernel ends it.
+# What a run may take before the kernel ends it, where the seconds aren't given.
 MOST_SECONDS, MOST_MEMORY = 120, 12_000 * MEGABYTE
 
 
@@ -25,7 +25,7 @@ def limited(seconds):
     resource.setrlimit(resource.RLIMIT_CORE, (0, 0))
 
 
-def measured(words, room, seconds=MOST_SECONDS):
+def measured(words, room, seconds):
     """Runs the words in a folder."""
     output, errors = os.path.join(room, "output"), os.path.join(room, "errors")
     with open(output, "wb") as out, open(errors, "wb") as err:

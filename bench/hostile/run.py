@@ -1,18 +1,18 @@
 #!/usr/bin/env python3
 """Measures what hostile files cost: families of files that are made to be slow, each at sizes that double.
 
-    bench/hostile/run.py [--small] [--only NAME].. [--program PATH] [--list] [--write FOLDER]
+    bench/hostile/run.py [--small] [--only NAME].. [--program PATH] [--seconds N] [--list] [--write FOLDER]
 
 Prints a row for each family: processor seconds at each size, the greatest growth at a doubling, the seconds of a file of 1 MB, the
 greatest peak memory for each octet read, and a verdict. `pass` wants three things:
 
 - at most 2.4 times the time at each doubling, where less than 0.02 seconds count as 0.02;
-- at most 16 times the octets read in memory, or 32 MB where that is more (the process begins as a copy of this one, of some 20 MB);
+- at most 16 times the octets read in memory, or 40 MB where that is more (Python and OpenSSL alone take 20);
 - at most 2 seconds for a file of 1 MB.
 
 `known` is a miss that docs/COST.md states. Exit status 1 where a family fails, or an answer isn't the one that is right.
 `--small` takes two sizes, the second four times the first, at which a square would show. `--write` keeps the files of the least size.
-`--program` is the program for `frame` and `path`; ./bundle and ./vouch are those of the checkout.
+`--seconds` is after how many a run is ended. `--program` is the program for `frame` and `path`; ./bundle and ./vouch are those of the checkout.
 """
 import argparse
 import os
@@ -31,11 +31,11 @@ import repo
 import signed
 import texts
 from family import FAMILIES, Files
-from measure import MEGABYTE, in_child, measured
+from measure import MEGABYTE, MOST_SECONDS, in_child, measured
 from parts import MOMENT
 
 MOST_GROWTH, MOST_TIMES, MOST_OF_MEGABYTE = 2.4, 16, 2.0
-LEAST_SECONDS, LEAST_MEMORY = 0.02, 32 * MEGABYTE
+LEAST_SECONDS, LEAST_MEMORY = 0.02, 40 * MEGABYTE
 # A run is repeated up to so often, while all of its runs together took less than so many seconds.
 MOST_RUNS, ENOUGH_SECONDS = 3, 3.0
 PIECE = 1 << 20
@@ -110,12 +110,20 @@ def fault_of(family, run, room):
     return None
 
 
-def point(family, size, program, room):
+class Bench(NamedTuple):
+    """How families are measured: by which program, for how long at most, and whether at small sizes."""
+    program: str
+    seconds: int
+    is_small: bool
+
+
+def point(family, size, bench, room):
     """Measures a family at a size, the best of some runs."""
     octets = in_child(write_files, family, size, room)
-    runs = [measured(words_of(family, program), room)]
+    words = words_of(family, bench.program)
+    runs = [measured(words, room, bench.seconds)]
     while len(runs) < MOST_RUNS and sum(it.seconds for it in runs) < ENOUGH_SECONDS:
-        runs.append(measured(words_of(family, program), room))
+        runs.append(measured(words, room, bench.seconds))
     return Point(size, octets, min(it.seconds for it in runs), min(it.memory for it in runs), fault_of(family, runs[-1], room))
 
 
@@ -143,24 +151,24 @@ def missed(points, of_megabyte):
     return found
 
 
-def measure(family, is_small, program, room):
+def measure(family, bench, room):
     """The points of a family, up to one that takes too long, and that of 1 MB."""
     points = []
-    for size in family.small if is_small else family.sizes:
-        points.append(point(family, size, program, room))
+    for size in family.small if bench.is_small else family.sizes:
+        points.append(point(family, size, bench, room))
         if points[-1].fault:
             break
-    if is_small or points[0].fault:
+    if bench.is_small or points[0].fault:
         return points, None
-    return points, point(family, max(1, round(points[0].size * MEGABYTE / points[0].octets)), program, room)
+    return points, point(family, max(1, round(points[0].size * MEGABYTE / points[0].octets)), bench, room)
 
 
-def confirmed(family, is_small, program, room):
+def confirmed(family, bench, room):
     """The points and what they miss; a family that misses only its growth is measured once more, since a machine's pace changes."""
-    points, of_megabyte = measure(family, is_small, program, room)
+    points, of_megabyte = measure(family, bench, room)
     found = missed(points, of_megabyte)
     if found and all("times the time" in it for it in found) and sum(it.seconds for it in points) < 60:
-        again, of_megabyte = measure(family, is_small, program, room)
+        again, of_megabyte = measure(family, bench, room)
         points = [min(pair, key=lambda it: it.seconds) for pair in zip(points, again)]
         found = missed(points, of_megabyte)
     return points, of_megabyte, found
@@ -182,6 +190,7 @@ def read_words():
     words.add_argument("--small", action="store_true", help="two small sizes, in seconds")
     words.add_argument("--only", action="append", default=[], metavar="NAME", help="a family, or all whose names begin so")
     words.add_argument("--program", help="the program for frame and path")
+    words.add_argument("--seconds", type=int, default=MOST_SECONDS, metavar="N", help="end a run after so many seconds of one processor")
     words.add_argument("--list", action="store_true", help="print the families")
     words.add_argument("--write", metavar="FOLDER", help="write the files of the least size into folders there, and measure nothing")
     return words.parse_args()
@@ -212,11 +221,11 @@ def main():
     program = words.program and os.path.abspath(words.program) or repo.ready("certpath_cli", ["frame", os.devnull])
     if not program:
         sys.exit("certpath wasn't built, so nothing was measured")
-    failed = 0
+    bench, failed = Bench(program, words.seconds, words.small), 0
     print("| family | command | sizes | MB | seconds | growth | s for 1 MB | peak MB | times the octets | verdict |\n|---|---|---|---|---|---|---|---|---|---|", flush=True)
     for family in families:
         with tempfile.TemporaryDirectory(prefix="hostile-") as room:
-            measurement = confirmed(family, words.small, program, room)
+            measurement = confirmed(family, bench, room)
         failed += bool(measurement[2]) and not family.known
         print(f"| {' | '.join(row(family, *measurement))} |", flush=True)
     print(f"hostile: {len(families) - failed} passed, {failed} failed of {len(families)} families")
