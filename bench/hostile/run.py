@@ -36,7 +36,7 @@ from parts import MOMENT
 
 MOST_GROWTH, MOST_TIMES, MOST_OF_MEGABYTE = 2.4, 16, 2.0
 LEAST_SECONDS, LEAST_MEMORY = 0.02, 40 * MEGABYTE
-# A run is repeated up to so often, while all of its runs together took less than so many seconds.
+# Where sizes aren't small a run is repeated up to so often, while all of its runs together took less than so many seconds.
 MOST_RUNS, ENOUGH_SECONDS = 3, 3.0
 PIECE = 1 << 20
 FILES = ("bundle", "anchors", "vouchers")
@@ -122,7 +122,7 @@ def point(family, size, bench, room):
     octets = in_child(write_files, family, size, room)
     words = words_of(family, bench.program)
     runs = [measured(words, room, bench.seconds)]
-    while len(runs) < MOST_RUNS and sum(it.seconds for it in runs) < ENOUGH_SECONDS:
+    while not bench.is_small and len(runs) < MOST_RUNS and sum(it.seconds for it in runs) < ENOUGH_SECONDS:
         runs.append(measured(words, room, bench.seconds))
     return Point(size, octets, min(it.seconds for it in runs), min(it.memory for it in runs), fault_of(family, runs[-1], room))
 

@@ -6,7 +6,7 @@ from parts import (ECDSA_SHA256, FIRST, LAST, VALIDITY, VERSION_3, element, entr
 
 X, LEAF, ROOT = name("x"), name("leaf"), name("root")
 KEY = next(p256_keys(1))
-SIGNED = {"sizes": (3_125, 6_250, 12_500, 25_000), "small": (250, 1_000)}
+SIGNED = {"sizes": (3_125, 6_250, 12_500, 25_000), "small": (100, 400)}
 
 
 def signed_by_none(subject, issuer, public, number):

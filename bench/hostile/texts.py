@@ -133,7 +133,7 @@ def bundle_dashes(size):
 
 @of_octets("bundle-blanks", "a PEM file with lines of blanks around dashes", "bundle")
 def bundle_blanks(size):
-    return [pem(ITEM), b"-----BEGIN x", (b"-----" + b" " * 1000) * (size // 1005), b"x\n", b" " * size]
+    return [pem(ITEM), b"-----BEGIN x", (b"-----" + b" " * 1000) * (size // 2010), b"x\n", b" " * (size // 2)]
 
 
 @of_octets("bundle-parts", "an item whose signed part is NULLs alone", "bundle", sizes=(2_000_000, 4_000_000, 8_000_000, 16_000_000))
