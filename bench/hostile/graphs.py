@@ -188,8 +188,8 @@ def ladder_rungs(count):
     return Files([certificate(LEAF, NOWHERE, COMMON_KEY), *items], [ANCHOR], lines)
 
 
-@family("rises", "n/2 certificates below such a ladder of n/4 steps: the reach of each of them rises in each round", sizes=(1_500, 3_000, 6_000, 12_000),
-        small=(500, 2_000))
+@family("rises", "n/2 certificates below such a ladder of n/4 steps: the reach of each of them rises in each round",
+        sizes=(1_500, 3_000, 6_000, 12_000), small=(500, 2_000))
 def rises(count):
     items, lines = rising(count // 4)
     below = own_keys(count // 2, LEAF, X)
@@ -224,7 +224,7 @@ def names_alike(count):
     return Files(items, [ANCHOR], [voucher(COMMON_KEY, it) for it in items])
 
 
-@family("serials-alike", "n/16 certificates of one issuer and a list of as many entries, whose serial numbers share their first 1,000 octets")
+@family("serials-alike", "n/16 certificates and a list of as many entries, whose serial numbers share their first 1,000 octets")
 def serials_alike(count):
     numbers = [(1 << 8000) + it for it in range(count // 8)]
     items = [certificate(LEAF, X, COMMON_KEY, it) for it in numbers[::2]]

@@ -1,6 +1,6 @@
 """Families of one large item, the target: many extensions, attributes or entries, long identifiers, and deep nesting."""
 from family import UNLIMITED, Files, family, of_octets
-from parts import (ALGORITHM, FIRST, LAST, VALIDITY, VERSION_3, assembled, certificate, drawn, element, entry, extension, integer, key, name,
+from parts import (ALGORITHM, VALIDITY, VERSION_3, assembled, certificate, drawn, element, entry, extension, integer, key, name,
                    revocation_list, voucher)
 
 KEY, X = key(1), name("x")
@@ -30,6 +30,8 @@ def with_subject(*sets):
 
 
 MANY = {"sizes": (125_000, 250_000, 500_000, 1_000_000), "small": (10_000, 40_000), "unit": "parts"}
+LONG = {"sizes": (2, 4, 8, 16), "small": (1, 4), "unit": "identifiers"}
+ONE_ITEM = tuple(MOST * it // 8 for it in (1, 2, 4, 8))
 
 
 @family("extensions", "one certificate with n extensions, all different", **MANY)
@@ -63,20 +65,20 @@ def long_identifier(size, last=1):
     return b"\x2a" + b"\x03" * (size - 2) + bytes([last])
 
 
-@family("identifiers", "one certificate with n extensions whose identifiers have 1 MB each and differ in their last octet", unit="identifiers",
-        sizes=(2, 4, 8, 16), small=(1, 4))
+@family("identifiers", "one certificate with n extensions whose identifiers have 1 MB each and differ in their last octet", **LONG)
 def identifiers(count):
     size = min(1_000_000, (MOST - FRAME) // count - FRAME)
     return target(with_extensions(extension(long_identifier(size, it), b"") for it in range(count)))
 
 
-@family("components", "one certificate with n extensions whose identifiers are one number of 1 MB each", unit="identifiers", sizes=(2, 4, 8, 16), small=(1, 4))
+@family("components", "one certificate with n extensions whose identifiers are one number of 1 MB each", **LONG)
 def components(count):
     size = min(1_000_000, (MOST - FRAME) // count - FRAME)
     return target(with_extensions(extension(b"\x2a" + b"\xff" * (size - 2) + bytes([it]), b"") for it in range(count)))
 
 
-@family("identifiers-alike", "one certificate with n/512 extensions whose identifiers share their first 500 octets", **{**MANY, "small": (50_000, 200_000)})
+@family("identifiers-alike", "one certificate with n/512 extensions whose identifiers share their first 500 octets",
+        **{**MANY, "small": (50_000, 200_000)})
 def identifiers_alike(count):
     front = long_identifier(500)
     return target(with_extensions(extension(front + identifier(it)[1:], b"") for it in range(count // 512)))
@@ -153,22 +155,22 @@ def header_of(length):
     return bytes([0x30, 0x80 | len(digits)]) + digits
 
 
-@of_octets("nested-deep", "an item of a SEQUENCE in a SEQUENCE and so on, to its end", other=None, sizes=tuple(MOST * it // 8 for it in (1, 2, 4, 8)))
+@of_octets("nested-deep", "an item of a SEQUENCE in a SEQUENCE and so on, to its end", other=None, sizes=ONE_ITEM)
 def nested_deep(size):
     return Files([deep(size - FRAME)], [ANCHOR], [], "no target")
 
 
-@of_octets("nested-value", "a certificate whose extension's value is a SEQUENCE in a SEQUENCE and so on", sizes=tuple(MOST * it // 8 for it in (1, 2, 4, 8)))
+@of_octets("nested-value", "a certificate whose extension's value is a SEQUENCE in a SEQUENCE and so on", sizes=ONE_ITEM)
 def nested_value(size):
     return target(with_extensions([extension(b"\x2a\x03", deep(size - 2 * FRAME))]))
 
 
-@of_octets("parts", "an item of NULLs alone", other=None, sizes=tuple(MOST * it // 8 for it in (1, 2, 4, 8)))
+@of_octets("parts", "an item of NULLs alone", other=None, sizes=ONE_ITEM)
 def parts(size):
     return Files([element(0x30, b"\x05\x00" * ((size - FRAME) // 2))], [ANCHOR], [], "no target")
 
 
-@of_octets("parts-within", "a certificate with NULLs alone in an attribute's value", sizes=tuple(MOST * it // 8 for it in (1, 2, 4, 8)))
+@of_octets("parts-within", "a certificate with NULLs alone in an attribute's value", sizes=ONE_ITEM)
 def parts_within(size):
     return target(with_value(element(0x30, b"\x05\x00" * ((size - 2 * FRAME) // 2))))
 

@@ -79,10 +79,10 @@ def entry(serial, further=b""):
     return element(0x30, serial, FIRST, further)
 
 
-def revocation_list(issuer, entries=b"", algorithm=ALGORITHM, further=b"", version=b"", end=SIGNED):
+def revocation_list(issuer, entries=b"", version=b""):
     """A revocation list; none of its entries where they are no octets."""
     rows = element(0x30, entries) if entries else b""
-    return element(0x30, element(0x30, version, algorithm, issuer, FIRST, LAST, rows, further), end)
+    return assembled(element(0x30, version, ALGORITHM, issuer, FIRST, LAST, rows))
 
 
 def digest(octets):

@@ -11,11 +11,14 @@ greatest peak memory for each octet read, and a verdict. `pass` wants three thin
 - at most 2 seconds for a file of 1 MB.
 
 `known` is a miss that docs/COST.md states. Exit status 1 where a family fails, or an answer isn't the one that is right.
-`--small` takes two sizes, the second four times the first, at which a square would show. `--write` keeps the files of the least size.
-`--seconds` is after how many a run is ended. `--program` is the program for `frame` and `path`; ./bundle and ./vouch are those of the checkout.
+`--small` takes two sizes, the second four times the first, at which a square would show. `--write` keeps the files of the least
+size. `--seconds` is after how many a run is ended. `--program` is the program for `frame` and `path`; ./bundle and ./vouch are
+those of the checkout.
 """
 import argparse
 import os
+import re
+import signal
 import sys
 import tempfile
 from math import log2
@@ -39,7 +42,11 @@ LEAST_SECONDS, LEAST_MEMORY = 0.02, 40 * MEGABYTE
 # Where sizes aren't small a run is repeated up to so often, while all of its runs together took less than so many seconds.
 MOST_RUNS, ENOUGH_SECONDS = 3, 3.0
 PIECE = 1 << 20
+END = re.compile(rb"(?:\A|\n)end .*\n\Z")
+# How a run ends that the kernel ends, and the exit status of `certpath` where memory is refused.
+OUT_OF_TIME, OUT_OF_MEMORY = (-signal.SIGXCPU, -signal.SIGKILL), 6
 FILES = ("bundle", "anchors", "vouchers")
+HEAD = ("family", "command", "sizes", "MB", "seconds", "growth", "s for 1 MB", "peak MB", "times the octets", "verdict")
 
 
 class Point(NamedTuple):
@@ -48,8 +55,22 @@ class Point(NamedTuple):
     octets: int
     seconds: float
     memory: int
-    # Why the run isn't right, none where it is.
+    # Why the run isn't right, none where it is; and whether it ended for want of time or memory.
     fault: str
+    is_spent: bool
+
+
+class Misses(NamedTuple):
+    """What a family doesn't reach, a text each: wrong answers, too much time or memory, and too much growth."""
+    wrong: list
+    costs: list
+    growths: list
+
+    def all(self):
+        return [*self.wrong, *self.costs, *self.growths]
+
+    def are_known(self, family):
+        return bool(family.known) and not self.wrong
 
 
 def write_files(family, size, room):
@@ -95,11 +116,22 @@ def tail_of(output, size=4 * PIECE):
         return file.read()
 
 
+def is_whole(family, run):
+    """Whether a command other than `path` has written its last line."""
+    if family.command == "frame":
+        return bool(END.search(tail_of(run.output, 100)))
+    return tail_of(run.errors, 10).endswith(b" told\n")
+
+
 def fault_of(family, run, room):
     """Why a run isn't right; none where it is."""
+    if run.status in OUT_OF_TIME:
+        return "out of time"
     if run.status not in family.statuses:
-        return "out of time" if run.status in (-24, -9) else f"status {run.status}: {tail_of(run.errors, 200).decode(errors='replace').strip()}"
-    if family.command != "path" or run.status > 3:
+        return f"status {run.status}: {tail_of(run.errors, 200).decode(errors='replace').strip()}"
+    if family.command != "path":
+        return None if is_whole(family, run) else "its last line is missing"
+    if run.status > 3:
         return None
     with open(os.path.join(room, "answer"), "rb") as file:
         wanted = file.read()
@@ -124,7 +156,9 @@ def point(family, size, bench, room):
     runs = [measured(words, room, bench.seconds)]
     while not bench.is_small and len(runs) < MOST_RUNS and sum(it.seconds for it in runs) < ENOUGH_SECONDS:
         runs.append(measured(words, room, bench.seconds))
-    return Point(size, octets, min(it.seconds for it in runs), min(it.memory for it in runs), fault_of(family, runs[-1], room))
+    last = runs[-1].status
+    is_spent = last in OUT_OF_TIME or last == OUT_OF_MEMORY and OUT_OF_MEMORY not in family.statuses
+    return Point(size, octets, min(it.seconds for it in runs), min(it.memory for it in runs), fault_of(family, runs[-1], room), is_spent)
 
 
 def growth(before, after):
@@ -138,16 +172,18 @@ def times(it):
 
 
 def missed(points, of_megabyte):
-    """What isn't reached, a text each."""
-    found = [it.fault for it in (*points, of_megabyte) if it and it.fault]
-    for before, after in zip(points, points[1:]):
-        if growth(before, after) > MOST_GROWTH:
-            found.append(f"{growth(before, after):.1f} times the time at {after.size:,}")
+    """What isn't reached."""
+    measured_ones = [it for it in (*points, of_megabyte) if it]
+    wrong, spent = ([it.fault for it in measured_ones if it.fault and it.is_spent == is_spent] for is_spent in (False, True))
+    found = Misses(wrong, spent, [])
     for it in points:
         if it.memory > max(MOST_TIMES * it.octets, LEAST_MEMORY):
-            found.append(f"{times(it):.0f} times the octets in memory at {it.size:,}")
+            found.costs.append(f"{times(it):.0f} times the octets in memory at {it.size:,}")
     if of_megabyte and of_megabyte.seconds > MOST_OF_MEGABYTE:
-        found.append(f"{of_megabyte.seconds:.1f} s for 1 MB")
+        found.costs.append(f"{of_megabyte.seconds:.1f} s for 1 MB")
+    for before, after in zip(points, points[1:]):
+        if growth(before, after) > MOST_GROWTH:
+            found.growths.append(f"{growth(before, after):.1f} times the time at a doubling to {after.size:,}")
     return found
 
 
@@ -167,7 +203,7 @@ def confirmed(family, bench, room):
     """The points and what they miss; a family that misses only its growth is measured once more, since a machine's pace changes."""
     points, of_megabyte = measure(family, bench, room)
     found = missed(points, of_megabyte)
-    if found and all("times the time" in it for it in found) and sum(it.seconds for it in points) < 60:
+    if found.growths and not found.wrong and not found.costs and sum(it.seconds for it in points) < 60:
         again, of_megabyte = measure(family, bench, room)
         points = [min(pair, key=lambda it: it.seconds) for pair in zip(points, again)]
         found = missed(points, of_megabyte)
@@ -176,13 +212,21 @@ def confirmed(family, bench, room):
 
 def row(family, points, of_megabyte, found):
     """The cells of a family's row."""
-    known = family.known if found else None
-    verdict = "pass" if not found else f"{'known' if known else 'FAIL'}: {'; '.join(found)}"
+    word = "known" if found.are_known(family) else "FAIL"
+    verdict = f"{word}: {'; '.join(found.all())}" if found.all() else "pass"
     most = max((growth(*it) for it in zip(points, points[1:])), default=0)
     least = [it for it in points if it.memory > LEAST_MEMORY]
-    return (family.name, family.command, f"{points[0].size:,} to {points[-1].size:,} {family.unit}", f"{points[-1].octets / MEGABYTE:.1f}",
-            ", ".join(f"{it.seconds:.2f}" for it in points), f"{most:.1f}" if most else "", f"{of_megabyte.seconds:.2f}" if of_megabyte else "",
-            f"{points[-1].memory / MEGABYTE:.0f}", f"{max(map(times, least)):.1f}" if least else "", verdict)
+    return (
+        family.name,
+        family.command,
+        f"{points[0].size:,} to {points[-1].size:,} {family.unit}",
+        f"{points[-1].octets / MEGABYTE:.1f}",
+        ", ".join(f"{it.seconds:.2f}" for it in points),
+        f"{most:.1f}" if most else "",
+        f"{of_megabyte.seconds:.2f}" if of_megabyte else "",
+        f"{points[-1].memory / MEGABYTE:.0f}",
+        f"{max(map(times, least)):.1f}" if least else "",
+        verdict)
 
 
 def read_words():
@@ -222,11 +266,12 @@ def main():
     if not program:
         sys.exit("certpath wasn't built, so nothing was measured")
     bench, failed = Bench(program, words.seconds, words.small), 0
-    print("| family | command | sizes | MB | seconds | growth | s for 1 MB | peak MB | times the octets | verdict |\n|---|---|---|---|---|---|---|---|---|---|", flush=True)
+    print(f"| {' | '.join(HEAD)} |\n{'|---' * len(HEAD)}|", flush=True)
     for family in families:
         with tempfile.TemporaryDirectory(prefix="hostile-") as room:
             measurement = confirmed(family, bench, room)
-        failed += bool(measurement[2]) and not family.known
+        misses = measurement[2]
+        failed += bool(misses.all()) and not misses.are_known(family)
         print(f"| {' | '.join(row(family, *measurement))} |", flush=True)
     print(f"hostile: {len(families) - failed} passed, {failed} failed of {len(families)} families")
     return 1 if failed else 0

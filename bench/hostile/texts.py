@@ -118,7 +118,8 @@ def bundle_begins(size):
 @of_octets("bundle-lines", "a PEM block in lines of two octets", "bundle")
 def bundle_lines(size):
     digits = base64.b64encode(element(0x30, bytes(size // 2 - 100)))
-    return [b"-----BEGIN CERTIFICATE-----\n", *(digits[at:at + 2] + b"\n" for at in range(0, len(digits), 2)), b"-----END CERTIFICATE-----\n"]
+    lines = b"".join(digits[at:at + 2] + b"\n" for at in range(0, len(digits), 2))
+    return [b"-----BEGIN CERTIFICATE-----\n", lines, b"-----END CERTIFICATE-----\n"]
 
 
 @of_octets("bundle-empty-lines", "a PEM file of empty lines", "bundle")
