@@ -17,8 +17,14 @@ PSS_DIGESTS = {"1.3.14.3.2.26": "sha1", f"{SHA_2}.4": "sha224", f"{SHA_2}.1": "s
 WEAK = ("md5", "sha1")
 
 
+# Of a longer identifier its first octets alone are shown.
+MOST_SHOWN = 32
+
+
 def dotted(content):
-    """An identifier's components (X.690, 8.19), as far as they can be read."""
+    """An identifier's components (X.690, 8.19), or its octets where it is long or none."""
+    if len(content) > MOST_SHOWN:
+        return f"of {len(content)} octets that begin with {content[:MOST_SHOWN].hex()}"
     numbers, number = [], 0
     for octet in content:
         number = number << 7 | octet & 0x7F
@@ -33,7 +39,7 @@ def dotted(content):
 
 def split(octets):
     """An algorithm's identifier, and its parameters, none where there are none (RFC 5280, 4.1.1.2)."""
-    parts = shapes.parts_of(shapes.parts_of(octets)[0].content) or []
+    parts = shapes.parts_of(shapes.parts_of(octets)[0].content, 3) or []
     if shapes.tags_of(parts[:1]) != [OBJECT_IDENTIFIER] or len(parts) > 2:
         return None, None
     return dotted(parts[0].content), parts[1] if len(parts) == 2 else None
@@ -41,12 +47,12 @@ def split(octets):
 
 def pss_digest(parameters):
     """The digest that parameters of RSA-PSS name, under [0]; none where it isn't known, or they are no parameters."""
-    parts = shapes.parts_of(parameters.content) if parameters and parameters.tag == shapes.SEQUENCE else None
+    parts = shapes.parts_of(parameters.content, 1) if parameters and parameters.tag == shapes.SEQUENCE else None
     if parts is None:
         return None
     if shapes.tags_of(parts[:1]) != [0xA0]:
         return "sha1"
-    inner = shapes.parts_of(parts[0].content)
+    inner = shapes.parts_of(parts[0].content, 2)
     return PSS_DIGESTS.get(split(parts[0].content)[0]) if shapes.tags_of(inner) == [shapes.SEQUENCE] else None
 
 

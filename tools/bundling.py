@@ -71,6 +71,9 @@ CASES = (
       "bundle: 3 items (2 certificates, 1 list), 6 told"], 1),
     ({}, [], b"", ["usage: ./bundle FILE.. > bundle.der"], 2),
     ({}, ["leaf", "missing"], b"", ["cannot read missing"], 4),
+    ({}, ["miss\x1b[2Jing\n"], b"", ["cannot read miss\\x1b[2Jing\\n"], 4),
+    ({"es\x9bcape": b"junk\n"}, ["es\x9bcape", "leaf"], LEAF,
+     ["es\\x9bcape: neither PEM nor DER; left out", "bundle: 1 item (1 certificate, 0 lists), 1 told"], 1),
 )
 
 

@@ -32,6 +32,8 @@ CALLS = {
 }
 # A key that is worth fewer bits of security is weak: RSA and DSA below 2048 bits, elliptic curves below 224.
 FEWEST_BITS = 112
+# What OpenSSL notes where it has nothing to say but that a signature is wrong.
+WRONG, NO_REASONS = "wrong signature", ("EVP lib",)
 
 
 class Missing(ImportError):
@@ -102,9 +104,10 @@ class Verifier:
 
     def reason(self):
         """The first reason that OpenSSL has noted, and forgets then."""
-        text = self.library.ERR_reason_error_string(self.library.ERR_get_error())
+        noted = self.library.ERR_reason_error_string(self.library.ERR_get_error())
         self.library.ERR_clear_error()
-        return text.decode(errors="replace") if text else "wrong signature"
+        text = noted.decode(errors="replace") if noted else WRONG
+        return WRONG if text in NO_REASONS else text
 
     def refusals(self, item, keys):
         """Why each key doesn't verify the item, none where it does; or nothing at all where OpenSSL cannot read the item."""

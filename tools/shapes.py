@@ -4,6 +4,10 @@ from typing import NamedTuple
 LIMIT = 16777216
 SEQUENCE, INTEGER, BIT_STRING, UTC_TIME, GENERALIZED_TIME, VERSION = 0x30, 0x02, 0x03, 0x17, 0x18, 0xA0
 CERTIFICATE, LIST = "certificate", "list"
+# No certificate or list has fewer octets: the headers alone are so many.
+LEAST_ITEM = 14
+# By so many parts of what is signed the shape is known: a version, a serial number, and up to the key.
+MOST_PARTS = 7
 
 
 class Part(NamedTuple):
@@ -56,17 +60,47 @@ def header_at(octets, at):
     return octets[at], begin, begin + length, digits[0] != 0 and length >= 0x80
 
 
-def parts_of(octets):
-    """The elements that the octets are; none where they are no row of them."""
-    parts, at = [], 0
+def headers_in(octets):
+    """Where each element of a row of them begins, and its header; ends with none where the octets aren't a row of elements."""
+    at = 0
     while at < len(octets):
         header = header_at(octets, at)
         if header is None or header[2] > len(octets):
+            yield None
+            return
+        yield at, header
+        at = header[2]
+
+
+def parts_of(octets, most=None):
+    """The elements that the octets are, or the first of them, at most so many; none where the octets aren't a row of elements."""
+    parts = []
+    for found in headers_in(octets):
+        if found is None:
             return None
-        tag, begin, end, _ = header
-        parts.append(Part(tag, octets[begin:end], octets[at:end]))
-        at = end
+        if most is None or len(parts) < most:
+            at, (tag, begin, end, _) = found
+            parts.append(Part(tag, octets[begin:end], octets[at:end]))
     return parts
+
+
+def first_parts(octets, most):
+    """The first elements that begin the octets, at most so many; what stands behind them isn't looked at. None where one of these isn't
+    an element."""
+    parts = []
+    for found in headers_in(octets):
+        if found is None:
+            return None
+        at, (tag, begin, end, _) = found
+        parts.append(Part(tag, octets[begin:end], octets[at:end]))
+        if len(parts) == most:
+            break
+    return parts
+
+
+def is_row(octets):
+    """Whether the octets are a row of elements."""
+    return None not in headers_in(octets)
 
 
 def tags_of(parts):
@@ -80,12 +114,15 @@ def without(tag, parts):
 
 def item_of(octets):
     """The certificate or list that a whole element is by its shape, none where it is neither."""
-    whole = parts_of(octets)
-    outer = parts_of(whole[0].content) if whole else None
+    if len(octets) < LEAST_ITEM:
+        return None
+    whole = first_parts(octets, 1)
+    # a fourth one is too many, and further ones can't mend it
+    outer = first_parts(whole[0].content, 4) if whole else None
     if tags_of(outer) != [SEQUENCE, SEQUENCE, BIT_STRING]:
         return None
     signed, algorithm, signature = outer
-    inner = parts_of(signed.content) or []
+    inner = parts_of(signed.content, MOST_PARTS) or []
     parts = without(VERSION, inner)
     if tags_of(parts[:6]) == [INTEGER] + [SEQUENCE] * 5:
         _, own, issuer, _, subject, key = (it.octets for it in parts[:6])

@@ -7,12 +7,49 @@ if sys.stderr is None:
     sys.stderr = open(os.devnull, "w", encoding="utf-8")
 
 
+# Lines for standard error are written together, up to so many characters at once.
+MOST_HELD = 65_536
+
+
+def shown(text):
+    """A text for a terminal: what isn't printable, such as control characters, is escaped."""
+    if text.isprintable():
+        return text
+    return "".join(it if it.isprintable() else it.encode("unicode_escape").decode() for it in text)
+
+
 def tell(text):
-    """Writes a line on standard error; where that fails, the status still tells what there is to know."""
+    """Writes a line on standard error. An error there is ignored, since the exit status holds the result."""
+    write_lines([shown(str(text))])
+
+
+def write_lines(lines):
+    """Writes lines that are fit to be shown on standard error."""
     try:
-        print(text, file=sys.stderr, flush=True)
+        sys.stderr.write("".join(f"{it}\n" for it in lines))
+        sys.stderr.flush()
     except OSError:
         pass
+
+
+class Lines:
+    """Lines for standard error that are held and written many at a time."""
+
+    def __init__(self):
+        self.held, self.size = [], 0
+
+    def tell(self, text):
+        """Adds a line."""
+        line = shown(text)
+        self.held.append(line)
+        self.size += len(line)
+        if self.size > MOST_HELD:
+            self.flush()
+
+    def flush(self):
+        """Writes the lines that are held."""
+        write_lines(self.held)
+        self.held, self.size = [], 0
 
 
 def wrote(octets):

@@ -8,10 +8,11 @@ import repo
 import vouching_algorithms
 import vouching_files
 import vouching_items
+import vouching_tries
 from vouching_pki import Workshop
 from vouching_trials import Trials
 
-GROUPS = (vouching_algorithms, vouching_items, vouching_files)
+GROUPS = (vouching_algorithms, vouching_items, vouching_tries, vouching_files)
 
 
 def main():

@@ -13,7 +13,7 @@ from vouching_algorithms import Row
 from vouching_pki import line, name, octets_of_pem
 
 LIST = "X509 CRL"
-USAGE = ["usage: ./vouch BUNDLE ANCHORS [--weak] [--limit N] > vouchers.txt"]
+USAGE = ["usage: ./vouch BUNDLE ANCHORS [--weak] [--tries N] [--verbose] [--limit N] > vouchers.txt"]
 SAMPLES = os.path.join(repo.TOP, "samples")
 NEITHER = octets("30(02(05))")
 # What begins no item, and what is the front of one.
@@ -113,12 +113,15 @@ def refusals(t):
     os.makedirs(os.path.join(t.shop.room, "folder"), exist_ok=True)
     both = ["root", "root"]
     for words in ([], ["root"], [*both, "root"], ["--help"], [*both, "--wake"], [*both, "--limit"], [*both, "--weak", "--weak"],
-                  [*both, "--limit", "1", "--limit", "1"], ["-", "root"]):
+                  [*both, "--limit", "1", "--limit", "1"], [*both, "--tries"], [*both, "--tries=1", "--tries", "1"], [*both, "-v", "--verbose"], ["-", "root"]):
         t.same(f"vouch {words}", t.run("vouch", words), (2, b"", USAGE))
     for number in ("4294967296", "3x", "", "+3", "-1", "1" * 5000, "٣"):
-        t.same(f"--limit {number:.20}", t.run("vouch", ["none", "none", "--limit", number]), (2, b"", ["bad number"]))
+        for option in ("--limit", "--tries"):
+            t.same(f"{option} {number:.20}", t.run("vouch", ["none", "none", option, number]), (2, b"", ["bad number"]))
+    t.same("--tries 00", t.run("vouch", ["none", "none", "--tries", "00"]), (2, b"", ["bad number"]))
     for words in (["none", "root"], ["root", "none"]):
         t.same(f"vouch {words}", t.run("vouch", words), (4, b"", ["cannot read none"]))
+    t.same("a name with control characters", t.run("vouch", ["\x1b[2J\r\n\x9b", "root"]), (4, b"", ["cannot read \\x1b[2J\\r\\n\\x9b"]))
     t.same("a folder", t.run("vouch", ["folder", "root"]), (4, b"", ["cannot read folder"]))
     t.same("standard input", t.run("vouch", ["/dev/stdin", "root"], root)[:2], (0, line(t.shop.public("p256"), root).encode()))
     with open("/dev/full", "wb") as full:

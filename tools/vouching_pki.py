@@ -124,16 +124,16 @@ class Workshop:
         file = self.keep(f"{threading.get_ident()}.signed", octets_signed)
         return self.openssl("dgst", "-sha256", "-sign", self.key(kind), file)
 
-    def certificate(self, signer, issuer, subject, key, serial=1, outer=None):
-        """A certificate that is spelled here: its names and its key are octets."""
+    def certificate(self, signer, issuer, subject, key, serial=1, outer=None, extensions=b""):
+        """A certificate that is spelled here: its names, its key and its extensions are octets."""
         algorithm = RSA_SHA256 if signer in ("rsa", "other", "rsa1024") else ECDSA_SHA256
-        signed = element(b"\x30", octets(f"a0(02(02))02({serial:02x})") + algorithm + issuer + element(b"\x30", DATES) + subject + key)
+        signed = element(b"\x30", octets(f"a0(02(02))02({serial:02x})") + algorithm + issuer + element(b"\x30", DATES) + subject + key + extensions)
         return assembled(signed, outer or algorithm, self.signature(signer, signed))
 
-    def list(self, signer, issuer, outer=None):
+    def list(self, signer, issuer, outer=None, extensions=b""):
         """A revocation list that is spelled here."""
         algorithm = RSA_SHA256 if signer in ("rsa", "other", "rsa1024") else ECDSA_SHA256
-        signed = element(b"\x30", octets("02(01)") + algorithm + issuer + DATES)
+        signed = element(b"\x30", octets("02(01)") + algorithm + issuer + DATES + extensions)
         return assembled(signed, outer or algorithm, self.signature(signer, signed))
 
     def is_signed(self, item, public, digest, options):

@@ -11,7 +11,7 @@ from vouching_pki import line
 SECONDS = 60
 LINES = re.compile(rb"(?:[0-9a-f]{64} [0-9a-f]{64}\n)*")
 # OpenSSL's own words, which may differ from version to version.
-REASON = re.compile(r"(not verified by \d+ keys?) \(.+\)$")
+REASON = re.compile(r"(not verified by \d+ keys?) \([^()]+\)")
 
 
 class Trials:
@@ -35,10 +35,10 @@ class Trials:
         return ran.returncode, ran.stdout, [REASON.sub(r"\1 (..)", it) for it in ran.stderr.decode().splitlines()]
 
     def lines(self, title, bundle, anchors, *words, **further):
-        """A run's status, lines and what is told; each line has its form, and they ascend, each once."""
+        """A run's status, lines and what is told of each item; each line has its form, and they ascend, each once."""
         self.shop.keep("bundle.der", b"".join(bundle))
         self.shop.keep("anchors.der", b"".join(anchors))
-        status, text, told = self.run("vouch", ["bundle.der", "anchors.der", *words], **further)
+        status, text, told = self.run("vouch", ["bundle.der", "anchors.der", "--verbose", *words], **further)
         found = text.splitlines(keepends=True)
         self.same(f"{title}: the form of its lines", (bool(LINES.fullmatch(text)), found), (True, sorted({*found})))
         return status, text.decode(), told

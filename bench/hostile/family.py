@@ -1,0 +1,52 @@
+"""What a family of files is: its name, its command, its sizes, and how its files are made."""
+from typing import Callable, NamedTuple
+
+ITEMS, SMALL_ITEMS = (12_500, 25_000, 50_000, 100_000), (1_000, 4_000)
+MEGABYTE = 1_000_000
+OCTETS, SMALL_OCTETS = tuple(MEGABYTE * it for it in (4, 8, 16, 32)), (125_000, 500_000)
+
+# For items above the 16,777,216 content octets that are allowed where no limit is given.
+UNLIMITED = ("--limit", "4294967295")
+
+
+class Files(NamedTuple):
+    """The files of a run as lists of octets, and the last lines but `check yes` that `path` has to print about them."""
+    bundle: list
+    anchors: list = ()
+    vouchers: list = ()
+    answer: str = "none"
+
+
+class Family(NamedTuple):
+    """Files of one kind. `make` is handed a size, which counts what `unit` names, and returns `Files`; or for the commands of one
+    file the octets of that file, in pieces. `other` is how many items may be of class `other`, none meaning any number."""
+    name: str
+    title: str
+    command: str
+    make: Callable
+    unit: str = "items"
+    sizes: tuple = ITEMS
+    small: tuple = SMALL_ITEMS
+    other: int = 0
+    words: tuple = ()
+    statuses: tuple = (0, 1)
+    # Why the family misses what is wanted, where that is known and stated in docs/COST.md.
+    known: str = None
+
+
+FAMILIES = {}
+
+
+def family(name, title, command="path", **further):
+    """Adds the function that makes the files to the families."""
+    def add(make):
+        if name in FAMILIES:
+            raise ValueError(f"two families {name}")
+        FAMILIES[name] = Family(name, title, command, make, **further)
+        return make
+    return add
+
+
+def of_octets(name, title, command="path", **further):
+    """A family whose size is about the octets of its files."""
+    return family(name, title, command, **{"unit": "octets", "sizes": OCTETS, "small": SMALL_OCTETS, **further})

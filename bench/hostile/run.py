@@ -1,0 +1,281 @@
+#!/usr/bin/env python3
+"""Measures what hostile files cost: families of files that are made to be slow, each at sizes that double.
+
+    bench/hostile/run.py [--small] [--only NAME].. [--program PATH] [--seconds N] [--list] [--write FOLDER]
+
+Prints a row for each family: processor seconds at each size, the greatest growth at a doubling, the seconds of a file of 1 MB, the
+greatest peak memory for each octet read, and a verdict. `pass` wants three things:
+
+- at most 2.4 times the time at each doubling, where less than 0.02 seconds count as 0.02;
+- at most 16 times the octets read in memory, or 40 MB where that is more (Python and OpenSSL alone take 20);
+- at most 2 seconds for a file of 1 MB.
+
+`known` is a miss that docs/COST.md states. Exit status 1 where a family fails, or an answer isn't the one that is right.
+`--small` takes two sizes, the second four times the first, at which a square would show. `--write` keeps the files of the least
+size. `--seconds` is after how many a run is ended. `--program` is the program for `frame` and `path`; ./bundle and ./vouch are
+those of the checkout.
+"""
+import argparse
+import os
+import re
+import signal
+import sys
+import tempfile
+from math import log2
+from typing import NamedTuple
+
+HERE = os.path.dirname(os.path.abspath(__file__))
+TOP = os.path.dirname(os.path.dirname(HERE))
+sys.dont_write_bytecode = True
+sys.path[:0] = [HERE, os.path.join(TOP, "tools")]
+import graphs
+import one_item
+import repo
+import signed
+import texts
+from family import FAMILIES, Files
+from measure import MEGABYTE, MOST_SECONDS, in_child, measured
+from parts import MOMENT
+
+MOST_GROWTH, MOST_TIMES, MOST_OF_MEGABYTE = 2.4, 16, 2.0
+LEAST_SECONDS, LEAST_MEMORY = 0.02, 40 * MEGABYTE
+# Where sizes aren't small a run is repeated up to so often, while all of its runs together took less than so many seconds.
+MOST_RUNS, ENOUGH_SECONDS = 3, 3.0
+PIECE = 1 << 20
+END = re.compile(rb"(?:\A|\n)end .*\n\Z")
+# How a run ends that the kernel ends, and the exit status of `certpath` where memory is refused.
+OUT_OF_TIME, OUT_OF_MEMORY = (-signal.SIGXCPU, -signal.SIGKILL), 6
+FILES = ("bundle", "anchors", "vouchers")
+HEAD = ("family", "command", "sizes", "MB", "seconds", "growth", "s for 1 MB", "peak MB", "times the octets", "verdict")
+
+
+class Point(NamedTuple):
+    """What a family took at one size."""
+    size: int
+    octets: int
+    seconds: float
+    memory: int
+    # Why the run isn't right, none where it is; and whether it ended for want of time or memory.
+    fault: str
+    is_spent: bool
+
+
+class Misses(NamedTuple):
+    """What a family doesn't reach, a text each: wrong answers, too much time or memory, and too much growth."""
+    wrong: list
+    costs: list
+    growths: list
+
+    def all(self):
+        return [*self.wrong, *self.costs, *self.growths]
+
+    def are_known(self, family):
+        return bool(family.known) and not self.wrong
+
+
+def write_files(family, size, room):
+    """Writes the files of a size into a folder; gives how many octets they have. The answer that is wanted goes to a file beside them."""
+    made = family.make(size)
+    files = made if isinstance(made, Files) else Files(made, answer=None)
+    octets = 0
+    for name, pieces in zip(FILES, files):
+        with open(os.path.join(room, name), "wb") as out:
+            out.writelines(pieces)
+            octets += out.tell()
+    with open(os.path.join(room, "answer"), "w", encoding="ascii") as out:
+        out.write(files.answer or "")
+    return octets
+
+
+def words_of(family, program):
+    """The command line of a family, in the folder of its files."""
+    script = [sys.executable, "-IS", os.path.join(TOP, family.command)]
+    words = {
+        "path": [program, "path", *FILES, "--target", "0", "--at", MOMENT],
+        "frame": [program, "frame", FILES[0]],
+        "bundle": [*script, FILES[0]],
+        "vouch": [*script, *FILES[:2]],
+    }
+    return [*words[family.command], *family.words]
+
+
+def others_in(output):
+    """How many items of a report are of class `other`."""
+    found, end = 0, b""
+    with open(output, "rb") as file:
+        while piece := file.read(PIECE):
+            found += (end + piece).count(b" other\n")
+            # (what stands at the border of two pieces is counted once: seven octets don't hold it twice)
+            end = piece[-6:]
+    return found
+
+
+def tail_of(output, size=4 * PIECE):
+    with open(output, "rb") as file:
+        file.seek(max(0, os.path.getsize(output) - size))
+        return file.read()
+
+
+def is_whole(family, run):
+    """Whether a command other than `path` has written its last line."""
+    if family.command == "frame":
+        return bool(END.search(tail_of(run.output, 100)))
+    return tail_of(run.errors, 10).endswith(b" told\n")
+
+
+def fault_of(family, run, room):
+    """Why a run isn't right; none where it is."""
+    if run.status in OUT_OF_TIME:
+        return "out of time"
+    if run.status not in family.statuses:
+        return f"status {run.status}: {tail_of(run.errors, 200).decode(errors='replace').strip()}"
+    if family.command != "path":
+        return None if is_whole(family, run) else "its last line is missing"
+    if run.status > 3:
+        return None
+    with open(os.path.join(room, "answer"), "rb") as file:
+        wanted = file.read()
+    if not tail_of(run.output).endswith(b"\n" + wanted + b"\ncheck yes\n"):
+        return f"not the answer {wanted[:40].decode()}"
+    if family.other is not None and others_in(run.output) != family.other:
+        return f"{others_in(run.output)} items are other"
+    return None
+
+
+class Bench(NamedTuple):
+    """How families are measured: by which program, for how long at most, and whether at small sizes."""
+    program: str
+    seconds: int
+    is_small: bool
+
+
+def point(family, size, bench, room):
+    """Measures a family at a size, the best of some runs."""
+    octets = in_child(write_files, family, size, room)
+    words = words_of(family, bench.program)
+    runs = [measured(words, room, bench.seconds)]
+    while not bench.is_small and len(runs) < MOST_RUNS and sum(it.seconds for it in runs) < ENOUGH_SECONDS:
+        runs.append(measured(words, room, bench.seconds))
+    last = runs[-1].status
+    is_spent = last in OUT_OF_TIME or last == OUT_OF_MEMORY and OUT_OF_MEMORY not in family.statuses
+    return Point(size, octets, min(it.seconds for it in runs), min(it.memory for it in runs), fault_of(family, runs[-1], room), is_spent)
+
+
+def growth(before, after):
+    """How many times the time is at a doubling, from one point to the next."""
+    doublings = log2(after.octets / before.octets) or 1
+    return (max(after.seconds, LEAST_SECONDS) / max(before.seconds, LEAST_SECONDS)) ** (1 / doublings)
+
+
+def times(it):
+    return it.memory / it.octets
+
+
+def missed(points, of_megabyte):
+    """What isn't reached."""
+    measured_ones = [it for it in (*points, of_megabyte) if it]
+    wrong, spent = ([it.fault for it in measured_ones if it.fault and it.is_spent == is_spent] for is_spent in (False, True))
+    found = Misses(wrong, spent, [])
+    for it in points:
+        if it.memory > max(MOST_TIMES * it.octets, LEAST_MEMORY):
+            found.costs.append(f"{times(it):.0f} times the octets in memory at {it.size:,}")
+    if of_megabyte and of_megabyte.seconds > MOST_OF_MEGABYTE:
+        found.costs.append(f"{of_megabyte.seconds:.1f} s for 1 MB")
+    for before, after in zip(points, points[1:]):
+        if growth(before, after) > MOST_GROWTH:
+            found.growths.append(f"{growth(before, after):.1f} times the time at a doubling to {after.size:,}")
+    return found
+
+
+def measure(family, bench, room):
+    """The points of a family, up to one that takes too long, and that of 1 MB."""
+    points = []
+    for size in family.small if bench.is_small else family.sizes:
+        points.append(point(family, size, bench, room))
+        if points[-1].fault:
+            break
+    if bench.is_small or points[0].fault:
+        return points, None
+    return points, point(family, max(1, round(points[0].size * MEGABYTE / points[0].octets)), bench, room)
+
+
+def confirmed(family, bench, room):
+    """The points and what they miss; a family that misses only its growth is measured once more, since a machine's pace changes."""
+    points, of_megabyte = measure(family, bench, room)
+    found = missed(points, of_megabyte)
+    if found.growths and not found.wrong and not found.costs and sum(it.seconds for it in points) < 60:
+        again, of_megabyte = measure(family, bench, room)
+        points = [min(pair, key=lambda it: it.seconds) for pair in zip(points, again)]
+        found = missed(points, of_megabyte)
+    return points, of_megabyte, found
+
+
+def row(family, points, of_megabyte, found):
+    """The cells of a family's row."""
+    word = "known" if found.are_known(family) else "FAIL"
+    verdict = f"{word}: {'; '.join(found.all())}" if found.all() else "pass"
+    most = max((growth(*it) for it in zip(points, points[1:])), default=0)
+    least = [it for it in points if it.memory > LEAST_MEMORY]
+    return (
+        family.name,
+        family.command,
+        f"{points[0].size:,} to {points[-1].size:,} {family.unit}",
+        f"{points[-1].octets / MEGABYTE:.1f}",
+        ", ".join(f"{it.seconds:.2f}" for it in points),
+        f"{most:.1f}" if most else "",
+        f"{of_megabyte.seconds:.2f}" if of_megabyte else "",
+        f"{points[-1].memory / MEGABYTE:.0f}",
+        f"{max(map(times, least)):.1f}" if least else "",
+        verdict)
+
+
+def read_words():
+    words = argparse.ArgumentParser(description="Measures what hostile files cost.")
+    words.add_argument("--small", action="store_true", help="two small sizes, in seconds")
+    words.add_argument("--only", action="append", default=[], metavar="NAME", help="a family, or all whose names begin so")
+    words.add_argument("--program", help="the program for frame and path")
+    words.add_argument("--seconds", type=int, default=MOST_SECONDS, metavar="N", help="end a run after so many seconds of one processor")
+    words.add_argument("--list", action="store_true", help="print the families")
+    words.add_argument("--write", metavar="FOLDER", help="write the files of the least size into folders there, and measure nothing")
+    return words.parse_args()
+
+
+def chosen(only):
+    found = [it for it in FAMILIES.values() if not only or any(it.name.startswith(name) for name in only)]
+    return found or sys.exit(f"no family {', '.join(only)}")
+
+
+def write_all(families, folder, is_small):
+    for family in families:
+        room = os.path.join(folder, family.name)
+        os.makedirs(room, exist_ok=True)
+        octets = in_child(write_files, family, (family.small if is_small else family.sizes)[0], room)
+        print(f"{family.name}: {octets:,} octets", flush=True)
+
+
+def main():
+    words = read_words()
+    families = chosen(words.only)
+    if words.list:
+        print("\n".join(f"{it.name} ({it.command}): {it.title}" for it in families))
+        return 0
+    if words.write:
+        write_all(families, words.write, words.small)
+        return 0
+    program = words.program and os.path.abspath(words.program) or repo.ready("certpath_cli", ["frame", os.devnull])
+    if not program:
+        sys.exit("certpath wasn't built, so nothing was measured")
+    bench, failed = Bench(program, words.seconds, words.small), 0
+    print(f"| {' | '.join(HEAD)} |\n{'|---' * len(HEAD)}|", flush=True)
+    for family in families:
+        with tempfile.TemporaryDirectory(prefix="hostile-") as room:
+            measurement = confirmed(family, bench, room)
+        misses = measurement[2]
+        failed += bool(misses.all()) and not misses.are_known(family)
+        print(f"| {' | '.join(row(family, *measurement))} |", flush=True)
+    print(f"hostile: {len(families) - failed} passed, {failed} failed of {len(families)} families")
+    return 1 if failed else 0
+
+
+if __name__ == "__main__":
+    sys.exit(main())

@@ -1,0 +1,110 @@
+"""Families for ./vouch: keys that OpenSSL can read, and signatures that it finds wrong."""
+from family import UNLIMITED, Files, family, of_octets
+from one_item import MANY, ONE_ITEM, attribute, identifier
+from parts import (ECDSA_SHA256, FIRST, LAST, VALIDITY, VERSION_3, element, entry, extension, integer, key_ids, name, p256_keys,
+                   small_certificate, wrong_signature)
+
+X, LEAF, ROOT = name("x"), name("leaf"), name("root")
+KEY = next(p256_keys(1))
+SIGNED = {"sizes": (3_125, 6_250, 12_500, 25_000), "small": (100, 400)}
+
+
+def signed_by_none(subject, issuer, public, number):
+    """A certificate of version 1 with a signature in its form."""
+    return small_certificate(subject, issuer, public, ECDSA_SHA256, wrong_signature(number), number)
+
+
+def of_version_3(subject, public, number, extensions):
+    """A certificate "from x" with extensions."""
+    signed = element(0x30, VERSION_3, integer(number), ECDSA_SHA256, X, VALIDITY, subject, public, element(0xA3, element(0x30, extensions)))
+    return ended(signed, number)
+
+
+def ended(signed, number):
+    return element(0x30, signed, ECDSA_SHA256, element(0x03, b"\0", wrong_signature(number)))
+
+
+def issuers(count):
+    """Certificates of the subject x, a P-256 key each."""
+    return [signed_by_none(X, ROOT, it, number) for number, it in enumerate(p256_keys(count))]
+
+
+@family("vouch-keys", "n certificates \"x from x\", a P-256 key each, signed by none", "vouch", **SIGNED)
+def vouch_keys(count):
+    return Files([signed_by_none(X, X, it, number) for number, it in enumerate(p256_keys(count))])
+
+
+@family("vouch-issuers", "n/2 leaves and n/2 issuers of one name, a P-256 key each, signed by none", "vouch", **SIGNED)
+def vouch_issuers(count):
+    return Files([signed_by_none(LEAF, X, KEY, it) for it in range(count // 2)], issuers(count // 2))
+
+
+def with_ids(count, own, named):
+    """Certificates "x from x" with key identifiers by their numbers."""
+    def ids(number):
+        return key_ids(own(number).to_bytes(8, "big"), named(number).to_bytes(8, "big"))
+
+    return Files([of_version_3(X, it, number, ids(number)) for number, it in enumerate(p256_keys(count))])
+
+
+@family("vouch-ids-equal", "n certificates \"x from x\", key identifiers all equal, signed by none", "vouch", **SIGNED)
+def vouch_ids_equal(count):
+    return with_ids(count, lambda it: 7, lambda it: 7)
+
+
+@family("vouch-ids-never", "n certificates \"x from x\", key identifiers that never match, signed by none", "vouch", **SIGNED)
+def vouch_ids_never(count):
+    return with_ids(count, lambda it: it, lambda it: count + it)
+
+
+@family("vouch-copies", "n/2 copies of a leaf, and n/2 issuers of one name, a P-256 key each", "vouch", **SIGNED)
+def vouch_copies(count):
+    return Files([signed_by_none(LEAF, X, KEY, 1)] * (count // 2), issuers(count // 2))
+
+
+@family("vouch-lists", "n/2 lists of one issuer and n/2 keys of its name, signed by none", "vouch", **SIGNED)
+def vouch_lists(count):
+    def signed(number):
+        return ended(element(0x30, ECDSA_SHA256, X, FIRST, LAST, element(0x30, entry(integer(number)))), number)
+
+    return Files([signed(it) for it in range(count // 2)], issuers(count // 2))
+
+
+@family("vouch-no-keys", "n certificates whose issuers aren't there", "vouch")
+def vouch_no_keys(count):
+    return Files([signed_by_none(LEAF, name("nowhere"), KEY, it) for it in range(count)])
+
+
+@family("vouch-entries", "one list with n entries, signed by none", "vouch", **MANY, words=UNLIMITED)
+def vouch_entries(count):
+    rows = element(0x30, b"".join(entry(integer(it)) for it in range(count)))
+    signed = element(0x30, ECDSA_SHA256, X, FIRST, LAST, rows)
+    return Files([ended(signed, 1)], [signed_by_none(X, X, KEY, 1)])
+
+
+@family("vouch-extensions", "one certificate with n extensions, signed by none", "vouch", **MANY)
+def vouch_extensions(count):
+    item = of_version_3(LEAF, KEY, 1, b"".join(extension(identifier(it), b"") for it in range(count)))
+    return Files([item], [signed_by_none(X, X, KEY, 1)])
+
+
+@family("vouch-attributes", "one certificate with n attributes in one set of its subject", "vouch", **MANY)
+def vouch_attributes(count):
+    subject = element(0x30, element(0x31, *map(attribute, range(count))))
+    return Files([signed_by_none(subject, X, KEY, 1)], [signed_by_none(X, X, KEY, 1)])
+
+
+@of_octets("vouch-algorithm", "a certificate whose algorithm's identifier is one long number", "vouch", sizes=ONE_ITEM)
+def vouch_algorithm(size):
+    algorithm = element(0x30, element(0x06, b"\x2a" + b"\xff" * (size // 2 - 200) + b"\1"))
+    return Files([small_certificate(LEAF, X, KEY, algorithm, b"\0")], [signed_by_none(X, X, KEY, 1)])
+
+
+@of_octets("vouch-2", "items of two octets", "vouch")
+def vouch_2(size):
+    return Files([b"\x30\x00" * (size // 2)])
+
+
+@of_octets("vouch-parts", "an item of NULLs alone", "vouch", sizes=ONE_ITEM)
+def vouch_parts(size):
+    return Files([element(0x30, b"\x05\x00" * (size // 2 - 100))])
