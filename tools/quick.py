@@ -5,6 +5,7 @@ import re
 import subprocess
 import sys
 
+import believe
 import bundling
 import items
 import repo
@@ -254,8 +255,13 @@ def items_spelled():
         yield f"{items.STDIN}: an item isn't what the comment above it spells: run tools/items.py"
 
 
+def pages_counted():
+    """docs/TRUST.md counts the pages that promises rest on, and no page that follows the code is new among those of the judging."""
+    yield from believe.faults()
+
+
 def main():
-    checks = (layout, edits_apply, few_edits, all_read, no_labels, no_machine, docs_name_files, crates_listed, few_ways, judge_alone, roads_apart, headers_counted, no_handles, short_files, items_spelled, worked_causes, bundles)
+    checks = (layout, edits_apply, few_edits, all_read, no_labels, no_machine, docs_name_files, crates_listed, few_ways, judge_alone, roads_apart, headers_counted, no_handles, short_files, items_spelled, worked_causes, pages_counted, bundles)
     failed = 0
     for check in checks:
         found = [*check()]
