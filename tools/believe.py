@@ -200,7 +200,7 @@ def function(call):
     crate, *owner, name = call.split("::")
     for source in sources.files(crate) if crate in sources.CRATES else ():
         for it in source.functions:
-            if it.name == name and it.owner_type() == "".join(owner) and it.body is not None:
+            if it.name == name and it.owner_type == "".join(owner) and it.body is not None:
                 return it
     raise LookupError(f"there is no function {call}")
 
@@ -215,7 +215,7 @@ class Trust:
         for (_, _, text), name in zip(called.clauses, self.clauses):
             self.close(words_of(called.file, text, called.at), name)
         # (what `self`, the arguments and the result are is no clause's own)
-        head = called.owner[2].split(" for ")[-1] if called.owner_type() else ""
+        head = called.owner[2].split(" for ")[-1] if called.owner_type else ""
         self.close(words_of(called.file, f"{head} {called.signature}", called.at), "")
 
     def close(self, first, clause):

@@ -7,6 +7,7 @@ import sys
 
 import believe
 import bundling
+import counting
 import items
 import repo
 
@@ -200,23 +201,9 @@ def roads_apart():
             yield f"{path}: it names {name}"
 
 
-# Readers that try headers and keep no count of their caller's.
-UNCOUNTED = re.compile(r"\b(?:from_ber|from_der|strict|parse|parse_(?:ber|der)(?:_recursive)?|cut_elements|is_der_object|read_tree|read_typed)\b")
-
-
 def headers_counted():
-    """The counted sources of `certpath_typed`, and what writes fields back, name no reader that keeps no count of theirs and make no count of their
-    own, outside tests: what does stands in `uncounted.rt`, and `read_typed_counted` doesn't."""
-    for path in FILES:
-        if not re.match(r"crates/certpath_(?:typed|rebuild)/src/.*\.rt$", path) or re.search(r"/tests?\b", path):
-            continue
-        code = "\n".join(line.split("//")[0] for line in repo.read(path).splitlines() if not line.startswith("pub use "))
-        if path.endswith("/uncounted.rt"):
-            if re.search(r"\bfn \w+_counted\b", code):
-                yield f"{path}: it defines a counted call"
-            continue
-        for name in UNCOUNTED.findall(code) + re.findall(r"\bHeaderCount::new\b", code):
-            yield f"{path}: it names {name}, so its headers aren't counted"
+    """No counted call comes to a reader that keeps no count of its headers, and such readers stand where they are known."""
+    yield from counting.faults()
 
 
 def no_handles():

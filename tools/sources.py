@@ -12,7 +12,8 @@ BLOCK = re.compile(r"(?m)^[ \t]*(?:pub(?:\([\w ]+\))? )?(?:impl\b|trait\b|mod\b)
 TYPE = re.compile(r"(?m)^(?:pub(?:\([\w ]+\))? )?(struct|enum|trait|type|const) (\w+)")
 GHOST_USE = re.compile(r"ghost use ([\w.]+)(?:\.\{([^}]*)\}| as (\w+))?;")
 RUST_USE = re.compile(r"(?m)^[ \t]*(?:pub(?:\([\w ]+\))? )?use ([^;]+);")
-PAIRS = {"(": ")", "{": "}", "[": "]"}
+BRACKETS = {"(": re.compile(r"[()]"), "{": re.compile(r"[{}]"), "[": re.compile(r"[\[\]]")}
+CLAUSE = re.compile(r"\b(requires|ensures)\s+(\w*)\s*(?=\{)|[{;]")
 
 
 def blanked(text):
@@ -23,10 +24,10 @@ def blanked(text):
 def closing(code, at):
     """Where the bracket that opens at a place is closed."""
     opening, depth = code[at], 0
-    for place in range(at, len(code)):
-        depth += (code[place] == opening) - (code[place] == PAIRS[opening])
+    for it in BRACKETS[opening].finditer(code, at):
+        depth += 1 if it[0] == opening else -1
         if not depth:
-            return place
+            return it.start()
     raise ValueError(f"a bracket is not closed: {code[at:at + 60]}")
 
 
@@ -51,6 +52,7 @@ class Function:
     def is_public(self):
         return bool(re.match(r"\s*pub (?:const )?fn\b", self.signature))
 
+    @functools.cached_property
     def owner_type(self):
         """The type whose function it is, or the trait; empty where it is of neither."""
         head = re.sub(r"<[^<>]*>", "", re.sub(r"<[^<>]*>", "", re.sub(r"<[^<>]*>", "", self.owner[2])))
@@ -76,14 +78,18 @@ class File:
     def functions(self):
         return [self.function(it) for it in FUNCTION.finditer(self.code)]
 
+    @functools.cached_property
+    def plain(self):
+        """The functions outside all types, by their names."""
+        return {it.name: it for it in self.functions if not it.owner_type}
+
     def function(self, found):
         """The function whose head was found: its clauses stand between its parameters and its body."""
         at = closing(self.code, self.code.index("(", self.generics_end(found.end())))
         clauses, end = [], at + 1
-        word = re.compile(r"\b(requires|ensures)\s+(\w*)\s*(?=\{)|[{;]")
         signature = None
         while True:
-            it = word.search(self.code, end)
+            it = CLAUSE.search(self.code, end)
             signature = signature or self.code[found.start():it.start()]
             if not it[1]:
                 break
@@ -177,6 +183,27 @@ def files(crate):
 
 
 @functools.cache
+def module_file(crate, path):
+    """The file of a module that a path of a crate names, as `crate::a::b`, or none."""
+    inner = "/".join(path.split("::")[1:])
+    for end in (f"{inner}.rt", f"{inner}/mod.rt") if inner else ("lib.rt", "main.rt"):
+        if os.path.exists(os.path.join(repo.TOP, "crates", crate, "src", end)):
+            return file(f"crates/{crate}/src/{end}")
+    return None
+
+
+@functools.cache
+def plain_function(source, name):
+    """The function outside all types that a plain name of a file stands for: the file's own, or the one that `use` brings in; or none."""
+    if name in source.plain:
+        return source.plain[name]
+    path, there = source.imports.get(name, ("", ""))
+    head = path.split("::")[0]
+    module = module_file(source.crate, path) if head == "crate" else module_file(head, f"crate{path[len(head):]}") if head in CRATES else None
+    return plain_function(module, there) if module and module is not source else None
+
+
+@functools.cache
 def type_file(crate, name):
     """The file of a crate that defines a type, or that of the crate from which it is handed on; none where it is not of the repository."""
     if crate not in CRATES:
@@ -191,6 +218,7 @@ def type_file(crate, name):
     return None
 
 
+@functools.cache
 def named_type(source, name):
     """The file and the name of a type that a file's sources name, or none."""
     if name in source.types:
