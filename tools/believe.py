@@ -12,6 +12,7 @@ import os
 import re
 import sys
 
+import calls
 import repo
 import sources
 
@@ -195,21 +196,11 @@ def lookup(module, name):
     return page(path).target(name)
 
 
-def function(call):
-    """The function that a call names, as `CRATE::function` or `CRATE::Type::function`."""
-    crate, *owner, name = call.split("::")
-    for source in sources.files(crate) if crate in sources.CRATES else ():
-        for it in source.functions:
-            if it.name == name and it.owner_type == "".join(owner) and it.body is not None:
-                return it
-    raise LookupError(f"there is no function {call}")
-
-
 class Trust:
     """What the contract of a call depends on, each with the clauses that lead to it."""
 
     def __init__(self, call):
-        called = function(call)
+        called = calls.function(call)
         self.call, self.found = call, {}
         self.clauses = [name or "its one clause" for _, name, _ in called.clauses]
         for (_, _, text), name in zip(called.clauses, self.clauses):
