@@ -1,5 +1,7 @@
 #!/usr/bin/env python3
-"""A look over the repository that proves nothing and takes seconds: prints a line for each thing amiss, and then how many checks passed and failed."""
+"""A look over the repository that proves nothing and takes seconds: prints a line for each thing amiss, and then how many checks passed and failed.
+
+With the word `laws` it lists the laws that have premises and no example, and fails for none of them."""
 import os
 import re
 import subprocess
@@ -10,6 +12,7 @@ import bundling
 import calls
 import counting
 import items
+import laws
 import repo
 import sources
 
@@ -293,4 +296,7 @@ def main():
 
 
 if __name__ == "__main__":
+    if sys.argv[1:] == ["laws"]:
+        print(*laws.lines(), sep="\n")
+        sys.exit(0)
     sys.exit(main())
