@@ -8,6 +8,7 @@ import subprocess
 import sys
 
 import believe
+import bodies
 import bundling
 import calls
 import counting
@@ -266,6 +267,11 @@ def worked_causes():
             yield f"docs/OTHER.md: {title} is no worked row that is other"
 
 
+def bodies_named():
+    """docs/WRONG_BODIES.md names edits that are there, and the functions that they change."""
+    yield from bodies.faults()
+
+
 def bundles():
     """./bundle joins what PEM and DER files hold, and tells what it leaves out."""
     yield from bundling.faults()
@@ -284,7 +290,7 @@ def pages_counted():
 
 
 def main():
-    checks = (layout, edits_apply, few_edits, all_read, no_labels, no_machine, docs_name_files, crates_listed, few_ways, judge_alone, roads_apart, check_asked, key_ids_read_apart, headers_counted, no_handles, short_files, items_spelled, worked_causes, pages_counted, bundles)
+    checks = (layout, edits_apply, few_edits, all_read, no_labels, no_machine, docs_name_files, crates_listed, few_ways, judge_alone, roads_apart, check_asked, key_ids_read_apart, headers_counted, no_handles, short_files, items_spelled, worked_causes, pages_counted, bodies_named, bundles)
     failed = 0
     for check in checks:
         found = [*check()]

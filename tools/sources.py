@@ -13,7 +13,7 @@ TYPE = re.compile(r"(?m)^(?:pub(?:\([\w ]+\))? )?(struct|enum|trait|type|const) 
 GHOST_USE = re.compile(r"ghost use ([\w.]+)(?:\.\{([^}]*)\}| as (\w+))?;")
 RUST_USE = re.compile(r"(?m)^[ \t]*(?:pub(?:\([\w ]+\))? )?use ([^;]+);")
 BRACKETS = {"(": re.compile(r"[()]"), "{": re.compile(r"[{}]"), "[": re.compile(r"[\[\]]")}
-CLAUSE = re.compile(r"\b(requires|ensures)\s+(\w*)\s*(?=\{)|[{;]")
+CLAUSE = re.compile(r"\b(requires|ensures)\s+(\w*)\s*(?=\{)|[{;\[]")
 
 
 def blanked(text):
@@ -39,10 +39,10 @@ def line_of(text, at):
 class Function:
     """A function: its name, the header of the impl or trait that it stands in, its signature, clauses and body."""
 
-    def __init__(self, file, name, at, owner, signature, clauses, body):
+    def __init__(self, file, name, at, owner, signature, clauses, body, body_at):
         self.file, self.name, self.at, self.owner = file, name, at, owner
-        # Each clause is `requires` or `ensures`, its name (empty where it has none) and its text; the body is none of a trait's own.
-        self.signature, self.clauses, self.body = signature, clauses, body
+        # Each clause is `requires` or `ensures`, its name (empty where it has none) and its text; what a trait leaves open has no body.
+        self.signature, self.clauses, self.body, self.body_at = signature, clauses, body, body_at
 
     @property
     def line(self):
@@ -86,17 +86,19 @@ class File:
     def function(self, found):
         """The function whose head was found: its clauses stand between its parameters and its body."""
         at = closing(self.code, self.code.index("(", self.generics_end(found.end())))
-        clauses, end = [], at + 1
-        signature = None
+        clauses, end, signature = [], at + 1, None
         while True:
             it = CLAUSE.search(self.code, end)
+            # (an array type has a semicolon)
+            while it[0] == "[":
+                it = CLAUSE.search(self.code, closing(self.code, it.start()) + 1)
             signature = signature or self.code[found.start():it.start()]
             if not it[1]:
                 break
             end = closing(self.code, it.end()) + 1
             clauses.append((it[1], it[2], self.code[it.end() + 1:end - 1]))
         body = self.code[it.start():closing(self.code, it.start()) + 1] if it[0] == "{" else None
-        return Function(self, found[1], found.start(), self.owner_at(found.start() + len(found[0])), signature, clauses, body)
+        return Function(self, found[1], found.start(), self.owner_at(found.start() + len(found[0])), signature, clauses, body, it.start())
 
     def generics_end(self, at):
         """Behind the type parameters that begin at a place, or the place itself."""
