@@ -14,7 +14,7 @@ import sys
 
 import calls
 import repo
-import sources
+import syntax
 
 PAGE = "docs/TRUST.md"
 # The calls of docs/TRUST.md.
@@ -70,7 +70,7 @@ class Page:
         self.text = repo.read(path)
         self.names, self.modules = {}, {}
         for it in USE.finditer(self.text):
-            sources.add_use(self.names, self.modules, it[2], it[3], it[4])
+            syntax.add_use(self.names, self.modules, it[2], it[3], it[4])
         self.definitions, self.cases = {}, {}
         self.cut()
 
@@ -129,7 +129,7 @@ class Held:
     def needs(self):
         found = set()
         for start, end in self.spans:
-            text = sources.GHOST_USE.sub("", self.file.code[start:end + 1])
+            text = syntax.GHOST_USE.sub("", self.file.code[start:end + 1])
             found |= words_of(self.file, text, start + 1)
         return found - {self}
 
@@ -148,7 +148,7 @@ def words_of(source, text, at):
 
     found = reached(text, target, names)
     for word in {*re.findall(r"\b[A-Z]\w*", text)}:
-        named = sources.named_type(source, word)
+        named = syntax.named_type(source, word)
         if named:
             found.add(held(*named))
     return found
@@ -183,12 +183,12 @@ def lookup(module, name):
     _, crate, part, *inner = module.split(".")
     if crate == "std":
         return None
-    if crate not in sources.CRATES:
+    if crate not in syntax.CRATES:
         return kit(f"{crate} {'.'.join(it for it in inner if it != 'declared')}")
     if inner[:1] == ["declared"]:
         inner = [it for it in inner[1:] if it not in ("TheVariants", "TheConstants")]
         kind = name if module.endswith("TheConstants") or name == inner[-1] else inner[-1]
-        found = sources.type_file(crate, kind)
+        found = syntax.type_file(crate, kind)
         return held(*found) if found else None
     path = f"crates/{crate}/{part}/{'/'.join(inner)}.antt"
     if not os.path.exists(os.path.join(repo.TOP, path)):

@@ -2,7 +2,7 @@
 import re
 
 import repo
-import sources
+import syntax
 
 PAGE = "docs/WRONG_BODIES.md"
 ROW = re.compile(r"^\| [^|]+ \| `(\w+)/([\w-]+/\w+\.edit)` \| contracts? of ([^|]+) \|$", re.MULTILINE)
@@ -13,7 +13,7 @@ def changed(crate, edit):
     found, source = set(), None
     for line in repo.read(f"crates/{crate}/{edit}").split("\n"):
         if line.startswith("file: "):
-            source = sources.file(f"crates/{crate}/{line[len('file: '):].strip()}")
+            source = syntax.file(f"crates/{crate}/{line[len('file: '):].strip()}")
         elif line.startswith("old: "):
             at = source.text.find(line[len("old: "):])
             found |= {it.name for it in source.functions if it.body and it.body_at <= at < it.body_at + len(it.body)}

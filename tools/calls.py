@@ -3,7 +3,7 @@ import functools
 import re
 
 import repo
-import sources
+import syntax
 
 # Names in a body: of a method that is called, of a function behind a path, of one that is called, of one that may be handed over.
 METHOD = re.compile(r"\.\s*(\w+)(?:::<[^<>()]*>)?\(")
@@ -16,7 +16,7 @@ TYPES = re.compile(r"::<[^<>()]*>")
 @functools.cache
 def functions():
     """The functions that have a body."""
-    return [function for crate in sources.CRATES for it in sources.files(crate) for function in it.functions if function.body]
+    return [function for crate in syntax.CRATES for it in syntax.files(crate) for function in it.functions if function.body]
 
 
 @functools.cache
@@ -35,7 +35,7 @@ def owned(name):
 
 @functools.cache
 def reach(crate):
-    return {*repo.below([crate], sources.CRATES)}
+    return {*repo.below([crate], syntax.CRATES)}
 
 
 @functools.cache
@@ -45,7 +45,7 @@ def called(function):
     found = {it for name in {*METHOD.findall(body)} for it in methods(source, name)}
     found |= {it for path, name in {*BEHIND.findall(body)} for it in behind(function, TYPES.sub("", path).strip(":").split("::"), name)}
     handed = {it for it in HANDED.findall(body) if not re.search(rf"\b(?:let (?:mut )?{it}\b|{it}:)", function.signature + body)}
-    found |= {sources.plain_function(source, it) for it in {*PLAIN.findall(body)} | handed}
+    found |= {syntax.plain_function(source, it) for it in {*PLAIN.findall(body)} | handed}
     return found - {None, function}
 
 
@@ -57,7 +57,7 @@ def methods(source, name):
 
 def is_named(source, it):
     """Whether a file names the type, or the trait, whose function it is."""
-    named = sources.named_type(source, it.owner_type)
+    named = syntax.named_type(source, it.owner_type)
     return bool(named) and named[0].crate == it.file.crate
 
 
@@ -66,8 +66,8 @@ def behind(function, path, name):
     source, last = function.file, path[-1]
     if last == "Self":
         return {it for it in owned(name) if it.file.crate == source.crate and it.owner_type == function.owner_type}
-    whole = path[0] if path[0] in sources.CRATES else source.crate
-    named = sources.named_type(source, last) if len(path) == 1 else sources.type_file(whole, last)
+    whole = path[0] if path[0] in syntax.CRATES else source.crate
+    named = syntax.named_type(source, last) if len(path) == 1 else syntax.type_file(whole, last)
     if named:
         return {it for it in owned(name) if it.owner_type == named[1] and it.file.crate == named[0].crate}
     if last[0].isupper():
@@ -76,14 +76,14 @@ def behind(function, path, name):
         return {it for it in owned(name) if is_one and it.file.crate in reach(source.crate)}
     at, there = source.imports.get(last, ("::".join(path[:-1]) or "crate", last))
     crate = source.crate if at.split("::")[0] == "crate" else at.split("::")[0]
-    module = sources.module_file(last, "crate") if last in sources.CRATES else sources.module_file(crate, f"{at}::{there}") if crate in sources.CRATES else None
-    return {sources.plain_function(module, name)} if module else set()
+    module = syntax.module_file(last, "crate") if last in syntax.CRATES else syntax.module_file(crate, f"{at}::{there}") if crate in syntax.CRATES else None
+    return {syntax.plain_function(module, name)} if module else set()
 
 
 def function(call):
     """The function that a call names, as `CRATE::function` or `CRATE::Type::function`."""
     crate, *owner, name = call.split("::")
-    for source in sources.files(crate) if crate in sources.CRATES else ():
+    for source in syntax.files(crate) if crate in syntax.CRATES else ():
         for it in source.functions:
             if it.name == name and it.owner_type == "".join(owner) and it.body is not None:
                 return it

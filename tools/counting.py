@@ -6,7 +6,7 @@ import functools
 
 import calls
 import repo
-import sources
+import syntax
 from calls import name_of
 
 # What tries a header by itself: the readers of headers, and what looks at the octets of one without them.
@@ -50,8 +50,8 @@ def takes_count(function):
 @functools.cache
 def crates():
     """The crates with counted calls, and those below them."""
-    own = [crate for crate in sources.CRATES if any(takes_count(it) for of in sources.files(crate) for it in of.functions)]
-    return repo.below(own, sources.CRATES)
+    own = [crate for crate in syntax.CRATES if any(takes_count(it) for of in syntax.files(crate) for it in of.functions)]
+    return repo.below(own, syntax.CRATES)
 
 
 @functools.cache
