@@ -196,6 +196,10 @@ def lookup(module, name):
     return page(path).target(name)
 
 
+# What an impl gives for a trait's words.
+GIVEN = re.compile(r"\bghost \w+ = \{.*?\};", re.DOTALL)
+
+
 class Trust:
     """What the contract of a call depends on, each with the clauses that lead to it."""
 
@@ -206,8 +210,12 @@ class Trust:
         for (_, _, text), name in zip(called.clauses, self.clauses):
             self.close(words_of(called.file, text, called.at), name)
         # (what `self`, the arguments and the result are is no clause's own)
-        head = called.owner[2].split(" for ")[-1] if called.owner_type else ""
-        self.close(words_of(called.file, f"{head} {called.signature}", called.at), "")
+        first, last, head = called.owner
+        words = [head.split(" for ")[-1] if called.owner_type else "", called.signature]
+        if " for " in head and not called.clauses:
+            # (the contract is the trait's, in words that the impl gives)
+            words += [head, *GIVEN.findall(called.file.code[first:last])]
+        self.close(words_of(called.file, " ".join(words), called.at), "")
 
     def close(self, first, clause):
         """Puts a clause beside all that is reached from the first things."""
