@@ -153,6 +153,7 @@ def main():
         # a device that takes no octet
         with open("/dev/full", "wb") as full:
             count(["frame", "three", ">/dev/full"], ran(program, ["frame", "three"], room, b"", full), (7, None, b"cannot write\n"))
+            count([*paths.FULL, ">/dev/full"], ran(program, paths.FULL, room, b"", full), (7, None, b"cannot write\n"))
     print(f"certpath: {passed} passed, {failed} failed of {passed + failed} command lines")
     return 1 if failed else 0
 

@@ -7,6 +7,9 @@ import repo
 CASES, PRINTED = "crates/check_rows/stdin", "tools/paths.txt"
 # Copies of one certificate, each of which an anchor vouches for; the last is asked for.
 EQUALS = 300
+# What is printed of one certificate that is its own anchor, where a key vouches for it and where none does.
+FOUND = b"0 cert\nend clean\nanchors 1 of 1, clean\npath 0 anchor 0\ncheck yes\n"
+ABSENT = b"0 cert\nend clean\nanchors 1 of 1, clean\nnone\ncheck yes\n"
 
 
 class Case:
@@ -82,4 +85,62 @@ def table(made):
     words = ["path", many, made("equal", one), made("equal_vouchers", vouchers([(key, one)])), "--target", str(EQUALS - 1), "--at", "2025-06-01T00:00:00"]
     lines = [f"{k} cert\n" for k in range(EQUALS)] + ["end clean\n", "anchors 1 of 1, clean\n", f"path {EQUALS - 1} anchor 0\n", "check yes\n"]
     rows.append((words, b"", 0, "".join(lines).encode(), b""))
-    return rows
+    return rows + voucher_rows(made, one, key) + file_rows(made, one, key) + word_rows(made, one)
+
+
+def asked(bundle, anchors, lines, target="0", moment="2025-06-01T00:00:00"):
+    """The words that ask for the path of an item."""
+    return ["path", bundle, anchors, lines, "--target", target, "--at", moment]
+
+
+# Words that succeed in the folder where the table's files are, to be run with a device as standard output that takes no octet.
+FULL = asked("one", "one", "lines")
+
+
+def voucher_rows(made, one, key):
+    """Rows of voucher files, on one certificate that is its own anchor: what counts as a line, and which line is the first bad one."""
+    good = vouchers([(key, one)])
+    pair = good.rstrip(b"\n")
+    first, second = pair.split(b" ")
+    item = made("one", one)
+    found = {
+        "lf": good, "no_lf": pair, "cr_lf": pair + b"\r\n", "upper": pair.upper() + b"\n", "mixed": first + b" " + second.upper() + b"\n",
+        "empty_lines": b"\n\r\n" + good + b"\n", "twice": good + good, "behind_others": vouchers([(one, key)]) + pair,
+    }
+    absent = {"no_lines": b"", "one_empty_line": b"\n", "exchanged": second + b" " + first + b"\n"}
+    bad = {
+        "digits_63": (good + first[:63] + b" " + second + b"\n", 2), "digits_63_alone": (good + first[:63], 2),
+        "digits_65": (good + pair + b"0", 2), "no_digit": (pair[:-1] + b"g\n", 1), "two_spaces": (first + b"  " + second + b"\n", 1),
+        "tab": (first + b"\t" + second + b"\n", 1), "no_space": (first + second, 1), "space_before": (b" " + good, 1), "space_behind": (good + pair + b" \n", 2),
+        "one_digest": (first + b"\n", 1), "cr_at_the_end": (pair + b"\r", 1), "two_cr": (pair + b"\r\r\n", 1), "cr_between": (pair + b"\r" + good, 1),
+        "behind_empty_lines": (b"\n\n\r\n" + good + b"-\n" + first, 5), "space_alone": (good + b" ", 2),
+    }
+    rows = [(asked(item, item, made(f"vouchers_{name}", text)), b"", 0, FOUND, b"") for name, text in found.items()]
+    rows += [(asked(item, item, made(f"vouchers_{name}", text)), b"", 1, ABSENT, b"") for name, text in absent.items()]
+    return rows + [(asked(item, item, made(f"vouchers_{name}", text)), b"", 5, b"", b"vouchers line %d\n" % number) for name, (text, number) in bad.items()]
+
+
+def file_rows(made, one, key):
+    """Rows of files that can't be opened, or not be read, in each place: all are opened before one is read, and then they are read in order."""
+    item, lines, bad = made("one", one), made("lines", vouchers([(key, one)])), made("bad_lines", b"-")
+    good = (item, item, lines)
+    # What can't be opened, and folders, which can't be read.
+    unopened, folders = ("missing.der", "no_folder/missing.der", "n" * 300), (".", "./", "././")
+    rows = [((*good[:at], word, *good[at + 1:]), word) for at in range(3) for word in (*unopened, folders[0])]
+    rows += [(("missing_1", "missing_2", "missing_3"), "missing_1"), ((item, "missing_2", "missing_3"), "missing_2"), ((".", "./", "missing_3"), "missing_3"),
+             ((".", "missing_2", bad), "missing_2"), (folders, "."), ((item, "./", "././"), "./"), ((item, ".", bad), "."), ((item, item, ""), "")]
+    rows = [(asked(*files), b"", 4, b"", f"cannot read {word}\n".encode()) for files, word in rows]
+    # A bundle that ends with a fault is read, and so the vouchers behind it.
+    fault = made("one_and_a_fault", one + b"1")
+    return rows + [(asked(fault, item, bad), b"", 5, b"", b"vouchers line 1\n"), (asked("/dev/stdin", item, lines), one, 0, FOUND, b"")]
+
+
+def word_rows(made, one):
+    """Rows of two bad words: a number is told before a moment, and words before files."""
+    item, moment = made("one", one), "2025-06-01T00:00:00"
+    number, date = b"bad number\n", b"bad moment\n"
+    rows = [(asked(item, item, item, "x", "x"), number), (asked(item, item, item, "0", "x") + ["--limit", "x"], number),
+            (asked(item, item, item, "x") + ["--limit", "x"], number), (asked("missing.der", item, item, "x"), number),
+            (asked("missing.der", item, item, "0", "2025-06-01"), date), (asked(item, item, item, "4294967296", moment), number),
+            (asked(item, item, item, "0", "2025-02-30T00:00:00"), date), (asked(item, item, item, "0", f"{moment}Z"), date)]
+    return [(words, b"", 2, b"", said) for words, said in rows]

@@ -1,5 +1,7 @@
 #!/usr/bin/env python3
-"""A look over the repository that proves nothing and takes seconds: prints a line for each thing amiss, and then how many checks passed and failed."""
+"""A look over the repository that proves nothing and takes seconds: prints a line for each thing amiss, and then how many checks passed and failed.
+
+With the word `laws` it lists the laws that have premises and no example, and fails for none of them."""
 import os
 import re
 import subprocess
@@ -8,7 +10,9 @@ import sys
 import bundling
 import dist
 import items
+import laws
 import repo
+import source_checks
 
 # The gate tries the named wrong bodies alone: so many edits, in so many crates.
 MOST_EDITS, MOST_CRATES = 25, 12
@@ -200,23 +204,9 @@ def roads_apart():
             yield f"{path}: it names {name}"
 
 
-# Readers that try headers and keep no count of their caller's.
-UNCOUNTED = re.compile(r"\b(?:from_ber|from_der|strict|parse|parse_(?:ber|der)(?:_recursive)?|cut_elements|is_der_object|read_tree|read_typed)\b")
-
-
 def headers_counted():
-    """The counted sources of `certpath_typed`, and what writes fields back, name no reader that keeps no count of theirs and make no count of their
-    own, outside tests: what does stands in `uncounted.rt`, and `read_typed_counted` doesn't."""
-    for path in FILES:
-        if not re.match(r"crates/certpath_(?:typed|rebuild)/src/.*\.rt$", path) or re.search(r"/tests?\b", path):
-            continue
-        code = "\n".join(line.split("//")[0] for line in repo.read(path).splitlines() if not line.startswith("pub use "))
-        if path.endswith("/uncounted.rt"):
-            if re.search(r"\bfn \w+_counted\b", code):
-                yield f"{path}: it defines a counted call"
-            continue
-        for name in UNCOUNTED.findall(code) + re.findall(r"\bHeaderCount::new\b", code):
-            yield f"{path}: it names {name}, so its headers aren't counted"
+    """No counted call comes to a reader that keeps no count of its headers, and such readers stand where they are known."""
+    yield from source_checks.headers_counted()
 
 
 def no_handles():
@@ -262,6 +252,7 @@ def dist_is_built():
 
 def main():
     checks = (layout, edits_apply, few_edits, all_read, no_labels, no_machine, docs_name_files, crates_listed, few_ways, judge_alone, roads_apart, headers_counted, no_handles, short_files, items_spelled, worked_causes, bundles, dist_is_built)
+    checks += source_checks.CHECKS
     failed = 0
     for check in checks:
         found = [*check()]
@@ -273,4 +264,7 @@ def main():
 
 
 if __name__ == "__main__":
+    if sys.argv[1:] == ["laws"]:
+        print(*laws.lines(), sep="\n")
+        sys.exit(0)
     sys.exit(main())

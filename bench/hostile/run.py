@@ -262,7 +262,7 @@ def main():
     if words.write:
         write_all(families, words.write, words.small)
         return 0
-    program = words.program and os.path.abspath(words.program) or repo.ready("certpath_cli", ["frame", os.devnull])
+    program = words.program and os.path.abspath(words.program) or repo.ready("certpath_cli")
     if not program:
         sys.exit("certpath wasn't built, so nothing was measured")
     bench, failed = Bench(program, words.seconds, words.small), 0
