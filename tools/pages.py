@@ -1,12 +1,16 @@
 #!/usr/bin/env python3
 """Makes the tables of docs/CRATES.md that say where an extension, a type and a rule is, from the sources.
 
-`tools/pages.py` writes them into the page; `tools/quick.py` asks `written` whether they are as the sources say.
+    python3 tools/pages.py               writes them into the page
+    python3 tools/pages.py above NAME..  prints the crates that stand on the named ones, which a change of these proves again
+
+`tools/quick.py` asks `written` whether they are as the sources say.
 """
 import functools
 import glob
 import os
 import re
+import sys
 
 import repo
 
@@ -167,7 +171,25 @@ def written(page):
     return page
 
 
+def above(names):
+    """The named crates and all that stand on one of them, lowest first."""
+    listed = repo.crates()
+    unknown = [it for it in names if it not in listed]
+    if unknown:
+        sys.exit(f"pages: crates.txt names no crate {unknown[0]}")
+    return [it for it in repo.below(listed, listed) if {*names} & {*repo.below([it], listed)}]
+
+
+def main(words):
+    if words[:1] == ["above"] and words[1:]:
+        print(*above(words[1:]), sep="\n")
+    elif words:
+        sys.exit("usage: tools/pages.py [above NAME..]")
+    else:
+        made = written(repo.read(PAGE))
+        with open(os.path.join(repo.TOP, PAGE), "w", encoding="utf-8") as file:
+            file.write(made)
+
+
 if __name__ == "__main__":
-    made = written(repo.read(PAGE))
-    with open(os.path.join(repo.TOP, PAGE), "w", encoding="utf-8") as file:
-        file.write(made)
+    main(sys.argv[1:])
