@@ -152,10 +152,12 @@ def rules():
             path = f"crates/{crate}/specs/{page}.antt"
             module = rf"Rattle\.{crate}\.specs\.{page}\b"
             users = [it.removeprefix(f"crates/{crate}/src/") for it in sources(crate, "src") if re.search(module, text(it))]
-            proofs = [it for it in sources(crate, "proofs") if re.search(module, text(it))]
+            proofs = [it.removeprefix(f"crates/{crate}/proofs/") for it in sources(crate, "proofs") if re.search(module, text(it))]
+            # lemmas stand beside each other, answers of one function in a folder
+            proofs.sort(key=lambda it: (it.count("/"), it))
             cited = sections(re.sub(r"\s*\n--\s*", " ", text(path)))
             cited = "; ".join(cited[:MOST_NAMED]) + ("; .." if len(cited) > MOST_NAMED else "") or "-"
-            rows.append([code(f"{crate}/specs/{page}.antt"), what(path), cited, named(users), str(len(proofs)), named(runs(crate))])
+            rows.append([code(f"{crate}/specs/{page}.antt"), what(path), cited, named(users), named(proofs), named(runs(crate))])
     return table(["definition", "of", "sections", "code", "proofs", "rows and tests"], rows)
 
 
