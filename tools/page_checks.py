@@ -126,4 +126,27 @@ def tables_made():
         yield f"{pages.PAGE}: a table isn't what the sources say: run tools/pages.py"
 
 
-CHECKS = (narrow_pages, short_sentences, short_readme, anchors_lead, walk_stands, tables_made)
+def bullet(section, name):
+    """The code of a bullet of a crate's section, as it stands between ticks."""
+    found = re.search(rf"(?m)^- \*{name}\*:((?:.|\n  )*)", section)
+    return re.findall(r"`([^`]+)`", " ".join(found[1].split())) if found else []
+
+
+def promises_name():
+    """What docs/CRATES.md names as a contract stands in the crate or in one that it lists, and each definition page in its folder."""
+    listed = repo.crates()
+    for crate, section in pages.crate_sections():
+        words = {it for name in {crate, *listed[crate]} for path in pages.sources(name, "src") for it in re.findall(r"\w+", pages.text(path))}
+        for code in bullet(section, "Contract"):
+            for word in re.findall(r"[A-Za-z_]\w*", code.removesuffix(".rt")):
+                if word not in words:
+                    yield f"{pages.PAGE}: {crate} has no {word}"
+        there = {os.path.basename(path).removesuffix(".antt") for name in repo.below([crate], listed) for path in pages.sources(name, "specs")}
+        for code in bullet(section, "To believe"):
+            page = code.rpartition("/")[2]
+            if page[:1].isupper() and page not in there:
+                yield f"{pages.PAGE}: {crate} has no definition page {page}"
+
+
+CHECKS = (narrow_pages, short_sentences, short_readme, anchors_lead, walk_stands, promises_name,
+          tables_made)

@@ -117,9 +117,14 @@ def types():
 
 # ---- rules
 
+def crate_sections():
+    """The sections of the page that tell of a crate, each with its name."""
+    return re.findall(r"(?m)^### `(\w+)`\n(.*?)(?=^##|\Z)", repo.read(PAGE), re.S | re.M)
+
+
 def believed():
     """Each crate with the pages of its specs/ that the page says have to be believed."""
-    for crate, section in re.findall(r"(?m)^### `(\w+)`\n(.*?)(?=^##|\Z)", text(PAGE), re.S | re.M):
+    for crate, section in crate_sections():
         bullet = re.search(r"(?m)^- \*To believe\*:((?:.|\n  )*)", section)
         words = re.split(r"To read contracts with|For errors", " ".join(bullet[1].split()))[0] if bullet else ""
         pages = [it for it in re.findall(r"`(\w+)`", words) if f"crates/{crate}/specs/{it}.antt" in sources(crate, "specs")]
