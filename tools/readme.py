@@ -5,11 +5,12 @@
 
 A command is a line of a code block that begins with `$ `; the lines to the next command, or to the end of the block, are
 what it has to print on standard output and standard error. All commands of a page run in one copy of the repository, in
-their order. Nothing is built: where no program `certpath` is there for these sources, the script ends with status 1.
-The last line is `N passed, M failed`.
+their order. Nothing is built: the commands find an `rt` that fails, so a program has to be there for these sources, in
+dist/ or in out/programs/. The last line is `N passed, M failed`.
 """
 import os
 import shutil
+import signal
 import subprocess
 import sys
 import tempfile
@@ -18,8 +19,12 @@ import repo
 
 PROMPT, INDENT = "$ ", "    "
 SECONDS = 120
-# Where a program may be that needs no building.
-PROGRAMS = ("dist/certpath", "crates/certpath_cli/out/certpath_cli")
+# What builds keep, and what stands in the place of `rt`.
+PROGRAMS = os.path.join("out", "programs")
+HIDDEN = """#!/bin/sh
+echo "rt: the commands of a page build nothing" >&2
+exit 1
+"""
 
 
 def blocks(page):
@@ -49,54 +54,59 @@ def commands(page):
 
 
 def copied(room):
-    """Copies the repository without what checks leave behind, and with the program where it is built."""
+    """Copies the repository without what checks leave behind, but with programs that were built; gives the copy."""
     top = os.path.join(room, "copy")
     shutil.copytree(repo.TOP, top, ignore=shutil.ignore_patterns(".git", "out", "__pycache__"))
-    for path in PROGRAMS:
-        program = os.path.join(repo.TOP, path)
-        if os.path.isfile(program):
-            os.makedirs(os.path.dirname(os.path.join(top, path)), exist_ok=True)
-            shutil.copy2(program, os.path.join(top, path))
+    built = os.path.join(repo.TOP, PROGRAMS)
+    if os.path.isdir(built):
+        shutil.copytree(built, os.path.join(top, PROGRAMS))
     return top
 
 
-def printed(command, top):
-    """What a command prints, as lines; or why it was ended."""
+def hidden(room):
+    """The environment of the commands, in which `rt` fails."""
+    folder = os.path.join(room, "bin")
+    os.mkdir(folder)
+    with open(os.path.join(folder, "rt"), "w", encoding="utf-8") as file:
+        file.write(HIDDEN)
+        os.chmod(file.name, 0o755)
+    return {**os.environ, "PATH": os.pathsep.join([folder, os.environ.get("PATH", os.defpath)])}
+
+
+def printed(command, top, environment):
+    """What a command prints, as lines; or that it was ended."""
+    child = subprocess.Popen(["bash", "-c", command], cwd=top, env=environment, stdin=subprocess.DEVNULL, stdout=subprocess.PIPE,
+                             stderr=subprocess.STDOUT, text=True, errors="replace", start_new_session=True)
     try:
-        ran = subprocess.run(["bash", "-c", command], cwd=top, stdin=subprocess.DEVNULL, stdout=subprocess.PIPE,
-                             stderr=subprocess.STDOUT, text=True, errors="replace", timeout=SECONDS)
+        return child.communicate(timeout=SECONDS)[0].splitlines()
     except subprocess.TimeoutExpired:
+        os.killpg(child.pid, signal.SIGKILL)
+        child.communicate()
         return [f"(ended after {SECONDS} seconds)"]
-    return ran.stdout.splitlines()
 
 
-def page_failures(path, top):
+def page_failures(path):
     """Runs the commands of a page; gives how many there are, and how many printed something else, which it reports."""
-    wanted = commands(repo.read(path))
-    failed = 0
-    for command, lines in wanted:
-        found = printed(command, top)
-        if found != lines:
-            failed += 1
-            print(f"readme: {path}: {command}")
-            for mark, text in [*(("wanted", it) for it in lines), *(("printed", it) for it in found)]:
-                print(f"readme:     {mark}: {text}")
+    wanted, failed = commands(repo.read(path)), 0
+    with tempfile.TemporaryDirectory() as room:
+        top, environment = copied(room), hidden(room)
+        for command, lines in wanted:
+            found = printed(command, top, environment)
+            if found != lines:
+                failed += 1
+                print(f"readme: {path}: {command}")
+                for mark, text in [*(("wanted", it) for it in lines), *(("printed", it) for it in found)]:
+                    print(f"readme:     {mark}: {text}")
     return len(wanted), failed
 
 
 def main(pages):
-    if not any(os.access(os.path.join(repo.TOP, it), os.X_OK) for it in PROGRAMS):
-        print(f"readme: there is neither {' nor '.join(PROGRAMS)}: build it first")
-        print("0 passed, 1 failed")
-        return 1
-    count = failures = 0
+    passed = failures = 0
     for path in pages or ["README.md"]:
-        with tempfile.TemporaryDirectory() as room:
-            ran, failed = page_failures(path, copied(room))
-        count, failures = count + ran, failures + failed
-    # A page without a command shows nothing.
-    failures += not count
-    print(f"{max(count - failures, 0)} passed, {failures} failed")
+        ran, failed = page_failures(path)
+        # A page without a command shows nothing.
+        passed, failures = passed + ran - failed, failures + (failed if ran else 1)
+    print(f"{passed} passed, {failures} failed")
     return 1 if failures else 0
 
 
