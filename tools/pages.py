@@ -20,7 +20,7 @@ MOST_NAMED = 3
 SECTION = re.compile(r"(RFC \d+), ((?:appendix )?[A-Z]?[\d.]*\d)|(X\.\d+), (\d[\d.]*\d|\d+)")
 DECLARED = re.compile(r"(?m)^pub (struct|enum|trait|type) (\w+)")
 # What runs code, and holds none that others build on.
-TOPS = ("_rows", "_tests", "_bench")
+TOPS = ("_rows", "_tests", "bench")
 # The crates that hand on others by name.
 PORTS = ("asn1_rs", "der_parser", "x509_parser")
 
