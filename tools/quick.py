@@ -11,6 +11,7 @@ import bundling
 import dist
 import items
 import laws
+import page_checks
 import repo
 import source_checks
 
@@ -164,15 +165,15 @@ def docs_name_files():
 
 
 def crates_listed():
-    """crates.txt and the folders name the same crates, and README.md tells of each."""
-    folders, told = {*os.listdir(os.path.join(repo.TOP, "crates"))}, repo.read("README.md")
+    """crates.txt and the folders name the same crates, and docs/CRATES.md tells of each."""
+    folders, told = {*os.listdir(os.path.join(repo.TOP, "crates"))}, repo.read("docs/CRATES.md")
     for name in sorted({*CRATES} - folders):
         yield f"crates.txt: there is no folder crates/{name}"
     for name in sorted(folders - {*CRATES}):
         yield f"crates/{name}: crates.txt has no line for it"
     for name in CRATES:
         if f"`{name}`" not in told:
-            yield f"README.md: it tells nothing of the crate {name}"
+            yield f"docs/CRATES.md: it tells nothing of the crate {name}"
 
 
 def few_ways():
@@ -253,6 +254,7 @@ def dist_is_built():
 def main():
     checks = (layout, edits_apply, few_edits, all_read, no_labels, no_machine, docs_name_files, crates_listed, few_ways, judge_alone, roads_apart, headers_counted, no_handles, short_files, items_spelled, worked_causes, bundles, dist_is_built)
     checks += source_checks.CHECKS
+    checks += page_checks.CHECKS
     failed = 0
     for check in checks:
         found = [*check()]
