@@ -1,8 +1,9 @@
-"""Builds a crate's program from its sources: `rt ci` proves it and all that it stands on, on a copy, and the program is kept below
-out/programs/ with a record of what it was built from.
+"""Builds a crate's program from its sources: `rt ci` proves it and all that it stands on, on a
+copy, and the program is kept below out/programs/ with a record of what it was built from.
 
-`rt` keeps each crate that it proved beside the toolchain, for this machine: a build that was stopped goes on where it was, the gate
-takes what a build proved, and a build what the gate proved. One build at a time runs in a checkout; others wait for it.
+`rt` keeps each crate that it proved beside the toolchain, for this machine: a build that was
+stopped goes on where it was, and builds and the gate take what the other proved. One build at a
+time runs in a checkout; others wait for it.
 """
 import collections
 import contextlib
@@ -19,173 +20,27 @@ import threading
 import time
 
 import lanes
+import processes
 import programs
 import repo
 import sources
+from progress import Progress, say
 
-# What a program is run on by `rt ci`, beside src/.
+# What `rt ci` runs a program on, beside src/.
 RUN_ON = ("args", "stdin", "stdout", "status", "data")
 COPY, LOCK = "certpath-build-", os.path.join("out", "building.lock")
-SIGNALS = (signal.SIGTERM, signal.SIGINT, signal.SIGHUP)
-# How often a build looks for a signal, in seconds; how many of the last lines that a failed build printed are shown.
+# How often a build looks for a signal, in seconds, and how many of the last lines that a failed
+# build printed are shown.
 EVERY, SHOWN = 0.5, 20
-# What a build from nothing takes: gigabytes of disk in all, and of memory for each proof.
-DISK, MEMORY = 4, lanes.FROM_NOTHING >> 30
-# The seconds that each crate takes, by the gate; the seconds of a line of source and proof, for a crate that isn't in the table.
-TABLE, ROW, A_LINE = "docs/GATE.md", re.compile(r"(?m)^\| `(\w+)` \| (\d+) \|"), 0.05
-PROVED = re.compile(r"rt: (\w+) proved$")
-KEPT = re.compile(r"rt: (\w+) is kept: ")
-
-
-class Stopped(Exception):
-    """A signal asks for the end of the build."""
-
-    def __init__(self, number):
-        super().__init__(signal.Signals(number).name)
-        self.number = number
-
-
-class Watch:
-    """Notes the signals that ask for an end, but for those that the caller ignores."""
-
-    def __init__(self):
-        self.number, self.before = None, {}
-
-    def __enter__(self):
-        for it in SIGNALS:
-            if signal.getsignal(it) != signal.SIG_IGN:
-                self.before[it] = signal.signal(it, self.note)
-        return self
-
-    def note(self, number, _):
-        self.number = self.number or number
-
-    def look(self):
-        if self.number:
-            raise Stopped(self.number)
-
-    def __exit__(self, *_):
-        for number, handler in self.before.items():
-            signal.signal(number, handler)
-
-
-def table():
-    """The parent and the session of each process that hasn't ended."""
-    found = {}
-    for pid in filter(str.isdigit, os.listdir("/proc")):
-        try:
-            with open(f"/proc/{pid}/stat", encoding="ascii", errors="replace") as file:
-                state, parent, _, session = file.read().rpartition(")")[2].split()[:4]
-        except OSError:
-            continue
-        if state not in "ZX":
-            found[int(pid)] = int(parent), int(session)
-    return found
-
-
-def family(leader):
-    """The processes of a leader's session, and all that they and their children started, as far as they are there."""
-    of = table()
-    found = [it for it, (_, session) in of.items() if session == leader]
-    for it in found:
-        found += [child for child, (parent, _) in of.items() if parent == it and child not in found]
-    return found
-
-
-def end(child):
-    """Ends a child that leads a session, and all that stand below it: halts each first, so that none starts another."""
-    halted = set()
-    while True:
-        more = {*family(child.pid)} - halted
-        if not more:
-            break
-        for pid in more:
-            with contextlib.suppress(OSError):
-                os.kill(pid, signal.SIGSTOP)
-        halted |= more
-    for pid in halted:
-        with contextlib.suppress(OSError):
-            os.kill(pid, signal.SIGKILL)
-    child.wait()
-
-
-def costs(crates):
-    """About how many seconds of one processor each crate takes."""
-    try:
-        table = {name: float(seconds) for name, seconds in ROW.findall(repo.read(TABLE))}
-    except OSError:
-        table = {}
-    return {it: table.get(it) or A_LINE * lines_of(it) for it in crates}
-
-
-def lines_of(crate):
-    return sum(sources.octets_of(path).count(b"\n") for path, _ in sources.files_of([crate], repo.TOP))
-
-
-class Progress:
-    """What is proved and what is left of a build, and about how long that takes."""
-
-    def __init__(self, crate, side_by_side):
-        listed = repo.crates()
-        self.title, self.crates, self.side_by_side = programs.title(crate), repo.below([crate], listed), side_by_side
-        self.uses, self.costs = {it: listed[it] for it in self.crates}, costs(self.crates)
-        self.left, self.began, self.spent = set(self.crates), time.monotonic(), 0.0
-        self.whole = self.seconds()
-
-    def seconds(self):
-        """About how many seconds what is left takes: by the number of processors, and by the longest chain of crates."""
-        ends = {}
-        for it in self.crates:
-            ends[it] = max((ends[use] for use in self.uses[it]), default=0) + (self.costs[it] if it in self.left else 0)
-        return max(sum(self.costs[it] for it in self.left) / self.side_by_side, max(ends.values()))
-
-    def announce(self, log):
-        say(f"{self.title}: proving {len(self.crates)} crates, {self.side_by_side} at a time: about {minutes(self.whole)}, {DISK} GB of disk and "
-            f"{MEMORY} GB of memory for each at a time, less where earlier runs kept what they proved; {log} has all that is printed")
-
-    def step(self, names, are_kept, busy):
-        """Reports crates that are done, with what is under way."""
-        before = self.seconds()
-        self.left -= {*names}
-        if are_kept:
-            # (it took no time)
-            self.whole -= before - self.seconds()
-        done = len(self.crates) - len(self.left)
-        what = "kept by an earlier run" if are_kept else "proved"
-        way = f"; under way: {', '.join(busy)}" if busy else ""
-        say(f"{self.title}: {done} of {len(self.crates)} proved ({self.named(names)} {what}){way}; {self.remaining()}")
-
-    def named(self, names):
-        return names[0] if len(names) == 1 else f"{names[0]} and {len(names) - 1} others"
-
-    def remaining(self):
-        left, elapsed = self.seconds(), time.monotonic() - self.began
-        done = self.whole - left
-        # (the machine's pace, once there is something to tell it by)
-        pace = min(4.0, max(0.25, elapsed / done)) if done > 60 else 1.0
-        return f"about {minutes(left * pace)} left" if self.left else "the program is run on its example"
-
-
-def minutes(seconds):
-    number = max(1, round(seconds / 60))
-    return f"{number} minute{'' if number == 1 else 's'}"
-
-
-def say(text):
-    """Writes a line to standard error. Where nobody reads it any more, the build ends; where there is none, it goes on."""
-    try:
-        if sys.stderr:
-            print(text, file=sys.stderr, flush=True)
-    except BrokenPipeError:
-        raise
-    except OSError:
-        pass
+PROVED, KEPT = re.compile(r"rt: (\w+) proved$"), re.compile(r"rt: (\w+) is kept: ")
+VERSION_OF_LIBC = re.compile(rb"GLIBC_([0-9.]+)\0")
 
 
 def copied(crate, to):
-    """Copies what the crate's program is made of: its crates without their edits, their lines of crates.txt, and HANDLES."""
+    """Copies what the crate's program is made of: its crates without their wrong bodies, their
+    lines of crates.txt, and HANDLES."""
     crates, lines = repo.below([crate], repo.crates()), repo.lines()
-    # (`rt ci` wants the top of a repository)
+    # (`rt ci` runs at the top of a repository)
     os.makedirs(os.path.join(to, ".git"))
     shutil.copyfile(os.path.join(repo.TOP, "HANDLES"), os.path.join(to, "HANDLES"))
     with open(os.path.join(to, "crates.txt"), "w", encoding="utf-8") as file:
@@ -209,7 +64,8 @@ def sweep():
 
 @contextlib.contextmanager
 def a_copy(crate):
-    """A folder with a copy of what the crate is made of, and one for temporary files beside it; both are removed in the end."""
+    """A folder with a copy of what the crate's program is made of, and one for temporary files.
+    Both are removed in the end."""
     sweep()
     room = tempfile.mkdtemp(prefix=f"{COPY}{os.getpid()}-")
     try:
@@ -223,8 +79,8 @@ def a_copy(crate):
 
 
 @contextlib.contextmanager
-def alone(crate, watch):
-    """Waits until no other build runs in this checkout, and gives whether there was one."""
+def alone(title, watch):
+    """Waits until no other build runs in this checkout; gives whether there was one."""
     os.makedirs(os.path.join(repo.TOP, "out"), exist_ok=True)
     with open(os.path.join(repo.TOP, LOCK), "w", encoding="ascii") as lock:
         has_waited = False
@@ -234,22 +90,20 @@ def alone(crate, watch):
                 break
             except BlockingIOError:
                 if not has_waited:
-                    say(f"{programs.title(crate)}: another build is under way in this checkout; waiting for its end")
+                    say(f"{title}: waiting for the end of another build in this checkout")
                 has_waited = True
                 time.sleep(EVERY)
                 watch.look()
         yield has_waited
 
 
-def busy_crates(pid):
+def busy_crates(leader):
     """The crates that are being proved below a process, by the words of its children."""
-    found = collections.OrderedDict()
-    for it in family(pid):
-        with contextlib.suppress(OSError), open(f"/proc/{it}/cmdline", encoding="utf-8", errors="replace") as file:
-            words = file.read().split("\0")
-            if "--crate-name" in words[:-1]:
-                found[words[words.index("--crate-name") + 1]] = True
-    return [*found]
+    found = []
+    for words in map(processes.words_of, processes.family(leader)):
+        if "--crate-name" in words[:-1]:
+            found.append(words[words.index("--crate-name") + 1])
+    return [*dict.fromkeys(found)]
 
 
 def read_into(child, lines):
@@ -260,58 +114,78 @@ def read_into(child, lines):
 
 
 def waiting_lines(lines):
-    """The lines that wait now, after a wait for the first; and whether that was the last of them."""
+    """The lines that are there after a wait for the first, and whether that is all."""
     found = []
-    try:
+    with contextlib.suppress(queue.Empty):
         found.append(lines.get(timeout=EVERY))
         while True:
             found.append(lines.get_nowait())
-    except queue.Empty:
-        pass
     return [it for it in found if it is not None], None in found
 
 
-def proved(copy, room, progress, log, watch):
-    """Runs `rt ci` on the copy; gives its status. However this ends, nothing that it started goes on."""
-    how = {"stdin": subprocess.DEVNULL, "stdout": subprocess.PIPE, "stderr": subprocess.STDOUT, "text": True, "errors": "replace"}
-    its = {**os.environ, "RT_JOBS": str(progress.side_by_side), "TMPDIR": room}
-    child = subprocess.Popen(["rt", "ci"], cwd=copy, env=its, start_new_session=True, **how)
+def side_by_side():
+    """How many proofs run at a time: as RT_JOBS says, or else as processors and memory allow."""
+    number = os.environ.get("RT_JOBS", "")
+    return int(number) if number.isdigit() and int(number) else lanes.lanes(lanes.FROM_NOTHING)
+
+
+def started(copy, room, at_a_time):
+    """Starts `rt ci` on the copy, in a session of its own: so all that it starts can be ended."""
+    environment = {**os.environ, "RT_JOBS": str(at_a_time), "TMPDIR": room}
+    return subprocess.Popen(["rt", "ci"], cwd=copy, env=environment, start_new_session=True,
+                            stdin=subprocess.DEVNULL, stdout=subprocess.PIPE,
+                            stderr=subprocess.STDOUT, text=True, errors="replace")
+
+
+def proved(child, progress, log, watch):
+    """Reports what `rt ci` proves until it ends; gives its status. However this ends, nothing that
+    the child started goes on."""
     try:
-        lines, is_over = queue.Queue(), False
+        lines, found, is_over = queue.Queue(), [], False
         threading.Thread(target=read_into, args=(child, lines), daemon=True).start()
         while not is_over:
             watch.look()
+            earlier = found
             found, is_over = waiting_lines(lines)
             log.writelines(found)
             log.flush()
-            for pattern in (KEPT, PROVED):
-                names = [it[1] for it in map(pattern.match, found) if it and it[1] in progress.left]
-                if names:
-                    progress.step(names, pattern is KEPT, busy_crates(child.pid))
+            # (a moment later, so that what comes after them is under way)
+            report(earlier + found if is_over else earlier, progress, child.pid)
         return child.wait()
     finally:
-        end(child)
+        processes.end(child)
 
 
-def needs_of(octets):
-    """The machine that a program needs, by the versions of the C library that it names."""
-    versions = {it.decode() for it in re.findall(rb"GLIBC_([0-9.]+)\0", octets)}
-    least = max(versions, key=programs.numbers, default="2.0")
-    return f"Linux x86_64 glibc {least}"
+def report(lines, progress, leader):
+    """Reports the crates that the lines of `rt ci` name as proved."""
+    for pattern in (KEPT, PROVED):
+        matches = filter(None, map(pattern.match, lines))
+        names = [it[1] for it in matches if it[1] in progress.left]
+        if names:
+            progress.step(names, pattern is KEPT, busy_crates(leader))
 
 
 def kit():
     """The line of the toolchain on the path, none where there is none."""
     try:
-        return subprocess.run(["rt", "version"], stdin=subprocess.DEVNULL, capture_output=True, text=True, check=True).stdout.strip()
+        ran = subprocess.run(["rt", "version"], stdin=subprocess.DEVNULL, capture_output=True,
+                             text=True, check=True)
     except (OSError, subprocess.CalledProcessError):
         return None
+    return ran.stdout.strip()
+
+
+def needs_of(octets):
+    """The machine that a program needs, by the versions of the C library that it names."""
+    versions = {it.decode() for it in VERSION_OF_LIBC.findall(octets)}
+    return f"Linux x86_64 glibc {max(versions, key=programs.numbers, default='2.0')}"
 
 
 def keep(crate, program, digest):
-    """Puts a program that was built from sources of the digest below out/programs/, with its record; gives its path."""
+    """Puts a program that was built from sources of the digest below out/programs/, with its
+    record; gives its path."""
     octets = sources.octets_of(program)
-    record = programs.Record(kit(), digest, sources.hashlib.sha256(octets).hexdigest(), needs_of(octets))
+    record = programs.Record(kit(), digest, programs.sum_of_octets(octets), needs_of(octets))
     path, record_path = (os.path.join(repo.TOP, it) for it in programs.own(crate))
     put(path, octets, 0o755)
     put(record_path, record.text().encode(), 0o644)
@@ -330,12 +204,15 @@ def put(path, octets, mode):
 
 def digests():
     """The digests of the sources of all programs, as they are now."""
-    names = [it for it in repo.crates() if os.path.isfile(os.path.join(repo.TOP, "crates", it, "src", "main.rt"))]
+    main = os.path.join("src", "main.rt")
+    names = [it for it in repo.crates()
+             if os.path.isfile(os.path.join(repo.TOP, "crates", it, main))]
     return {it: sources.known(it) for it in names}
 
 
 def keep_the_gates(before):
-    """Keeps the programs that `rt ci` left in this checkout, of whose sources the digests were taken before it began."""
+    """Keeps the programs that `rt ci` left in this checkout; `before` are the digests of their
+    sources from before it began."""
     for crate, digest in digests().items():
         program = os.path.join(repo.TOP, "crates", crate, "out", crate)
         if before.get(crate) == digest and os.path.isfile(program):
@@ -343,41 +220,47 @@ def keep_the_gates(before):
 
 
 def made(crate, watch):
-    """Proves and builds a crate's program; gives its path, or none where that failed, which is reported."""
+    """Proves and builds a crate's program; gives its path, or reports why there is none."""
     log = os.path.join("out", f"{crate}.log")
-    with a_copy(crate) as (copy, room), open(os.path.join(repo.TOP, log), "w", encoding="utf-8") as out:
-        digest = sources.digest(crate, copy)
-        progress = Progress(crate, lanes.lanes(lanes.FROM_NOTHING))
+    with a_copy(crate) as (copy, room), open_log(log, "w") as out:
+        digest, progress = sources.digest(crate, copy), Progress(crate, side_by_side())
         progress.announce(log)
-        status = proved(copy, room, progress, out, watch)
+        status = proved(started(copy, room, progress.at_a_time), progress, out, watch)
         program = os.path.join(copy, "crates", crate, "out", crate)
         if not status and os.path.isfile(program):
             path = keep(crate, program, digest)
-            say(f"{progress.title}: built in {minutes(time.monotonic() - progress.began)}: {os.path.relpath(path, repo.TOP)}")
+            say(f"{progress.title}: {os.path.relpath(path, repo.TOP)} was built in "
+                f"{progress.elapsed()}")
             return path
-    with open(os.path.join(repo.TOP, log), encoding="utf-8", errors="replace") as printed:
-        sys.stderr.writelines(collections.deque(printed, SHOWN))
-    say(f"{progress.title}: rt ci ended with status {status}, and the program wasn't built; {log} has all that was printed")
+    with open_log(log, "r") as printed:
+        for line in collections.deque(printed, SHOWN):
+            say(line.rstrip("\n"))
+    say(f"{progress.title}: rt ci ended with status {status}; {log} has all that it printed")
     return None
 
 
+def open_log(path, mode):
+    return open(os.path.join(repo.TOP, path), mode, encoding="utf-8", errors="replace")
+
+
 def build(crate, why):
-    """Builds a crate's program and gives its path, none where that failed. Ends by the signal that stops it, with all that it started."""
+    """Builds a crate's program and gives its path, none where that failed. A signal that stops the
+    build ends this process, and all that it started."""
     title = programs.title(crate)
     if not shutil.which("rt"):
-        say(f"{title}: {why}, and rt, the toolchain that builds it, is not on the path")
+        say(f"{title}: {why}, and rt, the toolchain that builds it, isn't on the path")
         return None
-    with Watch() as watch:
+    with processes.Watch() as watch:
         try:
-            say(f"{title}: {why}: it is built from the sources")
-            with alone(crate, watch) as has_waited:
-                path, _ = programs.own_now(crate) if has_waited else (None, None)
+            say(f"{title}: {why}: building it from the sources")
+            with alone(title, watch) as has_waited:
+                path = programs.own_now(crate)[0] if has_waited else None
                 return path or made(crate, watch)
-        except Stopped as stopped:
-            say(f"{title}: the build was stopped by {stopped}; what was proved is kept, and the next build goes on from there")
+        except processes.Stopped as stopped:
             number = stopped.number
+            with contextlib.suppress(OSError):
+                say(f"{title}: stopped by {stopped}; crates that were proved are kept")
         except BrokenPipeError:
             number = signal.SIGPIPE
-    signal.signal(number, signal.SIG_DFL)
-    os.kill(os.getpid(), number)
+    processes.end_by(number)
     return None

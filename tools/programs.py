@@ -1,7 +1,9 @@
-"""Programs that are there, and what each was built from: dist/certpath, and what builds and the gate left below out/programs/.
+"""Programs that are there, and what each was built from: dist/certpath, and what builds and the
+gate left below out/programs/.
 
-Beside a program stands its record: lines of a word and what it says. `kit`: the toolchain's line; `sources`: the digest of its
-sources; `program`: the SHA-256 of its octets; `needs`: the machine that it runs on.
+Beside a program stands its record, lines of a word and what it says. `kit`: the line of the
+toolchain. `sources`: the digest of what it was built from. `program`: the SHA-256 of its octets.
+`needs`: the machine that it runs on.
 """
 import _signal
 import os
@@ -31,14 +33,14 @@ class Record:
 
 
 class Lack:
-    """Why there is no program, and whether it is to be built without being asked for."""
+    """Why there is no program, and whether it is built without being asked for."""
 
-    def __init__(self, why, is_built_anew):
-        self.why, self.is_built_anew = why, is_built_anew
+    def __init__(self, why, is_built):
+        self.why, self.is_built = why, is_built
 
 
 def title(crate):
-    """The name by which messages call a crate's program."""
+    """The name of a crate's program in messages."""
     return "certpath" if crate == CERTPATH else crate
 
 
@@ -52,61 +54,62 @@ def read_record(path):
     return Record(**said) if sorted(said) == sorted(WORDS) else None
 
 
+def sum_of_octets(octets):
+    return sources.hashlib.sha256(octets).hexdigest()
+
+
 def sum_of(path):
     """The SHA-256 of a file in hex digits, none where it can't be read."""
     try:
-        return sources.hashlib.sha256(sources.octets_of(os.path.join(repo.TOP, path))).hexdigest()
+        return sum_of_octets(sources.octets_of(os.path.join(repo.TOP, path)))
     except OSError:
         return None
-
-
-def own(crate):
-    """The path of what was built here, and of its record."""
-    path = os.path.join(OWN, crate)
-    return path, path + RECORD
-
-
-def is_sound(path, record, digest):
-    """Whether the program is there as its record says, built from sources of the digest, and may be run."""
-    return record is not None and record.sources == digest and record.program == sum_of(path) and is_executable(path)
 
 
 def is_executable(path):
     return os.access(os.path.join(repo.TOP, path), os.X_OK)
 
 
+def own(crate):
+    """The paths of what is built here and of its record."""
+    path = os.path.join(OWN, crate)
+    return path, path + RECORD
+
+
 def own_now(crate):
-    """The path of what was built here from the crate's sources as they are now, or none; and the digest of these."""
-    digest = sources.known(crate)
-    path, record_path = own(crate)
-    return os.path.join(repo.TOP, path) if is_sound(path, read_record(record_path), digest) else None, digest
-
-
-def standing():
-    """The path of the certpath that runs on the sources as they are, from the top of the repository, and its record; or none of both."""
-    path, lack = found(CERTPATH)
-    if lack:
-        return None, None
-    path = os.path.relpath(path, repo.TOP)
-    return path, read_record(SHIPPED_RECORD if path == SHIPPED else path + RECORD)
+    """The path of what was built here from the sources as they are, or none; and their digest."""
+    digest, (path, record_path) = sources.known(crate), own(crate)
+    record = read_record(record_path)
+    is_there = record is not None and record.sources == digest and record.program == sum_of(path)
+    return os.path.join(repo.TOP, path) if is_there and is_executable(path) else None, digest
 
 
 def found(crate):
-    """The path of the program that was built from the crate's sources as they are now, or none and the lack."""
+    """The path of the program that was built from the sources as they are, or none and the lack.
+
+    What was built here goes before dist/certpath, so that who built it runs that."""
     path, digest = own_now(crate)
     if path:
         return path, None
     if crate != CERTPATH:
-        return None, Lack("no program is there that was built from its sources as they are", True)
+        return None, Lack("no program that was built from these sources is there", True)
     record = read_record(SHIPPED_RECORD)
     if record is None:
         return None, Lack(f"{SHIPPED_RECORD} is missing, or is no record of {SHIPPED}", False)
     if record.sources != digest:
         return None, Lack(f"sources have changed since {SHIPPED} was built", True)
     amiss = fault(record)
-    if amiss:
-        return None, Lack(amiss, False)
-    return os.path.join(repo.TOP, SHIPPED), None
+    return (None, Lack(amiss, False)) if amiss else (os.path.join(repo.TOP, SHIPPED), None)
+
+
+def standing():
+    """The path, from the top of the repository, of the certpath that runs on the sources as they
+    are, and its record; or none of both."""
+    path, _ = found(CERTPATH)
+    if path is None:
+        return None, None
+    path = os.path.relpath(path, repo.TOP)
+    return path, read_record(SHIPPED_RECORD if path == SHIPPED else path + RECORD)
 
 
 def fault(record):
@@ -117,14 +120,14 @@ def fault(record):
     if program != record.program:
         return f"{SHIPPED} was changed: its SHA-256 isn't the one in {SHIPPED_RECORD}"
     if not is_executable(SHIPPED):
-        return f"{SHIPPED} may not be executed (chmod +x)"
+        return f"{SHIPPED} has no permission to be executed"
     if not fits(record.needs):
-        return f"{SHIPPED} needs {record.needs}, and this machine is {machine()}"
+        return f"{SHIPPED} needs {record.needs}, and this is {machine()}"
     return None
 
 
 def machine():
-    """The machine as records say it: system, processor and C library."""
+    """This machine as records name it: system, processor and C library."""
     its = os.uname()
     try:
         library = os.confstr("CS_GNU_LIBC_VERSION")
@@ -150,11 +153,12 @@ def become(crate, path, words):
     try:
         os.execv(path, [path, *words])
     except OSError as error:
-        streams.tell(f"{title(crate)}: {os.path.relpath(path, repo.TOP)} can't be started ({error.strerror}): {REMEDY}")
+        name = os.path.relpath(path, repo.TOP)
+        streams.tell(f"{title(crate)}: {name} can't be started ({error.strerror}): {REMEDY}")
         sys.exit(NO_PROGRAM)
 
 
 def end_by_pipe():
     """Lets a pipe that nobody reads end this process and what it becomes, which Python prevents."""
-    # (the module `signal` imports others that take longer than all else that is done before each run)
+    # (`signal` imports modules that take longer than all that is done before a run)
     _signal.signal(_signal.SIGPIPE, _signal.SIG_DFL)

@@ -1,4 +1,5 @@
-"""What the scripts share: the crates as crates.txt lists them, programs, and edits with the texts that they make.
+"""What the scripts share: the crates as crates.txt lists them, their programs, and edits with the
+texts that they make.
 
 `./certpath` imports this before each run: what takes time to import is imported where it is used.
 """
@@ -16,7 +17,7 @@ def read(path, top=TOP):
 
 
 def lines(top=TOP):
-    """The lines of crates.txt by the crate that each is of, without comments and with single blanks."""
+    """The lines of crates.txt by the crate that each is of, without comments and further blanks."""
     listed = [" ".join(it.partition("#")[0].split()) for it in read("crates.txt", top).splitlines()]
     return {it.partition(":")[0].split()[0]: it for it in listed if it}
 
@@ -43,13 +44,16 @@ def below(names, listed):
 
 
 def ready(crate):
-    """The path of a crate's program as its sources are now, which is built where it isn't there; none where it can't be had, which
-    is reported on standard error. `certpath_cli` is the program in dist/ where that was built from these sources."""
+    """The path of a crate's program as its sources are now. It is built where it isn't there; where
+    it can't be had, standard error says why, and there is none.
+
+    `certpath_cli` is dist/certpath, where that was built from these sources.
+    """
     import programs
     path, lack = programs.found(crate)
     if path:
         return path
-    if not lack.is_built_anew:
+    if not lack.is_built:
         programs.streams.tell(f"{programs.title(crate)}: {lack.why}: {programs.REMEDY}")
         return None
     import building
@@ -57,7 +61,7 @@ def ready(crate):
 
 
 def run(crate, words):
-    """Becomes a crate's program on the words; ends with status 70 where it can't be had or started."""
+    """Becomes a crate's program on the words; ends with status 70 where there is none to start."""
     import programs
     path = ready(crate)
     if not path:
@@ -66,14 +70,12 @@ def run(crate, words):
 
 
 def built(crate, words=()):
-    """Has `rt` prove a crate over kept work, build its program and run it on the words: for the crate that one works on.
-
-    Gives the program's path, or none where it wasn't built, and what was said.
-    """
+    """Has `rt` prove a crate over kept work, build its program and run it on the words: for a crate
+    that one works on. Gives the program's path, or none where it wasn't built, and what was printed."""
     import subprocess
     folder = os.path.join(TOP, "crates", crate)
-    ran = subprocess.run(["rt", "run", "--", *words], cwd=folder, stdin=subprocess.DEVNULL, stdout=subprocess.DEVNULL,
-                         stderr=subprocess.PIPE, text=True, errors="replace")
+    ran = subprocess.run(["rt", "run", "--", *words], cwd=folder, text=True, errors="replace",
+                         stdin=subprocess.DEVNULL, stdout=subprocess.DEVNULL, stderr=subprocess.PIPE)
     # (the status is the program's own once it runs)
     is_built = f"\nrt: running out/{crate};" in f"\n{ran.stderr}"
     return os.path.join(folder, "out", crate) if is_built else None, ran.stderr

@@ -1,5 +1,5 @@
-"""One digest of all that a crate's program is built from: HANDLES, and of the crate and of each below it the line of crates.txt and
-the files of src/, specs/ and proofs/, by their paths from the top of the repository."""
+"""One digest of all that a crate's program is built from: HANDLES, and of the crate and of each
+below it the line of crates.txt and the files of src/, specs/ and proofs/, by their paths."""
 import hashlib
 import os
 import time
@@ -9,12 +9,13 @@ import repo
 PARTS = ("src", "specs", "proofs")
 # The digest of each crate that was asked for, with what its files looked like then.
 KEPT = os.path.join("out", "sources")
-# A file that changed so short a time ago may change again without a new time, so that no digest is kept.
+# Nanoseconds: a file that changed so short a time ago may change again and keep its time, so that
+# no digest is kept.
 YOUNG = 2_000_000_000
 
 
 def scanned(folder):
-    """The files below a folder with their `os.stat_result`, in no order; none where there is no folder."""
+    """The files below a folder with their `os.stat_result`; none where there is no folder."""
     found, folders = [], [folder]
     while folders:
         try:
@@ -56,16 +57,17 @@ def digest(crate, top=repo.TOP):
 def digest_of(head, files, top):
     made = hashlib.sha256(head.encode())
     for path, _ in files:
-        octets = octets_of(path)
-        made.update(f"\n{os.path.relpath(path, top)} {len(octets)}\n".encode(errors="surrogateescape"))
+        octets, name = octets_of(path), os.path.relpath(path, top)
+        made.update(f"\n{name} {len(octets)}\n".encode(errors="surrogateescape"))
         made.update(octets)
     return made.hexdigest()
 
 
 def looks_of(head, files):
     """A digest of what the files look like: size, times and number of each, not their octets."""
-    rows = "\n".join(f"{path} {it.st_size} {it.st_mtime_ns} {it.st_ctime_ns} {it.st_ino}" for path, it in files)
-    return hashlib.sha256(f"{head}\n{rows}".encode(errors="surrogateescape")).hexdigest()
+    rows = (f"{path} {it.st_size} {it.st_mtime_ns} {it.st_ctime_ns} {it.st_ino}"
+            for path, it in files)
+    return hashlib.sha256("\n".join([head, *rows]).encode(errors="surrogateescape")).hexdigest()
 
 
 def known(crate):
@@ -87,7 +89,7 @@ def known(crate):
 
 
 def keep(path, text):
-    """Writes a file whole; passes over a folder that can't be written, where the digest is made at each call."""
+    """Writes a file whole. In a folder that can't be written the digest is made at each call."""
     try:
         os.makedirs(os.path.dirname(path), exist_ok=True)
         new = f"{path}.{os.getpid()}"

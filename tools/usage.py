@@ -102,7 +102,7 @@ def run(words):
     """Becomes the program, with standard input in the place of a file that is called -."""
     if words.count("-") > 1:
         return refused("standard input can be one file only")
-    return repo.run("certpath_cli", [INPUT if it == "-" else it for it in words])
+    return repo.run(programs.CERTPATH, [INPUT if it == "-" else it for it in words])
 
 
 def refused(why):
@@ -116,11 +116,12 @@ def unknown(word):
         return f"there is no option {word!r}"
     import difflib
     near = difflib.get_close_matches(word, [*COMMANDS, "help", "version"], 1)
-    return f"there is no command {word!r}" + (f", the most similar one is {near[0]!r}" if near else "")
+    similar = f", the most similar one is {near[0]!r}" if near else ""
+    return f"there is no command {word!r}{similar}"
 
 
 def printed(text):
-    """Writes a text to standard output; gives the status. Ends as other programs do where nobody reads it."""
+    """Writes a text to standard output; gives the status. A pipe that nobody reads ends this."""
     programs.end_by_pipe()
     return WELL if streams.wrote(text.encode()) else UNWRITTEN
 
@@ -136,13 +137,14 @@ def version():
     """The version, the digest of the sources, and which program runs on them and what built it."""
     path, record = programs.standing()
     program = f"{path}, built by {record.kit}" if path else "none that was built from these sources"
-    return f"certpath {VERSION}\nsources {programs.sources.known(programs.CERTPATH)}\nprogram {program}\n"
+    digest = programs.sources.known(programs.CERTPATH)
+    return f"certpath {VERSION}\nsources {digest}\nprogram {program}\n"
 
 
 def build():
     """Builds the program from the sources and prints where it is; gives the status."""
     import building
-    path = building.build(programs.CERTPATH, "a build is asked for")
+    path = building.build(programs.CERTPATH, "--build")
     if not path:
         return programs.NO_PROGRAM
     return printed(f"{path}\n")

@@ -1,61 +1,64 @@
 #!/usr/bin/env python3
-"""Tries ./certpath, builds and dist/ on copies of the repository: what is printed, the status, and what goes on afterwards.
+"""Tries ./certpath, its builds and dist/ on copies of the repository: what is printed, the status,
+and which processes and files are left.
 
-No trial proves anything: in the place of the toolchain stands a script that prints what `rt ci` prints, and writes a program that
-prints its words. The first trial runs the commands of README.md by the true dist/certpath, without any toolchain on the path.
+Nothing is proved. In the place of the toolchain stands a script that prints what `rt ci` prints and
+writes a program that prints its words. The first trial alone has dist/certpath itself, and runs the
+commands of README.md with no toolchain on the path.
 """
 import os
-import shutil
 import signal
+import shutil
 import subprocess
 import sys
 import tempfile
 import time
 
 sys.dont_write_bytecode = True
-import building
+import processes
 import programs
 import repo
 import sources
 
-SECONDS = 60
-# What ./certpath needs of the repository, beside crates; and the items of tools/paths.py.
+SECONDS = 120
+# What ./certpath needs of the repository beside crates, and the items of tools/paths.py.
 NEEDED = ("certpath", "bundle", "vouch", "tools", "samples", "HANDLES", "crates/check_rows/stdin")
 # Crates as the program may stand on, each with one source.
 CRATES = ("low", "middle: low", f"{programs.CERTPATH}: middle")
-MARK = "CERTPATH_TRIAL"
+MAIN = os.path.join("crates", programs.CERTPATH, "src", "main.rt")
 # A program that prints its words.
 STAND_IN = b'#!/bin/sh\necho "stand-in $*"\n'
-KIT = "a kit of the trials"
+# In the environment of all that a trial starts.
+MARK = "CERTPATH_TRIAL"
+KIT = "the kit of the trials"
 FAKE_RT = f"""\
 #!{sys.executable} -IS
 import os, subprocess, sys, time
 if sys.argv[1:] == ["version"]:
     print({KIT!r})
     sys.exit()
-kind = os.environ["FAKE_RT"]
+kind, began = os.environ["FAKE_RT"], open(os.environ["FAKE_RT_BEGAN"], "a")
 names = [it.partition(":")[0].split()[0] for it in open("crates.txt", encoding="utf-8")]
 print("rt: " + names[0] + " proved", flush=True)
-open(os.environ["FAKE_RT_BEGAN"], "a").write("ci\\n")
+print("ci", file=began, flush=True)
 if kind == "hangs":
-    # children of its own session and of another, and a child of a child
-    words = [sys.executable, "-ISc", "import time; time.sleep(600)", "--crate-name", names[1]]
-    children = [subprocess.Popen(words, start_new_session=bool(it)) for it in range(2)]
-    subprocess.Popen([sys.executable, "-ISc", "import subprocess, sys; subprocess.run(sys.argv[1:])", *words])
-    open(os.environ["FAKE_RT_BEGAN"], "a").write("children\\n")
+    # children of this session and of another, and a child of a child
+    sleep = [sys.executable, "-ISc", "import time; time.sleep(600)", "--crate-name", names[1]]
+    between = [sys.executable, "-ISc", "import subprocess, sys; subprocess.run(sys.argv[1:])"]
+    for words in (sleep, between + sleep):
+        for is_apart in (False, True):
+            subprocess.Popen(words, start_new_session=is_apart)
+    print("children", file=began, flush=True)
     time.sleep(600)
 if kind == "fails":
-    print("rt: FAILED: " + names[1])
-    sys.exit(1)
+    sys.exit("rt: FAILED: " + names[1])
 if kind == "slow":
     time.sleep(3)
 for name in names[1:]:
-    print("rt: " + name + " is kept: an earlier run on this machine proved the same files over the same libraries")
-at = "crates/certpath_cli/out"
-os.makedirs(at)
-with open(at + "/certpath_cli", "wb") as file:
+    print("rt: " + name + " is kept: an earlier run on this machine proved the same")
+os.makedirs("crates/certpath_cli/out")
+with open("crates/certpath_cli/out/certpath_cli", "wb") as file:
     file.write({STAND_IN!r})
-os.chmod(at + "/certpath_cli", 0o755)
 """
 
 
@@ -66,21 +69,33 @@ def write(path, octets, mode=0o644):
     os.chmod(path, mode)
 
 
+def wait_for(is_so):
+    """Waits until something is so; ends the trials where that doesn't come."""
+    end = time.monotonic() + SECONDS
+    while not is_so():
+        if time.monotonic() > end:
+            sys.exit("wrapper: a build didn't begin, or its processes didn't end")
+        time.sleep(0.05)
+
+
 class Room:
-    """A copy of the repository, paths with and without the script in the place of the toolchain, and counts of trials."""
+    """A copy of the repository, paths with and without a toolchain, and counts of trials."""
 
     def __init__(self, top, is_whole):
         self.top, self.passed, self.failed = top, 0, 0
-        self.copy, self.bare, self.tools = (os.path.join(top, it) for it in ("copy", "bare", "tools"))
-        self.began, self.temporary = os.path.join(top, "began"), os.path.join(top, "temporary")
+        self.copy, self.bare = os.path.join(top, "copy"), os.path.join(top, "bare")
+        self.tools, self.temporary = os.path.join(top, "tools"), os.path.join(top, "temporary")
+        self.began = os.path.join(top, "began")
         os.mkdir(self.temporary)
         for folder in (self.bare, self.tools):
-            write(os.path.join(folder, "python3"), f'#!/bin/sh\nexec {sys.executable} "$@"\n'.encode(), 0o755)
+            script = f'#!/bin/sh\nexec {sys.executable} "$@"\n'
+            write(os.path.join(folder, "python3"), script.encode(), 0o755)
         write(os.path.join(self.tools, "rt"), FAKE_RT.encode(), 0o755)
         self.fill(is_whole)
 
     def fill(self, is_whole):
-        """Copies what is needed, and no more: with dist/ and the crates that it was built from, or with small ones in their place."""
+        """Copies what is needed, and no more: with dist/ and the crates that it was built from, or
+        with small ones in their place."""
         crates = repo.below([programs.CERTPATH], repo.crates())
         parts = [os.path.join("crates", it, part) for it in crates for part in sources.PARTS]
         ignored = shutil.ignore_patterns("__pycache__")
@@ -94,7 +109,8 @@ class Room:
         if not is_whole:
             write(self.place("crates.txt"), "".join(f"{it}\n" for it in CRATES).encode())
             for it in CRATES:
-                write(self.place("crates", it.partition(":")[0], "src", "main.rt"), b"// a source\n")
+                main = os.path.join("crates", it.partition(":")[0], "src", "main.rt")
+                write(self.place(main), b"// a source\n")
 
     def place(self, *parts):
         return os.path.join(self.copy, *parts)
@@ -107,31 +123,47 @@ class Room:
             self.failed += 1
             print(f"wrapper: {title}: {got!r:.900}, wanted is {wanted!r:.900}", flush=True)
 
-    def environment(self, kind):
+    def environment(self, kind=None):
         """The environment of a run: without a toolchain, or with the script and what it does."""
-        its = {"PATH": self.tools if kind else self.bare, MARK: self.top, "TMPDIR": self.temporary, "LANG": "C.UTF-8"}
+        its = {"PATH": self.tools if kind else self.bare, MARK: self.top,
+               "TMPDIR": self.temporary, "LANG": "C.UTF-8"}
         return {**its, "FAKE_RT": kind, "FAKE_RT_BEGAN": self.began} if kind else its
 
-    def start(self, words, kind=None):
-        """Starts a script of the copy by its words."""
-        how = {"stdin": subprocess.DEVNULL, "stdout": subprocess.PIPE, "stderr": subprocess.PIPE, "text": True}
-        return subprocess.Popen([self.place(words[0]), *words[1:]], cwd=self.copy, env=self.environment(kind), **how)
+    def start(self, words, kind=None, **how):
+        """Starts a script of the copy on words, in the copy."""
+        how = {"stdin": subprocess.DEVNULL, "stdout": subprocess.PIPE, **how}
+        return subprocess.Popen([self.place(words[0]), *words[1:]], cwd=self.copy, text=True,
+                                env=self.environment(kind), stderr=subprocess.PIPE, **how)
 
-    def run(self, *words, kind=None):
-        """The status of a run of a script, what it printed to standard output, and its lines on standard error."""
-        child = self.start(words, kind)
+    def run(self, *words, **how):
+        """The status of a script, what it printed on standard output, and its lines on standard
+        error."""
+        child = self.start(words, **how)
         output, error = child.communicate(timeout=SECONDS)
         return child.returncode, output, error.splitlines()
 
-    def certpath(self, *words, kind=None):
-        return self.run("certpath", *words, kind=kind)
+    def certpath(self, *words, **how):
+        return self.run("certpath", *words, **how)
+
+    def refuses(self, title, words, status, *names, **how):
+        """A trial: nothing is printed but one line on standard error, in which the names stand, and
+        no build begins."""
+        before = self.builds_begun()
+        got, output, error = self.certpath(*words, **how)
+        lacks = [it for it in names if it not in " ".join(error)]
+        self.same(title, (got, output, len(error), lacks, self.builds_begun()),
+                  (status, "", 1, [], before))
 
     def ship(self, octets=STAND_IN, mode=0o755, **changes):
-        """Puts a program into dist/ with its record, in which some lines are changed."""
-        its = {"kit": KIT, "sources": sources.digest(programs.CERTPATH, self.copy), "program": sources.hashlib.sha256(octets).hexdigest(),
-               "needs": "Linux x86_64 glibc 2.17", **changes}
+        """Puts a program into dist/ with its record, of which some lines are changed."""
+        its = {"kit": KIT, "sources": self.digest(), "program": programs.sum_of_octets(octets),
+               "needs": f"{' '.join(programs.machine().split()[:2])} glibc 2.17"}
         write(self.place(programs.SHIPPED), octets, mode)
-        write(self.place(programs.SHIPPED_RECORD), programs.Record(**its).text().encode())
+        record = programs.Record(**{**its, **changes})
+        write(self.place(programs.SHIPPED_RECORD), record.text().encode())
+
+    def digest(self):
+        return sources.digest(programs.CERTPATH, self.copy)
 
     def forget(self):
         """Removes what builds left."""
@@ -140,209 +172,220 @@ class Room:
             os.remove(self.began)
 
     def builds_begun(self):
-        """What the script in the place of the toolchain has noted."""
+        """What the script in the place of the toolchain noted."""
         try:
-            with open(self.began, encoding="ascii") as file:
-                return file.read().split()
+            return sources.octets_of(self.began).decode().split()
         except OSError:
             return []
 
     def change_a_source(self):
-        """Adds a line to a source."""
-        with open(self.place("crates", "certpath_cli", "src", "main.rt"), "a", encoding="utf-8") as file:
+        with open(self.place(MAIN), "a", encoding="utf-8") as file:
             file.write("// one more line\n")
 
-    def left(self):
-        """The processes that a run of this room started and that haven't ended, and what is left of its temporary files."""
+    def processes_left(self):
+        """The processes that trials started and that haven't ended."""
         mark, found = f"{MARK}={self.top}".encode(), []
-        for pid in building.table():
+        for pid in processes.table():
             try:
-                if pid != os.getpid() and mark in sources.octets_of(f"/proc/{pid}/environ").split(b"\0"):
+                if mark in sources.octets_of(f"/proc/{pid}/environ").split(b"\0"):
                     found.append(pid)
             except OSError:
                 continue
-        return found, os.listdir(self.temporary)
+        return found
+
+    def left(self):
+        """The processes and the temporary files that are left."""
+        return self.processes_left(), os.listdir(self.temporary)
 
 
-def first_command(room):
-    """The commands of README.md, from PEM files to a path, by the program that a clone has, with no toolchain there."""
-    def keep(name, words):
-        status, output, _ = room.run(*words)
-        write(room.place(name), output.encode("utf-8", "surrogateescape"))
-        return status
-
-    how = {"cwd": room.copy, "env": room.environment(None), "stdin": subprocess.DEVNULL}
-    steps = (("bundle.der", ["bundle", "samples/fullchain.pem", "samples/other_list.pem"]), ("anchors.der", ["bundle", "samples/root.pem"]),
-             ("vouchers.txt", ["vouch", "bundle.der", "anchors.der"]))
-    for name, words in steps:
+def first_commands(room):
+    """The commands of README.md from PEM files to a path, with what a clone has and no toolchain."""
+    steps = (("bundle.der", "bundle", "samples/fullchain.pem", "samples/other_list.pem"),
+             ("anchors.der", "bundle", "samples/root.pem"),
+             ("vouchers.txt", "vouch", "bundle.der", "anchors.der"))
+    for name, *words in steps:
         with open(room.place(name), "wb") as file:
-            status = subprocess.run([room.place(words[0]), *words[1:]], stdout=file, stderr=subprocess.DEVNULL, timeout=SECONDS, **how).returncode
-        room.same(f"README.md: {words[0]}", status, 0)
-    wanted = "0 cert\n1 cert\n2 list\nend clean\nanchors 1 of 1, clean\npath 0 1 anchor 0\ncheck yes\n"
-    room.same("README.md: certpath path", room.certpath("path", *(it for it, _ in steps), "--target", "0", "--at", "2026-12-01T00:00:00"), (0, wanted, []))
+            room.same(f"README.md: {words}", room.run(*words, stdout=file)[0], 0)
+    files, rest = [it[0] for it in steps], ["--target", "0", "--at", "2026-12-01T00:00:00"]
+    classes, path = "0 cert\n1 cert\n2 list\nend clean\n", "path 0 1 anchor 0\ncheck yes\n"
+    room.same("README.md: certpath path", room.certpath("path", *files, *rest),
+              (0, f"{classes}anchors 1 of 1, clean\n{path}", []))
 
 
-def words_alone(room):
-    """Help, the version and words that are no command need no program and no toolchain."""
-    for words in (["--help"], ["-h"], ["help"], ["path", "--help"], ["path", "a", "-h"], ["frame", "-h"], ["help", "path"], ["help", "frame"]):
+def helps(room):
+    """Help and the version need no program and no toolchain."""
+    for words in (["--help"], ["-h"], ["help"], ["path", "--help"], ["path", "a", "-h"],
+                  ["frame", "-h"], ["help", "path"], ["help", "frame"]):
         status, output, error = room.certpath(*words)
         room.same(f"certpath {words}", (status, "usage: certpath" in output, error), (0, True, []))
-    ran = subprocess.run(["sh", "-c", "./certpath --help | head -n 1"], cwd=room.copy, env={**room.environment(None), "PATH": f"{room.bare}:{os.defpath}"},
-                         stdin=subprocess.DEVNULL, capture_output=True, timeout=SECONDS)
-    room.same("certpath --help | head -n 1", (ran.returncode, ran.stdout.count(b"\n"), ran.stderr), (0, 1, b""))
+    environment = {**room.environment(), "PATH": f"{room.bare}:{os.defpath}"}
+    piped = subprocess.run(["/bin/sh", "-c", "./certpath --help | head -n 1"], cwd=room.copy,
+                           env=environment, capture_output=True, timeout=SECONDS)
+    room.same("certpath --help | head", (piped.returncode, piped.stdout.count(b"\n"), piped.stderr),
+              (0, 1, b""))
     for words in (["--version"], ["-V"], ["version"]):
         status, output, error = room.certpath(*words)
-        digest = sources.digest(programs.CERTPATH, room.copy)
-        room.same(f"certpath {words}", (status, output.splitlines()[:2], error), (0, ["certpath 0.1.0", f"sources {digest}"], []))
-    status, output, error = room.certpath()
-    room.same("certpath with no words", (status, output, error[0].startswith("usage: certpath")), (2, "", True))
-    for words, names in ((["pth"], "'path'"), (["frames", "x"], "'frame'"), (["--hlep"], "'--hlep'"), (["-"], "'-'"), ([""], "''"), (["help", "pth"], "'path'"),
-                         (["--build", "x"], "--build"), (["path", "-", "-", "x"], "standard input")):
-        status, output, error = room.certpath(*words)
-        room.same(f"certpath {words}", (status, output, len(error), names in error[0], "./certpath --help" in error[0]), (2, "", 1, True, True))
+        room.same(f"certpath {words}", (status, output.splitlines()[:2], error),
+                  (0, ["certpath 0.1.0", f"sources {room.digest()}"], []))
     with open("/dev/full", "wb") as full:
-        ran = subprocess.run([room.place("certpath"), "--help"], env=room.environment(None), stdout=full, stderr=subprocess.PIPE, timeout=SECONDS)
-    room.same("certpath --help >/dev/full", (ran.returncode, ran.stderr), (7, b"cannot write\n"))
+        room.same("certpath --help >/dev/full", room.certpath("--help", stdout=full),
+                  (7, None, ["cannot write"]))
+
+
+def wrong_words(room):
+    """Words that are no command are answered with a hint, and with no program or build."""
+    status, output, error = room.certpath()
+    room.same("certpath", (status, output, error[0].startswith("usage: certpath")), (2, "", True))
+    for words, name in ((["pth"], "'path'"), (["frames", "x"], "'frame'"), (["-"], "'-'"),
+                        (["--hlep"], "'--hlep'"), ([""], "''"), (["help", "pth"], "'path'"),
+                        (["--build", "x"], "--build"), (["path", "-", "-", "x"], "one file only")):
+        room.refuses(f"certpath {words}", words, 2, name, "./certpath --help", kind="builds")
 
 
 def handed_on(room):
     """Words go to the program as they are, but for a file that is called -."""
     room.ship()
-    for words, printed in ((["frame", "x"], "frame x"), (["frame", "-"], "frame /dev/stdin"), (["path", "a", "-", "b"], "path a /dev/stdin b"),
-                           (["frame", "--", "--help"], "frame -- --help"), (["frame"], "frame")):
+    for words, printed in ((["frame", "x"], "frame x"), (["frame", "-"], "frame /dev/stdin"),
+                           (["path", "a", "-", "b"], "path a /dev/stdin b"), (["frame"], "frame"),
+                           (["frame", "--", "--help"], "frame -- --help")):
         room.same(f"certpath {words}", room.certpath(*words), (0, f"stand-in {printed}\n", []))
-    link = os.path.join(room.top, "linked")
-    os.symlink(room.place("certpath"), link)
-    ran = subprocess.run([link, "frame", "x"], cwd=room.top, env=room.environment(None), stdin=subprocess.DEVNULL, capture_output=True, text=True, timeout=SECONDS)
-    room.same("certpath by a link", (ran.returncode, ran.stdout, ran.stderr), (0, "stand-in frame x\n", ""))
+    os.symlink("certpath", room.place("linked"))
+    room.same("certpath by a link", room.run("linked", "frame"), (0, "stand-in frame\n", []))
 
 
 def bad_programs(room):
-    """A program in dist/ that is missing, changed or not for this machine is never run: one line names what is wrong, and the remedy."""
-    def refused(title, *names):
-        status, output, error = room.certpath("frame", "x", kind="builds")
-        seen = (status, output, len(error), all(it in " ".join(error) for it in (*names, "./certpath --build")), room.builds_begun())
-        room.same(title, seen, (programs.NO_PROGRAM, "", 1, True, []))
+    """What is wrong with dist/ is said in one line with the remedy, and nothing is run or built."""
+    def refuses(title, *names):
+        room.refuses(title, ["frame", "x"], 70, *names, "./certpath --build", kind="builds")
 
     room.ship()
     os.remove(room.place(programs.SHIPPED))
-    refused("no program", programs.SHIPPED, "missing")
+    refuses("no program", programs.SHIPPED, "missing")
     room.ship()
     write(room.place(programs.SHIPPED), STAND_IN + b"echo changed\n", 0o755)
-    refused("a changed program", programs.SHIPPED, "changed")
+    refuses("a changed program", programs.SHIPPED, "changed")
     room.ship(mode=0o644)
-    refused("a program that may not be executed", programs.SHIPPED, "executed")
+    refuses("no permission", programs.SHIPPED, "permission")
     room.ship(needs="Linux another glibc 2.17")
-    refused("another processor", "another")
+    refuses("another processor", "another")
     room.ship(needs=f"{' '.join(programs.machine().split()[:2])} glibc 99.1")
-    refused("a newer C library", "99.1")
-    room.ship(octets=b"\x7fELF of no kind")
-    refused("a program that the system doesn't start", programs.SHIPPED)
+    refuses("an older C library", "99.1")
+    room.ship(octets=b"\x7fELF and no more")
+    refuses("what the system doesn't start", programs.SHIPPED, "can't be started")
     room.ship()
     os.remove(room.place(programs.SHIPPED_RECORD))
-    refused("no record", programs.SHIPPED_RECORD)
+    refuses("no record", programs.SHIPPED_RECORD)
     write(room.place(programs.SHIPPED_RECORD), b"no record\n")
-    refused("a record that is none", programs.SHIPPED_RECORD)
+    refuses("a record that is none", programs.SHIPPED_RECORD)
 
 
 def changed_sources(room):
-    """Where a source changed, the program is built: why is printed, and how far it is."""
+    """Where a source changed, the program is built; why is printed, and how far it is."""
     room.ship()
-    room.same("before a change", room.certpath("frame", "x"), (0, "stand-in frame x\n", []))
     room.change_a_source()
-    status, output, error = room.certpath("frame", "x")
-    room.same("a changed source and no toolchain", (status, output, len(error), "sources have changed" in error[0], "rt" in error[0]), (programs.NO_PROGRAM, "", 1, True, True))
+    room.refuses("no toolchain", ["frame", "x"], 70, "sources have changed", "rt")
     status, output, error = room.certpath("frame", "x", kind="fails")
-    room.same("a build that fails", (status, output, "out/certpath_cli.log" in error[-1], any(it.startswith("rt: FAILED") for it in error)), (programs.NO_PROGRAM, "", True, True))
+    is_shown = any(it.startswith("rt: FAILED") for it in error)
+    room.same("a build that fails", (status, output, is_shown, "out/certpath_cli.log" in error[-1]),
+              (70, "", True, True))
     status, output, error = room.certpath("frame", "x", kind="builds")
-    steps = ("sources have changed", "3 crates", "1 of 3", "3 of 3", "built in")
-    room.same("a build", (status, output, [it in line for it, line in zip(steps, error)], len(error)), (0, "stand-in frame x\n", [True] * 5, 5))
-    room.same("what was built is kept", room.certpath("frame", "x"), (0, "stand-in frame x\n", []))
+    lines = ("sources have changed", "3 crates", "1 of 3", "3 of 3", "was built in")
+    lacks = [it for it, line in zip(lines, error) if it not in line]
+    room.same("a build", (status, output, lacks, len(error)), (0, "stand-in frame x\n", [], 5))
     begun = room.builds_begun()
+    room.same("what was built", room.certpath("frame", "y"), (0, "stand-in frame y\n", []))
     status, output, error = room.certpath("--build", kind="builds")
-    room.same("certpath --build", (status, output, room.builds_begun()), (0, f"{os.path.join(room.copy, 'out', 'programs', programs.CERTPATH)}\n", [*begun, "ci"]))
+    path = room.place("out", "programs", programs.CERTPATH)
+    room.same("certpath --build", (status, output, room.builds_begun()),
+              (0, f"{path}\n", [*begun, "ci"]))
     room.same("after builds", room.left(), ([], []))
 
 
 def stopped_builds(room):
-    """A build that is stopped prints one line, and leaves no process and no file."""
+    """A build that is stopped prints one line more, and leaves no process and no file."""
     for number in (signal.SIGTERM, signal.SIGINT, signal.SIGHUP):
         room.forget()
         child = room.start(["certpath", "--build"], "hangs")
         wait_for(lambda: "children" in room.builds_begun())
-        room.same(f"{number.name}: under way", len(room.left()[0]) >= 5, True)
+        room.same(f"{number.name}: under way", len(room.processes_left()) >= 6, True)
         child.send_signal(number)
         output, error = child.communicate(timeout=SECONDS)
-        lines = error.splitlines()
-        room.same(f"{number.name}: the end", (child.returncode, output, number.name in lines[-1], "Traceback" in error), (-number, "", True, False))
+        room.same(f"{number.name}: the end",
+                  (child.returncode, output, number.name in error.splitlines()[-1],
+                   "Traceback" in error), (-number, "", True, False))
         room.same(f"{number.name}: what is left", room.left(), ([], []))
+    room.forget()
+    child = room.start(["certpath", "--build"], "hangs", start_new_session=True)
+    wait_for(lambda: "children" in room.builds_begun())
+    child.stderr.close()
+    child.send_signal(signal.SIGTERM)
+    child.wait(SECONDS)
+    room.same("nobody reads standard error", room.left(), ([], []))
+
+
+def killed_build(room):
+    """What a build left that was killed, and so couldn't remove it, the next one removes."""
     room.forget()
     child = room.start(["certpath", "--build"], "hangs")
     wait_for(lambda: "children" in room.builds_begun())
     child.kill()
     child.communicate(timeout=SECONDS)
-    for pid in room.left()[0]:
+    for pid in room.processes_left():
         os.kill(pid, signal.SIGKILL)
-    wait_for(lambda: not room.left()[0])
-    room.forget()
+    wait_for(lambda: not room.processes_left())
     room.certpath("--build", kind="builds")
-    room.same("the copy of a build that was killed is removed by the next", room.left(), ([], []))
+    room.same("after a killed build and another", room.left(), ([], []))
 
 
 def two_builds(room):
-    """Of two builds at once the second waits, and takes what the first built."""
+    """Of two builds at once the second waits, and runs what the first built."""
     room.forget()
     first = room.start(["certpath", "frame", "1"], "slow")
     wait_for(lambda: room.builds_begun() == ["ci"])
     second = room.start(["certpath", "frame", "2"], "slow")
-    ends = [(it.communicate(timeout=SECONDS), it.returncode) for it in (first, second)]
-    outputs = [(status, output) for (output, _), status in ends]
-    room.same("two builds at once", (outputs, room.builds_begun()), ([(0, "stand-in frame 1\n"), (0, "stand-in frame 2\n")], ["ci"]))
-    room.same("the second waits", "waiting" in ends[1][0][1] and "waiting" not in ends[0][0][1], True)
+    ends = [(*it.communicate(timeout=SECONDS), it.returncode) for it in (first, second)]
+    room.same("two builds at once", [(it[2], it[0]) for it in ends],
+              [(0, "stand-in frame 1\n"), (0, "stand-in frame 2\n")])
+    room.same("the second waits", ["waiting" in it[1] for it in ends], [False, True])
+    room.same("one build was enough", room.builds_begun(), ["ci"])
 
 
 def dist_made_and_checked(room):
-    """tools/dist.py makes dist/ from the sources as they are, and finds each way in which it isn't theirs."""
-    def dist(*words):
-        ran = subprocess.run([os.path.join(room.tools, "python3"), room.place("tools", "dist.py"), *words], cwd=room.copy, env=room.environment("builds"),
-                             stdin=subprocess.DEVNULL, capture_output=True, text=True, timeout=SECONDS)
-        return ran.returncode, ran.stdout
+    """tools/dist.py makes dist/ of the sources as they are, and finds where it isn't theirs."""
+    script, program = os.path.join("tools", "dist.py"), os.path.join(room.top, "program")
+    os.chmod(room.place(script), 0o755)
 
-    program = os.path.join(room.top, "program")
+    def dist(title, words, status, name):
+        got, output, _ = room.run(script, *words, kind="builds")
+        room.same(f"dist {title}", (got, name in output), (status, True))
+
     write(program, STAND_IN, 0o755)
     room.forget()
     room.ship(sources="0" * 64)
-    room.same("dist check before make", (dist("check", program)[0], "run python3 tools/dist.py make" in dist("check", program)[1]), (1, True))
-    status, output = dist("make")
-    room.same("dist make", (status, sources.hashlib.sha256(STAND_IN).hexdigest() in output), (0, True))
-    room.same("dist make, and certpath", room.certpath("frame", "x"), (0, "stand-in frame x\n", []))
-    room.same("dist check", (dist("check", program)[0], dist("check", program)[1].splitlines()[-1]), (0, "dist: 1 passed, 0 failed"))
+    dist("check before make", ["check", program], 1, "run python3 tools/dist.py make")
+    dist("make", ["make"], 0, programs.sum_of_octets(STAND_IN))
+    shutil.rmtree(room.place("out"))
+    room.same("certpath of it", room.certpath("frame", "x"), (0, "stand-in frame x\n", []))
+    dist("check", ["check", program], 0, "dist: 1 passed, 0 failed")
+    dist("check of none", ["check", os.path.join(room.top, "none")], 1, "no program")
     write(program, STAND_IN + b"#\n", 0o755)
-    status, output = dist("check", program)
-    room.same("dist check of other octets", (status, "differ first" in output), (1, True))
-    room.same("dist check of nothing", dist("check", os.path.join(room.top, "none"))[0], 1)
+    dist("check of other octets", ["check", program], 1, "differ first")
     room.ship(kit="another kit")
-    status, output = dist("check", program)
-    room.same("dist check by another kit", (status, "another kit" in output), (0, True))
+    dist("check by another kit", ["check", program], 0, "another kit")
     write(program, b"#!/bin/sh\necho another\n", 0o755)
-    room.same("dist check by another kit, of another program", dist("check", program)[0], 1)
+    dist("check by another kit of another program", ["check", program], 1, "by the other program")
     room.change_a_source()
-    room.same("dist check of changed sources", dist("check", program)[0], 1)
+    dist("check of changed sources", ["check", program], 1, "sources have changed")
 
 
-def wait_for(is_so):
-    """Waits until something is so; ends the trials where it doesn't come."""
-    end = time.monotonic() + SECONDS
-    while not is_so():
-        if time.monotonic() > end:
-            sys.exit("wrapper: a build didn't begin, or processes didn't end")
-        time.sleep(0.05)
+WHOLE = (first_commands,)
+SMALL = (helps, wrong_words, handed_on, bad_programs, changed_sources, stopped_builds, killed_build,
+         two_builds, dist_made_and_checked)
 
 
 def main():
     passed = failed = 0
-    groups = ((True, (first_command,)), (False, (words_alone, handed_on, bad_programs, changed_sources, stopped_builds, two_builds, dist_made_and_checked)))
-    for is_whole, trials in groups:
+    for is_whole, trials in ((True, WHOLE), (False, SMALL)):
         with tempfile.TemporaryDirectory(prefix="wrapper-") as top:
             room = Room(top, is_whole)
             for trial in trials:
