@@ -262,5 +262,8 @@ def build(crate, why):
                 say(f"{title}: stopped by {stopped}; crates that were proved are kept")
         except BrokenPipeError:
             number = signal.SIGPIPE
+        except OSError as error:
+            say(f"{title}: it can't be built: {error.strerror}: {error.filename}")
+            return None
     processes.end_by(number)
     return None

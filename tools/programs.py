@@ -158,6 +158,12 @@ def become(crate, path, words):
         sys.exit(NO_PROGRAM)
 
 
+def end_by_interrupt():
+    """Lets an interrupt end this process at once, unless the caller ignores it."""
+    if _signal.getsignal(_signal.SIGINT) is _signal.default_int_handler:
+        _signal.signal(_signal.SIGINT, _signal.SIG_DFL)
+
+
 def end_by_pipe():
     """Lets a pipe that nobody reads end this process and what it becomes, which Python prevents."""
     # (`signal` imports modules that take longer than all that is done before a run)

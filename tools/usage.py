@@ -77,6 +77,15 @@ TEXTS = {"path": PATH, "frame": FRAME}
 
 def main(words):
     """Does what the words ask for; gives the status, unless it becomes the program."""
+    programs.end_by_interrupt()
+    try:
+        return done(words)
+    except OSError as error:
+        streams.tell(f"certpath: {error.strerror}: {error.filename}")
+        return programs.NO_PROGRAM
+
+
+def done(words):
     first, rest = (words[0], words[1:]) if words else (None, [])
     if first in COMMANDS:
         return printed(TEXTS[first]) if asks_for_help(rest) else run(words)

@@ -289,7 +289,7 @@ def changed_sources(room):
     room.same("a build that fails", (status, output, is_shown, "out/certpath_cli.log" in error[-1]),
               (70, "", True, True))
     status, output, error = room.certpath("frame", "x", kind="builds")
-    lines = ("sources have changed", "3 crates", "1 of 3", "3 of 3", "was built in")
+    lines = ("sources have changed", "3 crates", " of 3 proved", "3 of 3", "was built in")
     lacks = [it for it, line in zip(lines, error) if it not in line]
     room.same("a build", (status, output, lacks, len(error)), (0, "stand-in frame x\n", [], 5))
     begun = room.builds_begun()
@@ -350,6 +350,29 @@ def two_builds(room):
     room.same("one build was enough", room.builds_begun(), ["ci"])
 
 
+# What the gate does around `rt ci`: a program is written in its place, and a source may change.
+GATE = f"""
+import sys
+sys.path.insert(0, "tools")
+import building
+before = building.digests()
+{{}}
+building.put("crates/certpath_cli/out/certpath_cli", {STAND_IN!r}, 0o755)
+building.keep_the_gates(before)
+"""
+
+
+def the_gates_program(room):
+    """A program that the gate left is run, unless a source changed while it was built."""
+    shutil.rmtree(room.place("dist"))
+    for title, change, status in (("changed meanwhile", f"open({MAIN!r}, 'a').write('//')", 70),
+                                  ("unchanged", "", 0)):
+        room.forget()
+        subprocess.run([sys.executable, "-BIS", "-c", GATE.format(change)], cwd=room.copy,
+                       env=room.environment("builds"), check=True, timeout=SECONDS)
+        room.same(f"a program of the gate, its sources {title}", room.certpath("frame")[0], status)
+
+
 def dist_made_and_checked(room):
     """tools/dist.py makes dist/ of the sources as they are, and finds where it isn't theirs."""
     script, program = os.path.join("tools", "dist.py"), os.path.join(room.top, "program")
@@ -380,7 +403,7 @@ def dist_made_and_checked(room):
 
 WHOLE = (first_commands,)
 SMALL = (helps, wrong_words, handed_on, bad_programs, changed_sources, stopped_builds, killed_build,
-         two_builds, dist_made_and_checked)
+         two_builds, dist_made_and_checked, the_gates_program)
 
 
 def main():
