@@ -92,7 +92,7 @@ def found(crate):
     if path:
         return path, None
     if crate != CERTPATH:
-        return None, Lack("no program that was built from these sources is there", True)
+        return None, Lack("no program of these sources is built yet", True)
     record = read_record(SHIPPED_RECORD)
     if record is None:
         return None, Lack(f"{SHIPPED_RECORD} is missing, or is no record of {SHIPPED}", False)

@@ -29,8 +29,7 @@ def say(text):
 
 
 def minutes(seconds):
-    number = max(1, round(seconds / 60))
-    return f"{number} minute{'' if number == 1 else 's'}"
+    return f"{round(seconds)} seconds" if seconds < 99.5 else f"{round(seconds / 60)} minutes"
 
 
 def costs(crates):
