@@ -29,7 +29,8 @@ def say(text):
 
 
 def minutes(seconds):
-    return f"{round(seconds)} seconds" if seconds < 99.5 else f"{round(seconds / 60)} minutes"
+    number = max(1, round(seconds / 60))
+    return f"{number} minute{'' if number == 1 else 's'}"
 
 
 def costs(crates):
@@ -82,9 +83,9 @@ class Progress:
             self.whole -= before - self.seconds()
         done = len(self.crates) - len(self.left)
         others = f" and {len(names) - 1} more" if len(names) > 1 else ""
-        earlier = " before" if are_kept else ""
+        earlier = " kept from earlier runs" if are_kept else ""
         way = f"; under way: {', '.join(busy)}" if busy and self.left else ""
-        say(f"{self.title}: {done} of {len(self.crates)} proved ({names[0]}{others}{earlier}){way}"
+        say(f"{self.title}: {names[0]}{others}{earlier}: {done} of {len(self.crates)} proved{way}"
             f"{self.remaining()}")
 
     def remaining(self):
@@ -96,4 +97,5 @@ class Progress:
         return f"; about {minutes(left * pace)} left"
 
     def elapsed(self):
-        return minutes(time.monotonic() - self.began)
+        seconds = time.monotonic() - self.began
+        return minutes(seconds) if seconds >= 100 else f"{seconds:.0f} seconds"

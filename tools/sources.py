@@ -27,8 +27,16 @@ def scanned(folder):
                 if entry.is_dir(follow_symlinks=False):
                     folders.append(entry.path)
                 else:
-                    found.append((entry.path, entry.stat()))
+                    found.append((entry.path, looked_at(entry)))
     return found
+
+
+def looked_at(entry):
+    """The `os.stat_result` of a file, of the link itself where it leads nowhere, as an editor's lock."""
+    try:
+        return entry.stat()
+    except FileNotFoundError:
+        return entry.stat(follow_symlinks=False)
 
 
 def files_of(crates, top):
@@ -57,7 +65,8 @@ def digest(crate, top=repo.TOP):
 def digest_of(head, files, top):
     made = hashlib.sha256(head.encode())
     for path, _ in files:
-        octets, name = octets_of(path), os.path.relpath(path, top)
+        octets = octets_of(path) if os.path.isfile(path) else b""
+        name = os.path.relpath(path, top)
         made.update(f"\n{name} {len(octets)}\n".encode(errors="surrogateescape"))
         made.update(octets)
     return made.hexdigest()

@@ -136,8 +136,8 @@ def printed(text):
 
 
 def helped(words):
-    """Prints the help that is asked for."""
-    if not words:
+    """Prints the help of the command that is named, or that of all."""
+    if not words or words[0] in (*HELP, *VERSIONS, BUILD):
         return printed(GENERAL)
     return printed(TEXTS[words[0]]) if words[0] in TEXTS else refused(unknown(words[0]))
 

@@ -215,7 +215,7 @@ def first_commands(room):
 def helps(room):
     """Help and the version need no program and no toolchain."""
     for words in (["--help"], ["-h"], ["help"], ["path", "--help"], ["path", "a", "-h"],
-                  ["frame", "-h"], ["help", "path"], ["help", "frame"]):
+                  ["frame", "-h"], ["help", "path"], ["help", "frame"], ["help", "version"]):
         status, output, error = room.certpath(*words)
         room.same(f"certpath {words}", (status, "usage: certpath" in output, error), (0, True, []))
     environment = {**room.environment(), "PATH": f"{room.bare}:{os.defpath}"}
