@@ -49,9 +49,14 @@ def copied(crate, to):
         for part in (*sources.PARTS, *(RUN_ON if name == crate else ())):
             one, other = (os.path.join(top, "crates", name, part) for top in (repo.TOP, to))
             if os.path.isdir(one):
-                shutil.copytree(one, other)
+                shutil.copytree(one, other, ignore=no_sources)
             elif os.path.isfile(one):
                 shutil.copyfile(one, other)
+
+
+def no_sources(_, names):
+    """The names that aren't sources."""
+    return [it for it in names if not sources.is_source(it)]
 
 
 def sweep():

@@ -18,7 +18,7 @@ MEASURED, SLOWEST, FASTEST = 60, 4.0, 0.25
 
 
 def say(text):
-    """Writes a line to standard error; a pipe that nobody reads is an error, no other failure is."""
+    """Writes a line to standard error. Only a pipe that nobody reads counts as a failure."""
     try:
         if sys.stderr:
             print(text, file=sys.stderr, flush=True)

@@ -24,19 +24,19 @@ def scanned(folder):
             continue
         with entries:
             for entry in entries:
+                if not is_source(entry.name):
+                    continue
                 if entry.is_dir(follow_symlinks=False):
                     folders.append(entry.path)
                 else:
-                    found.append((entry.path, looked_at(entry)))
+                    found.append((entry.path, entry.stat()))
     return found
 
 
-def looked_at(entry):
-    """The `os.stat_result` of a file, of the link itself where it leads nowhere, as an editor's lock."""
-    try:
-        return entry.stat()
-    except FileNotFoundError:
-        return entry.stat(follow_symlinks=False)
+def is_source(name):
+    """Whether a file or folder of that name counts, and isn't a lock, copy or swap file that an
+    editor puts beside a source."""
+    return not name.startswith((".", "#")) and not name.endswith("~")
 
 
 def files_of(crates, top):
@@ -65,8 +65,7 @@ def digest(crate, top=repo.TOP):
 def digest_of(head, files, top):
     made = hashlib.sha256(head.encode())
     for path, _ in files:
-        octets = octets_of(path) if os.path.isfile(path) else b""
-        name = os.path.relpath(path, top)
+        octets, name = octets_of(path), os.path.relpath(path, top)
         made.update(f"\n{name} {len(octets)}\n".encode(errors="surrogateescape"))
         made.update(octets)
     return made.hexdigest()

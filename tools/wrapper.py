@@ -282,6 +282,9 @@ def bad_programs(room):
 def changed_sources(room):
     """Where a source changed, the program is built; why is printed, and how far it is."""
     room.ship()
+    os.symlink("nobody", room.place(os.path.dirname(MAIN), ".#main.rt"))
+    write(room.place(f"{MAIN}~"), b"// an earlier source\n")
+    room.same("files of an editor", room.certpath("frame", "x"), (0, "stand-in frame x\n", []))
     room.change_a_source()
     room.refuses("no toolchain", ["frame", "x"], 70, "sources have changed", "rt")
     status, output, error = room.certpath("frame", "x", kind="fails")
