@@ -7,8 +7,9 @@ writes a program that prints its words. The first trial alone has dist/certpath 
 commands of README.md with no toolchain on the path.
 """
 import os
-import signal
+import re
 import shutil
+import signal
 import subprocess
 import sys
 import tempfile
@@ -19,6 +20,7 @@ import processes
 import programs
 import repo
 import sources
+import usage
 
 SECONDS = 120
 # What ./certpath needs of the repository beside crates, and the items of tools/paths.py.
@@ -28,6 +30,7 @@ CRATES = ("low", "middle: low", f"{programs.CERTPATH}: middle")
 MAIN = os.path.join("crates", programs.CERTPATH, "src", "main.rt")
 # A program that prints its words.
 STAND_IN = b'#!/bin/sh\necho "stand-in $*"\n'
+OPTION = re.compile(r"--[a-z][a-z-]*")
 # In the environment of all that a trial starts.
 MARK = "CERTPATH_TRIAL"
 KIT = "the kit of the trials"
@@ -199,7 +202,7 @@ class Room:
 
 
 def first_commands(room):
-    """The commands of README.md from PEM files to a path, with what a clone has and no toolchain."""
+    """The commands of README.md from PEM files to a path, as a clone has them, with no toolchain."""
     steps = (("bundle.der", "bundle", "samples/fullchain.pem", "samples/other_list.pem"),
              ("anchors.der", "bundle", "samples/root.pem"),
              ("vouchers.txt", "vouch", "bundle.der", "anchors.der"))
@@ -210,6 +213,14 @@ def first_commands(room):
     classes, path = "0 cert\n1 cert\n2 list\nend clean\n", "path 0 1 anchor 0\ncheck yes\n"
     room.same("README.md: certpath path", room.certpath("path", *files, *rest),
               (0, f"{classes}anchors 1 of 1, clean\n{path}", []))
+
+
+def options_named(room):
+    """The help of a command names the options that the program's own help names."""
+    for command in usage.TEXTS:
+        program = room.run(programs.SHIPPED, command, "--help")
+        found = (OPTION.findall(it) for it in (usage.TEXTS[command], " ".join(program[2])))
+        room.same(f"options of {command}", *({*it} for it in found))
 
 
 def helps(room):
@@ -379,7 +390,6 @@ def the_gates_program(room):
 def dist_made_and_checked(room):
     """tools/dist.py makes dist/ of the sources as they are, and finds where it isn't theirs."""
     script, program = os.path.join("tools", "dist.py"), os.path.join(room.top, "program")
-    os.chmod(room.place(script), 0o755)
 
     def dist(title, words, status, name):
         got, output, _ = room.run(script, *words, kind="builds")
@@ -404,7 +414,7 @@ def dist_made_and_checked(room):
     dist("check of changed sources", ["check", program], 1, "sources have changed")
 
 
-WHOLE = (first_commands,)
+WHOLE = (first_commands, options_named)
 SMALL = (helps, wrong_words, handed_on, bad_programs, changed_sources, stopped_builds, killed_build,
          two_builds, dist_made_and_checked, the_gates_program)
 
