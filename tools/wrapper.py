@@ -16,6 +16,7 @@ import tempfile
 import time
 
 sys.dont_write_bytecode = True
+import dist
 import processes
 import programs
 import repo
@@ -391,27 +392,27 @@ def dist_made_and_checked(room):
     """tools/dist.py makes dist/ of the sources as they are, and finds where it isn't theirs."""
     script, program = os.path.join("tools", "dist.py"), os.path.join(room.top, "program")
 
-    def dist(title, words, status, name):
+    def ran(title, words, status, name):
         got, output, _ = room.run(script, *words, kind="builds")
         room.same(f"dist {title}", (got, name in output), (status, True))
 
     write(program, STAND_IN, 0o755)
     room.forget()
     room.ship(sources="0" * 64)
-    dist("check before make", ["check", program], 1, "run python3 tools/dist.py make")
-    dist("make", ["make"], 0, programs.sum_of_octets(STAND_IN))
+    ran("check before make", ["check", program], 1, "run python3 tools/dist.py make")
+    ran("make", ["make"], 0, programs.sum_of_octets(STAND_IN))
     shutil.rmtree(room.place("out"))
     room.same("certpath of it", room.certpath("frame", "x"), (0, "stand-in frame x\n", []))
-    dist("check", ["check", program], 0, "dist: 1 passed, 0 failed")
-    dist("check of none", ["check", os.path.join(room.top, "none")], 1, "no program")
+    ran("check", ["check", program], 0, "dist: 1 passed, 0 failed")
+    ran("check of none", ["check", os.path.join(room.top, "none")], 1, "no program")
     write(program, STAND_IN + b"#\n", 0o755)
-    dist("check of other octets", ["check", program], 1, "differ first")
+    ran("check of other octets", ["check", program], 1, "differ first")
     room.ship(kit="another kit")
-    dist("check by another kit", ["check", program], 0, "another kit")
+    ran("check by another kit", ["check", program], 0, "another kit")
     write(program, b"#!/bin/sh\necho another\n", 0o755)
-    dist("check by another kit of another program", ["check", program], 1, "by the other program")
+    ran("check by another kit of another program", ["check", program], 1, "by the other program")
     room.change_a_source()
-    dist("check of changed sources", ["check", program], 1, "sources have changed")
+    ran("check of changed sources", ["check", program], 1, "sources have changed")
 
 
 WHOLE = (first_commands, options_named)
@@ -419,14 +420,22 @@ SMALL = (helps, wrong_words, handed_on, bad_programs, changed_sources, stopped_b
          two_builds, dist_made_and_checked, the_gates_program)
 
 
+def tried(is_whole, trials):
+    """The counts of passed and failed trials."""
+    with tempfile.TemporaryDirectory(prefix="wrapper-") as top:
+        room = Room(top, is_whole)
+        for trial in trials:
+            trial(room)
+    return room.passed, room.failed
+
+
 def main():
-    passed = failed = 0
-    for is_whole, trials in ((True, WHOLE), (False, SMALL)):
-        with tempfile.TemporaryDirectory(prefix="wrapper-") as top:
-            room = Room(top, is_whole)
-            for trial in trials:
-                trial(room)
-        passed, failed = passed + room.passed, failed + room.failed
+    passed, failed = tried(False, SMALL)
+    amiss = [*dist.faults()]
+    if amiss:
+        print(f"wrapper: the commands of README.md weren't run: {amiss[0]}")
+    of_whole = (0, len(WHOLE)) if amiss else tried(True, WHOLE)
+    passed, failed = passed + of_whole[0], failed + of_whole[1]
     print(f"wrapper: {passed} passed, {failed} failed of {passed + failed} trials")
     return 1 if failed else 0
 
