@@ -28,10 +28,10 @@ def timed(words, out=subprocess.DEVNULL):
 
 
 def built(crate):
-    """The path of a crate's program, as its sources and all below it are now; ends the bench where it can't be built, with what was said."""
-    program, said = repo.built(crate)
+    """The path of a crate's program, as its sources and all below it are now; ends the bench where it can't be built."""
+    program = repo.ready(crate)
     if not program:
-        sys.exit(f"{said}\n{crate} wasn't built, so nothing was timed")
+        sys.exit(f"{crate} wasn't built, so nothing was timed")
     return program
 
 

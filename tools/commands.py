@@ -133,7 +133,7 @@ def ran(program, words, room, octets, output):
 
 
 def main():
-    program = repo.ready("certpath_cli", ["frame", os.devnull])
+    program = repo.ready("certpath_cli")
     if not program:
         print("certpath: it wasn't built")
         return 1

@@ -40,7 +40,7 @@ def mutants():
 
 
 def main():
-    program = repo.ready("cert_rows", [])
+    program = repo.ready("cert_rows")
     if not program:
         print("mutants: cert_rows wasn't built")
         return 1

@@ -6,6 +6,7 @@ import subprocess
 import sys
 
 import bundling
+import dist
 import items
 import repo
 
@@ -254,8 +255,13 @@ def items_spelled():
         yield f"{items.STDIN}: an item isn't what the comment above it spells: run tools/items.py"
 
 
+def dist_is_built():
+    """dist/certpath is the program that was built from the sources as they are."""
+    yield from dist.faults()
+
+
 def main():
-    checks = (layout, edits_apply, few_edits, all_read, no_labels, no_machine, docs_name_files, crates_listed, few_ways, judge_alone, roads_apart, headers_counted, no_handles, short_files, items_spelled, worked_causes, bundles)
+    checks = (layout, edits_apply, few_edits, all_read, no_labels, no_machine, docs_name_files, crates_listed, few_ways, judge_alone, roads_apart, headers_counted, no_handles, short_files, items_spelled, worked_causes, bundles, dist_is_built)
     failed = 0
     for check in checks:
         found = [*check()]

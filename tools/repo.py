@@ -1,30 +1,30 @@
-"""What the scripts share: the crates as crates.txt lists them, programs that `rt` builds, and edits with the texts that they make."""
+"""What the scripts share: the crates as crates.txt lists them, their programs, and edits with the
+texts that they make.
+
+`./certpath` imports this before each run: what takes time to import is imported where it is used.
+"""
 import os
-import re
-import shutil
-import signal
-import subprocess
 import sys
 
 TOP = os.path.dirname(os.path.dirname(os.path.abspath(__file__)))
 FOLDERS = ("must-fail", "wrong")
-# How many of the last lines that a failed build said are shown.
-SHOWN = 20
 
 
-def read(path):
+def read(path, top=TOP):
     """The text of a file, by its path from the top of the repository."""
-    with open(os.path.join(TOP, path), encoding="utf-8") as file:
+    with open(os.path.join(top, path), encoding="utf-8") as file:
         return file.read()
 
 
-def crates():
+def lines(top=TOP):
+    """The lines of crates.txt by the crate that each is of, without comments and further blanks."""
+    listed = [" ".join(it.partition("#")[0].split()) for it in read("crates.txt", top).splitlines()]
+    return {it.partition(":")[0].split()[0]: it for it in listed if it}
+
+
+def crates(top=TOP):
     """The crates of crates.txt, each with the crates of the repository that its line lists."""
-    listed = {}
-    for line in read("crates.txt").splitlines():
-        name, _, uses = line.partition("#")[0].partition(":")
-        if name.split():
-            listed[name.split()[0]] = uses.split()
+    listed = {name: it.partition(":")[2].split() for name, it in lines(top).items()}
     return {name: [it for it in uses if it in listed] for name, uses in listed.items()}
 
 
@@ -43,75 +43,42 @@ def below(names, listed):
     return found
 
 
+def ready(crate):
+    """The path of a crate's program as its sources are now. It is built where it isn't there; where
+    it can't be had, standard error says why, and there is none.
+
+    `certpath_cli` is dist/certpath, where that was built from these sources.
+    """
+    import programs
+    path, lack = programs.found(crate)
+    if path:
+        return path
+    if not lack.is_built:
+        programs.streams.tell(f"{programs.title(crate)}: {lack.why}: {programs.REMEDY}")
+        return None
+    import building
+    return building.build(crate, lack.why)
+
+
+def run(crate, words):
+    """Becomes a crate's program on the words; ends with status 70 where there is none to start."""
+    import programs
+    path = ready(crate)
+    if not path:
+        sys.exit(programs.NO_PROGRAM)
+    programs.become(crate, path, words)
+
+
 def built(crate, words=()):
-    """Has `rt` prove and build a crate's program, unless nothing has changed since it did, and run it on the words.
-
-    Gives the program's path, or none where it wasn't built, and what was said.
-    """
+    """Has `rt` prove a crate over kept work, build its program and run it on the words: for a crate
+    that one works on. Gives the program's path, or none where it wasn't built, and what was printed."""
+    import subprocess
     folder = os.path.join(TOP, "crates", crate)
-    ran = subprocess.run(["rt", "run", "--", *words], cwd=folder, stdin=subprocess.DEVNULL, stdout=subprocess.DEVNULL,
-                         stderr=subprocess.PIPE, text=True, errors="replace")
+    ran = subprocess.run(["rt", "run", "--", *words], cwd=folder, text=True, errors="replace",
+                         stdin=subprocess.DEVNULL, stdout=subprocess.DEVNULL, stderr=subprocess.PIPE)
     # (the status is the program's own once it runs)
-    is_built = re.search(rf"(?m)^rt: running out/{crate};", ran.stderr)
+    is_built = f"\nrt: running out/{crate};" in f"\n{ran.stderr}"
     return os.path.join(folder, "out", crate) if is_built else None, ran.stderr
-
-
-def is_older(program, crate):
-    """Whether a crate's program isn't there, or is older than a source of the crate or of one that it stands on."""
-    if not os.access(program, os.X_OK):
-        return True
-    made = os.stat(program).st_mtime
-    for name in below([crate], crates()):
-        for at, folders, names in os.walk(os.path.join(TOP, "crates", name)):
-            folders[:] = [it for it in folders if it != "out"]
-            if any(it.endswith((".rt", ".antt")) and os.stat(os.path.join(at, it)).st_mtime > made for it in names):
-                return True
-    return False
-
-
-def build(crate, words):
-    """Proves and builds a crate's program with all that it stands on, lowest first, and runs it on the words; tells whether it is there.
-
-    Each crate is told in a line on standard error; what `rt` says goes to out/NAME.log, whose end is shown where a crate fails.
-    """
-    if not shutil.which("rt"):
-        print(f"{crate}: rt, the toolchain that proves and builds it, is not on the path", file=sys.stderr)
-        return False
-    steps, log = below([crate], crates()), os.path.join("out", f"{crate}.log")
-    os.makedirs(os.path.join(TOP, "out"), exist_ok=True)
-    with open(os.path.join(TOP, log), "w", encoding="utf-8") as out:
-        for number, name in enumerate(steps, 1):
-            print(f"{crate}: proving and building {name}, {number} of {len(steps)}", file=sys.stderr, flush=True)
-            command = ["rt", "run", "--", *words] if name == crate else ["rt", "lib"]
-            status = subprocess.run(command, cwd=os.path.join(TOP, "crates", name), stdin=subprocess.DEVNULL, stdout=out, stderr=subprocess.STDOUT).returncode
-            if status:
-                break
-    if status:
-        with open(os.path.join(TOP, log), encoding="utf-8", errors="replace") as said:
-            sys.stderr.writelines(said.readlines()[-SHOWN:])
-        print(f"{crate}: {name} failed; {log} has all that was said", file=sys.stderr)
-    return not status
-
-
-def ready(crate, first):
-    """The path of a crate's program, none where it can't be built. Where it isn't there or is older than its sources it is built before, and
-    run once on the first words, with which it ends well."""
-    program = os.path.join(TOP, "crates", crate, "out", crate)
-    if is_older(program, crate):
-        if not build(crate, first):
-            return None
-        os.utime(program)
-    return program
-
-
-def run(crate, words, first):
-    """Becomes a crate's program on the words; ends with status 70 where it can't be built."""
-    program = ready(crate, first)
-    if not program:
-        sys.exit(70)
-    # Python lets no pipe that nobody reads end it, and what it becomes would inherit that
-    signal.signal(signal.SIGPIPE, signal.SIG_DFL)
-    os.execv(program, [program, *words])
 
 
 def edits(crate, folder):
@@ -122,6 +89,7 @@ def edits(crate, folder):
 
 def amiss(crate, edit):
     """Why an edit can't be applied to the crate, or none. Each `old:` text stands once in what the pairs before it left."""
+    import re
     texts, path, old, pairs = {}, None, None, 0
     for line in read(f"crates/{crate}/{edit}").split("\n"):
         if line.startswith("file: "):

@@ -1,6 +1,5 @@
 #!/usr/bin/env python3
 """Runs ./vouch, and ./bundle before it, on keys, certificates and lists that openssl makes anew: which lines come out, what is told, and the status."""
-import os
 import sys
 import tempfile
 
@@ -16,7 +15,7 @@ GROUPS = (vouching_algorithms, vouching_items, vouching_files)
 
 
 def main():
-    if not repo.ready("certpath_cli", ["frame", os.devnull]):
+    if not repo.ready("certpath_cli"):
         print("vouch: certpath, which cuts the files, wasn't built")
         return 1
     with tempfile.TemporaryDirectory(prefix="vouching-") as room:
