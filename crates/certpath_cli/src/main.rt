@@ -1,13 +1,13 @@
 //! The program `certpath`: opens the files that its words name, and ends with the status that the engine gives.
 #![tactic(auto)]
 
-ghost use Rattle.std.specs.Prelude.{◌≡◌};
-ghost use Rattle.certpath_cli.specs.Outcomes.{IsOfFile};
+ghost use Rattle.std.specs.Prelude.{◌≡◌, IfErr};
+ghost use Rattle.certpath_cli.specs.Outcomes.{IsOfFile, IsOfFiles, IsUnopened};
 
 use asn1_device::{ReadSource, WriteSink};
 use certpath_engine::{
-    Command, Exit, FrameError, FrameOutcome, PathFiles, PathOutcome, WordFault, frame,
-    frame_status, path_status, read_words,
+    Command, Exit, FrameError, FrameOutcome, Input, PathFiles, PathOutcome, WordFault, frame,
+    frame_status, path_status, read_words, words_status,
 };
 use certpath_run::{RunError, Settings};
 use std::alloc::Global;
@@ -23,14 +23,14 @@ fn main(rt: HostRuntime) -> ExitCode {
 fn status_of<R: Runtime + AllocGlobal>(rt: &R) -> u8 {
     let words = match words_given(rt) {
         Ok(words) => words,
-        Err(fault) => return tell(rt, frame_status(FrameOutcome::Words(fault))),
+        Err(fault) => return tell(rt, words_status(fault)),
     };
     match read_words(rt.alloc(), words.as_slice()) {
         Ok(Command::Frame { file, limit }) => tell(rt, frame_status(frame_file(rt, file, limit))),
         Ok(Command::Path { files, settings }) => {
             tell(rt, path_status(run_files(rt, files, &settings)))
         }
-        Err(fault) => tell(rt, frame_status(FrameOutcome::Words(fault))),
+        Err(fault) => tell(rt, words_status(fault)),
     }
 }
 
@@ -77,18 +77,20 @@ fn run_files<'a, R: Runtime + AllocGlobal>(
     rt: &R,
     files: PathFiles<'a>,
     settings: &Settings,
-) -> PathOutcome<'a> {
-    let bundle = match fs::open(rt, files.bundle) {
+) -> PathOutcome<'a>
+    ensures { IsOfFiles files.entry result }
+{
+    let bundle = match opened(rt, files, Input::Bundle) {
         Ok(opened) => opened,
-        Err(error) => return unopened(files, files.bundle, &error),
+        Err(outcome) => return outcome,
     };
-    let anchors = match fs::open(rt, files.anchors) {
+    let anchors = match opened(rt, files, Input::Anchors) {
         Ok(opened) => opened,
-        Err(error) => return unopened(files, files.anchors, &error),
+        Err(outcome) => return outcome,
     };
-    let vouchers = match fs::open(rt, files.vouchers) {
+    let vouchers = match opened(rt, files, Input::Vouchers) {
         Ok(opened) => opened,
-        Err(error) => return unopened(files, files.vouchers, &error),
+        Err(outcome) => return outcome,
     };
     let mut bundle = ReadSource::new(bundle);
     let mut anchors = ReadSource::new(anchors);
@@ -105,12 +107,21 @@ fn run_files<'a, R: Runtime + AllocGlobal>(
     PathOutcome::Ran(files, answer)
 }
 
-/// How far a run came where one of its files wasn't opened.
-fn unopened<'a>(files: PathFiles<'a>, file: &'a str, error: &io::Error) -> PathOutcome<'a> {
-    if error.kind() == io::ErrorKind::OutOfMemory {
-        PathOutcome::Ran(files, Err(RunError::OutOfMemory))
-    } else {
-        PathOutcome::Unopened(file)
+/// Opens an input's file, or says how far the run came without it.
+fn opened<'a, R: Runtime + AllocGlobal>(
+    rt: &R,
+    files: PathFiles<'a>,
+    input: Input,
+) -> Result<R::File, PathOutcome<'a>>
+    ensures { IfErr result (IsUnopened files.entry input) }
+{
+    let file = files.word(input);
+    match fs::open(rt, file) {
+        Ok(opened) => Ok(opened),
+        Err(error) if error.kind() == io::ErrorKind::OutOfMemory => {
+            Err(PathOutcome::Ran(files, Err(RunError::OutOfMemory)))
+        }
+        Err(_) => Err(PathOutcome::Unopened(file)),
     }
 }
 

@@ -30,6 +30,10 @@ is_simple_app = refl
 value : (found : ArgMatches) (id text : Text) → Some text ≡ first_value (found_of found) id → first_of id (rows_of (found_of found)) ≡ Some text
 value found id text is = sym (first_value-rows (found_of found) id) ∙ sym is
 
+-- and that it has none is that its row has none
+pub lacks : (found : ArgMatches) (id : Text) → None ≡ first_value (found_of found) id → first_of id (rows_of (found_of found)) ≡ None
+lacks found id is = sym (first_value-rows (found_of found) id) ∙ sym is
+
 -- clap read the words as the subcommand of this name
 entered : (app : App) (words : List Text) (m sub : ArgMatches) (name wanted : Text) → app ≡ certpath_app → HasMatchesOf app words m
     → Some name ≡ subcommand_name_of m → Some (rows_of (found_of sub)) ≡ option_map (λ p. p.1) (subcommand_rows_of m) → name ≡ wanted
@@ -39,18 +43,18 @@ entered app words m sub name wanted is_app matches named given is =
     let pair : subcommand_rows_of m ≡ Some (name, rows_of (found_of sub)) = pair_of _ _ _ name (rows_of (found_of sub)) named given in
     ap (λ a. subcommand_of a words) (sym is_app) ∙ sym found.1 ∙ pair ∙ ap (λ n. Some (n, rows_of (found_of sub))) is
 
-told : (words : List Text) (name : Text) (rows : List Row) (r : Result Asked WordFault) → subcommand_of certpath_app words ≡ Some (name, rows) → TellsTexts name rows r → AnswersTexts words r
-told words name rows (Ok asked) command t = (rows, command ∙ ap (λ n. Some (n, rows)) (sym t.0), t.1)
-told words name rows (Err (faults.Refused said)) command t = absurd t
-told words name rows (Err faults.Number) command t = absurd t
-told words name rows (Err faults.Moment) command t = absurd t
-told words name rows (Err faults.OutOfMemory) command t = tt
+told : (words : List Text) (name : Text) (arguments : List Text) (rows : List Row) (r : Result Asked WordFault) → subcommand_of certpath_app words ≡ Some (name, rows) → TellsTexts name arguments rows r → AnswersTexts words r
+told words name arguments rows (Ok asked) command t = (rows, command ∙ ap (λ n. Some (n, rows)) (sym t.0), t.1)
+told words name arguments rows (Err (faults.Refused said)) command t = absurd t
+told words name arguments rows (Err faults.Number) command t = absurd t
+told words name arguments rows (Err faults.Moment) command t = absurd t
+told words name arguments rows (Err faults.OutOfMemory) command t = tt
 
-pub answers_texts : (app : App) (words : List Text) (m sub : ArgMatches) (name wanted : Text) (r : Result Asked WordFault) → app ≡ certpath_app → HasMatchesOf app words m
+pub answers_texts : (app : App) (words : List Text) (m sub : ArgMatches) (name wanted : Text) (arguments : List Text) (r : Result Asked WordFault) → app ≡ certpath_app → HasMatchesOf app words m
     → Some name ≡ subcommand_name_of m → Some (rows_of (found_of sub)) ≡ option_map (λ p. p.1) (subcommand_rows_of m) → name ≡ wanted
-    → TellsTexts wanted (rows_of (found_of sub)) r → AnswersTexts words r
-answers_texts app words m sub name wanted r is_app matches named given is t =
-    told words wanted (rows_of (found_of sub)) r (entered app words m sub name wanted is_app matches named given is) t
+    → TellsTexts wanted arguments (rows_of (found_of sub)) r → AnswersTexts words r
+answers_texts app words m sub name wanted arguments r is_app matches named given is t =
+    told words wanted arguments (rows_of (found_of sub)) r (entered app words m sub name wanted is_app matches named given is) t
 
 -- words that clap did not take are refused, or memory was
 pub refused_texts : (app : App) (words : List Text) (kind : ErrorKind) (fault : WordFault) → app ≡ certpath_app → (takes app words ≡ true → kind ≡ NoMemory) → IsRefusal kind fault → AnswersTexts words (Err fault)

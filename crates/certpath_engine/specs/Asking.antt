@@ -1,6 +1,6 @@
 -- What the words of the command line ask for. Which values clap gives to which words is said in the terms of the crate `clap`: `takes`
 -- (it accepts the words) and `subcommand_of` (the subcommand's name, and a row of values for each argument).
-use Rattle.std.specs.Prelude.{◌≡◌, ◌≢◌, ◌↔◌, ◌⊎◌, ℕ, ◌^◌, ◌<◌, true, List, Some, Result, Ok, Err, IsTrue, codes}
+use Rattle.std.specs.Prelude.{◌≡◌, ◌≢◌, ◌↔◌, ◌⊎◌, ℕ, ◌^◌, ◌<◌, true, List, [], ◌∷◌, Contains, None, Some, Result, Ok, Err, IsTrue, codes}
 use Rattle.clap.specs.Walk.{Row, Text, first_of}
 use Rattle.clap.specs.Simple.{subcommand_of}
 use Rattle.clap.specs.Takes.{takes}
@@ -42,13 +42,26 @@ abbrev pub name_of : Asked → Text
 name_of (asks.Frame t) = codes "frame"
 name_of (asks.Path t) = codes "path"
 
--- the words of the command of this name, or that none are told
-abbrev pub TellsTexts : Text → List Row → Result Asked WordFault → Type 0
-TellsTexts name rows (Ok asked) = (name_of asked ≡ name) × AsksOf rows asked
-TellsTexts name rows (Err (Refused said)) = ⊥
-TellsTexts name rows (Err Number) = ⊥
-TellsTexts name rows (Err Moment) = ⊥
-TellsTexts name rows (Err OutOfMemory) = Unit {0}
+-- the words of a command's arguments
+abbrev pub frame_arguments : List Text
+frame_arguments = codes "FILE" ∷ codes "limit" ∷ []
+
+abbrev pub path_arguments : List Text
+path_arguments = codes "BUNDLE" ∷ codes "ANCHORS" ∷ codes "VOUCHERS" ∷ codes "target" ∷ codes "at" ∷ codes "demand-lists" ∷ codes "limit" ∷ []
+
+-- one of these arguments has no value
+pub record LacksOneOf (arguments : List Text) (rows : List Row) : Type 0 where
+  pub argument : Text
+  pub listed : Contains arguments argument
+  pub lacks : first_of argument rows ≡ None
+
+-- the words of the command of this name; none only where one of its arguments has no value
+abbrev pub TellsTexts : Text → List Text → List Row → Result Asked WordFault → Type 0
+TellsTexts name arguments rows (Ok asked) = (name_of asked ≡ name) × AsksOf rows asked
+TellsTexts name arguments rows (Err (Refused said)) = ⊥
+TellsTexts name arguments rows (Err Number) = ⊥
+TellsTexts name arguments rows (Err Moment) = ⊥
+TellsTexts name arguments rows (Err OutOfMemory) = LacksOneOf arguments rows
 
 -- clap reads the words as this command with these values
 abbrev pub Asks : List Text → Asked → Type 0

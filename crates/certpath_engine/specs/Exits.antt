@@ -4,7 +4,7 @@ use Rattle.std.specs.Fmt.{decimal}
 use Rattle.cert_framing.specs.declared.ending.End.{End}
 use Rattle.cert_framing.specs.declared.ending.End.TheVariants.{Clean, Cut, Fault}
 use Rattle.certpath_engine.specs.declared.exit.FrameOutcome.{FrameOutcome}
-use Rattle.certpath_engine.specs.declared.exit.FrameOutcome.TheVariants.{Words, Unopened, Framed}
+use Rattle.certpath_engine.specs.declared.exit.FrameOutcome.TheVariants.{Unopened, Framed}
 use Rattle.certpath_engine.specs.declared.exit.Message.{Message}
 use Rattle.certpath_engine.specs.declared.exit.Message.TheVariants.{Usage, BadNumber, BadMoment, CannotRead, VouchersLine, OutOfMemory as NoMemory, CannotWrite}
 use Rattle.certpath_engine.specs.declared.framing.FrameError.{FrameError}
@@ -41,7 +41,6 @@ framed_exit_of word (Err Write) = (7, line (codes "cannot write"))
 
 -- status and text of the command `frame`
 abbrev pub frame_exit : FrameOutcome → ℕ × List ℕ
-frame_exit (Words fault) = words_exit_of fault
 frame_exit (Unopened word) = (4, cannot_read word.now)
 frame_exit (Framed word answer) = framed_exit_of word.now answer
 

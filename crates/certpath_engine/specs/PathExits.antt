@@ -8,8 +8,8 @@ use Rattle.certpath_run.specs.declared.settings.RunError.{RunError}
 use Rattle.certpath_run.specs.declared.settings.RunError.TheVariants.{Read, TooLong, BadLine, OutOfMemory, Write}
 use Rattle.certpath_engine.specs.declared.path_exit.PathFiles.{PathFiles}
 use Rattle.certpath_engine.specs.declared.path_exit.PathOutcome.{PathOutcome}
-use Rattle.certpath_engine.specs.declared.path_exit.PathOutcome.TheVariants.{Words, Unopened, Ran}
-use Rattle.certpath_engine.specs.Exits.{line, cannot_read, vouchers_line, words_exit_of}
+use Rattle.certpath_engine.specs.declared.path_exit.PathOutcome.TheVariants.{Unopened, Ran}
+use Rattle.certpath_engine.specs.Exits.{line, cannot_read, vouchers_line}
 
 -- the word of an input's file
 abbrev pub word_of : PathFiles → Input → List ℕ
@@ -33,6 +33,5 @@ ran_exit_of files (Err Write) = (7, line (codes "cannot write"))
 
 -- status and text of the command `path`
 abbrev pub path_exit : PathOutcome → ℕ × List ℕ
-path_exit (Words fault) = words_exit_of fault
 path_exit (Unopened word) = (4, cannot_read word.now)
 path_exit (Ran files answer) = ran_exit_of files answer

@@ -10,8 +10,6 @@ use std::fmt;
 /// How far the command `frame` came.
 #[derive(Debug, Drop)]
 pub enum FrameOutcome<'a> {
-    /// Its words were refused.
-    Words(WordFault),
     /// This file can't be opened.
     Unopened(&'a str),
     /// This file was opened, and framing it answered this.
@@ -68,7 +66,6 @@ pub fn frame_status<'a>(outcome: FrameOutcome<'a>) -> Exit<'a>
     ensures words { words_of result.message ≡ (frame_exit outcome.entry).1 }
 {
     match outcome {
-        FrameOutcome::Words(fault) => words_exit(fault),
         FrameOutcome::Unopened(file) => ended(4, Message::CannotRead(file)),
         FrameOutcome::Framed(file, answer) => framed_exit(file, answer),
     }
@@ -107,8 +104,10 @@ fn failed_exit<'a>(file: &'a str, error: FrameError) -> Exit<'a>
     }
 }
 
-/// How the program ends where its words were refused.
-pub(crate) fn words_exit<'a>(fault: WordFault) -> Exit<'a>
+/// The status for a command line that names nothing to do, and what is printed on standard error.
+///
+/// Status 2 with `clap`'s text, `bad number` or `bad moment`; status 6 if memory was refused.
+pub fn words_status<'a>(fault: WordFault) -> Exit<'a>
     ensures status { result.status ≡ (words_exit_of fault).0 }
     ensures words { words_of result.message ≡ (words_exit_of fault).1 }
 {

@@ -12,7 +12,8 @@ mod words;
 
 pub use cert_framing::End;
 pub use certpath_input::{MAX_READS, READ_SIZE};
-pub use exit::{Exit, FrameOutcome, Message, frame_status};
+pub use certpath_run::Input;
+pub use exit::{Exit, FrameOutcome, Message, frame_status, words_status};
 pub use framing::{FrameError, frame};
 pub use number::read_number;
 pub use path_exit::{PathFiles, PathOutcome, path_status};

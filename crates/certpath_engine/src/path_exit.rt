@@ -3,8 +3,7 @@ ghost use Rattle.std.specs.Prelude.{◌≡◌, Err};
 ghost use Rattle.certpath_engine.specs.Exits.{words_of};
 ghost use Rattle.certpath_engine.specs.PathExits.{path_exit, ran_exit_of, status_of, word_of};
 
-use crate::exit::{Exit, Message, ended, silent, words_exit};
-use crate::words::WordFault;
+use crate::exit::{Exit, Message, ended, silent};
 use certpath_run::{Input, Outcome, RunError};
 
 /// The files of `path`, by their words.
@@ -15,11 +14,22 @@ pub struct PathFiles<'a> {
     pub vouchers: &'a str,
 }
 
+impl<'a> PathFiles<'a> {
+    /// The word of an input's file.
+    pub fn word(self, input: Input) -> &'a str
+        ensures { result.now ≡ word_of self.entry input }
+    {
+        match input {
+            Input::Bundle => self.bundle,
+            Input::Anchors => self.anchors,
+            Input::Vouchers => self.vouchers,
+        }
+    }
+}
+
 /// How far the command `path` came.
 #[derive(Debug, Drop)]
 pub enum PathOutcome<'a> {
-    /// Its words were refused.
-    Words(WordFault),
     /// This file can't be opened.
     Unopened(&'a str),
     /// These files were opened, and the run over them answered this.
@@ -32,7 +42,6 @@ pub fn path_status<'a>(outcome: PathOutcome<'a>) -> Exit<'a>
     ensures words { words_of result.message ≡ (path_exit outcome.entry).1 }
 {
     match outcome {
-        PathOutcome::Words(fault) => words_exit(fault),
         PathOutcome::Unopened(file) => ended(4, Message::CannotRead(file)),
         PathOutcome::Ran(files, answer) => ran_exit(files, answer),
     }
@@ -60,17 +69,6 @@ fn outcome_status(outcome: Outcome) -> u8
     }
 }
 
-/// The word of an input's file.
-fn file_of<'a>(files: PathFiles<'a>, input: Input) -> &'a str
-    ensures { result.now ≡ word_of files.entry input }
-{
-    match input {
-        Input::Bundle => files.bundle,
-        Input::Anchors => files.anchors,
-        Input::Vouchers => files.vouchers,
-    }
-}
-
 /// How the program ends where it has none.
 fn refused_exit<'a>(files: PathFiles<'a>, error: RunError) -> Exit<'a>
     ensures status { result.status ≡ (ran_exit_of files.entry (Err error)).0 }
@@ -78,7 +76,7 @@ fn refused_exit<'a>(files: PathFiles<'a>, error: RunError) -> Exit<'a>
 {
     match error {
         RunError::Read(input) | RunError::TooLong(input) => {
-            ended(4, Message::CannotRead(file_of(files, input)))
+            ended(4, Message::CannotRead(files.word(input)))
         }
         RunError::BadLine(number) => ended(5, Message::VouchersLine(number)),
         RunError::OutOfMemory => ended(6, Message::OutOfMemory),

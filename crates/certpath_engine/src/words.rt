@@ -4,7 +4,7 @@ ghost use Rattle.clap.specs.Matches.{found_of};
 ghost use Rattle.clap.specs.Words.{app_of, kind_of, rule_of, rows_of};
 ghost use Rattle.clap.specs.declared.builder.command.Command.TheViews.{out-Command};
 ghost use Rattle.certpath_engine.specs.Words.{certpath_app, frame_app, files_app, question_app, path_app, file_rule, target_rule, moment_rule, demand_rule, limit_rule};
-ghost use Rattle.certpath_engine.specs.Asking.{TellsTexts, ReadsFrame, ReadsPath, AnswersWords, AnswersTexts, IsRefusal};
+ghost use Rattle.certpath_engine.specs.Asking.{TellsTexts, frame_arguments, path_arguments, ReadsFrame, ReadsPath, AnswersWords, AnswersTexts, IsRefusal};
 
 use crate::number::read_number;
 use crate::path_exit::PathFiles;
@@ -143,7 +143,7 @@ fn read_texts<'a>(alloc: Global, words: &'a [String]) -> Result<Asked<'a>, WordF
 
 /// The words behind `frame`.
 fn frame_texts<'a>(found: &ArgMatches<'a>) -> Result<Asked<'a>, WordFault>
-    ensures { TellsTexts (codes "frame") (rows_of (found_of found.now)) result }
+    ensures { TellsTexts (codes "frame") frame_arguments (rows_of (found_of found.now)) result }
 {
     let (Some(file), Some(limit)) = (found.get_str("FILE"), found.get_str("limit")) else {
         return Err(WordFault::OutOfMemory);
@@ -153,7 +153,7 @@ fn frame_texts<'a>(found: &ArgMatches<'a>) -> Result<Asked<'a>, WordFault>
 
 /// The words behind `path`.
 fn path_texts<'a>(found: &ArgMatches<'a>) -> Result<Asked<'a>, WordFault>
-    ensures { TellsTexts (codes "path") (rows_of (found_of found.now)) result }
+    ensures { TellsTexts (codes "path") path_arguments (rows_of (found_of found.now)) result }
 {
     let Some(bundle) = found.get_str("BUNDLE") else {
         return Err(WordFault::OutOfMemory);

@@ -8,11 +8,11 @@ returns-in-Err c = refused_texts _ _ _ _ c.in-Ok.ensures c.in-Err.ensures.passes
 pub returns-in-Some-frame-default : goal.returns-in-Some-frame-default
 returns-in-Some-frame-default c =
     let entered = c.in-Some-frame-default in
-    answers_texts _ _ _ _ _ (codes "frame") _ c.in-Ok.ensures c.in-Ok-try_get_matches_from.ensures.matches entered.ensures.name entered.ensures.rows entered.is-frame
+    answers_texts _ _ _ _ _ (codes "frame") _ _ c.in-Ok.ensures c.in-Ok-try_get_matches_from.ensures.matches entered.ensures.name entered.ensures.rows entered.is-frame
     c.frame_texts.ensures
 
 pub returns-in-Some-path-default : goal.returns-in-Some-path-default
 returns-in-Some-path-default c =
     let entered = c.in-Some-path-default in
-    answers_texts _ _ _ _ _ (codes "path") _ c.in-Ok.ensures c.in-Ok-try_get_matches_from.ensures.matches entered.ensures.name entered.ensures.rows entered.is-path
+    answers_texts _ _ _ _ _ (codes "path") _ _ c.in-Ok.ensures c.in-Ok-try_get_matches_from.ensures.matches entered.ensures.name entered.ensures.rows entered.is-path
     c.path_texts.ensures
