@@ -12,6 +12,8 @@ pub mod ExampleLists
 pub mod ExamplePaths
 pub mod Before
 pub mod StandingFacts
+pub mod RowFacts
+pub mod Vouched
 pub mod NamedFacts
 pub mod PlaceFacts
 pub mod Bridging
