@@ -9,6 +9,7 @@ pub mod Linking
 pub mod Carrying
 pub mod Examples
 pub mod ExampleLists
+pub mod ExampleLaws
 pub mod ExamplePaths
 pub mod Before
 pub mod StandingFacts

@@ -53,7 +53,7 @@ module _ (V : List ℕ → List ℕ → Type 0) (key : List ℕ) where
       let now : Bor (List ℕ) → List ℕ = λ o. o.now in
       let n : length octets ≡ length js = sym (length-map octets now) ∙ ap length e ∙ length-map js octets_in in
       let same : (o : Bor (List ℕ)) (j : JudgedItem) → v < length js → (get_or octets v o).now ≡ octets_in (get_or js v j) = λ o j lt.
-          sym (get_or-map now octets v o [] (subst (λ k. v < k) (sym n) lt)) ∙ ap (λ l. get_or l v []) e ∙ get_or-map octets_in js v j [] lt in (
+      sym (get_or-map now octets v o [] (subst (λ k. v < k) (sym n) lt)) ∙ ap (λ l. get_or l v []) e ∙ get_or-map octets_in js v j [] lt in (
         λ h. let lt = subst (λ k. v < k) n h.0 in (lt, λ j. let o : Bor (List ℕ) = record { ref_ptr = (0, 0); now = [] } in subst (V key) (same o j lt) (h.1 o)),
         λ h. (subst (λ k. v < k) (sym n) h.0, λ o. let j = element js v h.0 in subst (V key) (sym (same o j.0 h.0)) (h.1 j.0)),
       )
@@ -87,10 +87,10 @@ module _ (V : List ℕ → List ℕ → Type 0) (key : List ℕ) where
     pub issued_among : (v : ℕ) → (Contains row v × IsIssuedAt anything demand js row [] v) ↔ (Contains issued v × IsIssuedAt V demand js issued key v)
     issued_among v = (
       λ h. let c = (exact v).0 h.0 in
-        (c.0, (h.1.0, λ d. cert_with _ _ (λ x s w. (w, stands_from x.serial.now s.1)) (get_or js v d) (h.1.1 d) (c.1.1 d))),
+          (c.0, (h.1.0, λ d. cert_with _ _ (λ x s w. (w, stands_from x.serial.now s.1)) (get_or js v d) (h.1.1 d) (c.1.1 d))),
       λ h.
-        let here : At js v = (h.1.0, λ d. cert_vouched _ (λ x s. s.0) (get_or js v d) (h.1.1 d)) in
-        ((exact v).1 (h.0, here), (h.1.0, λ d. cert_mapped _ _ (λ x s. (tt, stands_to x.serial.now s.1)) (get_or js v d) (h.1.1 d))),
+          let here : At js v = (h.1.0, λ d. cert_vouched _ (λ x s. s.0) (get_or js v d) (h.1.1 d)) in
+          ((exact v).1 (h.0, here), (h.1.0, λ d. cert_mapped _ _ (λ x s. (tt, stands_to x.serial.now s.1)) (get_or js v d) (h.1.1 d))),
     )
 
 -- of a row that a key vouches for

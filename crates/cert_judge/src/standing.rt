@@ -36,13 +36,7 @@ fn used_list<'b, 'a>(items: &'b [JudgedItem<'a>], place: usize) -> Option<&'b Ju
     ensures only { IsNone result → IsUsedAt anything items.now [] place → ⊥ }
 {
     match items.get(place) {
-        Some(JudgedItem::List(list)) => {
-            if list.in_force {
-                Some(list)
-            } else {
-                None
-            }
-        }
+        Some(JudgedItem::List(list)) => { if list.in_force { Some(list) } else { None } }
         _ => None,
     }
 }

@@ -6,13 +6,17 @@ use std::alloc::{AllocError, Global};
 
 /// Who says that a key signed an item.
 pub trait Vouch {
-    /// What the value vouches for: the octets of a key element and of a whole item. A fixed relation of the value.
+    /// What the value vouches for: the octets of a key element and of a whole item. A fixed
+    /// relation of the value.
     ghost vouches_for: { Self → List ℕ → List ℕ → Type 0 };
 
+    /// Whether a key vouches for an item: the octets of a key element (SubjectPublicKeyInfo) and of
+    /// a whole certificate or list.
     fn vouches(&self, key: &[u8], item: &[u8]) -> bool
         ensures { IsTrue result ↔ vouches_for self.now key.now item.now };
 
-    /// Whether a key vouches for the item at a place; for none past the last.
+    /// Whether a key vouches for the item at a place among items. `false` where no item has this
+    /// place.
     fn vouches_at(&self, key: &[u8], items: &[&[u8]], place: usize) -> bool
         ensures { IsTrue result ↔ VouchesAt (vouches_for self.now) items.now key.now place }
     {
@@ -22,7 +26,8 @@ pub trait Vouch {
         }
     }
 
-    /// The chosen items that a key vouches for, in ascending order, each asked for.
+    /// The places of the items that a key vouches for, in ascending order, of those at the chosen
+    /// places. By default each is asked for by `vouches`. The only error is out of memory.
     fn vouched_by(
         &self,
         alloc: Global,
@@ -42,7 +47,10 @@ pub trait Vouch {
         Ok(row)
     }
 
-    /// For each key, in the keys' order, the chosen items that it vouches for, in ascending order.
+    /// For each key, in the keys' order, the places of the items that it vouches for, in ascending
+    /// order, of those at the chosen places. By default `vouches` is asked for each key and item. A
+    /// type that can look the keys of an item up overrides this method. The only error is out of
+    /// memory.
     fn vouched_by_each(
         &self,
         alloc: Global,
