@@ -9,6 +9,7 @@ mod items;
 mod judged;
 mod judging;
 pub mod laws;
+pub mod laws_by;
 mod moments;
 mod name_groups;
 mod policy;
