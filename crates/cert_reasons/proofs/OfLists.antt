@@ -12,7 +12,7 @@ use Rattle.cert_judge.proofs.Grouping.{element}
 use Rattle.cert_judge.proofs.Mapped.{not_both}
 use Rattle.cert_reasons.specs.declared.lists.Unused.{Unused}
 use Rattle.cert_reasons.specs.declared.lists.Unused.TheVariants.{NotVouched, NoNextUpdate, NotYetCurrent, PastNextUpdate, CriticalOfList, CriticalOfEntry}
-use Rattle.std.specs.List.{Contains, Any, All}
+use Rattle.std.specs.List.{Contains, Any}
 use Rattle.jiff_core.specs.declared.civil.datetime.DateTime.{DateTime}
 use Rattle.cert_model.specs.View.{time_view}
 use Rattle.cert_judge.specs.declared.items.ListItem.{ListItem}

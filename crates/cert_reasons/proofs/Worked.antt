@@ -1,17 +1,16 @@
 -- The definitions at examples.
-use Rattle.std.specs.Prelude.{◌↔◌, ◌⊎◌}
-use Rattle.std.proofs.Common.{◌≡◌, ◌∙◌, ap, sym, subst, refl, zero, suc, ℕ, ◌<◌, Bool, true, false, Some, None, List, [], ◌∷◌, take, length, arith, get_or, inl, inr, lit<}
-use Rattle.std.specs.List.{All, Any, Contains}
+use Rattle.std.specs.Prelude.{◌⊎◌}
+use Rattle.std.proofs.Common.{◌≡◌, ap, sym, subst, refl, zero, suc, ℕ, ◌<◌, true, false, Some, None, List, [], ◌∷◌, arith, get_or, inl, inr, lit<}
+use Rattle.std.specs.List.{Contains}
 use Rattle.cert_graph.specs.Entries.{IsAt}
-use Rattle.cert_model.specs.Fields.{Number, Entry, Extension, Certificate, RevocationList}
+use Rattle.cert_model.specs.Fields.{Entry, Extension, Certificate}
 use Rattle.cert_model.specs.Octets.{name_octets, key_octets, list_octets}
-use Rattle.cert_model.specs.Class.{Class, certificate, list, other}
 use Rattle.cert_model.specs.Extended.{basic_constraints, key_usage, name_constraints, policy_constraints, EachUnder, SomeUnder}
-use Rattle.cert_model.specs.Examples.{key, new_year, plain, authority_b, revoking}
+use Rattle.cert_model.specs.Examples.{key, new_year, plain, revoking}
 use Rattle.cert_judge.specs.Moments.{IsNotAfter}
 use Rattle.cert_judge.specs.Constraints.{BasicConstraints, basic_constraints_octets, IsBasicConstraints}
-use Rattle.cert_judge.specs.Judging.{HasConstraints, HasUsage, IsProcessed, IsUsable, IsAuthority, IsSigner}
-use Rattle.cert_judge.specs.Revoking.{Item, Rules, AreUncritical, IsCurrent, IsPlain, IsUsedList, HasUsedList}
+use Rattle.cert_judge.specs.Judging.{HasConstraints, HasUsage, IsProcessed, IsAuthority, IsSigner}
+use Rattle.cert_judge.specs.Revoking.{Item, Rules, AreUncritical, IsUsedList}
 use Rattle.cert_judge.specs.Examples.{in_june, too_late, extended_by, extension, unconstrained, default_written, extended_key_usage, path_length_zero, certificate_item, list_item, vouching_for_all, vouching_but_for}
 use Rattle.cert_judge.proofs.Examples.{none, one, june_valid, alone_distinct, default_is_written}
 use Rattle.cert_judge.proofs.ExampleLists.{no_list}

@@ -1,10 +1,8 @@
 -- Key identifiers that differ, as an example.
-use Rattle.std.proofs.Common.{◌≡◌, ap, refl, ℕ, ◌<◌, ◌≤◌, true, false, List, [], ◌∷◌, length, arith, get_or, lit<, lit≤}
-use Rattle.std.specs.Prelude.{◌⊎◌}
-use Rattle.asn1_core.specs.Elements.{Element, IsElement, element_octets}
-use Rattle.der_tree.specs.Object.{IsCut, IsDerObject}
-use Rattle.der_tree.specs.Table.{Stands, sequence, raw}
-use Rattle.cert_model.specs.Fields.{Certificate}
+use Rattle.std.proofs.Common.{◌≡◌, ap, refl, ℕ, true, false, List, [], ◌∷◌, arith, get_or, lit<, lit≤}
+use Rattle.asn1_core.specs.Elements.{Element}
+use Rattle.der_tree.specs.Object.{IsDerObject}
+use Rattle.der_tree.specs.Table.{sequence, raw}
 use Rattle.cert_model.specs.Octets.{name_octets, key_octets}
 use Rattle.cert_model.specs.Extended.{IsWithout, authority_key_identifier, subject_key_identifier}
 use Rattle.cert_model.specs.KeyIds.{IsAuthorityKeyId, IsSubjectKeyId}

@@ -1,8 +1,8 @@
 -- Rules and certificates of examples: they try the definitions, not the code.
 use Rattle.std.specs.Prelude.{ℕ, false, true, List, [], ◌∷◌}
 use Rattle.cert_model.specs.Extended.{basic_constraints, name_constraints, authority_key_identifier, subject_key_identifier}
-use Rattle.cert_model.specs.Examples.{plain, authority_b}
-use Rattle.cert_model.specs.Fields.{Extension, Certificate}
+use Rattle.cert_model.specs.Examples.{authority_b}
+use Rattle.cert_model.specs.Fields.{Certificate}
 use Rattle.cert_judge.specs.Examples.{in_june, too_late, extended_by, extension, unconstrained, path_length_zero}
 use Rattle.cert_judge.specs.Revoking.{Rules}
 

@@ -1,4 +1,4 @@
-use Rattle.std.proofs.Common.{false, true, [], ◌∷◌}
+use Rattle.std.proofs.Common.{true, [], ◌∷◌}
 use Rattle.cert_model.specs.Extended.{basic_constraints}
 use Rattle.cert_judge.specs.Examples.{in_june, extended_by, extension, unconstrained}
 use Rattle.cert_judge.proofs.Examples.{critical_extension}

@@ -1,4 +1,4 @@
-use Rattle.std.specs.Prelude.{IsTrue, ◌↔◌}
+use Rattle.std.specs.Prelude.{IsTrue}
 use Rattle.std.proofs.Common.{map, sym, ◌∙◌, refl}
 use Rattle.cert_judge.specs.ItemGraph.{HaveSameKeyId}
 use Rattle.cert_judge.specs.Items.{certificate_of, certificate_item, item_of, rules_by}

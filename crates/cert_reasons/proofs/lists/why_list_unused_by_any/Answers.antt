@@ -1,4 +1,4 @@
-use Rattle.std.specs.Prelude.{IsTrue, ◌↔◌}
+use Rattle.std.specs.Prelude.{IsTrue}
 use Rattle.std.proofs.Common.{map, List, ℕ, Bor, [], false}
 use Rattle.cert_judge.specs.Items.{list_of, list_item, rules_by}
 use Rattle.cert_judge.proofs.Mapped.{any_mapped}
