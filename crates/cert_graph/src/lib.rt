@@ -12,7 +12,7 @@ mod filling;
 mod judged;
 pub mod laws;
 mod links;
-mod lists;
+pub mod lists;
 mod nodes;
 mod path;
 mod reach;

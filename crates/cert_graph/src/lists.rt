@@ -1,3 +1,5 @@
+//! Lists of positions, filled place by place.
+
 ghost use Rattle.std.specs.Prelude.{◌≡◌, ◌↔◌, length, map, All, IsTrue, IfOk, OnOk, []};
 ghost use Rattle.cert_graph.specs.Lists.{HasLast, IsPut};
 
@@ -12,7 +14,7 @@ fn ends_in(list: &[usize], position: usize) -> bool
     }
 }
 
-// Puts a position at the end of one of the lists, unless it stands there.
+/// Puts a position at the end of one of the lists, unless it stands there. Where there is no such list nothing is put.
 pub fn put(lists: &mut Vec<Vec<usize>>, place: usize, position: usize) -> Result<(), AllocError>
     ensures { OnOk result (IsPut (map (λ l. l.items) lists.old.items) (map (λ l. l.items) lists.new.items) place position) }
 {
@@ -27,6 +29,7 @@ pub fn put(lists: &mut Vec<Vec<usize>>, place: usize, position: usize) -> Result
     Ok(())
 }
 
+/// So many lists, each empty.
 pub fn empty_lists(alloc: Global, number: usize) -> Result<Vec<Vec<usize>>, AllocError>
     ensures count { IfOk result (λ lists. length lists.items ≡ number) }
     ensures empty { IfOk result (λ lists. All (λ l. l.items ≡ []) lists.items) }

@@ -11,7 +11,9 @@ use Rattle.cert_graph.specs.declared.reach.Reach.TheVariants.{No}
 use Rattle.cert_graph.specs.Reach.{Takes}
 use Rattle.cert_graph.specs.Graph.{IsValidPath}
 use Rattle.cert_graph.specs.Entries.{IsAt}
-use Rattle.cert_graph.specs.Laws.{Carries, Agrees}
+use Rattle.cert_graph.specs.Laws.{Carries, Agrees, UsableIsCertificate}
+use Rattle.cert_graph.specs.LawsOfNodes.{SayTheSame}
+use Rattle.cert_graph.proofs.Unique.{one_true_answer}
 use Rattle.cert_graph.specs.declared.answer.Answer.{Answer}
 use Rattle.cert_graph.specs.Adequate.{IsTrueAnswer}
 use Rattle.cert_graph.proofs.Agreeing.{agreed_true}
@@ -48,28 +50,28 @@ same_shown g z f items others k P v h =
     let here = is_at items v x.0 h.0 x.1 (λ y. y ≡ x.0) refl in
     shown g z others (f v) x.0 (k.certificates v x.0 p.0 here p.1) ∙ sym (shown g z items v x.0 here)
 
-used_more : (r s : Rules) (items : List Item) → VouchesForMore r s items → (name key : List ℕ) (x : Item) (l : RevocationList) → IsUsedList r name key x l → IsUsedList s name key x l
-used_more r s items m name key x l u = record {
+used_more : (r s : Rules) (items : List Item) → VouchesForMore r s items → (name key : List ℕ) (x : Item) (l : RevocationList) → Contains items x → IsUsedList r name key x l → IsUsedList s name key x l
+used_more r s items m name key x l at u = record {
   is_list = u.is_list;
   issuer = u.issuer;
-  vouched = (m.lists x l key u.is_list).0 u.vouched;
+  vouched = (m.lists x l key at u.is_list).0 u.vouched;
   current = subst (λ t. IsCurrent t l) m.moment u.current;
   plain = u.plain;
 }
 
-used_less : (r s : Rules) (items : List Item) → VouchesForMore r s items → (name key : List ℕ) (x : Item) (l : RevocationList) → IsUsedList s name key x l → IsUsedList r name key x l
-used_less r s items m name key x l u = record {
+used_less : (r s : Rules) (items : List Item) → VouchesForMore r s items → (name key : List ℕ) (x : Item) (l : RevocationList) → Contains items x → IsUsedList s name key x l → IsUsedList r name key x l
+used_less r s items m name key x l at u = record {
   is_list = u.is_list;
   issuer = u.issuer;
-  vouched = (m.lists x l key u.is_list).1 u.vouched;
+  vouched = (m.lists x l key at u.is_list).1 u.vouched;
   current = subst (λ t. IsCurrent t l) (sym m.moment) u.current;
   plain = u.plain;
 }
 
 satisfied_more : (f : ℕ → ℕ) (r s : Rules) (items others : List Item) → VouchesForMore r s items → Keeps f items others → (name key : List ℕ) (serial : Number) → IsSatisfied r items name key serial → IsSatisfied s others name key serial
 satisfied_more f r s items others m k name key serial h = record {
-  kept = λ v. h.kept (v.0, v.1, (k.lists v.0 v.1 v.3.is_list).1 v.2, used_less r s items m name key v.0 v.1 v.3, v.4);
-  listed = λ d. let u = h.listed (m.demand ∙ d) in (u.0, u.1, (k.lists u.0 u.1 u.3.is_list).0 u.2, used_more r s items m name key u.0 u.1 u.3);
+  kept = λ v. let at = (k.lists v.0 v.1 v.3.is_list).1 v.2 in h.kept (v.0, v.1, at, used_less r s items m name key v.0 v.1 at v.3, v.4);
+  listed = λ d. let u = h.listed (m.demand ∙ d) in (u.0, u.1, (k.lists u.0 u.1 u.3.is_list).0 u.2, used_more r s items m name key u.0 u.1 u.2 u.3);
 }
 
 issued_more : (f : ℕ → ℕ) (r s : Rules) (items others : List Item) → VouchesForMore r s items → Keeps f items others → (x : Item) (c : Certificate) (name key : List ℕ) → Contains items x → x.class ≡ certificate c → IsIssuedUnder r items x c name key → IsIssuedUnder s others x c name key
@@ -105,7 +107,7 @@ items_keep_paths f r s items others anchors m k = λ target ps a v.
     (map f ps, length-map ps f, path_carried f (graph_of_items r items anchors) (graph_of_items s others anchors) (items_carry f r s items others anchors m k) (fit_is_usable s others anchors) target ps a v)
 
 pub same_rules : (r : Rules) (items : List Item) → VouchesForMore r r items
-same_rules r items = record { moment = refl; demand = refl; certificates = λ x c key at is v. v; lists = λ x l key is. (λ v. v, λ v. v) }
+same_rules r items = record { moment = refl; demand = refl; certificates = λ x c key at is v. v; lists = λ x l key at is. (λ v. v, λ v. v) }
 
 pub same_items : (items : List Item) → Keeps (λ v. v) items items
 same_items items = record { certificates = λ v x c at is. at; lists = λ x l is. (λ h. h, λ h. h) }
@@ -217,3 +219,44 @@ pub exchanged_true : (r : Rules) (front back anchors : List Item) (x y : Item) �
     → IsTrueAnswer (graph_of_items r (front ++ x ∷ back) anchors) target answer ↔ IsTrueAnswer (graph_of_items r (front ++ y ∷ back) anchors) target answer
 exchanged_true r front back anchors x y is_x is_y target answer =
     agreed_true (graph_of_items r (front ++ x ∷ back) anchors) (graph_of_items r (front ++ y ∷ back) anchors) (exchanged_agrees r front back anchors x y is_x is_y) (fit_is_usable r (front ++ x ∷ back) anchors) target answer
+
+-- an anchor item that is no certificate bounds no link, nor does another in its place
+bounds_as_before : (r : Rules) (items front back : List Item) (x y : Item) → ((c : Certificate) → x.class ≡ certificate c → ⊥) → (v a : ℕ) → IsAt items v (λ z. IsAt (front ++ x ∷ back) a (λ b. IsAnchorLink r items z b))
+    → IsAt items v (λ z. IsAt (front ++ y ∷ back) a (λ b. IsAnchorLink r items z b))
+bounds_as_before r items front back x y none v a h = (
+  h.0,
+  λ d.
+      let there = h.1 d in
+      let long = as_long front back x y in
+      let lt = there.0 in
+      let apart : a ≢ length front = λ e.
+      let l = there.1 x in
+      let here : get_or (front ++ x ∷ back) a x ≡ x = ap (λ i. get_or (front ++ x ∷ back) i x) e ∙ get_or-append_seam front x back x in
+      none l.2.0 (sym (ap (λ (i : Item). i.class) here) ∙ l.2.1) in
+      (omega arith, λ e. subst (IsAnchorLink r items (get_or items v d)) (elsewhere front back x y a e apart) (there.1 e)),
+)
+
+anchors_agree : (r : Rules) (items front back : List Item) (x y : Item) → ((c : Certificate) → x.class ≡ certificate c → ⊥) → ((c : Certificate) → y.class ≡ certificate c → ⊥)
+    → Agrees (graph_of_items r items (front ++ x ∷ back)) (graph_of_items r items (front ++ y ∷ back))
+anchors_agree r items front back x y no_x no_y = record {
+  items = refl;
+  certificate = λ v. (λ h. h, λ h. h);
+  usable = λ v. (λ h. h, λ h. h);
+  fit = λ v. (λ h. h, λ h. h);
+  self_issued = λ v. refl;
+  limit = λ v f. refl;
+  edge = λ v w f. (λ h. h, λ h. h);
+  anchored = λ v a. (bounds_as_before r items front back x y no_x v a, bounds_as_before r items front back y x no_y v a);
+}
+
+pub exchanged_anchor_true : (r : Rules) (items front back : List Item) (x y : Item) → ((c : Certificate) → x.class ≡ certificate c → ⊥) → ((c : Certificate) → y.class ≡ certificate c → ⊥) → (target : ℕ) (answer : Answer)
+    → IsTrueAnswer (graph_of_items r items (front ++ x ∷ back)) target answer ↔ IsTrueAnswer (graph_of_items r items (front ++ y ∷ back)) target answer
+exchanged_anchor_true r items front back x y no_x no_y target answer =
+    agreed_true (graph_of_items r items (front ++ x ∷ back)) (graph_of_items r items (front ++ y ∷ back)) (anchors_agree r items front back x y no_x no_y) (fit_is_usable r items (front ++ x ∷ back)) target answer
+
+-- whatever is usable is a certificate
+usable_is_certificate : (r : Rules) (items anchors : List Item) → UsableIsCertificate (graph_of_items r items anchors)
+usable_is_certificate r items anchors v u = (u.0, λ d. let c = u.1 d in (c.0, c.1, tt))
+
+pub one_answer : (r : Rules) (items anchors : List Item) (target : ℕ) (answer another : Answer) → IsTrueAnswer (graph_of_items r items anchors) target answer → IsTrueAnswer (graph_of_items r items anchors) target another → SayTheSame answer another
+one_answer r items anchors = one_true_answer (graph_of_items r items anchors) (usable_is_certificate r items anchors)

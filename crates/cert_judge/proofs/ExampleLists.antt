@@ -15,7 +15,7 @@ use Rattle.cert_judge.proofs.Linking.{fit_is_usable}
 use Rattle.cert_judge.proofs.Examples.{none, one, june_valid, no_extensions, authority_is_fit}
 
 -- which of two items it is
-pick : (x a b : Item) → Contains (a ∷ b ∷ []) x → (x ≡ a) ⊎ (x ≡ b)
+pub pick : (x a b : Item) → Contains (a ∷ b ∷ []) x → (x ≡ a) ⊎ (x ≡ b)
 pick x a b (zero, lt, is) = inl (sym is)
 pick x a b (suc zero, lt, is) = inr (sym is)
 pick x a b (suc (suc k), lt, is) = absurd (omega (arith, lt))

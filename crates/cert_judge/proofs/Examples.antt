@@ -14,7 +14,7 @@ use Rattle.cert_model.specs.Examples.{new_year, plain, authority_b}
 use Rattle.cert_judge.specs.Moments.{IsNotAfter, IsBetween}
 use Rattle.cert_judge.specs.Constraints.{BasicConstraints, basic_constraints_octets, IsBasicConstraints}
 use Rattle.cert_judge.specs.Usage.{IsKeyUsage}
-use Rattle.cert_judge.specs.Judging.{HasConstraints, HasUsage, IsProcessed, AreUsable, IsUsable, IsSigner, IsFitIssuer}
+use Rattle.cert_judge.specs.Judging.{HasConstraints, HasUsage, HasPathLen, IsProcessed, AreUsable, IsUsable, IsSigner, IsFitIssuer}
 use Rattle.cert_judge.specs.Limits.{path_limit}
 use Rattle.cert_judge.specs.Examples.{in_june, too_early, too_late, extended_by, extension, unconstrained, default_written, extended_key_usage, path_length_zero, authority_with_usage, encipherment, signing}
 
@@ -152,6 +152,10 @@ authority_is_fit = record {
 
 pub limit_is_zero : path_limit authority_b ≡ UpTo 0
 limit_is_zero = refl
+
+pub length_is_zero : SomeUnder basic_constraints (HasPathLen (Some 0)) authority_b.extensions
+unfolding SomeUnder
+length_is_zero = (path_length_zero, (0, lit< tt, refl), refl, (zero_length, authority_written, refl, refl))
 
 abbrev sign_bits : Bits
 sign_bits = record { unused = 2; octets = 4 ∷ [] }

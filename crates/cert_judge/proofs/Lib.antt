@@ -9,9 +9,12 @@ pub mod Linking
 pub mod Carrying
 pub mod Examples
 pub mod ExampleLists
+pub mod ExampleLaws
 pub mod ExamplePaths
 pub mod Before
 pub mod StandingFacts
+pub mod RowFacts
+pub mod Vouched
 pub mod NamedFacts
 pub mod PlaceFacts
 pub mod Bridging

@@ -35,10 +35,10 @@ listed P (certificate_read y) h = absurd h
 listed P (list_read y) h = (y, refl, h)
 listed P (other_read y) h = absurd h
 
-used_to : (V : List ℕ → List ℕ → Type 0) (moment : DateTime) (demand : Bool) (name key : List ℕ) (x : ListItem) → IsUsed V moment name key x → IsUsedList (rules_by moment demand V) name key (list_item x) (list_of x)
+pub used_to : (V : List ℕ → List ℕ → Type 0) (moment : DateTime) (demand : Bool) (name key : List ℕ) (x : ListItem) → IsUsed V moment name key x → IsUsedList (rules_by moment demand V) name key (list_item x) (list_of x)
 used_to V moment demand name key x u = record { is_list = refl; issuer = sym x.issuer_is ∙ u.issuer; vouched = u.vouched; current = u.current; plain = u.plain }
 
-used_from : (V : List ℕ → List ℕ → Type 0) (moment : DateTime) (demand : Bool) (name key : List ℕ) (x : ReadItem) (item : Item) (l : RevocationList) → item ≡ item_of x → IsUsedList (rules_by moment demand V) name key item l
+pub used_from : (V : List ℕ → List ℕ → Type 0) (moment : DateTime) (demand : Bool) (name key : List ℕ) (x : ReadItem) (item : Item) (l : RevocationList) → item ≡ item_of x → IsUsedList (rules_by moment demand V) name key item l
     → IsListWith (λ y. IsUsed V moment name key y × (l ≡ list_of y)) x
 used_from V moment demand name key (certificate_read y) item l e u = let k = sym u.is_list ∙ ap (λ (i : Item). i.class) e in cc
 used_from V moment demand name key (other_read y) item l e u = let k = sym u.is_list ∙ ap (λ (i : Item). i.class) e in cc

@@ -1,5 +1,6 @@
 -- Certificates, lists and moments of worked cases: they try the definitions, not the code.
-use Rattle.std.specs.Prelude.{◌≡◌, ℕ, pos, false, true, List, [], ◌∷◌, Bool, Contains}
+use Rattle.std.specs.Prelude.{◌≡◌, ℕ, zero, suc, pos, false, true, List, [], ◌∷◌, Bool, ◌||◌, nat_eq, Contains}
+use Rattle.std.specs.Cmp.Lexicographic.{pointwise}
 use Rattle.cert_model.specs.Fields.{Identifier, Extension, CivilTime, Key, Certificate, RevocationList}
 use Rattle.cert_model.specs.Octets.{key_octets, certificate_octets, list_octets}
 use Rattle.cert_model.specs.Class.{certificate, list}
@@ -135,3 +136,28 @@ two_rollover_rules =
 -- two equal issuers, under two equal anchors
 abbrev pub equal_issuers : List Certificate
 equal_issuers = issued_by_b ∷ authority_b ∷ authority_b ∷ []
+
+-- ---- laws
+
+-- an item of one octet, and the class of a certificate
+abbrev pub numbered : ℕ → Certificate → Item
+numbered octet c = record { octets = octet ∷ []; class = certificate c }
+
+-- of b and b's own, told apart by an octet, and the same two in the other order
+abbrev pub told_apart : List Item
+told_apart = numbered 1 issued_by_b ∷ numbered 2 authority_b ∷ []
+
+abbrev pub told_backwards : List Item
+told_backwards = numbered 2 authority_b ∷ numbered 1 issued_by_b ∷ []
+
+-- 0 goes to 1 and everything else to 0
+abbrev pub exchanged : ℕ → ℕ
+exchanged zero = 1
+exchanged (suc v) = 0
+
+-- every key vouches for an item of this octet, or of one of these two
+abbrev pub vouching_for : ℕ → List ℕ → List ℕ → Bool
+vouching_for octet key item = pointwise nat_eq item (octet ∷ [])
+
+abbrev pub vouching_for_both : ℕ → ℕ → List ℕ → List ℕ → Bool
+vouching_for_both octet another key item = vouching_for octet key item || vouching_for another key item

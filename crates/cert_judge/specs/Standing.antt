@@ -1,6 +1,6 @@
 -- What the code judges of places: which lists are used there, and who stands by them.
 use Rattle.std.specs.Borrow.{Bor}
-use Rattle.std.specs.Prelude.{◌≡◌, ℕ, Bool, true, IsTrue, List, Any}
+use Rattle.std.specs.Prelude.{◌≡◌, ℕ, Bool, true, IsTrue, List, [], Any}
 use Rattle.std.specs.Ordering.{on, nat_cmp}
 use Rattle.std.specs.Cmp.Lexicographic.{slice_cmp}
 use Rattle.std.specs.BTreeSet as sorted
@@ -48,3 +48,13 @@ IsIssuedAt V demand js places key v = IsAt js v (WithCertificate (λ c. V key c.
 abbrev pub IsIssuedBeside : (List ℕ → List ℕ → Type 0) → BTreeSet (Bor (List ℕ)) → List JudgedItem → List ℕ → ℕ → Type 0
 IsIssuedBeside V revoked js key v =
     IsAt js v (WithCertificate (λ c. V key c.octets.now × (IsTrue (sorted.contains (on (λ (b : Bor (List ℕ)). b.now) (slice_cmp nat_cmp)) revoked c.serial) → ⊥)))
+
+-- the octets of an item that is judged; of what is neither a certificate nor a list none are kept
+abbrev pub octets_in : JudgedItem → List ℕ
+octets_in (certificate_judged j) = j.octets.now
+octets_in (list_judged j) = j.octets.now
+octets_in other_judged = []
+
+-- everything is vouched for, where it was chosen by who vouches for it
+abbrev pub anything : List ℕ → List ℕ → Type 0
+anything key item = Unit {0}

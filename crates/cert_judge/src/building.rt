@@ -28,11 +28,15 @@ fn judged_nodes(alloc: Global, items: &[JudgedItem<'_>]) -> Result<Vec<Node>, Al
     Ok(nodes)
 }
 
-/// The nodes of judged items and anchors, by what is vouched for. What they were judged from, and at which moment, is the caller's.
+/// The nodes of judged items and anchors, by what is vouched for. What they were judged from, and
+/// at which moment, is the caller's.
 ///
-/// `vouches` is asked once for each key of an anchor or of a fit issuer and each item that was issued under its name, certificates
-/// and lists in force; the entries of a list are gone over once for each key that vouches for it. All else takes the time of sorted
-/// maps: places are brought together by name, then by key, and then by key identifier, so no two items are ever compared.
+/// `vouched_by_each` is called once for each name, with the keys of the anchors and fit issuers
+/// that have it as their subject and the certificates and lists that were issued under it. Where a
+/// type implements `vouches` alone, that asks once for each of these keys and items, and this
+/// product is the caller's to bear. The entries of a list in force are gone over once for each key
+/// that vouches for it. All else takes the time of sorted maps: places are brought together by
+/// name, then by key, and then by key identifier, so no two items are ever compared.
 pub fn nodes_by<'a, V: Vouch>(
     alloc: Global,
     items: &[JudgedItem<'a>],
@@ -65,7 +69,8 @@ fn judge_items<'a>(
     Ok(judged)
 }
 
-/// The nodes of items and anchors under a policy, by what is vouched for, as `nodes_by` builds them.
+/// The nodes of items and anchors under a policy, by what is vouched for, as `nodes_by` builds
+/// them.
 pub fn nodes_of<'a, V: Vouch>(
     alloc: Global,
     items: &[ReadItem<'a>],

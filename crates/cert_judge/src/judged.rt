@@ -4,6 +4,7 @@ ghost use Rattle.std.specs.Prelude.{◌≡◌, ◌↔◌, map, IfOk};
 ghost use Rattle.cert_model.specs.View.{time_view, list_view, entry_view};
 ghost use Rattle.cert_judge.specs.ItemGraph.{self_issued_of};
 ghost use Rattle.cert_judge.specs.Items.{certificate_item, list_item, item_of};
+ghost use Rattle.cert_judge.specs.Standing.{octets_in};
 ghost use Rattle.cert_judge.specs.JudgedItems.{IsNodeOf, IsNodeFor, IsJudged, as_issued, as_member, as_anchor};
 
 use crate::items::{CertificateItem, ListItem, ReadItem};
@@ -47,6 +48,17 @@ pub enum JudgedItem<'a> {
 }
 
 impl<'a> JudgedItem<'a> {
+    /// Its octets; none are kept of what is neither a certificate nor a list.
+    pub(crate) fn octets(&self) -> &'a [u8]
+        ensures { result.now ≡ octets_in self.now }
+    {
+        match self {
+            JudgedItem::Certificate(certificate) => certificate.octets,
+            JudgedItem::List(list) => list.octets,
+            JudgedItem::Other => &[],
+        }
+    }
+
     pub(crate) fn node(&self) -> Node
         ensures { IsNodeFor self.now result }
     {

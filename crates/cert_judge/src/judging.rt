@@ -16,8 +16,9 @@ use cert_model::identifiers::{
 use jiff::civil::DateTime;
 use std::alloc::{AllocError, Global};
 
+/// Whether an extension is not critical, or is one that is judged here (RFC 5280, 6.1.4, o).
 #[tactic(auto, unfolding(crate::specs::Judging::IsProcessed))]
-fn is_processed(extension: &ExtField<'_>) -> bool
+pub fn is_processed(extension: &ExtField<'_>) -> bool
     ensures { IsTrue result ↔ IsProcessed (ext_view extension.now) }
 {
     if !extension.critical {
@@ -35,19 +36,22 @@ fn are_processed(extensions: &[ExtField<'_>]) -> bool
     extensions.iter().all(|extension| is_processed(extension))
 }
 
-fn has_constraints(value: &[u8]) -> bool
+/// Whether an extension value is that of basicConstraints in its one spelling (RFC 5280, 4.2.1.9).
+pub fn has_constraints(value: &[u8]) -> bool
     ensures { IsTrue result ↔ HasConstraints value.now }
 {
     constraints_of(value).is_some()
 }
 
-fn has_usage(value: &[u8]) -> bool
+/// Whether an extension value is that of keyUsage in its one spelling (RFC 5280, 4.2.1.3).
+pub fn has_usage(value: &[u8]) -> bool
     ensures { IsTrue result ↔ HasUsage value.now }
 {
     signs_by(value).is_some()
 }
 
-fn is_signer(value: &[u8]) -> bool
+/// Whether an extension value is that of keyUsage, with keyCertSign (RFC 5280, 4.2.1.3).
+pub fn is_signer(value: &[u8]) -> bool
     ensures { IsTrue result ↔ IsSigner value.now }
 {
     match signs_by(value) {
@@ -117,7 +121,7 @@ fn authority_in(extension: &ExtField<'_>) -> Option<Option<u32>>
 }
 
 /// The path length constraint of an authority, or none of it where there is no authority.
-fn authority_of(extensions: &[ExtField<'_>]) -> Option<Option<u32>>
+pub fn authority_of(extensions: &[ExtField<'_>]) -> Option<Option<u32>>
     ensures found { IfSome result (λ n. SomeUnder basic_constraints (HasPathLen n) (map ext_view extensions.now)) }
     ensures only { IsNone result → SomeUnder basic_constraints IsAuthority (map ext_view extensions.now) → ⊥ }
 {
@@ -161,7 +165,7 @@ pub(crate) fn is_usable(
 }
 
 /// The path length constraint of extensions that let a usable certificate issue others, or none of it where they don't.
-fn issuing_of(extensions: &[ExtField<'_>]) -> Option<Option<u32>>
+pub fn issuing_of(extensions: &[ExtField<'_>]) -> Option<Option<u32>>
     ensures found { IfSome result (λ n. MayIssue (map ext_view extensions.now) × SomeUnder basic_constraints (HasPathLen n) (map ext_view extensions.now)) }
     ensures only { IsNone result → MayIssue (map ext_view extensions.now) → ⊥ }
 {

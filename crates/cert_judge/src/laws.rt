@@ -1,10 +1,11 @@
 //! Laws of judging. Each is a function that does nothing: its contract is the law.
 
-ghost use Rattle.std.specs.Prelude.{◌≡◌, ◌↔◌, ℕ, Bool, Option, List, All, map, false, true, [], ◌∷◌, ◌++◌};
+ghost use Rattle.std.specs.Prelude.{◌≡◌, ◌↔◌, ℕ, Bool, Option, List, All, IsTrue, Some, map, false, true, [], ◌∷◌, ◌++◌};
 ghost use Rattle.cert_graph.specs.declared.reach.Reach.TheVariants.{UpTo};
 ghost use Rattle.cert_graph.specs.Reach.{reach_of};
 ghost use Rattle.cert_graph.specs.Graph.{IsValidPath, IsFirstPath, HasNoPath};
-ghost use Rattle.cert_graph.specs.Adequate.{IsTrueAnswer};
+ghost use Rattle.cert_graph.specs.Adequate.{IsAdequate, IsTrueAnswer};
+ghost use Rattle.cert_graph.specs.LawsOfNodes.{SayTheSame};
 ghost use Rattle.cert_graph.specs.declared.answer.Answer.{Answer};
 ghost use Rattle.cert_model.specs.Fields.{CivilTime, Certificate};
 ghost use Rattle.cert_model.specs.Octets.{name_octets, key_octets, list_octets};
@@ -16,7 +17,7 @@ ghost use Rattle.cert_judge.specs.Revoking.{Item, IsSatisfied};
 ghost use Rattle.cert_judge.specs.LawsOfItems.{rules_from, VouchesForMore, Keeps, HasPathsOf, HasPathOf, IsValidAt};
 ghost use Rattle.cert_model.specs.Class.{certificate, other};
 ghost use Rattle.cert_judge.specs.ItemGraph.{graph_of_items};
-ghost use Rattle.cert_judge.specs.Examples.{in_june, too_early, too_late, extended_by, extension, unconstrained, default_written, extended_key_usage, authority_with_usage, encipherment, signing, anchor_named, revoking_two, certificate_item, list_item, vouching_for_all, vouching_but_for, limited_above, one_rollover, one_rollover_rules, two_rollovers, two_rollover_rules, equal_issuers};
+ghost use Rattle.cert_judge.specs.Examples.{in_june, too_early, too_late, extended_by, extension, unconstrained, default_written, extended_key_usage, authority_with_usage, encipherment, signing, anchor_named, revoking_two, certificate_item, list_item, vouching_for_all, vouching_but_for, vouching_for, vouching_for_both, told_apart, told_backwards, exchanged, limited_above, one_rollover, one_rollover_rules, two_rollovers, two_rollover_rules, equal_issuers};
 
 /// What a fit issuer lets through is its path length constraint (RFC 5280, 4.2.1.9).
 pub fn limit_is_path_length()
@@ -44,6 +45,7 @@ pub fn examples_of_extensions()
 pub fn examples_of_issuers()
     ensures authority { IsFitIssuer in_june authority_b }
     ensures limit { path_limit authority_b ≡ UpTo 0 }
+    ensures path_length { SomeUnder basic_constraints (HasPathLen (Some 0)) authority_b.extensions }
     ensures signing { IsFitIssuer in_june (authority_with_usage signing) }
     ensures encipherment { IsFitIssuer in_june (authority_with_usage encipherment) → ⊥ }
 {}
@@ -78,7 +80,22 @@ pub fn example_of_no_path()
     ensures { HasNoPath (graph_of_items (vouching_for_all false) (map certificate_item limited_above) (certificate_item (anchor_named 0x64) ∷ [])) 0 }
 {}
 
-/// Rules that vouch for more certificates, and for the same lists, never lose a path.
+/// Of vouching for more: of a certificate and its issuer's, where the second alone was vouched for, both are, and a path comes.
+pub fn example_of_more()
+    ensures premise { VouchesForMore (rules_from in_june false (vouching_for 2)) (rules_from in_june false (vouching_for_both 1 2)) told_apart }
+    ensures before { (key : List ℕ) → IsTrue (vouching_for 2 key (1 ∷ [])) → ⊥ }
+    ensures more { (key : List ℕ) → IsTrue (vouching_for_both 1 2 key (1 ∷ [])) }
+    ensures path { IsValidPath (graph_of_items (rules_from in_june false (vouching_for_both 1 2)) told_apart (certificate_item (anchor_named 0x63) ∷ [])) 0 (0 ∷ 1 ∷ []) 0 }
+{}
+
+/// Of other places: two certificates change places, and change back.
+pub fn example_of_places()
+    ensures there { Keeps exchanged told_apart told_backwards }
+    ensures back { Keeps exchanged told_backwards told_apart }
+    ensures target { exchanged (exchanged 0) ≡ 0 }
+{}
+
+/// Rules that vouch for more certificates, and for the same lists, never lose a path. `example_of_more` meets the premise.
 pub fn vouching_for_more()
     ensures { (moment : CivilTime) (demand : Bool) (vouches more : List ℕ → List ℕ → Bool) (items anchors : List Item)
         → VouchesForMore (rules_from moment demand vouches) (rules_from moment demand more) items → HasPathsOf (λ v. v) (rules_from moment demand vouches) (rules_from moment demand more) items items anchors }
@@ -110,9 +127,26 @@ pub fn reordered()
         → let r = rules_from moment demand vouches in HasPathOf r items anchors target n ↔ HasPathOf r others anchors (f target) n }
 {}
 
-/// Another item in the place of one, neither of them a certificate or a list, changes no true answer.
+/// Another item in the place of one, neither of them a certificate or a list, changes no true answer; nor does another item in the
+/// place of one among the anchors, neither of them a certificate.
 pub fn exchanged_other()
-    ensures { (moment : CivilTime) (demand : Bool) (vouches : List ℕ → List ℕ → Bool) (front back anchors : List Item) (x y : Item) (target : ℕ) (answer : Answer)
+    ensures bundle { (moment : CivilTime) (demand : Bool) (vouches : List ℕ → List ℕ → Bool) (front back anchors : List Item) (x y : Item) (target : ℕ) (answer : Answer)
         → x.class ≡ other → y.class ≡ other
         → let r = rules_from moment demand vouches in IsTrueAnswer (graph_of_items r (front ++ x ∷ back) anchors) target answer ↔ IsTrueAnswer (graph_of_items r (front ++ y ∷ back) anchors) target answer }
+    ensures anchors { (moment : CivilTime) (demand : Bool) (vouches : List ℕ → List ℕ → Bool) (items front back : List Item) (x y : Item) (target : ℕ) (answer : Answer)
+        → ((c : Certificate) → x.class ≡ certificate c → ⊥) → ((c : Certificate) → y.class ≡ certificate c → ⊥)
+        → let r = rules_from moment demand vouches in IsTrueAnswer (graph_of_items r items (front ++ x ∷ back)) target answer ↔ IsTrueAnswer (graph_of_items r items (front ++ y ∷ back)) target answer }
+{}
+
+/// An adequate answer is true.
+pub fn adequate_is_true()
+    ensures { (moment : CivilTime) (demand : Bool) (vouches : List ℕ → List ℕ → Bool) (items anchors : List Item) (target : ℕ) (answer : Answer)
+        → let r = rules_from moment demand vouches in IsAdequate (graph_of_items r items anchors) target answer → IsTrueAnswer (graph_of_items r items anchors) target answer }
+{}
+
+/// No two true answers on a target say different things: they name the same path to the same anchor, or both that there is none, or
+/// both that the target is no certificate.
+pub fn one_true_answer()
+    ensures { (moment : CivilTime) (demand : Bool) (vouches : List ℕ → List ℕ → Bool) (items anchors : List Item) (target : ℕ) (answer another : Answer)
+        → let r = rules_from moment demand vouches in IsTrueAnswer (graph_of_items r items anchors) target answer → IsTrueAnswer (graph_of_items r items anchors) target another → SayTheSame answer another }
 {}

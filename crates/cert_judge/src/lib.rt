@@ -9,6 +9,7 @@ mod items;
 mod judged;
 mod judging;
 pub mod laws;
+pub mod laws_by;
 mod moments;
 mod name_groups;
 mod policy;
@@ -21,8 +22,12 @@ mod windows;
 pub use crate::building::{nodes_by, nodes_of};
 pub use crate::items::{CertificateItem, ListItem, ReadItem};
 pub use crate::judged::{JudgedCertificate, JudgedItem, JudgedList, judge_item};
-pub use crate::judging::{Judged, judge_certificate};
+pub use crate::judging::{
+    Judged, authority_of, has_constraints, has_usage, is_processed, is_signer, issuing_of,
+    judge_certificate,
+};
+pub use crate::moments::is_not_after;
 pub use crate::policy::Policy;
-pub use crate::revoking::is_satisfied;
+pub use crate::revoking::{are_uncritical, has_entry, is_in_force, is_satisfied, is_used_item};
 pub use crate::vouch::Vouch;
 pub use crate::windows::{Windows, list_issuer_of, windows_of};

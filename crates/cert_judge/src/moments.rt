@@ -25,7 +25,7 @@ fn is_at_most(first: &[u32], second: &[u32]) -> bool
 }
 
 /// Whether one moment is not later than another.
-fn is_not_after(first: &DateTime, second: &DateTime) -> bool
+pub fn is_not_after(first: &DateTime, second: &DateTime) -> bool
     ensures { IsTrue result ↔ IsNotAfter (time_view first.now) (time_view second.now) }
 {
     if first.year() < second.year() {

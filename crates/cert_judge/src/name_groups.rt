@@ -6,13 +6,14 @@ ghost use Rattle.cert_groups.specs.declared.places.Part.TheVariants.{Name, Key};
 ghost use Rattle.cert_groups.specs.Places.{Shows};
 ghost use Rattle.cert_groups.specs.Links.{Adds};
 ghost use Rattle.cert_judge.specs.JudgedItems.{as_issued, as_member, as_anchor};
+ghost use Rattle.cert_judge.specs.Standing.{octets_in};
 ghost use Rattle.cert_judge.specs.NamedLinks.{IsNamedLink, IsNamedAnchor, IsSomeLink, IsSomeAnchor};
 
 use crate::Vouch;
 use crate::judged::JudgedItem;
 use crate::standing::issued_under;
 use cert_graph::Group;
-use cert_groups::{Part, Place, alike, between, link_places};
+use cert_groups::{Bucket, Part, Place, alike, between, link_places};
 use std::alloc::{AllocError, Global};
 
 /// The places of items as what was issued, then as issuers, and then of anchors.
@@ -47,12 +48,31 @@ fn numbers_below(alloc: Global, count: usize) -> Result<Vec<usize>, AllocError>
     Ok(numbers)
 }
 
+/// The octets of items.
+fn octets_of<'a>(alloc: Global, items: &[JudgedItem<'a>]) -> Result<Vec<&'a [u8]>, AllocError>
+    ensures { IfOk result (λ octets. map (λ o. o.now) octets.items ≡ map octets_in items.now) }
+{
+    let mut octets = Vec::with_capacity(alloc, items.len())?;
+    for item in items {
+        octets.push(item.octets())?;
+    }
+    Ok(octets)
+}
+
+/// The keys of buckets.
+fn keys_of<'a>(alloc: Global, buckets: &[Bucket<'a>]) -> Result<Vec<&'a [u8]>, AllocError>
+    ensures { IfOk result (λ keys. keys.items ≡ map (λ b. b.text) buckets.now) }
+{
+    buckets.iter().map(|bucket| bucket.text).collect(alloc)
+}
+
 /// The groups of one name, whose places these are: for each key under it, what that key vouches for.
 fn link_name<V: Vouch>(
     alloc: Global,
     groups: &mut Vec<Group>,
     all: &[Place<'_>],
     items: &[JudgedItem<'_>],
+    octets: &[&[u8]],
     anchors: usize,
     name: &[u8],
     places: &[usize],
@@ -63,13 +83,16 @@ fn link_name<V: Vouch>(
     requires named { (v : ℕ) → Contains places.now v ↔ Shows Name all.now v name.now }
     requires keyless { (v : ℕ) (key : List ℕ) → v < length items.now → Shows Key all.now v key → ⊥ }
     requires counted { length all.now ≡ length items.now + length items.now + anchors }
+    requires octets { map (λ o. o.now) octets.now ≡ map octets_in items.now }
     ensures { OnOk result (Adds (length items.now) groups.old.items groups.new.items (IsNamedLink (V.vouches_for vouch.now) demand_lists items.now all.now name.now)
         (IsNamedAnchor (V.vouches_for vouch.now) demand_lists items.now all.now anchors name.now)) }
 {
     let issued = between(alloc, places, 0, items.len())?;
     let buckets = alike(alloc, all, Part::Key, places)?;
-    for bucket in &buckets {
-        let linked = issued_under(alloc, items, &issued, bucket.text, vouch, demand_lists)?;
+    let keys = keys_of(alloc, &buckets)?;
+    let rows = vouch.vouched_by_each(alloc, &keys, octets, &issued)?;
+    for (number, bucket) in buckets.iter().enumerate() {
+        let linked = issued_under(alloc, items, &rows[number], demand_lists)?;
         link_places(
             alloc,
             groups,
@@ -97,6 +120,7 @@ pub(crate) fn groups_of<'a, V: Vouch>(
     let all = places_of(alloc, items, anchors)?;
     let chosen = numbers_below(alloc, all.len())?;
     let buckets = alike(alloc, &all, Part::Name, &chosen)?;
+    let octets = octets_of(alloc, items)?;
     let mut groups = Vec::new(alloc);
     for bucket in &buckets {
         link_name(
@@ -104,6 +128,7 @@ pub(crate) fn groups_of<'a, V: Vouch>(
             &mut groups,
             &all,
             items,
+            &octets,
             anchors.len(),
             bucket.text,
             &bucket.places,

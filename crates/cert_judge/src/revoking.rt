@@ -12,7 +12,8 @@ use crate::{Policy, Vouch};
 use cert_model::fields::{EntryFields, ExtField, ListFields};
 use jiff::civil::DateTime;
 
-fn are_uncritical(extensions: &[ExtField<'_>]) -> bool
+/// Whether no extension is critical.
+pub fn are_uncritical(extensions: &[ExtField<'_>]) -> bool
     ensures { IsTrue result ↔ AreUncritical (map ext_view extensions.now) }
 {
     extensions.iter().all(|extension| !extension.critical)
@@ -46,7 +47,7 @@ fn is_current(list: &ListFields<'_>, moment: &DateTime) -> bool
 }
 
 /// Whether a list is current, and nothing in it says that it must not be read as it is.
-pub(crate) fn is_in_force(list: &ListFields<'_>, moment: &DateTime) -> bool
+pub fn is_in_force(list: &ListFields<'_>, moment: &DateTime) -> bool
     ensures current { IsTrue result → IsCurrent (time_view moment.now) (list_view list.now) }
     ensures plain { IsTrue result → IsPlain (list_view list.now) }
     ensures only { IsCurrent (time_view moment.now) (list_view list.now) → IsPlain (list_view list.now) → IsTrue result }
@@ -63,7 +64,8 @@ fn is_of(entry: &EntryFields<'_>, serial: &[u8]) -> bool
     entry.serial == serial
 }
 
-fn has_entry(entries: &[EntryFields<'_>], serial: &[u8]) -> bool
+/// Whether an entry has this serial number.
+pub fn has_entry(entries: &[EntryFields<'_>], serial: &[u8]) -> bool
     ensures { IsTrue result ↔ Any (λ (n : Entry). n.serial ≡ serial.now) (map entry_view entries.now) }
 {
     for entry in entries {
@@ -96,7 +98,8 @@ fn is_used<V: Vouch>(
     vouch.vouches(key, list.octets)
 }
 
-fn is_used_item<V: Vouch>(
+/// Whether an item is a list that is used under a name and key. Asks the voucher only of a list of this issuer that is in force.
+pub fn is_used_item<V: Vouch>(
     item: &ReadItem<'_>,
     vouch: &V,
     moment: &DateTime,

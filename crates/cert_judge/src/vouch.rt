@@ -1,10 +1,70 @@
-ghost use Rattle.std.specs.Prelude.{◌↔◌, ℕ, List, IsTrue};
+ghost use Rattle.std.specs.Prelude.{◌↔◌, ℕ, List, IsTrue, IfOk};
+ghost use Rattle.std.specs.List.Sorted.{IsStrictlyIncreasing};
+ghost use Rattle.cert_judge.specs.Rows.{VouchesAt, IsRow, AreRows};
+
+use std::alloc::{AllocError, Global};
 
 /// Who says that a key signed an item.
 pub trait Vouch {
-    /// What the value vouches for: the octets of a key element and of a whole item. A fixed relation of the value.
+    /// What the value vouches for: the octets of a key element and of a whole item. A fixed
+    /// relation of the value.
     ghost vouches_for: { Self → List ℕ → List ℕ → Type 0 };
 
+    /// Whether a key vouches for an item: the octets of a key element (SubjectPublicKeyInfo) and of
+    /// a whole certificate or list.
     fn vouches(&self, key: &[u8], item: &[u8]) -> bool
         ensures { IsTrue result ↔ vouches_for self.now key.now item.now };
+
+    /// Whether a key vouches for the item at a place among items. `false` where no item has this
+    /// place.
+    fn vouches_at(&self, key: &[u8], items: &[&[u8]], place: usize) -> bool
+        ensures { IsTrue result ↔ VouchesAt (vouches_for self.now) items.now key.now place }
+    {
+        match items.get(place) {
+            Some(item) => self.vouches(key, item),
+            None => false,
+        }
+    }
+
+    /// The places of the items that a key vouches for, in ascending order, of those at the chosen
+    /// places. By default each is asked for by `vouches`. The only error is out of memory.
+    fn vouched_by(
+        &self,
+        alloc: Global,
+        key: &[u8],
+        items: &[&[u8]],
+        chosen: &[usize],
+    ) -> Result<Vec<usize>, AllocError>
+        requires { IsStrictlyIncreasing chosen.now }
+        ensures { IfOk result (λ row. IsRow (vouches_for self.now) items.now chosen.now key.now row.items) }
+    {
+        let mut row = Vec::new(alloc);
+        for place in chosen {
+            if self.vouches_at(key, items, *place) {
+                row.push(*place)?;
+            }
+        }
+        Ok(row)
+    }
+
+    /// For each key, in the keys' order, the places of the items that it vouches for, in ascending
+    /// order, of those at the chosen places. By default `vouches` is asked for each key and item. A
+    /// type that can look the keys of an item up overrides this method. The only error is out of
+    /// memory.
+    fn vouched_by_each(
+        &self,
+        alloc: Global,
+        keys: &[&[u8]],
+        items: &[&[u8]],
+        chosen: &[usize],
+    ) -> Result<Vec<Vec<usize>>, AllocError>
+        requires { IsStrictlyIncreasing chosen.now }
+        ensures { IfOk result (λ rows. AreRows (vouches_for self.now) keys.now items.now chosen.now rows.items) }
+    {
+        let mut rows = Vec::with_capacity(alloc, keys.len())?;
+        for key in keys {
+            rows.push(self.vouched_by(alloc, key, items, chosen)?)?;
+        }
+        Ok(rows)
+    }
 }

@@ -1,4 +1,4 @@
 pub mod Classing
+pub mod Digests
+pub mod EachRow
 pub mod Found
-pub mod NoPair
-pub mod PairOrder

@@ -1,14 +1,43 @@
--- Pairs of digests.
-use Rattle.std.specs.Prelude.{ℕ, List, IsTrue}
-use Rattle.std.specs.declared.cmp.Ordering.{Ordering}
-use Rattle.std.specs.Ordering.{ordering_then, nat_cmp}
+-- Digests of keys, by the digest of the item that they vouch for.
+use Rattle.std.specs.Borrow.{Bor}
+use Rattle.std.specs.Prelude.{◌≡◌, ◌↔◌, ◌⊎◌, ◌<◌, ◌≤◌, ℕ, List, IsTrue, Some, length, slice_index_or, Contains, Vec}
+use Rattle.std.specs.List.Sorted.{IsStrictlyIncreasing}
+use Rattle.std.specs.declared.alloc.Global.{Global}
+use Rattle.std.specs.Ordering.{nat_cmp}
 use Rattle.std.specs.Cmp.Lexicographic.{slice_cmp}
-use Rattle.std.specs.BTreeSet.{BTreeSet, contains}
+use Rattle.std.specs.BTreeMap as mapped
+use Rattle.std.specs.BTreeMap.{BTreeMap}
+use Rattle.std.specs.BTreeSet as sorted
+use Rattle.std.specs.BTreeSet.{BTreeSet}
+use Rattle.cert_graph.specs.Entries.{IsAt}
+use Rattle.sha2.specs.Sha256.{sha256}
 
--- by the first, then by the second, each by its first octet that differs
-abbrev pub pair_cmp : (List ℕ) × (List ℕ) → (List ℕ) × (List ℕ) → Ordering
-pair_cmp p q = ordering_then (slice_cmp nat_cmp p.0 q.0) (slice_cmp nat_cmp p.1 q.1)
+-- a pair is one of these
+abbrev pub HasPair : BTreeMap (List ℕ) (BTreeSet (List ℕ)) → List ℕ → List ℕ → Type 0
+HasPair pairs key item = (keys : BTreeSet (List ℕ)) × (mapped.get (slice_cmp nat_cmp) pairs item ≡ Some keys) × IsTrue (sorted.contains (slice_cmp nat_cmp) keys key)
 
--- a pair is one of a set's
-abbrev pub HasPair : BTreeSet ((List ℕ) × (List ℕ)) → List ℕ → List ℕ → Type 0
-HasPair pairs key item = IsTrue (contains pair_cmp pairs (key, item))
+-- a key and an item whose digests are a pair
+abbrev pub VouchesBy : BTreeMap (List ℕ) (BTreeSet (List ℕ)) → List ℕ → List ℕ → Type 0
+VouchesBy pairs key item = HasPair pairs (sha256 key) (sha256 item)
+
+-- the first keys, each at its own place by its digest
+abbrev pub ArePlaced : List (Bor (List ℕ)) → ℕ → BTreeMap (List ℕ) ℕ → Type 0
+ArePlaced keys k m = (d : List ℕ) (n : ℕ) → (mapped.get (slice_cmp nat_cmp) m d ≡ Some n) ↔ ((n < k) × ((key : Bor (List ℕ)) → sha256 (slice_index_or keys n key).now ≡ d))
+
+-- A row with one place more where something holds.
+pub record IsMore (old new : List ℕ) (P : Type 0) (v : ℕ) : Type 0 where
+  pub exact : (u : ℕ) → Contains new u ↔ (Contains old u ⊎ ((u ≡ v) × P))
+  pub ascends : IsStrictlyIncreasing old → ((u : ℕ) → Contains old u → u ≤ v) → IsStrictlyIncreasing new
+
+-- the same of each row
+pub record Puts (old new : List (Vec ℕ Global)) (P : ℕ → Type 0) (v : ℕ) : Type 0 where
+  pub count : length new ≡ length old
+  pub each : (k : ℕ) (r : Vec ℕ Global) → k < length old → IsMore (slice_index_or old k r).items (slice_index_or new k r).items (P k) v
+
+-- a key at its place has a digest in a set
+abbrev pub IsFound : BTreeMap (List ℕ) ℕ → BTreeSet (List ℕ) → ℕ → Type 0
+IsFound m digests k = (d : List ℕ) × Contains digests.keys d × (mapped.get (slice_cmp nat_cmp) m d ≡ Some k)
+
+-- a key at its place vouches for the item at a place
+abbrev pub IsPlaced : BTreeMap (List ℕ) (BTreeSet (List ℕ)) → BTreeMap (List ℕ) ℕ → List (Bor (List ℕ)) → ℕ → ℕ → Type 0
+IsPlaced pairs m items v k = IsAt items v (λ o. (d : List ℕ) × HasPair pairs d (sha256 o.now) × (mapped.get (slice_cmp nat_cmp) m d ≡ Some k))

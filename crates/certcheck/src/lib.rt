@@ -8,6 +8,7 @@ mod extensions;
 mod judge;
 pub mod laws;
 mod list;
+mod lookup;
 mod names;
 mod parts;
 mod reading;

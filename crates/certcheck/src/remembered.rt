@@ -4,10 +4,11 @@ ghost use Rattle.std.specs.Prelude.{◌≡◌, IfSome};
 ghost use Rattle.std.proofs.Props.{props};
 ghost use Rattle.sha2.specs.Sha256.{sha256};
 
+use crate::lookup::{Digests, has_pair, rows_of};
 use crate::vouchers::Vouchers;
 use cert_judge::Vouch;
 use sha2::{Digest, Sha256};
-use std::alloc::Global;
+use std::alloc::{AllocError, Global};
 use std::cell::RefCell;
 
 /// A text, and its digest once that was computed.
@@ -105,7 +106,8 @@ impl<'a> Memory<'a> {
         self.last = place;
     }
 
-    /// The digest of a known text, where it is the one that was found last or the one that was asked for after that.
+    /// The digest of a known text, where it is the one that was found last or the one that was
+    /// asked for after that.
     fn guess(&mut self, text: &[u8]) -> Option<[u8; 32]>
         ensures { IfSome result (λ d. d ≡ sha256 text.now) }
     {
@@ -154,12 +156,13 @@ fn digest_in(memory: &RefCell<Memory<'_>>, text: &[u8]) -> [u8; 32]
     }
 }
 
-/// Vouchers with a memory: they vouch for the same, and hash a text that they were told of at most once, once it is asked for,
-/// where all texts are told before the first question.
+/// Vouchers with a memory: they vouch for the same, and hash a text that they were told of at most
+/// once, once it is asked for, where all texts are told before the first question.
 ///
-/// The first question after a text was told sorts all that were told, compared whole. Each question takes as many comparisons of
-/// texts as a look-up in a sorted map, and two where it goes over the same items as before, in their order. A text that wasn't
-/// told is hashed each time; nothing else depends on what was told.
+/// The first question after a text was told sorts all that were told, compared whole. Each question
+/// takes as many comparisons of texts as a look-up in a sorted map, and two where it goes over the
+/// same items as before, in their order. A text that wasn't told is hashed each time; nothing else
+/// depends on what was told.
 #[derive(Drop)]
 pub struct RememberedVouchers<'a> {
     vouchers: &'a Vouchers,
@@ -194,19 +197,36 @@ impl<'a> RememberedVouchers<'a> {
     }
 }
 
+impl Digests for RememberedVouchers<'_> {
+    fn key_digest(&self, key: &[u8]) -> [u8; 32] {
+        digest_in(&self.keys, key)
+    }
+
+    fn item_digest(&self, item: &[u8]) -> [u8; 32] {
+        digest_in(&self.items, item)
+    }
+}
+
 impl Vouch for RememberedVouchers<'_> {
-    ghost use Rattle.sha2.specs.Sha256.{sha256};
-    ghost use Rattle.certcheck.specs.Vouching.{HasPair};
+    ghost use Rattle.certcheck.specs.Vouching.{VouchesBy};
 
     /// They vouch for what their vouchers vouch for.
-    ghost vouches_for = { λ v key item. HasPair v.vouchers.now.pairs (sha256 key) (sha256 item) };
+    ghost vouches_for = { λ v key item. VouchesBy v.vouchers.now.pairs key item };
 
     fn vouches(&self, key: &[u8], item: &[u8]) -> bool {
-        let key = digest_in(&self.keys, key);
-        if !self.vouchers.names_key(&key) {
-            return false;
+        has_pair(&self.vouchers.pairs, self, key, item)
+    }
+
+    fn vouched_by_each(
+        &self,
+        alloc: Global,
+        keys: &[&[u8]],
+        items: &[&[u8]],
+        chosen: &[usize],
+    ) -> Result<Vec<Vec<usize>>, AllocError> {
+        if let Some(rows) = rows_of(alloc, &self.vouchers.pairs, self, keys, items, chosen)? {
+            return Ok(rows);
         }
-        let item = digest_in(&self.items, item);
-        self.vouchers.has_pair(key, item)
+        self.vouchers.vouched_by_each(alloc, keys, items, chosen)
     }
 }

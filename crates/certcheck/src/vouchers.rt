@@ -1,18 +1,39 @@
 //! Vouching by pairs of digests.
 
-ghost use Rattle.std.specs.Prelude.{◌≡◌, ◌↔◌, ◌⊎◌, ℕ, List, length, IsTrue, OnOk, OnErr};
+ghost use Rattle.std.specs.Prelude.{◌≡◌, ◌↔◌, ◌⊎◌, ℕ, List, OnOk, OnErr};
 ghost use Rattle.certcheck.specs.Vouching.{HasPair};
 
+use crate::lookup::{Digests, Pairs, has_pair, rows_of};
 use asn1_core::OutOfMemory;
 use cert_judge::Vouch;
 use sha2::{Digest, Sha256};
-use std::alloc::Global;
-use std::collections::BTreeSet;
+use std::alloc::{AllocError, Global};
+use std::collections::{BTreeMap, BTreeSet};
 
-/// Pairs of the SHA-256 digests (FIPS 180-4) of a key element and of an item that the key vouches for.
+/// Computes each digest that is asked for.
+struct Computed;
+
+impl Digests for Computed {
+    fn key_digest(&self, key: &[u8]) -> [u8; 32] {
+        Sha256::digest(key)
+    }
+
+    fn item_digest(&self, item: &[u8]) -> [u8; 32] {
+        Sha256::digest(item)
+    }
+}
+
+/// Pairs of the SHA-256 digests (FIPS 180-4) of a key element and of an item that the key vouches
+/// for.
+///
+/// `vouched_by_each` digests each key and each chosen item once, and none of them where there is no
+/// key or no pair. It looks up the keys by each item's digest, so it goes once over the pairs that
+/// name the item, and takes as many comparisons as look-ups in sorted maps of the pairs and of the
+/// keys.
 #[derive(Drop)]
 pub struct Vouchers {
-    pairs: BTreeSet<([u8; 32], [u8; 32])>,
+    alloc: Global,
+    pub(crate) pairs: Pairs,
 }
 
 impl Vouchers {
@@ -21,7 +42,8 @@ impl Vouchers {
         ensures { (key item : List ℕ) → HasPair result.pairs key item → ⊥ }
     {
         Vouchers {
-            pairs: BTreeSet::new(alloc),
+            alloc,
+            pairs: BTreeMap::new(alloc),
         }
     }
 
@@ -30,44 +52,41 @@ impl Vouchers {
         ensures pushed { OnOk result ((key item : List ℕ) → HasPair self.new.pairs key item ↔ (HasPair self.old.pairs key item ⊎ ((key ≡ key_digest) × (item ≡ item_digest)))) }
         ensures refused { OnErr result ((key item : List ℕ) → HasPair self.new.pairs key item ↔ HasPair self.old.pairs key item) }
     {
-        match self.pairs.insert((key_digest, item_digest)) {
-            Ok(_) => Ok(()),
-            Err(_) => Err(OutOfMemory),
+        if let Some(keys) = self.pairs.get_mut(&item_digest) {
+            keys.insert(key_digest)?;
+            return Ok(());
         }
-    }
-
-    /// Whether a key's digest is in some pair. Takes as many comparisons as a look-up of a pair.
-    pub(crate) fn names_key(&self, key_digest: &[u8; 32]) -> bool
-        ensures named { (item : List ℕ) → length item ≡ 32 → HasPair self.now.pairs key_digest.now item → IsTrue result }
-        ensures only { IsTrue result → ((item : List ℕ) × HasPair self.now.pairs key_digest.now item) }
-    {
-        let least = (*key_digest, [0; 32]);
-        match self.pairs.range(least..).next() {
-            Some(pair) => pair.0 == *key_digest,
-            None => false,
-        }
-    }
-
-    pub(crate) fn has_pair(&self, key_digest: [u8; 32], item_digest: [u8; 32]) -> bool
-        ensures { IsTrue result ↔ HasPair self.now.pairs key_digest item_digest }
-    {
-        self.pairs.contains(&(key_digest, item_digest))
+        let mut keys = BTreeSet::new(self.alloc);
+        keys.insert(key_digest)?;
+        self.pairs.insert(item_digest, keys)?;
+        Ok(())
     }
 }
 
 impl Vouch for Vouchers {
-    ghost use Rattle.sha2.specs.Sha256.{sha256};
-    ghost use Rattle.certcheck.specs.Vouching.{HasPair};
+    ghost use Rattle.certcheck.specs.Vouching.{VouchesBy};
 
     /// The pairs vouch for a key and an item whose digests are one of them.
-    ghost vouches_for = { λ v key item. HasPair v.pairs (sha256 key) (sha256 item) };
+    ghost vouches_for = { λ v key item. VouchesBy v.pairs key item };
 
     fn vouches(&self, key: &[u8], item: &[u8]) -> bool {
-        let key = Sha256::digest(key);
-        if !self.names_key(&key) {
-            return false;
+        has_pair(&self.pairs, &Computed, key, item)
+    }
+
+    fn vouched_by_each(
+        &self,
+        alloc: Global,
+        keys: &[&[u8]],
+        items: &[&[u8]],
+        chosen: &[usize],
+    ) -> Result<Vec<Vec<usize>>, AllocError> {
+        if let Some(rows) = rows_of(alloc, &self.pairs, &Computed, keys, items, chosen)? {
+            return Ok(rows);
         }
-        let item = Sha256::digest(item);
-        self.has_pair(key, item)
+        let mut rows = Vec::with_capacity(alloc, keys.len())?;
+        for key in keys {
+            rows.push(self.vouched_by(alloc, key, items, chosen)?)?;
+        }
+        Ok(rows)
     }
 }

@@ -17,11 +17,7 @@ fn expect_item<'a>(remembered: &mut RememberedVouchers<'a>, item: &JudgedItem<'a
                 remembered.expect_key(certificate.key);
             }
         }
-        JudgedItem::List(list) => {
-            if list.in_force {
-                remembered.expect_item(list.octets);
-            }
-        }
+        JudgedItem::List(list) => remembered.expect_item(list.octets),
         JudgedItem::Other => {}
     }
 }

@@ -3,3 +3,8 @@ pub mod StrictTimes
 pub mod StrictParts
 pub mod StrictCertificates
 pub mod StrictLists
+pub mod Carried
+pub mod Valued
+pub mod ValuedLists
+pub mod FromDer
+pub mod ExampleItems

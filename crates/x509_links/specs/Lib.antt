@@ -1,3 +1,5 @@
+pub mod Examples
 pub mod Grammars
 pub mod Lenient
 pub mod Readers
+pub mod Values

@@ -1,7 +1,10 @@
 //! Laws. Each is a function that does nothing: its contract is the law.
 
-ghost use Rattle.std.specs.Prelude.{◌≡◌, ◌^◌, ◌<◌, ◌++◌, ℕ, List, length};
+ghost use Rattle.std.specs.Prelude.{◌≡◌, ◌^◌, ◌<◌, ◌++◌, ℕ, Bool, List, [], length};
+ghost use Rattle.std.specs.Int.Digits.{AllBelowBase};
 ghost use Rattle.cert_framing.specs.Framing.{IsItem};
+ghost use Rattle.cert_model.specs.Class.{IsCertificateItem, IsListItem};
+ghost use Rattle.cert_model.specs.Examples.{constrained, octets_of_constrained};
 ghost use Rattle.cert_model.specs.Fields.{Algorithm, Name, Key, CivilTime, Certificate, RevocationList};
 ghost use Rattle.cert_model.specs.Octets.{algorithm_octets, name_octets, key_octets, time_octets, certificate_octets, list_octets};
 ghost use Rattle.cert_model.specs.Range.{IsAlgorithm, IsName, IsKey, IsTimeField, AreCertificateFields, AreListFields};
@@ -10,10 +13,16 @@ ghost use Rattle.jiff.specs.Words.{civil_nanos};
 ghost use Rattle.jiff_core.specs.declared.civil.datetime.DateTime.{DateTime};
 ghost use Rattle.x509_time.specs.Times.{ASN1Time};
 ghost use Rattle.x509_names.specs.Names.{AlgorithmIdentifier, X509Name, SubjectPublicKeyInfo};
+ghost use Rattle.x509_ext.specs.Fields.{meaning_of, reading_of};
+ghost use Rattle.x509_ext.specs.Values.{IsParsed};
 ghost use Rattle.x509_certs.specs.Shared.{IsUnparsed};
 ghost use Rattle.x509_certs.specs.Certificates.{X509Certificate};
+ghost use Rattle.x509_certs.specs.Fields.{Certificate as ReadCertificate};
+ghost use Rattle.x509_lists.specs.Fields.{RevocationList as ReadList};
 ghost use Rattle.x509_lists.specs.Lists.{CertificateRevocationList};
+ghost use Rattle.x509_links.specs.Examples.{revoking_with_reason, octets_of_revoking_with_reason};
 ghost use Rattle.x509_links.specs.Lenient.{lenient_algorithm, lenient_name, lenient_key, nanoseconds_of, lenient_time, lenient_certificate, lenient_list};
+ghost use Rattle.x509_links.specs.Values.{certificate_by, list_by, parsed_certificate, parsed_list};
 
 /// The octets of a strict algorithm are read before any rest.
 pub fn strict_algorithm()
@@ -54,4 +63,41 @@ pub fn strict_certificate()
 pub fn strict_list()
     ensures { (l : RevocationList) (rest : List ℕ) → AreListFields l → length (list_octets l) < 2 ^ 64 → IsItem 4_294_967_295 (list_octets l)
         → CertificateRevocationList IsUnparsed (list_octets l ++ rest) (lenient_list l) rest }
+{}
+
+/// Certificates and lists are read alike whether the values of extensions are parsed or not: what a parser of the one setting
+/// reads of octets, a parser of the other setting reads too, with equal fields but for the parsed values.
+pub fn either_parser()
+    ensures certificate { (deep other : Bool) (octets : List ℕ) (c : ReadCertificate) (rest : List ℕ) → AllBelowBase 256 octets
+        → X509Certificate (meaning_of deep) octets c rest → X509Certificate (meaning_of other) octets (certificate_by (reading_of other) c) rest }
+    ensures list { (deep other : Bool) (octets : List ℕ) (l : ReadList) (rest : List ℕ) → AllBelowBase 256 octets
+        → CertificateRevocationList (meaning_of deep) octets l rest → CertificateRevocationList (meaning_of other) octets (list_by (reading_of other) l) rest }
+{}
+
+/// `X509Certificate::from_der` reads a strict certificate whole, whatever octets stand behind it: its grammar gives the fields of
+/// `strict_certificate`, the values of extensions parsed, and the window is the certificate.
+pub fn certificate_from_der()
+    ensures fields { (c : Certificate) (rest : List ℕ) → AreCertificateFields c → AllBelowBase 256 (certificate_octets c) → length (certificate_octets c) < 2 ^ 64
+        → X509Certificate IsParsed (certificate_octets c ++ rest) (parsed_certificate c) rest }
+    ensures item { (item : List ℕ) (c : Certificate) (rest : List ℕ) → IsCertificateItem item c → AllBelowBase 256 item → length item < 2 ^ 64
+        → X509Certificate IsParsed (item ++ rest) (parsed_certificate c) rest × ((parsed_certificate c).raw ≡ item) }
+{}
+
+/// `CertificateRevocationList::from_der` reads a strict list whole, whatever octets stand behind it: its grammar gives the fields of
+/// `strict_list`, the values of its extensions and of its entries' parsed, and the window is the list.
+pub fn list_from_der()
+    ensures fields { (l : RevocationList) (rest : List ℕ) → AreListFields l → AllBelowBase 256 (list_octets l) → length (list_octets l) < 2 ^ 64 → IsItem 4_294_967_295 (list_octets l)
+        → CertificateRevocationList IsParsed (list_octets l ++ rest) (parsed_list l) rest }
+    ensures item { (item : List ℕ) (l : RevocationList) (rest : List ℕ) → IsListItem item l → AllBelowBase 256 item → length item < 2 ^ 64
+        → CertificateRevocationList IsParsed (item ++ rest) (parsed_list l) rest × ((parsed_list l).raw ≡ item) }
+{}
+
+/// What the laws on `from_der` and on parsers ask for is met: by a certificate with an extension, and by a list with one whose entry
+/// has one too.
+pub fn example_items()
+    ensures certificate { AllBelowBase 256 octets_of_constrained × (length octets_of_constrained < 2 ^ 64) × IsCertificateItem octets_of_constrained constrained }
+    ensures certificate_read { X509Certificate IsUnparsed octets_of_constrained (lenient_certificate constrained) [] }
+    ensures list { AllBelowBase 256 octets_of_revoking_with_reason × (length octets_of_revoking_with_reason < 2 ^ 64)
+        × IsListItem octets_of_revoking_with_reason revoking_with_reason }
+    ensures list_read { CertificateRevocationList IsUnparsed octets_of_revoking_with_reason (lenient_list revoking_with_reason) [] }
 {}

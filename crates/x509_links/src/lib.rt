@@ -1,11 +1,12 @@
-//! Strict octets are what the lenient grammars of certificates say, with the same fields.
+//! Strict octets are what the lenient grammars of certificates and lists say, with equal fields, whether values of extensions are
+//! parsed or not.
 #![tactic(auto)]
 
 mod laws;
 
 pub use crate::laws::{
-    one_time, strict_algorithm, strict_certificate, strict_key, strict_list, strict_name,
-    strict_time,
+    certificate_from_der, either_parser, example_items, list_from_der, one_time, strict_algorithm,
+    strict_certificate, strict_key, strict_list, strict_name, strict_time,
 };
 pub use x509_certs::{
     UniqueIdentifier, X509Certificate, X509CertificateParser, X509Extension, X509Version,

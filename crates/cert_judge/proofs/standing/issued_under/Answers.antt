@@ -1,23 +1,23 @@
-use Rattle.std.proofs.Common.{◌≡◌, ◌+◌, length, get_or, arith, sym, subst, true}
+use Rattle.std.proofs.Common.{◌≡◌, ◌+◌, ℕ, List, [], length, get_or, arith, sym, subst, true}
 use Rattle.std.specs.Prelude.{Contains, IsTrue}
 use Rattle.cert_groups.proofs.Sifted.{sifted_more, sifted_same, sifted_whole, nothing_added}
-use Rattle.cert_judge.specs.Standing.{IsIssuedBeside}
+use Rattle.cert_judge.specs.Standing.{anything, IsIssuedBeside}
 use Rattle.cert_judge.proofs.Mapped.{not_both}
 use Rattle.cert_judge.proofs.StandingFacts.{issued_iff, none_issued}
 use Rattle.cert_judge.proofs.standing.issued_under.Goals as goal
 use Rattle.cert_judge.proofs.standing.issued_under.Goals.{then-is_issued+in_ok-push, else-is_issued, else-demand_lists-via-then-demand_lists+else-not-standing, else-demand_lists-via-else-demand_lists}
 
 pub returns-then-not-standing-clause-exact : goal.returns-then-not-standing-clause-exact
-returns-then-not-standing-clause-exact g c =
-    let V = g.V.Vouch.vouches_for c.args.vouch.now in
+returns-then-not-standing-clause-exact c =
+    let V = anything in
     let places = c.args.places.now in λ v. (
       λ h. let lt = (subst (λ l. Contains l v) c.new-found.ensures.items h).1 in absurd (omega arith),
-      λ h. absurd (none_issued V c.args.demand_lists c.args.items.now places c.args.key.now c.in_ok-standing.standing.listed c.in_ok-standing.ensures.0 c.if-demand_lists.true c.if-not-standing.true v h.1),
+      λ h. absurd (none_issued V c.args.demand_lists c.args.items.now places [] c.in_ok-standing.standing.listed c.in_ok-standing.ensures.0 c.if-demand_lists.true c.if-not-standing.true v h.1),
     )
 
 pub loop-place-preserved : goal.loop-place-preserved
-loop-place-preserved g c =
-    let C = IsIssuedBeside (g.V.Vouch.vouches_for c.args.vouch.now) c.in_ok-standing.standing.revoked c.args.items.now c.args.key.now in
+loop-place-preserved c =
+    let C = IsIssuedBeside anything c.in_ok-standing.standing.revoked c.args.items.now [] in
     let ps = c.args.places.now in
     let k = c.loop-place.place-index in
     let p = get_or ps k 0 in
@@ -30,12 +30,12 @@ loop-place-preserved g c =
     ]
 
 pub returns-clause-exact : goal.returns-clause-exact
-returns-clause-exact g c =
-    let V = g.V.Vouch.vouches_for c.args.vouch.now in
+returns-clause-exact c =
+    let V = anything in
     let revoked = c.in_ok-standing.standing.revoked in
     let js = c.args.items.now in
     let places = c.args.places.now in
-    let key = c.args.key.now in
+    let key : List ℕ = [] in
     let listed = c.in_ok-standing.standing.listed in
     let end : c.loop-place.place-index ≡ length places = omega arith in
     let all = sifted_whole (IsIssuedBeside V revoked js key) places c.loop-place.place-index c.loop-place.found.items end c.loop-place.invariant in

@@ -1,7 +1,7 @@
-use Rattle.std.proofs.Common.{◌≡◌, subst, refl, ℕ, List, Bor, length, get_or, arith}
+use Rattle.std.proofs.Common.{◌≡◌, subst, refl, ℕ, List, [], Bor, length, get_or, arith}
 use Rattle.std.specs.Prelude.{◌↔◌, ◌⊎◌, IsTrue, Any}
 use Rattle.std.specs.BTreeSet as sorted
-use Rattle.cert_judge.specs.Standing.{IsUsedAt, IsUsedAgainstAt}
+use Rattle.cert_judge.specs.Standing.{anything, IsUsedAt, IsUsedAgainstAt}
 use Rattle.cert_judge.proofs.Sets.{R}
 use Rattle.cert_judge.proofs.Before.{before_all}
 use Rattle.cert_judge.proofs.StandingFacts.{default_is, standing_used, standing_same}
@@ -9,11 +9,11 @@ use Rattle.cert_judge.proofs.standing.standing_of.Goals as goal
 use Rattle.cert_judge.proofs.standing.standing_of.Goals.{in-Some+in_ok-add_all, in_default}
 
 pub loop-place-preserved : goal.loop-place-preserved
-loop-place-preserved g c =
-    let V = g.V.Vouch.vouches_for c.args.vouch.now in
+loop-place-preserved c =
+    let V = anything in
     let js = c.args.items.now in
     let places = c.args.places.now in
-    let key = c.args.key.now in
+    let key : List ℕ = [] in
     let k = c.loop-place.place-index in
     let p = get_or places k 0 in
     let at = default_is places k 0 c.loop-place-test.true in
@@ -28,11 +28,11 @@ loop-place-preserved g c =
     ]
 
 pub returns : goal.returns
-returns g c =
-    let V = g.V.Vouch.vouches_for c.args.vouch.now in
+returns c =
+    let V = anything in
     let end : c.loop-place.place-index ≡ length c.args.places.now = omega arith in
     let i = c.loop-place.invariant in
-    let lists = before_all (IsUsedAt V c.args.items.now c.args.key.now) c.args.places.now c.loop-place.place-index end in (
+    let lists = before_all (IsUsedAt V c.args.items.now []) c.args.places.now c.loop-place.place-index end in (
       (λ t. lists.0 (i.lists.0 t), λ h. i.lists.1 (lists.1 h)),
-      λ s. let a = before_all (IsUsedAgainstAt V c.args.items.now c.args.key.now s.now) c.args.places.now c.loop-place.place-index end in (λ t. a.0 ((i.serials s).0 t), λ h. (i.serials s).1 (a.1 h)),
+      λ s. let a = before_all (IsUsedAgainstAt V c.args.items.now [] s.now) c.args.places.now c.loop-place.place-index end in (λ t. a.0 ((i.serials s).0 t), λ h. (i.serials s).1 (a.1 h)),
     )

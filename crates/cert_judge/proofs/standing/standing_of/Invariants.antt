@@ -1,5 +1,7 @@
+use Rattle.std.proofs.Common.{[]}
+use Rattle.cert_judge.specs.Standing.{anything}
 use Rattle.cert_judge.proofs.StandingFacts.{IsStanding}
 use Rattle.cert_judge.proofs.standing.standing_of.Given as goal
 
 abbrev pub invariant-loop-place : goal.invariant-loop-place
-invariant-loop-place g l = IsStanding (g.V.Vouch.vouches_for l.vouch) l.items l.key l.places l.place-index l.standing.listed l.standing.revoked
+invariant-loop-place l = IsStanding anything l.items [] l.places l.place-index l.standing.listed l.standing.revoked

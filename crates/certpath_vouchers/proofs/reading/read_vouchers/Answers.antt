@@ -1,7 +1,7 @@
 use Rattle.std.proofs.Common.{sym, subst}
 use Rattle.certpath_vouchers.specs.VoucherFile.{IsWell}
 use Rattle.certpath_vouchers.specs.Answers.{HasFirstBad}
-use Rattle.certpath_vouchers.proofs.SoFar.{line_read, line_bad, last_bad, all_read, refused, handed_on, OneMore}
+use Rattle.certpath_vouchers.proofs.SoFar.{none_yet, line_read, line_bad, last_bad, all_read, refused, handed_on, OneMore}
 use Rattle.certpath_vouchers.proofs.reading.read_vouchers.Goals as goal
 
 pub returns-in_err-push_line : goal.returns-in_err-push_line
@@ -16,6 +16,9 @@ returns-in_err-push_line-2 c =
     let bad = last_bad text c.loop-line.rest.now c.loop-line.vouchers c.loop-line.number c.loop-line.invariant c.in_default.ensures.none in
     handed_on text c.in_err-push_line-2.field-0.0 c.from_residual-in_err-push_line-2.result (refused text c.loop-line.rest.now c.loop-line.number c.in_err-push_line-2.field-0.0 bad c.in_err-push_line-2.ensures.refused)
     c.from_residual-in_err-push_line-2.ensures.1
+
+pub loop-line-init : goal.loop-line-init
+loop-line-init c = none_yet c.args.text.now c.new-vouchers.result c.new-vouchers.ensures
 
 pub loop-line-preserved : goal.loop-line-preserved
 loop-line-preserved c =

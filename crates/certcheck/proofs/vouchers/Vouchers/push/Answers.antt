@@ -1,35 +1,42 @@
-use Rattle.std.specs.Prelude.{◌↔◌, IsTrue}
-use Rattle.std.proofs.Common.{◌≡◌, ◌∙◌, ap, sym, subst, refl, ℕ, List, Bool, true, false, ◌&&◌, cond, ◌⊎◌, inl, inr}
-use Rattle.std.specs.Bool.{Decides}
-use Rattle.std.specs.Cmp.{tied_then}
-use Rattle.std.specs.Cmp.Lexicographic.{slice_cmp}
-use Rattle.std.specs.Ordering.{is_eq, nat_cmp}
-use Rattle.std.specs.Str.{bytes_eq}
-use Rattle.std.proofs.lemmas.Map.Text.{is_eq-slice_cmp}
-use Rattle.std.proofs.lemmas.Slice.Eq.{bytes_eq-Decides}
-use Rattle.certcheck.specs.Vouching.{pair_cmp}
+use Rattle.std.proofs.Common.{◌≡◌, ◌∙◌, ap, sym, subst, refl, ℕ, List, Some, None, cond, Result, Ok, Err, OnErr}
+use Rattle.std.specs.Prelude.{IsSome}
+use Rattle.std.specs.BTreeMap as mapped
+use Rattle.std.specs.BTreeMap.{BTreeMap}
+use Rattle.std.specs.BTreeSet.{BTreeSet}
+use Rattle.std.specs.BTreeSet as sorted
+use Rattle.certcheck.proofs.Digests.{R, E, pair_pushed, pair_refused, had_some, had_none}
 use Rattle.certcheck.proofs.vouchers.Vouchers.push.Goals as goal
 
-false_true : false ≡ true → ⊥
-false_true e = cc
+on_err : {X Y : Type 0} (r : Result X Y) (P : Type 0) → P → OnErr r P
+on_err (Ok x) P p = tt
+on_err (Err y) P p = p
 
-and_iff : (x y : Bool) (P Q : Type 0) → Decides x P → Decides y Q → IsTrue (x && y) ↔ (P × Q)
-and_iff true true P Q p q = (λ t. (p.0 refl, q.0 refl), λ h. refl)
-and_iff true false P Q p q = (λ t. absurd (false_true t), λ h. absurd (false_true (q.1 h.1)))
-and_iff false y P Q p q = (λ t. absurd (false_true t), λ h. absurd (false_true (p.1 h.0)))
+pub returns-in_err-insert-clause-refused : goal.returns-in_err-insert-clause-refused
+returns-in_err-insert-clause-refused c =
+    let old = c.args.self.now.pairs in
+    let id = c.args.item_digest in
+    let s = c.in-Some.keys.now in
+    let w = c.insert.new.self in
+    let is : mapped.get R old id ≡ Some s = sym c.in-Some.ensures.value in
+    let up = (c.get_mut.follows.holds w).3 (subst IsSome (sym is) refl) in
+    on_err c.from_residual.result _ (pair_refused old (c.get_mut.follows.lender w) c.args.key_digest id s w (had_some old id s is) (λ q. up.0 q) (λ q. ap (λ ks. sorted.contains R (record { keys = ks }) q) c.in_err-insert.ensures.err))
 
-same_pair : (k i l j : List ℕ) → IsTrue (is_eq (pair_cmp (k, i) (l, j))) ↔ ((k ≡ l) × (i ≡ j))
-same_pair k i l j =
-    let e : is_eq (pair_cmp (k, i) (l, j)) ≡ (bytes_eq k l && bytes_eq i j) =
-    sym (tied_then (slice_cmp nat_cmp k l) (slice_cmp nat_cmp i j)) ∙ ap (λ z. z && is_eq (slice_cmp nat_cmp i j)) (is_eq-slice_cmp k l) ∙ ap (λ z. bytes_eq k l && z) (is_eq-slice_cmp i j) in
-    subst (λ z. IsTrue z ↔ ((k ≡ l) × (i ≡ j))) (sym e) (and_iff (bytes_eq k l) (bytes_eq i j) (k ≡ l) (i ≡ j) (bytes_eq-Decides k l) (bytes_eq-Decides i j))
+pub returns-in-Some-clause-pushed : goal.returns-in-Some-clause-pushed
+returns-in-Some-clause-pushed c =
+    let old = c.args.self.now.pairs in
+    let id = c.args.item_digest in
+    let s = c.in-Some.keys.now in
+    let w = c.insert.new.self in
+    let is : mapped.get R old id ≡ Some s = sym c.in-Some.ensures.value in
+    let up = (c.get_mut.follows.holds w).3 (subst IsSome (sym is) refl) in
+    pair_pushed old (c.get_mut.follows.lender w) c.args.key_digest id s w (had_some old id s is) (λ q. up.0 q) (λ q. c.in_ok-insert.ensures.updates.0 q)
 
-one_more : (b old new : Bool) (P : Type 0) → (IsTrue b ↔ P) → new ≡ cond b true old → IsTrue new ↔ (IsTrue old ⊎ P)
-one_more true old new P p e = (λ t. inr (p.0 refl), λ h. e)
-one_more false old new P p e = (λ t. inl (sym e ∙ t), λ h. elim h [ inl t ↦ e ∙ t | inr q ↦ absurd (false_true (p.1 q)) ])
-
-swapped : (k i l j : List ℕ) → IsTrue (is_eq (pair_cmp (k, i) (l, j))) ↔ ((l ≡ k) × (j ≡ i))
-swapped k i l j = let s = same_pair k i l j in (λ t. let h = s.0 t in (sym h.0, sym h.1), λ h. s.1 (sym h.0, sym h.1))
-
-pub returns-in-Ok-clause-pushed : goal.returns-in-Ok-clause-pushed
-returns-in-Ok-clause-pushed c = λ key item. one_more _ _ _ _ (swapped c.args.key_digest c.args.item_digest key item) (c.in-Ok.ensures.updates.0 (key, item))
+pub returns-clause-pushed : goal.returns-clause-pushed
+returns-clause-pushed c =
+    let old = c.args.self.now.pairs in
+    let id = c.args.item_digest in
+    let s = c.new-keys.result in
+    let is : mapped.get R old id ≡ None = sym c.in_default.ensures.value in
+    pair_pushed old c.insert-3.new.self c.args.key_digest id s c.insert-2.new.self (had_none old id s is c.new-keys.ensures.empty)
+    (λ q. subst (λ (m : BTreeMap (List ℕ) (BTreeSet (List ℕ))). mapped.get R c.insert-3.new.self q ≡ cond (E id q) (Some c.insert-2.new.self) (mapped.get R m q)) c.get_mut.follows.holds-at-none (c.in_ok-insert-3.ensures.updates.0 q))
+    (λ q. c.in_ok-insert-2.ensures.updates.0 q)

@@ -1,0 +1,76 @@
+//! Laws of judging in the words of `find` and `check`: by what a value vouches for. Each is a
+//! function that does nothing: its contract is the law. `laws` has them by tests of what is vouched
+//! for, and examples that meet their premises.
+
+ghost use Rattle.std.specs.Prelude.{◌≡◌, ◌↔◌, ℕ, Bool, List, All, [], ◌∷◌, ◌++◌};
+ghost use Rattle.cert_graph.specs.Graph.{IsValidPath};
+ghost use Rattle.cert_graph.specs.Adequate.{IsAdequate, IsTrueAnswer};
+ghost use Rattle.cert_graph.specs.LawsOfNodes.{SayTheSame};
+ghost use Rattle.cert_graph.specs.declared.answer.Answer.{Answer};
+ghost use Rattle.cert_model.specs.Class.{certificate, other};
+ghost use Rattle.cert_model.specs.Fields.{CivilTime, Certificate};
+ghost use Rattle.cert_judge.specs.ItemGraph.{graph_of_items};
+ghost use Rattle.cert_judge.specs.Items.{rules_at};
+ghost use Rattle.cert_judge.specs.LawsOfItems.{VouchesForMore, Keeps, HasPathsOf, HasPathOf, IsValidAt};
+ghost use Rattle.cert_judge.specs.Revoking.{Item};
+
+use crate::Vouch;
+
+/// An adequate answer is true.
+pub fn adequate_is_true_by<V: Vouch>(_vouch: &V)
+    ensures { (moment : CivilTime) (demand : Bool) (items anchors : List Item) (target : ℕ) (answer : Answer)
+        → let g = graph_of_items (rules_at moment demand (V.vouches_for _vouch.now)) items anchors in IsAdequate g target answer → IsTrueAnswer g target answer }
+{}
+
+/// No two true answers on a target say different things.
+pub fn one_true_answer_by<V: Vouch>(_vouch: &V)
+    ensures { (moment : CivilTime) (demand : Bool) (items anchors : List Item) (target : ℕ) (answer another : Answer)
+        → let g = graph_of_items (rules_at moment demand (V.vouches_for _vouch.now)) items anchors in IsTrueAnswer g target answer → IsTrueAnswer g target another → SayTheSame answer another }
+{}
+
+/// Who vouches for more certificates, and for the same lists, never loses a path.
+pub fn vouching_for_more_by<V: Vouch, W: Vouch>(_vouch: &V, _more: &W)
+    ensures { (moment : CivilTime) (demand : Bool) (items anchors : List Item)
+        → let r = rules_at moment demand (V.vouches_for _vouch.now) in let s = rules_at moment demand (W.vouches_for _more.now) in
+        VouchesForMore r s items → HasPathsOf (λ v. v) r s items items anchors }
+{}
+
+/// A further certificate behind the last item never loses a path.
+pub fn further_certificate_by<V: Vouch>(_vouch: &V)
+    ensures { (moment : CivilTime) (demand : Bool) (items anchors : List Item) (x : Item) (c : Certificate)
+        → x.class ≡ certificate c → let r = rules_at moment demand (V.vouches_for _vouch.now) in HasPathsOf (λ v. v) r r items (items ++ x ∷ []) anchors }
+{}
+
+/// Items that keep each certificate, at a place of its own or another's, and the same lists keep
+/// the paths.
+pub fn other_places_by<V: Vouch>(_vouch: &V)
+    ensures { (moment : CivilTime) (demand : Bool) (items others anchors : List Item) (f : ℕ → ℕ)
+        → Keeps f items others → let r = rules_at moment demand (V.vouches_for _vouch.now) in HasPathsOf f r r items others anchors }
+{}
+
+/// Of a valid path each certificate is valid at the moment, ends included; nothing is said of the
+/// anchor.
+pub fn valid_at_the_moment_by<V: Vouch>(_vouch: &V)
+    ensures { (moment : CivilTime) (demand : Bool) (items anchors : List Item) (target : ℕ) (ps : List ℕ) (a : ℕ)
+        → IsValidPath (graph_of_items (rules_at moment demand (V.vouches_for _vouch.now)) items anchors) target ps a → All (IsValidAt items moment) ps }
+{}
+
+/// Reordering changes neither whether there is a path nor how many certificates it takes, the
+/// target following its item.
+pub fn reordered_by<V: Vouch>(_vouch: &V)
+    ensures { (moment : CivilTime) (demand : Bool) (items others anchors : List Item) (f g : ℕ → ℕ) (target : ℕ)
+        → Keeps f items others → Keeps g others items → g (f target) ≡ target → (n : ℕ)
+        → let r = rules_at moment demand (V.vouches_for _vouch.now) in HasPathOf r items anchors target n ↔ HasPathOf r others anchors (f target) n }
+{}
+
+/// Another item in the place of one, neither of them a certificate or a list, changes no true
+/// answer; nor does another item in the place of one among the anchors, neither of them a
+/// certificate.
+pub fn exchanged_other_by<V: Vouch>(_vouch: &V)
+    ensures bundle { (moment : CivilTime) (demand : Bool) (front back anchors : List Item) (x y : Item) (target : ℕ) (answer : Answer)
+        → x.class ≡ other → y.class ≡ other
+        → let r = rules_at moment demand (V.vouches_for _vouch.now) in IsTrueAnswer (graph_of_items r (front ++ x ∷ back) anchors) target answer ↔ IsTrueAnswer (graph_of_items r (front ++ y ∷ back) anchors) target answer }
+    ensures anchors { (moment : CivilTime) (demand : Bool) (items front back : List Item) (x y : Item) (target : ℕ) (answer : Answer)
+        → ((c : Certificate) → x.class ≡ certificate c → ⊥) → ((c : Certificate) → y.class ≡ certificate c → ⊥)
+        → let r = rules_at moment demand (V.vouches_for _vouch.now) in IsTrueAnswer (graph_of_items r items (front ++ x ∷ back)) target answer ↔ IsTrueAnswer (graph_of_items r items (front ++ y ∷ back)) target answer }
+{}

@@ -1,0 +1,7 @@
+use Rattle.cert_model.specs.View.{time_view, certificate_view}
+use Rattle.cert_reasons.specs.Order.{AreUpTo}
+use Rattle.cert_reasons.specs.Certificates.{HasReason, order_of}
+use Rattle.cert_reasons.proofs.certificates.add_unprocessed.Given as goal
+
+abbrev pub invariant-loop-place : goal.invariant-loop-place
+invariant-loop-place l = AreUpTo order_of (HasReason (time_view l.moment) (certificate_view l.fields)) (3, l.place) l.found.items

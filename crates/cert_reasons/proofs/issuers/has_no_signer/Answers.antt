@@ -1,0 +1,12 @@
+use Rattle.std.proofs.Common.{◌≡◌}
+use Rattle.cert_model.specs.Extended.{key_usage}
+use Rattle.cert_judge.specs.Judging.{IsSigner}
+use Rattle.cert_model.specs.Fields.{Extension}
+use Rattle.cert_reasons.proofs.Certain.{viewed_at}
+use Rattle.cert_reasons.proofs.issuers.has_no_signer.Goals as goal
+
+pub returns-in-Some : goal.returns-in-Some
+returns-in-Some c =
+    let l = c.in-Some.ensures.lookup in
+    let v = viewed_at c.args.extensions.now c.args.place c.in-Some.extension.now l.3.0 l.1 (λ (e : Extension). (e.identifier ≡ key_usage) × (IsSigner e.value → ⊥)) in
+    (λ t. v.0 (c.is_no_signer.ensures.0 t), λ h. c.is_no_signer.ensures.1 (v.1 h))

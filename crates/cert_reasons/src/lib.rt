@@ -1,0 +1,18 @@
+//! Why a certificate is not usable, may not issue, or is not linked to an issuer, and why a revocation
+//! list is not used (RFC 5280, 6.1 and 6.3).
+//!
+//! Each reason is a clause of a definition of `cert_judge` that fails. Each call returns exactly the
+//! reasons that apply, in one order: that of the enum, then of the positions. So a list of reasons is
+//! empty exactly where the definition holds.
+#![tactic(auto)]
+
+mod certificates;
+mod issuers;
+pub mod laws;
+mod links;
+mod lists;
+
+pub use crate::certificates::{Unusable, has_reason, why_unusable};
+pub use crate::issuers::{NoIssuer, has_issuer_reason, why_no_issuer};
+pub use crate::links::{Unlinked, why_unlinked, why_unlinked_to_anchor};
+pub use crate::lists::{Unused, has_list_reason, why_list_unused, why_list_unused_by_any};
