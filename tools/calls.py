@@ -11,6 +11,8 @@ BEHIND = re.compile(r"\b((?:\w+(?:::<[^<>()]*>)?::)+)(\w+)\b")
 PLAIN = re.compile(r"(?<![.:\w])(\w+)(?:::<[^<>()]*>)?\(")
 HANDED = re.compile(r"[(,]\s*(\w+)\s*(?=[,)])")
 TYPES = re.compile(r"::<[^<>()]*>")
+# Types of std's prelude: no parameter has such a name.
+OF_STD = {"Vec", "String", "Box", "Option", "Result"}
 
 
 @functools.cache
@@ -70,6 +72,8 @@ def behind(function, path, name):
     named = syntax.named_type(source, last) if len(path) == 1 else syntax.type_file(whole, last)
     if named:
         return {it for it in owned(name) if it.owner_type == named[1] and it.file.crate == named[0].crate}
+    if last in OF_STD:
+        return set()
     if last[0].isupper():
         parameters = re.findall(r"(?:\bimpl|\bfn \w+|\btrait \w+)\s*<([^()]*)", f"{function.owner[2]}({function.signature}")
         is_one = any(re.search(rf"\b{last}\b", it) for it in parameters) or function.owner[2].startswith(("trait", "pub trait"))
