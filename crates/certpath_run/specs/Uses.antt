@@ -1,6 +1,5 @@
 -- How far each reader was read, and which refusal comes of it.
 use Rattle.std.specs.Prelude.{◌≡◌, ◌⊎◌, ℕ, ◌+◌, ◌≤◌, max, Result, Ok, Err}
-use Rattle.certpath_input.specs.declared.reading.TheConstants.{MAX_READS, READ_SIZE}
 use Rattle.certpath_input.specs.declared.reading.InputError.{InputError}
 use Rattle.certpath_input.specs.declared.reading.InputError.TheVariants as inputs
 use Rattle.certpath_run.specs.declared.settings.Input.{Input}
@@ -30,13 +29,21 @@ ends_of failed = 0
 ends_of too_long = 0
 ends_of stopped = 0
 
+-- a reader is read so often at most
+abbrev pub most_reads : ℕ
+most_reads = 16777216
+
+-- and each time for so many octets at most
+abbrev pub most_octets : ℕ
+most_octets = 65536
+
 -- how many reads there were
 abbrev pub AreReads : Use → ℕ → ℕ → Type 0
 AreReads unread before after = after ≡ before
-AreReads whole before after = after ≤ before + MAX_READS
-AreReads failed before after = after ≤ before + MAX_READS
-AreReads too_long before after = after ≡ before + MAX_READS
-AreReads stopped before after = after ≤ before + MAX_READS
+AreReads whole before after = after ≤ before + most_reads
+AreReads failed before after = after ≤ before + most_reads
+AreReads too_long before after = after ≡ before + most_reads
+AreReads stopped before after = after ≤ before + most_reads
 
 -- a reader's counts, before and after
 pub record Counts : Type 0 where
@@ -50,7 +57,7 @@ pub record Used (u : Use) (before after : Counts) : Type 0 where
   pub reads : AreReads u before.reads after.reads
   pub failures : after.failures ≡ before.failures + failures_of u
   pub ends : after.ends ≡ before.ends + ends_of u
-  pub widest : after.widest ≤ max before.widest READ_SIZE
+  pub widest : after.widest ≤ max before.widest most_octets
 
 -- how the readers of bundle, anchors and vouchers were used, one after the other
 abbrev pub AreUses : {A : Type 0} → Result A RunError → Use → Use → Use → Type 0
