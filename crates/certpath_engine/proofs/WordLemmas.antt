@@ -1,6 +1,7 @@
 -- What clap's clauses say of a subcommand, in the words of `Asks`.
-use Rattle.std.proofs.Common.{◌≡◌, List, Option, Some, None, true, codes, refl, sym, ap, ◌∙◌, Result, Ok, Err}
+use Rattle.std.proofs.Common.{◌≡◌, ◌<◌, ℕ, length, List, Option, Some, None, true, codes, refl, sym, ap, ◌∙◌, Result, Ok, Err}
 use Rattle.std.specs.Option.{option_map}
+use Rattle.std.specs.Prelude.{slice_index_or}
 use Rattle.clap.specs.Matches.{found_of, first_value, subcommand_name_of}
 use Rattle.clap.specs.Simple.{App, HasMatchesOf, is_simple, subcommand_of, subcommand_rows_of}
 use Rattle.clap.specs.Walk.{Row, Text, first_of, rows_of}
@@ -10,7 +11,7 @@ use Rattle.clap.specs.declared.error.kind.ErrorKind.TheVariants.{OutOfMemory as 
 use Rattle.clap.proofs.WalkLemmas.{first_value-rows}
 use Rattle.clap.specs.declared.parser.matches.ArgMatches.{ArgMatches}
 use Rattle.certpath_engine.specs.Words.{certpath_app}
-use Rattle.certpath_engine.specs.Asking.{AreFrameTexts, ArePathTexts, TellsTexts, AnswersTexts, IsRefusal}
+use Rattle.certpath_engine.specs.Asking.{AreFrameTexts, ArePathTexts, LacksOneOf, TellsTexts, AnswersTexts, IsRefusal}
 use Rattle.certpath_engine.specs.declared.words.FrameTexts.{FrameTexts}
 use Rattle.certpath_engine.specs.declared.words.PathTexts.{PathTexts}
 use Rattle.certpath_engine.specs.declared.words.Asked.{Asked}
@@ -31,8 +32,13 @@ value : (found : ArgMatches) (id text : Text) → Some text ≡ first_value (fou
 value found id text is = sym (first_value-rows (found_of found) id) ∙ sym is
 
 -- and that it has none is that its row has none
-pub lacks : (found : ArgMatches) (id : Text) → None ≡ first_value (found_of found) id → first_of id (rows_of (found_of found)) ≡ None
+lacks : (found : ArgMatches) (id : Text) → None ≡ first_value (found_of found) id → first_of id (rows_of (found_of found)) ≡ None
 lacks found id is = sym (first_value-rows (found_of found) id) ∙ sym is
+
+-- so one of a command's arguments has no value: the one at this place
+pub lacks_one : (arguments : List Text) (found : ArgMatches) (k : ℕ) (id : Text) → k < length arguments → slice_index_or arguments k id ≡ id → None ≡ first_value (found_of found) id
+    → LacksOneOf arguments (rows_of (found_of found))
+lacks_one arguments found k id lt is none = record { argument = id; listed = (k, lt, is); lacks = lacks found id none }
 
 -- clap read the words as the subcommand of this name
 entered : (app : App) (words : List Text) (m sub : ArgMatches) (name wanted : Text) → app ≡ certpath_app → HasMatchesOf app words m

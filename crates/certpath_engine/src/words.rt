@@ -145,7 +145,10 @@ fn read_texts<'a>(alloc: Global, words: &'a [String]) -> Result<Asked<'a>, WordF
 fn frame_texts<'a>(found: &ArgMatches<'a>) -> Result<Asked<'a>, WordFault>
     ensures { TellsTexts (codes "frame") frame_arguments (rows_of (found_of found.now)) result }
 {
-    let (Some(file), Some(limit)) = (found.get_str("FILE"), found.get_str("limit")) else {
+    let Some(file) = found.get_str("FILE") else {
+        return Err(WordFault::OutOfMemory);
+    };
+    let Some(limit) = found.get_str("limit") else {
         return Err(WordFault::OutOfMemory);
     };
     Ok(Asked::Frame(FrameTexts { file, limit }))
