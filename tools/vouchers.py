@@ -96,9 +96,10 @@ class Vouchers:
         return self.digests[key]
 
     def read(self, file, number, item):
-        """Tells of a key that OpenSSL cannot read, where an item of the bundle asks for one under its name."""
-        if item and item.kind == shapes.CERTIFICATE and item.subject in self.wanted and self.verifier.key(item.key).handle is None:
-            self.told.add(file, number, "openssl cannot read its key")
+        """Tells of a key that isn't used, where an item of the bundle asks for one under its name."""
+        why = self.verifier.key(item.key).why if item and item.kind == shapes.CERTIFICATE and item.subject in self.wanted else None
+        if why:
+            self.told.add(file, number, why)
 
     def text(self):
         """The file: each line once, in ascending order."""
