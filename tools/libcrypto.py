@@ -2,6 +2,7 @@
 import ctypes
 import re
 import ssl
+from collections import OrderedDict
 from ctypes import POINTER, c_char_p, c_int, c_long, c_ulong, c_void_p
 from typing import NamedTuple
 
@@ -37,6 +38,8 @@ CALLS = {
 FEWEST_BITS = 112
 # OpenSSL verifies by longer exponents too where the modulus has at most 3,072 bits; that takes it up to 10 ms.
 MOST_EXPONENT_BITS = 64
+# OpenSSL holds some 3 KB for each key.
+MOST_KEYS = 1024
 UNREAD, LONG_EXPONENT = "openssl cannot read its key", f"its key has an exponent of more than {MOST_EXPONENT_BITS} bits"
 # What OpenSSL notes where it has nothing to say but that a signature is wrong.
 WRONG, NO_REASONS = "wrong signature", ("EVP lib",)
@@ -80,10 +83,10 @@ class Key(NamedTuple):
 
 
 class Verifier:
-    """Asks OpenSSL. Each key is read once and kept."""
+    """Asks OpenSSL. The keys that were asked for last are kept, at most so many."""
 
-    def __init__(self):
-        self.library, self.keys = loaded(), {}
+    def __init__(self, most=MOST_KEYS):
+        self.library, self.keys, self.most = loaded(), OrderedDict(), most
 
     def read(self, function, octets):
         """What a d2i function makes of the octets, if it takes all of them."""
@@ -93,11 +96,20 @@ class Verifier:
         return made, made is not None and at.value == ctypes.addressof(held) + len(octets)
 
     def key(self, octets):
-        """The key of an element's octets."""
+        """The key of an element's octets, whose handle is there until further keys are asked for."""
         if octets not in self.keys:
+            self.make_room()
             self.keys[octets] = self.read_key(octets)
             self.library.ERR_clear_error()
+        self.keys.move_to_end(octets)
         return self.keys[octets]
+
+    def make_room(self):
+        """Frees the key that was asked for the longest time ago, where there is no room for another."""
+        if len(self.keys) >= self.most:
+            _, oldest = self.keys.popitem(last=False)
+            if oldest.handle is not None:
+                self.library.EVP_PKEY_free(oldest.handle)
 
     def read_key(self, octets):
         """What OpenSSL makes of a key element."""
@@ -132,12 +144,13 @@ class Verifier:
         return WRONG if text in NO_REASONS else text
 
     def refusals(self, item, keys):
-        """Why each key doesn't verify the item, none where it does; or nothing at all where OpenSSL cannot read the item."""
+        """Why each key, by its element's octets, doesn't verify the item, none where it does; or nothing at all where OpenSSL cannot
+        read the item."""
         reader, free, verify = CALLS[item.kind]
         handle, is_whole = self.read(reader, item.octets)
         self.library.ERR_clear_error()
         try:
-            return [self.refusal(getattr(self.library, verify), handle, it) for it in keys] if is_whole else None
+            return [self.refusal(getattr(self.library, verify), handle, self.key(it)) for it in keys] if is_whole else None
         finally:
             if handle is not None:
                 getattr(self.library, free)(handle)

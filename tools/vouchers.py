@@ -68,15 +68,14 @@ class Vouchers:
         digest = algorithms.digest_of(item.outer_algorithm)
         if digest is None:
             return Verdict(why=algorithms.unknown(item.outer_algorithm))
-        found, left = self.candidates.of(item, self.tries)
-        keys = [self.verifier.key(it) for it in found]
+        keys, left = self.candidates.of(item, self.tries)
         refusals = self.verifier.refusals(item, keys)
         if refusals is None:
             return Verdict(why="openssl cannot read it")
         if not keys:
             return Verdict(why="no key under its issuer's name")
         untried = f"; {counted(left, 'further key')} not tried (--tries)" if left else ""
-        verified = [key for key, refusal in zip(keys, refusals) if refusal is None]
+        verified = [self.verifier.key(key) for key, refusal in zip(keys, refusals) if refusal is None]
         if not verified:
             return Verdict(why=f"not verified by {counted(len(keys), 'key')} ({refusals[0]}){untried}")
         taken = [key for key in verified if self.takes_weak or not weaknesses(digest, key)]
