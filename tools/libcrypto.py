@@ -2,6 +2,7 @@
 import ctypes
 import re
 import ssl
+from collections import OrderedDict
 from ctypes import POINTER, c_char_p, c_int, c_long, c_ulong, c_void_p
 from typing import NamedTuple
 
@@ -21,6 +22,9 @@ FUNCTIONS = {
     "EVP_PKEY_get_bits": (c_int, [c_void_p]),
     "EVP_PKEY_get_security_bits": (c_int, [c_void_p]),
     "EVP_PKEY_get0_type_name": (c_char_p, [c_void_p]),
+    "EVP_PKEY_get_bn_param": (c_int, [c_void_p, c_char_p, POINTED]),
+    "BN_num_bits": (c_int, [c_void_p]),
+    "BN_free": (None, [c_void_p]),
     "ERR_clear_error": (None, []),
     "ERR_get_error": (c_ulong, []),
     "ERR_reason_error_string": (c_char_p, [c_ulong]),
@@ -32,6 +36,11 @@ CALLS = {
 }
 # A key that is worth fewer bits of security is weak: RSA and DSA below 2048 bits, elliptic curves below 224.
 FEWEST_BITS = 112
+# OpenSSL verifies by longer exponents too where the modulus has at most 3,072 bits; that takes it up to 10 ms.
+MOST_EXPONENT_BITS = 64
+# OpenSSL holds some 3 KB for each key.
+MOST_KEYS = 1024
+UNREAD, LONG_EXPONENT = "openssl cannot read its key", f"its key has an exponent of more than {MOST_EXPONENT_BITS} bits"
 # What OpenSSL notes where it has nothing to say but that a signature is wrong.
 WRONG, NO_REASONS = "wrong signature", ("EVP lib",)
 
@@ -65,18 +74,19 @@ def loaded():
 
 
 class Key(NamedTuple):
-    """A key: its element's octets, the pointer to what OpenSSL made of them, none where it cannot read them, and in which words
-    it is weak, none where it isn't."""
+    """A key: its element's octets, the pointer to what OpenSSL made of them, none where it isn't used, in which words it is weak, none
+    where it isn't, and why it isn't used, none where it is."""
     octets: bytes
     handle: int
     weak: str
+    why: str = None
 
 
 class Verifier:
-    """Asks OpenSSL. Each key is read once and kept."""
+    """Asks OpenSSL. The keys that were asked for last are kept, at most so many."""
 
-    def __init__(self):
-        self.library, self.keys = loaded(), {}
+    def __init__(self, most=MOST_KEYS):
+        self.library, self.keys, self.most = loaded(), OrderedDict(), most
 
     def read(self, function, octets):
         """What a d2i function makes of the octets, if it takes all of them."""
@@ -86,15 +96,39 @@ class Verifier:
         return made, made is not None and at.value == ctypes.addressof(held) + len(octets)
 
     def key(self, octets):
-        """The key of an element's octets."""
+        """The key of an element's octets, whose handle is there until further keys are asked for."""
         if octets not in self.keys:
-            handle, is_whole = self.read("d2i_PUBKEY", octets)
-            if handle is not None and not is_whole:
-                self.library.EVP_PKEY_free(handle)
-                handle = None
-            self.keys[octets] = Key(octets, handle, self.weakness(handle) if handle is not None else None)
+            self.make_room()
+            self.keys[octets] = self.read_key(octets)
             self.library.ERR_clear_error()
+        self.keys.move_to_end(octets)
         return self.keys[octets]
+
+    def make_room(self):
+        """Frees the key that was asked for the longest time ago, where there is no room for another."""
+        if len(self.keys) >= self.most:
+            _, oldest = self.keys.popitem(last=False)
+            if oldest.handle is not None:
+                self.library.EVP_PKEY_free(oldest.handle)
+
+    def read_key(self, octets):
+        """What OpenSSL makes of a key element."""
+        handle, is_whole = self.read("d2i_PUBKEY", octets)
+        if handle is None:
+            return Key(octets, None, None, UNREAD)
+        if is_whole and self.exponent_bits(handle) <= MOST_EXPONENT_BITS:
+            return Key(octets, handle, self.weakness(handle))
+        self.library.EVP_PKEY_free(handle)
+        return Key(octets, None, None, LONG_EXPONENT if is_whole else UNREAD)
+
+    def exponent_bits(self, handle):
+        """How many bits the public exponent of an RSA key has; 0 of another key."""
+        number = c_void_p()
+        if self.library.EVP_PKEY_get_bn_param(handle, b"e", ctypes.byref(number)) != 1:
+            return 0
+        bits = self.library.BN_num_bits(number)
+        self.library.BN_free(number)
+        return bits
 
     def weakness(self, handle):
         """In which words a key is weak, none where it isn't."""
@@ -110,19 +144,20 @@ class Verifier:
         return WRONG if text in NO_REASONS else text
 
     def refusals(self, item, keys):
-        """Why each key doesn't verify the item, none where it does; or nothing at all where OpenSSL cannot read the item."""
+        """Why each key, by its element's octets, doesn't verify the item, none where it does; or nothing at all where OpenSSL cannot
+        read the item."""
         reader, free, verify = CALLS[item.kind]
         handle, is_whole = self.read(reader, item.octets)
         self.library.ERR_clear_error()
         try:
-            return [self.refusal(getattr(self.library, verify), handle, it) for it in keys] if is_whole else None
+            return [self.refusal(getattr(self.library, verify), handle, self.key(it)) for it in keys] if is_whole else None
         finally:
             if handle is not None:
                 getattr(self.library, free)(handle)
 
     def refusal(self, verify, handle, key):
-        if key.handle is None:
-            return "openssl cannot read the key"
+        if key.why:
+            return key.why.replace("its key", "the key")
         # 1 alone is yes: 0 is a wrong signature, -1 a key of another type, unused bits, or a signature in another spelling
         is_verified = verify(handle, key.handle) == 1
         reason = self.reason()

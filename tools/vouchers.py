@@ -68,15 +68,14 @@ class Vouchers:
         digest = algorithms.digest_of(item.outer_algorithm)
         if digest is None:
             return Verdict(why=algorithms.unknown(item.outer_algorithm))
-        found, left = self.candidates.of(item, self.tries)
-        keys = [self.verifier.key(it) for it in found]
+        keys, left = self.candidates.of(item, self.tries)
         refusals = self.verifier.refusals(item, keys)
         if refusals is None:
             return Verdict(why="openssl cannot read it")
         if not keys:
             return Verdict(why="no key under its issuer's name")
         untried = f"; {counted(left, 'further key')} not tried (--tries)" if left else ""
-        verified = [key for key, refusal in zip(keys, refusals) if refusal is None]
+        verified = [self.verifier.key(key) for key, refusal in zip(keys, refusals) if refusal is None]
         if not verified:
             return Verdict(why=f"not verified by {counted(len(keys), 'key')} ({refusals[0]}){untried}")
         taken = [key for key in verified if self.takes_weak or not weaknesses(digest, key)]
@@ -96,9 +95,10 @@ class Vouchers:
         return self.digests[key]
 
     def read(self, file, number, item):
-        """Tells of a key that OpenSSL cannot read, where an item of the bundle asks for one under its name."""
-        if item and item.kind == shapes.CERTIFICATE and item.subject in self.wanted and self.verifier.key(item.key).handle is None:
-            self.told.add(file, number, "openssl cannot read its key")
+        """Tells of a key that isn't used, where an item of the bundle asks for one under its name."""
+        why = self.verifier.key(item.key).why if item and item.kind == shapes.CERTIFICATE and item.subject in self.wanted else None
+        if why:
+            self.told.add(file, number, why)
 
     def text(self):
         """The file: each line once, in ascending order."""

@@ -27,6 +27,8 @@ KEYS = {
     "rsa": (*RSA, "rsa_keygen_bits:2048"),
     "other": (*RSA, "rsa_keygen_bits:2048"),
     "rsa1024": (*RSA, "rsa_keygen_bits:1024"),
+    "long-exponent": (*RSA, "rsa_keygen_bits:2048", "-pkeyopt", f"rsa_keygen_pubexp:{2**64 + 13}"),
+    "full-exponent": (*RSA, "rsa_keygen_bits:2048", "-pkeyopt", f"rsa_keygen_pubexp:{2**64 - 59}"),
     "rsa-pss": ("-algorithm", "RSA-PSS", "-pkeyopt", "rsa_keygen_bits:2048"),
     "p192": (*EC, "ec_paramgen_curve:P-192"),
     "p256": (*EC, "ec_paramgen_curve:P-256"),
@@ -41,6 +43,7 @@ KEYS = {
 }
 DSA_PARAMETERS = ("-genparam", "-algorithm", "DSA", "-pkeyopt", "pbits:2048", "-pkeyopt", "qbits:256")
 RSA_SHA256, ECDSA_SHA256 = octets("30(06(2a864886f70d01010b)05())"), octets("30(06(2a8648ce3d040302))")
+OF_RSA = ("rsa", "other", "rsa1024", "long-exponent", "full-exponent")
 DATES = octets('17("260101000000Z")17("360101000000Z")')
 UTF8, PRINTABLE = b"\x0c", b"\x13"
 
@@ -126,13 +129,13 @@ class Workshop:
 
     def certificate(self, signer, issuer, subject, key, serial=1, outer=None, extensions=b""):
         """A certificate that is spelled here: its names, its key and its extensions are octets."""
-        algorithm = RSA_SHA256 if signer in ("rsa", "other", "rsa1024") else ECDSA_SHA256
+        algorithm = RSA_SHA256 if signer in OF_RSA else ECDSA_SHA256
         signed = element(b"\x30", octets(f"a0(02(02))02({serial:02x})") + algorithm + issuer + element(b"\x30", DATES) + subject + key + extensions)
         return assembled(signed, outer or algorithm, self.signature(signer, signed))
 
     def list(self, signer, issuer, outer=None, extensions=b""):
         """A revocation list that is spelled here."""
-        algorithm = RSA_SHA256 if signer in ("rsa", "other", "rsa1024") else ECDSA_SHA256
+        algorithm = RSA_SHA256 if signer in OF_RSA else ECDSA_SHA256
         signed = element(b"\x30", octets("02(01)") + algorithm + issuer + DATES + extensions)
         return assembled(signed, outer or algorithm, self.signature(signer, signed))
 

@@ -113,6 +113,7 @@ class Held(NamedTuple):
     octets: bytes
     handle: int = 1
     weak: str = None
+    why: str = None
 
 
 class Counting:
@@ -168,8 +169,17 @@ def long_names(t, holders):
     t.vouch("a long identifier", [leaf], [], [], [told(0, f"algorithm of 2001 octets that begin with 2a{'03' * 31} not known")])
 
 
+def exponents(t, holders):
+    """No key verifies whose exponent is long, which OpenSSL would be slow with."""
+    kinds = ("long-exponent", "full-exponent")
+    roots = [t.shop.certificate("rsa", holders.made.name, holders.made.name, t.shop.public(it)) for it in kinds]
+    leaves = [t.shop.certificate(it, holders.made.name, name("leaf"), t.shop.public("p384")) for it in kinds]
+    t.vouch("exponents of 64 bits and of 65", leaves, roots, [(t.shop.public(kinds[1]), leaves[1])],
+            [not_verified(0, 2), told(0, "its key has an exponent of more than 64 bits", "anchors")])
+
+
 def trials(t):
     """Runs them all."""
     holders = Holders(t)
-    for group in (bounds, identifiers, groups, counts, long_names):
+    for group in (bounds, identifiers, groups, counts, long_names, exponents):
         group(t, holders)

@@ -4,6 +4,8 @@ from one_item import MANY, ONE_ITEM, attribute, identifier
 from parts import (ECDSA_SHA256, FIRST, LAST, VALIDITY, VERSION_3, element, entry, extension, integer, key_ids, name, p256_keys,
                    small_certificate, wrong_signature)
 
+# What OpenSSL holds of one item.
+OF_OPENSSL = "some 250 octets of OpenSSL for each entry or extension of one item"
 X, LEAF, ROOT = name("x"), name("leaf"), name("root")
 KEY = next(p256_keys(1))
 # Each item costs up to 16 verifications of some 0.1 ms, so that a file of 1 MB takes more than 2 seconds.
@@ -76,14 +78,14 @@ def vouch_no_keys(count):
     return Files([signed_by_none(LEAF, name("nowhere"), KEY, it) for it in range(count)])
 
 
-@family("vouch-entries", "one list with n entries, signed by none", "vouch", **MANY, words=UNLIMITED)
+@family("vouch-entries", "one list with n entries, signed by none", "vouch", **MANY, words=UNLIMITED, known=OF_OPENSSL)
 def vouch_entries(count):
     rows = element(0x30, b"".join(entry(integer(it)) for it in range(count)))
     signed = element(0x30, ECDSA_SHA256, X, FIRST, LAST, rows)
     return Files([ended(signed, 1)], [signed_by_none(X, X, KEY, 1)])
 
 
-@family("vouch-extensions", "one certificate with n extensions, signed by none", "vouch", **MANY)
+@family("vouch-extensions", "one certificate with n extensions, signed by none", "vouch", **MANY, known=OF_OPENSSL)
 def vouch_extensions(count):
     item = of_version_3(LEAF, KEY, 1, b"".join(extension(identifier(it), b"") for it in range(count)))
     return Files([item], [signed_by_none(X, X, KEY, 1)])
