@@ -6,7 +6,7 @@ Every key vouches for everything, at no cost: `Vouchers` would hash the key and 
 by leaving it out. Prints medians of five: milliseconds of the check and of `parse_der` over the same items, and peak resident memory of
 the whole process beside the octets. To reach: at most 2.4 times the time at each doubling (5.76 times from the first to the last) and 12
 times the octets; of the 100,000 equal ones at most 20 times the time of `parse_der`. Exit status 1 where that is missed.
-`items.py small ROOM` writes the small files that the gate's run of `bench` reads.
+`items.py small ROOM` writes the small files that the gate's run of `item_bench` reads.
 """
 import os
 import re
@@ -121,7 +121,7 @@ def line(program, room, kind, count, answer):
     octets = b"".join(items(kind, count))
     bundle = write(room, "items.der", octets)
     root = write(room, "root.der", certificate("root" if answer == "path" else "another", "root"))
-    runs = [measured(program, ["file", "anchors", root, "file", answer, bundle]) for _ in range(timing.RUNS)]
+    runs = [measured(program, ["anchors", root, answer, bundle]) for _ in range(timing.RUNS)]
     check, parse, memory = (statistics.median(it[i] for it in runs) for i in range(3))
     times = memory / len(octets)
     print(f"{kind} {count} {answer}: check {check:.1f} ms, parse_der {parse:.1f} ms, peak {memory / 1e6:.0f} MB, {times:.1f} times {len(octets) / 1e6:.1f} MB", flush=True)
@@ -133,7 +133,7 @@ def main():
         write(sys.argv[2], "items.der", b"".join(items("different", 12)))
         write(sys.argv[2], "root.der", certificate("root", "root"))
         return
-    program = timing.built("bench")
+    program = timing.built("item_bench")
     missed = False
     with tempfile.TemporaryDirectory() as room:
         for kind in ("different", "equal"):

@@ -57,7 +57,7 @@ def line(program, room, kind, count):
     octets = b"".join(found)
     bundle = write(room, "items.der", octets)
     root = write(room, "root.der", certificate("root", "root"))
-    runs = [measured(program, ["file", "anchors", root, "file", "find", bundle]) for _ in range(timing.RUNS)]
+    runs = [measured(program, ["anchors", root, "find", bundle]) for _ in range(timing.RUNS)]
     check, parse, memory, answer = (statistics.median(it[i] for it in runs) for i in range(4))
     times = memory / len(octets)
     print(f"{kind}, {len(found)} items: answer {answer:.1f} ms, {answer / parse:.1f} times parse_der's {parse:.1f} ms; check {check:.1f} ms; "
@@ -66,7 +66,7 @@ def line(program, room, kind, count):
 
 
 def main():
-    program, missed = timing.built("bench"), False
+    program, missed = timing.built("item_bench"), False
     with tempfile.TemporaryDirectory() as room:
         for kind in ("web", "chain", "dead end", "self-issued"):
             rows = [line(program, room, kind, count) for count in COUNTS]

@@ -37,11 +37,10 @@ def of_many_extensions(size):
 
 def seconds(program, reader, path, count, size):
     """The median of the seconds of some runs that read so many items of so many octets."""
-    words = [program, "file", reader, path]
-    printed = subprocess.run(words, check=True, capture_output=True, text=True).stdout
+    printed = subprocess.run([program, reader, path], check=True, capture_output=True, text=True).stdout
     if not printed.endswith(f": {count} {reader} in {size} octets\n"):
         sys.exit(f"{reader} printed something else: {printed[-200:]}")
-    return statistics.median(timing.timed(words)[0] for _ in range(timing.RUNS))
+    return statistics.median(timing.timed([program, reader, path])[0] for _ in range(timing.RUNS))
 
 
 def of_bundle(program, room):
@@ -67,7 +66,7 @@ def of_one(program, room):
 
 
 def main():
-    program = timing.built("bench")
+    program = timing.built("item_bench")
     with tempfile.TemporaryDirectory() as room:
         ratio, growth = of_bundle(program, room), of_one(program, room)
     print(f"read_typed: {ratio:.2f} times X509Certificate::from_der, at most {MOST_OF_TYPED}; {growth:.2f} times at a doubling, at most {MOST_GROWTH}")

@@ -48,16 +48,16 @@ def write_list(path, count):
 
 
 def main():
-    program, seconds, is_reached = timing.built("bench"), [], True
+    program, seconds, is_reached = timing.built("item_bench"), [], True
     with tempfile.TemporaryDirectory() as room:
         for count in ENTRIES:
             path = os.path.join(room, f"{count}.der")
             write_list(path, count)
             size = os.path.getsize(path)
-            said = subprocess.run([program, "file", "list", path], check=True, capture_output=True, text=True).stdout
+            said = subprocess.run([program, "list", path], check=True, capture_output=True, text=True).stdout
             if not said.endswith(f": 1 list in {size} octets\n"):
                 sys.exit(f"something else was printed: {said[-200:]}")
-            runs = [timing.timed([program, "file", "list", path]) for _ in range(timing.RUNS)]
+            runs = [timing.timed([program, "list", path]) for _ in range(timing.RUNS)]
             took, memory = (statistics.median(it) for it in zip(*runs))
             growth = f", {took / seconds[-1]:.1f} times the last" if seconds else ""
             print(f"{count} entries: {took:.4f} s, {count / took:.0f} entries/s{growth}, peak {memory / size:.1f} times the file", flush=True)
