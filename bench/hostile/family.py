@@ -29,7 +29,7 @@ class Family(NamedTuple):
     small: tuple = SMALL_ITEMS
     other: int = 0
     words: tuple = ()
-    statuses: tuple = (0, 1)
+    statuses: tuple = (0, 1, 3)
     # Why the family misses what is wanted, where that is known and stated in docs/COST.md.
     known: str = None
 

@@ -4,6 +4,8 @@ from math import isqrt
 from family import UNLIMITED, Files, family
 from parts import (certificate, element, entry, integer, key, name, revocation_list, small_certificate, voucher)
 
+# Squares that docs/COST.md states.
+LISTS, ROWS = "a list is sorted for each key that vouches for it", "an answer has a row of all items for each certificate of its path"
 X, LEAF, ROOT, NOWHERE = name("x"), name("leaf"), name("root"), name("nowhere")
 ROOT_KEY, COMMON_KEY = key(2**40), key(2**41)
 ANCHOR = certificate(ROOT, ROOT, ROOT_KEY)
@@ -97,7 +99,7 @@ def list_long(count):
     return Files([*signed, issuer], [ANCHOR], lines, f"path 0 {count + 1} anchor 0")
 
 
-@family("list-keys", "a list of 10 n entries, and n keys of its issuer that all vouch for it", small=(500, 2_000), words=UNLIMITED)
+@family("list-keys", "a list of 10 n entries, and n keys of its issuer that all vouch for it", small=(250, 1_000), words=UNLIMITED, known=LISTS)
 def list_keys(count):
     entries = b"".join(entry(integer(count + it)) for it in range(10 * count))
     found = revocation_list(X, entries)
@@ -135,7 +137,7 @@ def by_common_key(items, *others):
     return [voucher(COMMON_KEY, it) for it in items[:-1]] + [voucher(ROOT_KEY, items[-1]), *others]
 
 
-@family("chain-path", "a chain of n, with its path")
+@family("chain-path", "a chain of n, with its path", known=ROWS)
 def chain_path(count):
     items = chain(count, ROOT)
     return Files(items, [ANCHOR], by_common_key(items), f"path {' '.join(map(str, range(count)))} anchor 0")
@@ -153,7 +155,8 @@ def chain_beside(count):
     return Files([certificate(LEAF, NOWHERE, COMMON_KEY), *items], [ANCHOR], by_common_key(items))
 
 
-@family("chain-keys", "a chain of n self-issued certificates of one name, each signed by the next one's key; with its path")
+@family("chain-keys", "a chain of n self-issued certificates of one name, each signed by the next one's key; with its path",
+        known=ROWS)
 def chain_keys(count):
     items = own_keys(count)
     return Files(items, [certificate(X, X, key(count))], vouched(items, 1), f"path {' '.join(map(str, range(count)))} anchor 0")
@@ -189,7 +192,7 @@ def ladder_rungs(count):
 
 
 @family("rises", "n/2 certificates below such a ladder of n/4 steps: the reach of each of them rises in each round",
-        sizes=(1_500, 3_000, 6_000, 12_000), small=(500, 2_000))
+        sizes=(1_500, 3_000, 6_000, 12_000), small=(500, 2_000), known="a reach rises at n/2 items in n/4 rounds")
 def rises(count):
     items, lines = rising(count // 4)
     below = own_keys(count // 2, LEAF, X)
@@ -208,7 +211,8 @@ def self_serials(count):
     return Files(items, [ANCHOR], [voucher(COMMON_KEY, it) for it in items])
 
 
-@family("copies-keys", "n/2 copies of one certificate, and n/2 keys of its issuer that all vouch for it")
+@family("copies-keys", "n/2 copies of one certificate, and n/2 keys of its issuer that all vouch for it",
+        known="each copy is linked to each key")
 def copies_keys(count):
     half = count // 2
     leaf, issuers = certificate(LEAF, X, COMMON_KEY), own_keys(half, X, ROOT)
