@@ -1,80 +1,67 @@
-//! Copies, and numbers as text.
+//! Copies, and serial numbers as text.
 
-use crate::call::row::answer;
+use crate::words::had;
 use asn1_core::OutOfMemory;
-use std::alloc::Global;
-use x509_certs::{TbsCertificate, X509Certificate};
+use hex_rows::Added;
+use x509_certs::X509Certificate;
 use x509_lists::CertificateRevocationList;
 use x509_requests::X509CriAttribute;
 
-/// Whether the copy of the certificate is the same.
-pub(crate) fn certificate(
-    alloc: Global,
-    certificate: &X509Certificate<'_>,
-) -> Result<String, OutOfMemory> {
-    let copy = certificate.clone(alloc)?;
-    same(alloc, copy == *certificate)
+/// A type whose copies are compared with what they are copies of.
+pub(crate) trait Copied {
+    /// Whether the copy is the same.
+    fn is_same(&self, copy: &Self) -> bool;
 }
 
-/// Whether the copy of the list is the same, part by part.
-pub(crate) fn list(
-    alloc: Global,
-    list: &CertificateRevocationList<'_>,
-) -> Result<String, OutOfMemory> {
-    let copy = list.clone(alloc)?;
-    same(alloc, are_same(&copy, list))
-}
-
-fn are_same<'a>(
-    copy: &CertificateRevocationList<'a>,
-    list: &CertificateRevocationList<'a>,
-) -> bool {
-    copy.tbs_cert_list == list.tbs_cert_list
-        && copy.signature_algorithm == list.signature_algorithm
-        && copy.signature_value == list.signature_value
-        && copy.as_raw() == list.as_raw()
-}
-
-/// Whether the copy of the attribute is the same.
-pub(crate) fn attribute(
-    alloc: Global,
-    attribute: &X509CriAttribute<'_>,
-) -> Result<String, OutOfMemory> {
-    let copy = attribute.clone(alloc)?;
-    same(alloc, copy == *attribute)
-}
-
-fn same(alloc: Global, is_same: bool) -> Result<String, OutOfMemory> {
-    answer(alloc, if is_same { "the same" } else { "another" })
-}
-
-/// The serial number of the certificate.
-pub(crate) fn serial(
-    alloc: Global,
-    certificate: &X509Certificate<'_>,
-) -> Result<String, OutOfMemory> {
-    let text = certificate.raw_serial_as_string(alloc)?;
-    Ok(text)
-}
-
-/// The serial number of a certificate's first part.
-pub(crate) fn first_part_serial(
-    alloc: Global,
-    tbs: &TbsCertificate<'_>,
-) -> Result<String, OutOfMemory> {
-    let text = tbs.raw_serial_as_string(alloc)?;
-    Ok(text)
-}
-
-/// The serial numbers of the list's entries, each behind a blank.
-pub(crate) fn entry_serials(
-    alloc: Global,
-    list: &CertificateRevocationList<'_>,
-) -> Result<String, OutOfMemory> {
-    let mut text = String::from_str(alloc, "serials")?;
-    for entry in list.iter_revoked_certificates() {
-        let serial = entry.raw_serial_as_string(alloc)?;
-        write!(text, " {serial}")?;
+impl Copied for X509Certificate<'_> {
+    fn is_same(&self, copy: &Self) -> bool {
+        copy == self
     }
-    Ok(text)
+}
+
+impl Copied for CertificateRevocationList<'_> {
+    /// Part by part.
+    fn is_same(&self, copy: &Self) -> bool {
+        copy.tbs_cert_list == self.tbs_cert_list
+            && copy.signature_algorithm == self.signature_algorithm
+            && copy.signature_value == self.signature_value
+            && copy.as_raw() == self.as_raw()
+    }
+}
+
+impl Copied for X509CriAttribute<'_> {
+    fn is_same(&self, copy: &Self) -> bool {
+        copy == self
+    }
+}
+
+/// Adds whether the copy is the same.
+pub(crate) fn add_copy<T: Copied + Drop>(
+    text: &mut String,
+    value: &T,
+    copy: Result<T, OutOfMemory>,
+) -> Added {
+    let copy = had(copy)?;
+    text.push_str(if value.is_same(&copy) {
+        "the same"
+    } else {
+        "another"
+    })
+}
+
+/// Adds a serial number.
+pub(crate) fn add_serial(text: &mut String, serial: Result<String, OutOfMemory>) -> Added {
+    let serial = had(serial)?;
+    text.push_str(&serial)
+}
+
+/// Adds the serial numbers of the list's entries, each behind a blank.
+pub(crate) fn add_serials(text: &mut String, list: &CertificateRevocationList<'_>) -> Added {
+    let alloc = *text.allocator();
+    text.push_str("serials")?;
+    for entry in list.iter_revoked_certificates() {
+        text.push(' ')?;
+        add_serial(text, entry.raw_serial_as_string(alloc))?;
+    }
+    Ok(())
 }
