@@ -99,6 +99,7 @@ fn of_text(name: &str) -> Option<Tag> {
         ("VideotexString", <VideotexString<'_> as Tagged>::TAG),
         ("GraphicString", <GraphicString<'_> as Tagged>::TAG),
         ("GeneralString", <GeneralString<'_> as Tagged>::TAG),
+        ("ObjectDescriptor", <ObjectDescriptor<'_> as Tagged>::TAG),
         ("BmpString", <BmpString as Tagged>::TAG),
         ("UniversalString", <UniversalString as Tagged>::TAG),
         ("Sequence", <Sequence<'_> as Tagged>::TAG),
