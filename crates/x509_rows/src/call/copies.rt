@@ -1,48 +1,50 @@
 //! Copies, and serial numbers as text.
 
-use crate::words::had;
+use crate::words::{Words, had};
 use asn1_core::OutOfMemory;
 use hex_rows::Added;
+use std::alloc::Global;
+use std::slice;
 use x509_certs::X509Certificate;
-use x509_lists::CertificateRevocationList;
+use x509_lists::{CertificateRevocationList, RevokedCertificate};
 use x509_requests::X509CriAttribute;
 
-/// A type whose copies are compared with what they are copies of.
-pub(crate) trait Copied {
-    /// Whether the copy is the same.
-    fn is_same(&self, copy: &Self) -> bool;
+/// A type whose values are copied.
+pub(crate) trait Copied: Sized {
+    /// The copy.
+    fn copied(&self, alloc: Global) -> Result<Self, OutOfMemory>;
 }
 
 impl Copied for X509Certificate<'_> {
-    fn is_same(&self, copy: &Self) -> bool {
-        copy == self
+    fn copied(&self, alloc: Global) -> Result<Self, OutOfMemory> {
+        self.clone(alloc)
     }
 }
 
 impl Copied for CertificateRevocationList<'_> {
-    /// Part by part.
-    fn is_same(&self, copy: &Self) -> bool {
-        copy.tbs_cert_list == self.tbs_cert_list
-            && copy.signature_algorithm == self.signature_algorithm
-            && copy.signature_value == self.signature_value
-            && copy.as_raw() == self.as_raw()
+    fn copied(&self, alloc: Global) -> Result<Self, OutOfMemory> {
+        self.clone(alloc)
     }
 }
 
 impl Copied for X509CriAttribute<'_> {
-    fn is_same(&self, copy: &Self) -> bool {
-        copy == self
+    fn copied(&self, alloc: Global) -> Result<Self, OutOfMemory> {
+        self.clone(alloc)
     }
 }
 
-/// Adds whether the copy is the same.
-pub(crate) fn add_copy<T: Copied + Drop>(
-    text: &mut String,
-    value: &T,
-    copy: Result<T, OutOfMemory>,
-) -> Added {
-    let copy = had(copy)?;
-    text.push_str(if value.is_same(&copy) {
+/// Adds whether a copy has the words of the value.
+pub(crate) fn add_copy<T: Copied + Words + Drop>(text: &mut String, value: &T) -> Added {
+    let copy = had(value.copied(*text.allocator()))?;
+    add_same(text, value, &copy)
+}
+
+fn add_same<T: Words>(text: &mut String, value: &T, copy: &T) -> Added {
+    let mut words = String::new(*text.allocator());
+    value.add_words(&mut words)?;
+    let mut others = String::new(*text.allocator());
+    copy.add_words(&mut others)?;
+    text.push_str(if words.as_str() == others.as_str() {
         "the same"
     } else {
         "another"
@@ -55,13 +57,24 @@ pub(crate) fn add_serial(text: &mut String, serial: Result<String, OutOfMemory>)
     text.push_str(&serial)
 }
 
-/// Adds the serial numbers of the list's entries, each behind a blank.
-pub(crate) fn add_serials(text: &mut String, list: &CertificateRevocationList<'_>) -> Added {
-    let alloc = *text.allocator();
+/// A type whose values have a serial number.
+pub(crate) trait Numbered {
+    /// The serial number as text.
+    fn number(&self, alloc: Global) -> Result<String, OutOfMemory>;
+}
+
+impl Numbered for RevokedCertificate<'_> {
+    fn number(&self, alloc: Global) -> Result<String, OutOfMemory> {
+        self.raw_serial_as_string(alloc)
+    }
+}
+
+/// Adds the serial number of each, behind a blank.
+pub(crate) fn add_serials<T: Numbered>(text: &mut String, entries: slice::Iter<'_, T>) -> Added {
     text.push_str("serials")?;
-    for entry in list.iter_revoked_certificates() {
+    for entry in entries {
         text.push(' ')?;
-        add_serial(text, entry.raw_serial_as_string(alloc))?;
+        add_serial(text, entry.number(*text.allocator()))?;
     }
     Ok(())
 }

@@ -5,9 +5,10 @@ use asn1_oid::Oid;
 use hex_rows::Added;
 use std::alloc::AllocError;
 use std::collections::BTreeMap;
+use std::slice;
 use x509_core::X509Error;
 use x509_ext::X509Extension;
-use x509_lists::CertificateRevocationList;
+use x509_lists::{CertificateRevocationList, RevokedCertificate, TbsCertList};
 use x509_requests::X509CriAttribute;
 
 /// A type whose values stand in maps by identifier.
@@ -62,13 +63,36 @@ fn add_values<T: Mapped>(text: &mut String, values: &BTreeMap<Oid<'_>, &T>) -> A
     Ok(())
 }
 
+/// A type whose values have a map of their extensions.
+trait Extended {
+    /// Adds the map.
+    fn add_own_map(&self, text: &mut String) -> Added;
+}
+
+impl Extended for TbsCertList<'_> {
+    fn add_own_map(&self, text: &mut String) -> Added {
+        let alloc = *text.allocator();
+        add_map(text, self.extensions_map(alloc))
+    }
+}
+
+impl Extended for RevokedCertificate<'_> {
+    fn add_own_map(&self, text: &mut String) -> Added {
+        let alloc = *text.allocator();
+        add_map(text, self.extensions_map(alloc))
+    }
+}
+
 /// Adds the extensions of a list, and then of each of its entries.
 pub(crate) fn add_list_maps(text: &mut String, list: &CertificateRevocationList<'_>) -> Added {
-    let alloc = *text.allocator();
-    add_map(text, list.tbs_cert_list.extensions_map(alloc))?;
-    for entry in list.iter_revoked_certificates() {
+    list.tbs_cert_list.add_own_map(text)?;
+    add_each_map(text, list.iter_revoked_certificates())
+}
+
+fn add_each_map<T: Extended>(text: &mut String, entries: slice::Iter<'_, T>) -> Added {
+    for entry in entries {
         text.push_str("; ")?;
-        add_map(text, entry.extensions_map(alloc))?;
+        entry.add_own_map(text)?;
     }
     Ok(())
 }

@@ -41,9 +41,8 @@ fn certificate_by<'a>(
     match depth {
         Depth::Function => parse_x509_certificate(alloc, octets),
         Depth::ShortFunction => parse_x509_der(alloc, octets),
-        Depth::Reader => X509Certificate::from_der(alloc, octets),
         Depth::Deep => X509CertificateParser::new().parse(alloc, octets),
-        Depth::Shallow => X509CertificateParser::new()
+        _ => X509CertificateParser::new()
             .with_deep_parse_extensions(false)
             .parse(alloc, octets),
     }
@@ -71,9 +70,8 @@ fn list_by<'a>(
     match depth {
         Depth::Function => parse_x509_crl(alloc, octets),
         Depth::ShortFunction => parse_crl_der(alloc, octets),
-        Depth::Reader => CertificateRevocationList::from_der(alloc, octets),
         Depth::Deep => CertificateRevocationListParser::new().parse(alloc, octets),
-        Depth::Shallow => CertificateRevocationListParser::new()
+        _ => CertificateRevocationListParser::new()
             .with_deep_parse_extensions(false)
             .parse(alloc, octets),
     }

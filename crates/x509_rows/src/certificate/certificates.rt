@@ -45,12 +45,16 @@ pub(crate) fn add_extension_among(
     octets: &[u8],
 ) -> Added {
     let alloc: Global = *text.allocator();
-    let Some(identifier) = octets_of(alloc, identifier)? else {
-        return text.push_str("no identifier");
-    };
-    match extensions_of(alloc, octets) {
-        Some(extensions) if is_unique => add_unique(text, &Oid::new(&identifier), &extensions),
-        Some(extensions) => add_first(text, &Oid::new(&identifier), &extensions),
+    match octets_of(alloc, identifier)? {
+        Some(identifier) => add_found(text, is_unique, &Oid::new(&identifier), octets),
+        None => text.push_str("no identifier"),
+    }
+}
+
+fn add_found(text: &mut String, is_unique: bool, oid: &Oid<'_>, octets: &[u8]) -> Added {
+    match extensions_of(*text.allocator(), octets) {
+        Some(extensions) if is_unique => add_unique(text, oid, &extensions),
+        Some(extensions) => add_first(text, oid, &extensions),
         None => text.push_str("out of memory"),
     }
 }
@@ -157,7 +161,7 @@ impl Called<OfCertificate> for X509Certificate<'_> {
         let alloc = *text.allocator();
         match call {
             OfCertificate::Words => add_words_before(text, self, rest),
-            OfCertificate::Copy => add_copy(text, self, self.clone(alloc)),
+            OfCertificate::Copy => add_copy(text, self),
             OfCertificate::Serial => add_serial_text(text, self.raw_serial_as_string(alloc)),
             OfCertificate::Map => add_map(text, self.extensions_map(alloc)),
             OfCertificate::Walk => walk::certificate::add_certificate(text, self),

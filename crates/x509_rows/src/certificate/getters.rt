@@ -18,12 +18,26 @@ pub(crate) fn add_extension(
         Getter::BasicConstraints => add_found(text, certificate.basic_constraints()),
         Getter::KeyUsage => add_found(text, certificate.key_usage()),
         Getter::ExtendedKeyUsage => add_found(text, certificate.extended_key_usage()),
+        Getter::IsCa => text.push_str(truth_text(certificate.is_ca())),
+        _ => add_policies(text, getter, certificate),
+    }
+}
+
+/// The same of policies.
+fn add_policies(text: &mut String, getter: Getter, certificate: &X509Certificate<'_>) -> Added {
+    match getter {
         Getter::PolicyConstraints => add_found(text, certificate.policy_constraints()),
         Getter::InhibitAnypolicy => add_found(text, certificate.inhibit_anypolicy()),
         Getter::PolicyMappings => add_found(text, certificate.policy_mappings()),
+        _ => add_names(text, getter, certificate),
+    }
+}
+
+/// The same of names.
+fn add_names(text: &mut String, getter: Getter, certificate: &X509Certificate<'_>) -> Added {
+    match getter {
         Getter::SubjectAlternativeName => add_found(text, certificate.subject_alternative_name()),
-        Getter::NameConstraints => add_found(text, certificate.name_constraints()),
-        Getter::IsCa => text.push_str(truth_text(certificate.is_ca())),
+        _ => add_found(text, certificate.name_constraints()),
     }
 }
 

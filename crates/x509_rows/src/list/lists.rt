@@ -25,11 +25,10 @@ pub(crate) fn counted_list(alloc: Global, octets: &[u8]) -> &'static str {
 
 impl Called<OfList> for CertificateRevocationList<'_> {
     fn add_called(&self, text: &mut String, call: OfList, rest: &[u8]) -> Added {
-        let alloc = *text.allocator();
         match call {
             OfList::Words => add_words_before(text, self, rest),
-            OfList::Copy => add_copy(text, self, self.clone(alloc)),
-            OfList::Serials => add_serials(text, self),
+            OfList::Copy => add_copy(text, self),
+            OfList::Serials => add_serials(text, self.iter_revoked_certificates()),
             OfList::Map => add_list_maps(text, self),
             OfList::Number => add_number(text, self),
             OfList::Walk => walk::list::add_list(text, self),

@@ -34,10 +34,9 @@ impl Called<OfRequestInfo> for X509CertificationRequestInfo<'_> {
 
 impl Called<OfAttribute> for X509CriAttribute<'_> {
     fn add_called(&self, text: &mut String, call: OfAttribute, rest: &[u8]) -> Added {
-        let alloc = *text.allocator();
         match call {
             OfAttribute::Words => add_words_before(text, self, rest),
-            OfAttribute::Copy => add_copy(text, self, self.clone(alloc)),
+            OfAttribute::Copy => add_copy(text, self),
         }
     }
 }
