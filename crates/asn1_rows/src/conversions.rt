@@ -1,65 +1,118 @@
 //! Elements, and what they mean by the conversions of `Any`.
 
 use asn1_rs::{Any, AnyConversions};
-use hex_rows::{literal, told};
-use std::alloc::Global;
-use std::io;
+use hex_rows::{Added, add_debug, found};
 
-/// What the element that begins the octets by BER's rules means at the conversion of this name.
-pub fn converted(alloc: Global, name: &str, octets: &[u8]) -> io::Result<String> {
+/// A conversion.
+#[derive(Clone, Copy)]
+enum As {
+    Bool,
+    Integer,
+    Enumerated,
+    BitString,
+    OctetString,
+    Null,
+    Oid,
+    AsOid,
+    UtcTime,
+    GeneralizedTime,
+    Sequence,
+    Set,
+    Utf8String,
+    PrintableString,
+    Ia5String,
+    U8,
+    U16,
+    U32,
+    U64,
+    I8,
+    I16,
+    I32,
+    I64,
+}
+
+const CONVERSIONS: [(&str, As); 23] = [
+    ("bool", As::Bool),
+    ("integer", As::Integer),
+    ("enumerated", As::Enumerated),
+    ("bitstring", As::BitString),
+    ("octetstring", As::OctetString),
+    ("null", As::Null),
+    ("oid", As::Oid),
+    ("as_oid", As::AsOid),
+    ("utctime", As::UtcTime),
+    ("generalizedtime", As::GeneralizedTime),
+    ("sequence", As::Sequence),
+    ("set", As::Set),
+    ("utf8string", As::Utf8String),
+    ("printablestring", As::PrintableString),
+    ("ia5string", As::Ia5String),
+    ("u8", As::U8),
+    ("u16", As::U16),
+    ("u32", As::U32),
+    ("u64", As::U64),
+    ("i8", As::I8),
+    ("i16", As::I16),
+    ("i32", As::I32),
+    ("i64", As::I64),
+];
+
+/// Adds what the element that begins the octets by BER's rules means at the conversion of this name.
+pub(crate) fn add_meaning(text: &mut String, name: &str, octets: &[u8]) -> Added {
     match Any::from_ber(octets) {
-        Ok((_, any)) => meaning(alloc, name, any),
-        Err(refusal) => told(alloc, refusal),
+        Ok((_, any)) => add_by_name(text, name, any),
+        Err(error) => add_debug(text, &error),
     }
 }
 
-/// What the element means.
-fn meaning(alloc: Global, name: &str, any: Any<'_>) -> io::Result<String> {
-    match name {
-        "bool" => told(alloc, any.as_bool(alloc)),
-        "integer" => told(alloc, any.integer(alloc)),
-        "enumerated" => told(alloc, any.enumerated(alloc)),
-        "bitstring" => told(alloc, any.bitstring(alloc)),
-        "octetstring" => told(alloc, any.octetstring(alloc)),
-        "null" => told(alloc, any.null(alloc)),
-        "oid" => told(alloc, any.oid(alloc)),
-        "as_oid" => told(alloc, any.as_oid(alloc)),
-        _ => time_or_parts(alloc, name, any),
+fn add_by_name(text: &mut String, name: &str, any: Any<'_>) -> Added {
+    match found(&CONVERSIONS, name) {
+        Some(conversion) => add_simple(text, conversion, any),
+        None => text.push_str("no kind"),
+    }
+}
+
+fn add_simple(text: &mut String, conversion: As, any: Any<'_>) -> Added {
+    let alloc = *text.allocator();
+    match conversion {
+        As::Bool => add_debug(text, &any.as_bool(alloc)),
+        As::Integer => add_debug(text, &any.integer(alloc)),
+        As::Enumerated => add_debug(text, &any.enumerated(alloc)),
+        As::BitString => add_debug(text, &any.bitstring(alloc)),
+        As::OctetString => add_debug(text, &any.octetstring(alloc)),
+        As::Null => add_debug(text, &any.null(alloc)),
+        As::Oid => add_debug(text, &any.oid(alloc)),
+        As::AsOid => add_debug(text, &any.as_oid(alloc)),
+        _ => add_time_or_parts(text, conversion, any),
     }
 }
 
 /// The same of times, sequences, sets and strings of characters.
-fn time_or_parts(alloc: Global, name: &str, any: Any<'_>) -> io::Result<String> {
-    match name {
-        "utctime" => told(alloc, any.utctime(alloc)),
-        "generalizedtime" => told(alloc, any.generalizedtime(alloc)),
-        "sequence" => told(alloc, any.sequence(alloc)),
-        "set" => told(alloc, any.set(alloc)),
-        "utf8string" => told(alloc, any.utf8string(alloc)),
-        "printablestring" => told(alloc, any.printablestring(alloc)),
-        "ia5string" => told(alloc, any.ia5string(alloc)),
-        _ => number(alloc, name, any),
+fn add_time_or_parts(text: &mut String, conversion: As, any: Any<'_>) -> Added {
+    let alloc = *text.allocator();
+    match conversion {
+        As::UtcTime => add_debug(text, &any.utctime(alloc)),
+        As::GeneralizedTime => add_debug(text, &any.generalizedtime(alloc)),
+        As::Sequence => add_debug(text, &any.sequence(alloc)),
+        As::Set => add_debug(text, &any.set(alloc)),
+        As::Utf8String => add_debug(text, &any.utf8string(alloc)),
+        As::PrintableString => add_debug(text, &any.printablestring(alloc)),
+        As::Ia5String => add_debug(text, &any.ia5string(alloc)),
+        _ => add_number(text, conversion, any),
     }
 }
 
 /// The same of the machine integers.
-fn number(alloc: Global, name: &str, any: Any<'_>) -> io::Result<String> {
-    match name {
-        "u8" => told(alloc, any.as_u8(alloc)),
-        "u16" => told(alloc, any.as_u16(alloc)),
-        "u32" => told(alloc, any.as_u32(alloc)),
-        "u64" => told(alloc, any.as_u64(alloc)),
-        _ => signed(alloc, name, any),
-    }
-}
-
-/// The same of those with a sign.
-fn signed(alloc: Global, name: &str, any: Any<'_>) -> io::Result<String> {
-    match name {
-        "i8" => told(alloc, any.as_i8(alloc)),
-        "i16" => told(alloc, any.as_i16(alloc)),
-        "i32" => told(alloc, any.as_i32(alloc)),
-        "i64" => told(alloc, any.as_i64(alloc)),
-        _ => literal(alloc, "no kind"),
+fn add_number(text: &mut String, conversion: As, any: Any<'_>) -> Added {
+    let alloc = *text.allocator();
+    match conversion {
+        As::U8 => add_debug(text, &any.as_u8(alloc)),
+        As::U16 => add_debug(text, &any.as_u16(alloc)),
+        As::U32 => add_debug(text, &any.as_u32(alloc)),
+        As::U64 => add_debug(text, &any.as_u64(alloc)),
+        As::I8 => add_debug(text, &any.as_i8(alloc)),
+        As::I16 => add_debug(text, &any.as_i16(alloc)),
+        As::I32 => add_debug(text, &any.as_i32(alloc)),
+        _ => add_debug(text, &any.as_i64(alloc)),
     }
 }

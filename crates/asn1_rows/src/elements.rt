@@ -1,26 +1,24 @@
 //! Elements of any type, one or several.
 
-use crate::headers::parts_of;
+use crate::headers::add_parts;
 use asn1_rs::{
     Any, BerParser, DerParser, Error, HeaderCount, ParseResult, SequenceIterator,
     cut_elements_counted,
 };
-use hex_rows::{hex_of, literal, told};
-use std::alloc::Global;
-use std::io;
+use hex_rows::{Added, add_debug, add_hex};
 
-/// The element that begins the octets by the rules of this name.
-pub fn element(alloc: Global, rules: &str, octets: &[u8]) -> io::Result<String> {
+/// Adds the element that begins the octets by the rules of this name.
+pub(crate) fn add_element(text: &mut String, rules: &str, octets: &[u8]) -> Added {
     match read_by(rules, octets) {
         Some(Ok((rest, any))) => {
-            let parts = parts_of(alloc, &any.header)?;
-            let content = hex_of(alloc, any.content)?;
-            let rest = hex_of(alloc, rest)?;
-            let text = format!(in alloc; "{parts}, content {content}, rest {rest}")?;
-            Ok(text)
+            add_parts(text, &any.header)?;
+            text.push_str(", content ")?;
+            add_hex(text, any.content)?;
+            text.push_str(", rest ")?;
+            add_hex(text, rest)
         }
-        Some(Err(refusal)) => told(alloc, refusal),
-        None => literal(alloc, "no kind"),
+        Some(Err(error)) => add_debug(text, &error),
+        None => text.push_str("no kind"),
     }
 }
 
@@ -33,57 +31,51 @@ fn read_by<'a>(rules: &str, octets: &'a [u8]) -> Option<ParseResult<'a, Any<'a>>
     }
 }
 
-/// How many of the shorter fronts of the octets an element begins.
-pub fn fronts(alloc: Global, rules: &str, octets: &[u8]) -> io::Result<String> {
+/// Adds how many of the shorter fronts of the octets an element begins.
+pub(crate) fn add_fronts(text: &mut String, rules: &str, octets: &[u8]) -> Added {
     let mut taken: usize = 0;
     for n in 0..octets.len() {
         if let Some(Ok(_)) = read_by(rules, &octets[..n]) {
             taken = taken.saturating_add(1);
         }
     }
-    let text = format!(in alloc; "{taken} of {} fronts", octets.len())?;
-    Ok(text)
+    write!(text, "{taken} of {} fronts", octets.len())
 }
 
-/// The octets cut into their elements, the octets behind them, and how many headers were tried.
-pub fn cut(alloc: Global, octets: &[u8]) -> io::Result<String> {
+/// Adds the octets cut into their elements, the octets behind them, and how many headers were tried.
+pub(crate) fn add_cut(text: &mut String, octets: &[u8]) -> Added {
     let mut count = HeaderCount::new();
-    let Ok(elements) = cut_elements_counted(alloc, octets, &mut count) else {
-        return literal(alloc, "out of memory");
+    let Ok(elements) = cut_elements_counted(*text.allocator(), octets, &mut count) else {
+        return text.push_str("out of memory");
     };
-    let mut text = String::new(alloc);
     for element in &elements.items {
-        let octets = hex_of(alloc, element.octets)?;
-        write!(text, "{octets} | ")?;
+        add_hex(text, element.octets)?;
+        text.push_str(" | ")?;
     }
-    let tail = hex_of(alloc, elements.tail)?;
-    write!(text, "tail {tail}, {} headers", count.get())?;
-    Ok(text)
+    text.push_str("tail ")?;
+    add_hex(text, elements.tail)?;
+    write!(text, ", {} headers", count.get())
 }
 
-/// What the iterator over numbers gives, to its end.
-pub fn items(alloc: Global, rules: &str, octets: &[u8]) -> io::Result<String> {
+/// Adds what the iterator over numbers gives, to its end.
+pub(crate) fn add_items(text: &mut String, rules: &str, octets: &[u8]) -> Added {
     match rules {
-        "ber" => ber_items(alloc, octets),
-        "der" => der_items(alloc, octets),
-        _ => literal(alloc, "no kind"),
+        "ber" => add_ber_items(text, octets)?,
+        _ => add_der_items(text, octets)?,
     }
+    text.push_str("end")
 }
 
-fn ber_items(alloc: Global, octets: &[u8]) -> io::Result<String> {
-    let mut text = String::new(alloc);
-    for item in SequenceIterator::<u32, BerParser, Error>::new(alloc, octets) {
+fn add_ber_items(text: &mut String, octets: &[u8]) -> Added {
+    for item in SequenceIterator::<u32, BerParser, Error>::new(*text.allocator(), octets) {
         write!(text, "{item:?}, ")?;
     }
-    text.push_str("end")?;
-    Ok(text)
+    Ok(())
 }
 
-fn der_items(alloc: Global, octets: &[u8]) -> io::Result<String> {
-    let mut text = String::new(alloc);
-    for item in SequenceIterator::<u32, DerParser, Error>::new(alloc, octets) {
+fn add_der_items(text: &mut String, octets: &[u8]) -> Added {
+    for item in SequenceIterator::<u32, DerParser, Error>::new(*text.allocator(), octets) {
         write!(text, "{item:?}, ")?;
     }
-    text.push_str("end")?;
-    Ok(text)
+    Ok(())
 }

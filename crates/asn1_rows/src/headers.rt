@@ -1,59 +1,54 @@
 //! Headers.
 
 use asn1_rs::{Error, Header, ParseResult};
-use hex_rows::{hex_of, literal, told};
-use std::alloc::Global;
-use std::io;
+use hex_rows::{Added, add_debug, add_hex};
 
-/// What the header reader of this name answers, or the octets that are written.
-pub fn header(alloc: Global, rules: &str, octets: &[u8]) -> io::Result<String> {
+/// Adds what the header reader of this name answers, or the octets that are written.
+pub(crate) fn add_header(text: &mut String, rules: &str, octets: &[u8]) -> Added {
     match rules {
-        "ber" => header_words(alloc, Header::from_ber(octets)),
-        "der" => header_words(alloc, Header::from_der(octets)),
-        "strict" => header_words(alloc, Header::strict(octets)),
-        "write" => written_header(alloc, octets),
-        _ => literal(alloc, "no kind"),
+        "ber" => add_read(text, Header::from_ber(octets)),
+        "der" => add_read(text, Header::from_der(octets)),
+        "strict" => add_read(text, Header::strict(octets)),
+        "write" => add_written(text, octets),
+        _ => text.push_str("no kind"),
     }
 }
 
-/// The header and how many octets are left, or the refusal.
-fn header_words(alloc: Global, read: ParseResult<'_, Header>) -> io::Result<String> {
+/// Adds the header and how many octets are left, or the error.
+fn add_read(text: &mut String, read: ParseResult<'_, Header>) -> Added {
     match read {
         Ok((rest, header)) => {
-            let parts = parts_of(alloc, &header)?;
-            let text = format!(in alloc; "{parts}, {} left", rest.len())?;
-            Ok(text)
+            add_parts(text, &header)?;
+            write!(text, ", {} left", rest.len())
         }
-        Err(refusal) => told(alloc, refusal),
+        Err(error) => add_debug(text, &error),
     }
 }
 
-/// Class, constructed bit, tag number and length.
-pub fn parts_of(alloc: Global, header: &Header) -> io::Result<String> {
-    let form = if header.is_constructed() {
-        "constructed"
-    } else {
-        "primitive"
-    };
-    let text = format!(in alloc;
-        "{:?} {form} {}, {:?}",
-        header.class(),
-        header.tag().0,
-        header.length()
-    )?;
-    Ok(text)
+/// Adds class, constructed bit, tag number and length.
+pub(crate) fn add_parts(text: &mut String, header: &Header) -> Added {
+    add_debug(text, &header.class())?;
+    text.push_str(form_text(header.is_constructed()))?;
+    write!(text, "{}, ", header.tag().0)?;
+    add_debug(text, &header.length())
 }
 
-/// The octets that are written of the header that begins the octets by BER's rules.
-fn written_header(alloc: Global, octets: &[u8]) -> io::Result<String> {
+/// The name of an element's form, between blanks.
+pub(crate) fn form_text(is_constructed: bool) -> &'static str {
+    if is_constructed {
+        " constructed "
+    } else {
+        " primitive "
+    }
+}
+
+/// Adds the octets that are written of the header that begins the octets by BER's rules.
+fn add_written(text: &mut String, octets: &[u8]) -> Added {
     match Header::from_ber(octets) {
         Ok((_, header)) => match header.strict_octets() {
-            Some(octets) => {
-                let text = hex_of(alloc, octets.as_slice())?;
-                Ok(text)
-            }
-            None => literal(alloc, "not written"),
+            Some(octets) => add_hex(text, octets.as_slice()),
+            None => text.push_str("not written"),
         },
-        Err(refusal) => told(alloc, refusal),
+        Err(error) => add_debug(text, &error),
     }
 }

@@ -1,77 +1,84 @@
 //! Values under tags.
 
-use crate::words::{Call, words};
+use crate::words::{Call, add_words};
 use asn1_rs::{
     ApplicationExplicit, ApplicationImplicit, Error, Explicit, Implicit, OptTaggedExplicit,
     OptTaggedImplicit, PrivateExplicit, PrivateImplicit, TaggedExplicit, TaggedImplicit,
     TaggedValue,
 };
-use hex_rows::literal;
-use std::alloc::Global;
-use std::io;
+use hex_rows::Added;
 
-/// What the octets are at the type of this name.
-pub fn tagged(alloc: Global, call: Call, name: &str, octets: &[u8]) -> io::Result<String> {
-    match name {
-        "TaggedExplicit<u8,0>" => words::<TaggedExplicit<u8, Error, 0>>(alloc, call, octets),
-        "TaggedImplicit<u8,0>" => words::<TaggedImplicit<u8, Error, 0>>(alloc, call, octets),
-        "TaggedImplicit<Vec<u8>,1>" => {
-            words::<TaggedImplicit<Vec<u8>, Error, 1>>(alloc, call, octets)
-        }
-        "OptTaggedExplicit<u8,0>" => words::<OptTaggedExplicit<u8, Error, 0>>(alloc, call, octets),
-        "OptTaggedImplicit<u8,0>" => words::<OptTaggedImplicit<u8, Error, 0>>(alloc, call, octets),
-        _ => other_class(alloc, call, name, octets),
+/// A type of values under a tag, or under two.
+#[derive(Clone, Copy)]
+pub(crate) enum Tagged {
+    TaggedExplicit,
+    TaggedImplicit,
+    TaggedVec,
+    OptExplicit,
+    OptImplicit,
+    ApplicationExplicit,
+    ApplicationImplicit,
+    PrivateExplicit,
+    PrivateImplicit,
+    UniversalValue,
+    ExplicitValue,
+    ImplicitValue,
+    BehindBehind,
+    BehindInPlace,
+    InPlaceBehind,
+    InPlaceInPlace,
+    ApplicationInPlace,
+}
+
+/// Adds what the octets are at the type.
+pub(crate) fn add_tagged(text: &mut String, call: Call, tagged: Tagged, octets: &[u8]) -> Added {
+    match tagged {
+        Tagged::TaggedExplicit => add_words::<TaggedExplicit<u8, Error, 0>>(text, call, octets),
+        Tagged::TaggedImplicit => add_words::<TaggedImplicit<u8, Error, 0>>(text, call, octets),
+        Tagged::TaggedVec => add_words::<TaggedImplicit<Vec<u8>, Error, 1>>(text, call, octets),
+        Tagged::OptExplicit => add_words::<OptTaggedExplicit<u8, Error, 0>>(text, call, octets),
+        Tagged::OptImplicit => add_words::<OptTaggedImplicit<u8, Error, 0>>(text, call, octets),
+        _ => add_of_class(text, call, tagged, octets),
     }
 }
 
 /// The same of tags that aren't context-specific.
-fn other_class(alloc: Global, call: Call, name: &str, octets: &[u8]) -> io::Result<String> {
-    match name {
-        "ApplicationExplicit<bool,30>" => {
-            words::<ApplicationExplicit<bool, Error, 30>>(alloc, call, octets)
-        }
-        "ApplicationImplicit<bool,31>" => {
-            words::<ApplicationImplicit<bool, Error, 31>>(alloc, call, octets)
-        }
-        "PrivateExplicit<bool,31>" => {
-            words::<PrivateExplicit<bool, Error, 31>>(alloc, call, octets)
-        }
-        "PrivateImplicit<bool,4294967295>" => {
-            words::<PrivateImplicit<bool, Error, 4_294_967_295>>(alloc, call, octets)
-        }
-        "TaggedValue<bool,Explicit,0,5>" => {
-            words::<TaggedValue<bool, Error, Explicit, 0, 5>>(alloc, call, octets)
-        }
-        "TaggedValue<u8,Explicit,4,0>" => {
-            words::<TaggedValue<u8, Error, Explicit, 4, 0>>(alloc, call, octets)
-        }
-        "TaggedValue<u8,Implicit,4,0>" => {
-            words::<TaggedValue<u8, Error, Implicit, 4, 0>>(alloc, call, octets)
-        }
-        _ => within(alloc, call, name, octets),
+fn add_of_class(text: &mut String, call: Call, tagged: Tagged, octets: &[u8]) -> Added {
+    match tagged {
+        Tagged::ApplicationExplicit => add_words::<ApplicationExplicit<bool, Error, 30>>(
+            text, call, octets,
+        ),
+        Tagged::ApplicationImplicit => add_words::<ApplicationImplicit<bool, Error, 31>>(
+            text, call, octets,
+        ),
+        Tagged::PrivateExplicit => add_words::<PrivateExplicit<bool, Error, 31>>(
+            text, call, octets,
+        ),
+        Tagged::PrivateImplicit => add_words::<PrivateImplicit<bool, Error, 4_294_967_295>>(
+            text, call, octets,
+        ),
+        Tagged::UniversalValue => add_words::<TaggedValue<bool, Error, Explicit, 0, 5>>(
+            text, call, octets,
+        ),
+        Tagged::ExplicitValue => add_words::<TaggedValue<u8, Error, Explicit, 4, 0>>(
+            text, call, octets,
+        ),
+        Tagged::ImplicitValue => add_words::<TaggedValue<u8, Error, Implicit, 4, 0>>(
+            text, call, octets,
+        ),
+        _ => add_within(text, call, tagged, octets),
     }
 }
 
 /// The same of tags within tags.
-fn within(alloc: Global, call: Call, name: &str, octets: &[u8]) -> io::Result<String> {
+fn add_within(text: &mut String, call: Call, tagged: Tagged, octets: &[u8]) -> Added {
     type Behind<T, const TAG: u32> = TaggedExplicit<T, Error, TAG>;
     type InPlace<T, const TAG: u32> = TaggedImplicit<T, Error, TAG>;
-    match name {
-        "TaggedExplicit<TaggedExplicit<u8,1>,0>" => {
-            words::<Behind<Behind<u8, 1>, 0>>(alloc, call, octets)
-        }
-        "TaggedExplicit<TaggedImplicit<u8,1>,0>" => {
-            words::<Behind<InPlace<u8, 1>, 0>>(alloc, call, octets)
-        }
-        "TaggedImplicit<TaggedExplicit<u8,1>,0>" => {
-            words::<InPlace<Behind<u8, 1>, 0>>(alloc, call, octets)
-        }
-        "TaggedImplicit<TaggedImplicit<u8,1>,0>" => {
-            words::<InPlace<InPlace<u8, 1>, 0>>(alloc, call, octets)
-        }
-        "ApplicationImplicit<TaggedImplicit<u8,1>,0>" => {
-            words::<ApplicationImplicit<InPlace<u8, 1>, Error, 0>>(alloc, call, octets)
-        }
-        _ => literal(alloc, "no kind"),
+    match tagged {
+        Tagged::BehindBehind => add_words::<Behind<Behind<u8, 1>, 0>>(text, call, octets),
+        Tagged::BehindInPlace => add_words::<Behind<InPlace<u8, 1>, 0>>(text, call, octets),
+        Tagged::InPlaceBehind => add_words::<InPlace<Behind<u8, 1>, 0>>(text, call, octets),
+        Tagged::InPlaceInPlace => add_words::<InPlace<InPlace<u8, 1>, 0>>(text, call, octets),
+        _ => add_words::<ApplicationImplicit<InPlace<u8, 1>, Error, 0>>(text, call, octets),
     }
 }

@@ -1,14 +1,12 @@
 //! What a call answers, in words.
 
 use asn1_rs::{Err, Error, FromBer, FromDer, IResult, ToDer};
-use hex_rows::{hex_of, literal, told};
-use std::alloc::Global;
+use hex_rows::{Added, add_debug, add_hex};
 use std::fmt::Debug;
-use std::io;
 
 /// What is done with the octets of a type.
 #[derive(Clone, Copy)]
-pub enum Call {
+pub(crate) enum Call {
     /// A value is read by DER's rules.
     Der,
     /// A value is read by BER's rules.
@@ -17,49 +15,49 @@ pub enum Call {
     Write,
 }
 
-/// What the octets are at the type: the value and how many octets are left, or the refusal; the octets that are written.
-pub fn words<'a, T: FromDer<'a, Error> + FromBer<'a, Error> + ToDer + Debug + Drop>(
-    alloc: Global,
+/// Adds what the octets are at the type: the value and how many octets are left, or the error; the octets that are written.
+pub(crate) fn add_words<'a, T: FromDer<'a, Error> + FromBer<'a, Error> + ToDer + Debug + Drop>(
+    text: &mut String,
     call: Call,
     octets: &'a [u8],
-) -> io::Result<String> {
+) -> Added {
+    let alloc = *text.allocator();
     match call {
-        Call::Der => told_of(alloc, T::from_der(alloc, octets)),
-        Call::Ber => told_of(alloc, T::from_ber(alloc, octets)),
+        Call::Der => add_read(text, T::from_der(alloc, octets)),
+        Call::Ber => add_read(text, T::from_ber(alloc, octets)),
         Call::Write => match T::from_ber(alloc, octets) {
-            Ok((_, value)) => written(alloc, &value),
-            Err(refusal) => told(alloc, refusal),
+            Ok((_, value)) => add_written(text, &value),
+            Err(error) => add_debug(text, &error),
         },
     }
 }
 
-/// The value and how many octets are left, or the refusal.
-fn told_of<T: Debug + Drop>(alloc: Global, read: IResult<&[u8], T, Error>) -> io::Result<String> {
+/// Adds the value and how many octets are left, or the error.
+fn add_read<T: Debug + Drop>(text: &mut String, read: IResult<&[u8], T, Error>) -> Added {
     match read {
-        Ok((rest, value)) => {
-            let text = format!(in alloc; "{value:?}, {} left", rest.len())?;
-            Ok(text)
-        }
-        Err(refusal) => told(alloc, refusal),
+        Ok((rest, value)) => write!(text, "{value:?}, {} left", rest.len()),
+        Err(error) => add_debug(text, &error),
     }
 }
 
-/// The octets that are written of the value.
-fn written<T: ToDer>(alloc: Global, value: &T) -> io::Result<String> {
+/// Adds the octets that are written of the value.
+fn add_written<T: ToDer>(text: &mut String, value: &T) -> Added {
     if !value.in_der_form() {
-        return literal(alloc, "out of DER form");
+        return text.push_str("out of DER form");
     }
-    match value.to_der_vec(alloc) {
-        Ok(octets) => {
-            if value.to_der_len() != Ok(octets.len()) {
-                return literal(alloc, "another length than is told");
-            }
-            if octets.first().is_some_and(|first| *first & 0x20 != 0) != value.der_constructed() {
-                return literal(alloc, "another form than is told");
-            }
-            let text = hex_of(alloc, octets.as_slice())?;
-            Ok(text)
-        }
-        Err(refusal) => told(alloc, refusal),
+    match value.to_der_vec(*text.allocator()) {
+        Ok(octets) => add_checked(text, value, &octets),
+        Err(error) => add_debug(text, &error),
     }
+}
+
+/// Adds the octets, where their number and their form are as the value tells them.
+fn add_checked<T: ToDer>(text: &mut String, value: &T, octets: &[u8]) -> Added {
+    if value.to_der_len() != Ok(octets.len()) {
+        return text.push_str("another length than is told");
+    }
+    if octets.first().is_some_and(|first| *first & 0x20 != 0) != value.der_constructed() {
+        return text.push_str("another form than is told");
+    }
+    add_hex(text, octets)
 }

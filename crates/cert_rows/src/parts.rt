@@ -2,84 +2,111 @@
 
 use asn1_core::Class;
 use cert_model::fields::{AlgField, AnyField, AttrField, BitField, ExtField, NameFields};
-use hex_rows::hex_of;
-use std::alloc::Global;
-use std::io;
+use hex_rows::{Added, add_hex};
+use jiff::civil::DateTime;
 
-/// A new line of a field: its name, and what stands in it.
-pub fn add_line(text: &mut String, name: &str, value: String) -> io::Result<()> {
-    write!(text, "\n  {name} {value}")?;
-    Ok(())
+/// A part that has words.
+pub(crate) trait Words {
+    /// Adds the part to the text.
+    fn add_words(&self, text: &mut String) -> Added;
 }
 
-/// An element: class, form, tag number and content.
-fn element_text(alloc: Global, element: &AnyField<'_>) -> io::Result<String> {
-    let class = match element.class {
-        Class::Universal => "universal",
-        Class::Application => "application",
-        Class::ContextSpecific => "context",
-        Class::Private => "private",
-    };
-    let form = if element.constructed {
-        "constructed"
-    } else {
-        "primitive"
-    };
-    let content = hex_of(alloc, element.content)?;
-    let text = format!(in alloc; "{class} {form} {} {content}", element.tag.0)?;
-    Ok(text)
+/// Adds a line of a field: its name, and what stands in it.
+pub(crate) fn add<T: Words>(text: &mut String, name: &str, part: &T) -> Added {
+    add_line(text, name)?;
+    part.add_words(text)
 }
 
-/// An algorithm's identifier, and its parameters where they stand.
-pub fn algorithm_text(alloc: Global, algorithm: &AlgField<'_>) -> io::Result<String> {
-    let identifier = hex_of(alloc, algorithm.identifier)?;
-    let text = match &algorithm.parameters {
-        Some(parameters) => {
-            let parameters = element_text(alloc, parameters)?;
-            format!(in alloc; "{identifier}, {parameters}")?
-        }
-        None => identifier,
-    };
-    Ok(text)
+/// Begins a line of a field.
+pub(crate) fn add_line(text: &mut String, name: &str) -> Added {
+    write!(text, "\n  {name} ")
 }
 
-/// The number of unused bits, and the octets.
-pub fn bits_text(alloc: Global, bits: &BitField<'_>) -> io::Result<String> {
-    let octets = hex_of(alloc, bits.octets)?;
-    let text = format!(in alloc; "{} unused of {octets}", bits.unused)?;
-    Ok(text)
-}
-
-/// An attribute's identifier and value.
-fn attribute_text(alloc: Global, attribute: &AttrField<'_>) -> io::Result<String> {
-    let identifier = hex_of(alloc, attribute.identifier)?;
-    let value = element_text(alloc, &attribute.value)?;
-    let text = format!(in alloc; "({identifier}, {value})")?;
-    Ok(text)
-}
-
-/// The sets of a name in brackets, each with its attributes in parentheses; `empty` of none.
-pub fn name_text(alloc: Global, name: &NameFields<'_>) -> io::Result<String> {
-    let mut text = String::new(alloc);
-    for set in &name.sets {
-        text.push('[')?;
-        for attribute in set {
-            let attribute = attribute_text(alloc, attribute)?;
-            text.push_str(attribute.as_str())?;
-        }
-        text.push(']')?;
+impl Words for DateTime {
+    fn add_words(&self, text: &mut String) -> Added {
+        write!(text, "{self}")
     }
-    if text.is_empty() {
-        text.push_str("empty")?;
-    }
-    Ok(text)
 }
 
-/// An extension: its identifier, whether it is critical, and its value.
-pub fn extension_text(alloc: Global, extension: &ExtField<'_>) -> io::Result<String> {
-    let identifier = hex_of(alloc, extension.identifier)?;
-    let value = hex_of(alloc, extension.value)?;
-    let critical = if extension.critical { "critical, " } else { "" };
-    let text = format!(in alloc; "{identifier}, {critical}{value}")?;
-    Ok(text)
+impl Words for AnyField<'_> {
+    /// An element: class, form, tag number and content.
+    fn add_words(&self, text: &mut String) -> Added {
+        let class = match self.class {
+            Class::Universal => "universal",
+            Class::Application => "application",
+            Class::ContextSpecific => "context",
+            Class::Private => "private",
+        };
+        let form = if self.constructed {
+            "constructed"
+        } else {
+            "primitive"
+        };
+        write!(text, "{class} {form} {} ", self.tag.0)?;
+        add_hex(text, self.content)
+    }
+}
+
+impl Words for AlgField<'_> {
+    /// An algorithm's identifier, and its parameters where they stand.
+    fn add_words(&self, text: &mut String) -> Added {
+        add_hex(text, self.identifier)?;
+        match &self.parameters {
+            Some(parameters) => {
+                text.push_str(", ")?;
+                parameters.add_words(text)
+            }
+            None => Ok(()),
+        }
+    }
+}
+
+impl Words for BitField<'_> {
+    /// The number of unused bits, and the octets.
+    fn add_words(&self, text: &mut String) -> Added {
+        write!(text, "{} unused of ", self.unused)?;
+        add_hex(text, self.octets)
+    }
+}
+
+impl Words for AttrField<'_> {
+    /// An attribute's identifier and value, in parentheses.
+    fn add_words(&self, text: &mut String) -> Added {
+        text.push('(')?;
+        add_hex(text, self.identifier)?;
+        text.push_str(", ")?;
+        self.value.add_words(text)?;
+        text.push(')')
+    }
+}
+
+impl Words for NameFields<'_> {
+    /// The sets of a name in brackets; `empty` of none.
+    fn add_words(&self, text: &mut String) -> Added {
+        if self.sets.is_empty() {
+            return text.push_str("empty");
+        }
+        for set in &self.sets {
+            add_set(text, set)?;
+        }
+        Ok(())
+    }
+}
+
+/// Adds a set in brackets.
+fn add_set(text: &mut String, set: &[AttrField<'_>]) -> Added {
+    text.push('[')?;
+    for attribute in set {
+        attribute.add_words(text)?;
+    }
+    text.push(']')
+}
+
+impl Words for ExtField<'_> {
+    /// An extension: its identifier, whether it is critical, and its value.
+    fn add_words(&self, text: &mut String) -> Added {
+        add_hex(text, self.identifier)?;
+        text.push_str(if self.critical { ", critical, " } else { ", " })?;
+        add_hex(text, self.value)
+    }
 }

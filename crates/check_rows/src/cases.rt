@@ -1,12 +1,12 @@
 //! A case: what was named, items, anchors, pairs, moment and demand.
 
 use crate::answers::{path_of, table_of};
-use crate::octets::octets_of;
-use crate::reports::{report_of, table_text};
+use crate::reports::{add_report, add_table};
 use crate::vouching::{VouchedPair, VouchedPairs};
 use certcheck::{Answer, Bundle, Items, OutOfMemory, Policy, check};
 use certpath_find::find;
 use certpath_run::Settings;
+use hex_rows::{Added, found, octets_of};
 use jiff::civil::DateTime;
 use std::alloc::{AllocError, Global};
 
@@ -17,18 +17,47 @@ struct Named {
     octets: Vec<u8>,
 }
 
-/// What is said to a line.
-#[derive(Drop)]
-pub enum Said {
-    Nothing,
-    /// What `check` says.
-    Check(bool),
-    /// Lines of their own.
-    Text(String),
+/// The first word of a line.
+#[derive(Clone, Copy)]
+enum Word {
+    Octets,
+    Case,
+    At,
+    Demand,
+    Items,
+    Anchors,
+    Vouch,
+    Asks(Question),
 }
 
+/// What a line asks.
+#[derive(Clone, Copy)]
+enum Question {
+    Path,
+    NoPath,
+    Other,
+    Run,
+    Find,
+}
+
+const WORDS: [(&str, Word); 12] = [
+    ("octets", Word::Octets),
+    ("case", Word::Case),
+    ("at", Word::At),
+    ("demand", Word::Demand),
+    ("items", Word::Items),
+    ("anchors", Word::Anchors),
+    ("vouch", Word::Vouch),
+    ("path", Word::Asks(Question::Path)),
+    ("none", Word::Asks(Question::NoPath)),
+    ("other", Word::Asks(Question::Other)),
+    ("run", Word::Asks(Question::Run)),
+    ("find", Word::Asks(Question::Find)),
+];
+
+/// What the lines of a case hold.
 #[derive(Drop)]
-pub struct Case {
+pub(crate) struct Case {
     named: Vec<Named>,
     moment: DateTime,
     demand_lists: bool,
@@ -47,11 +76,24 @@ fn octets_named<'a>(named: &'a [Named], name: &str) -> &'a [u8] {
     &[]
 }
 
+/// Appends the octets of each name.
+fn add_named(octets: &mut Vec<u8>, named: &[Named], names: &[&str]) -> Added {
+    for name in names {
+        octets.extend_from_slice(octets_named(named, name))?;
+    }
+    Ok(())
+}
+
 /// The items of a stream.
-fn framed(alloc: Global, octets: &[u8]) -> Option<Items> {
+fn framed(alloc: Global, octets: &[u8]) -> Result<Items, AllocError> {
     let mut bundle = Bundle::new(alloc, u32::MAX);
-    bundle.feed(octets).ok()?;
-    bundle.finish().ok()
+    if bundle.feed(octets).is_err() {
+        return Err(AllocError);
+    }
+    match bundle.finish() {
+        Ok(items) => Ok(items),
+        Err(_) => Err(AllocError),
+    }
 }
 
 fn moment_of(words: &[&str]) -> Option<DateTime> {
@@ -72,7 +114,7 @@ fn moment_of(words: &[&str]) -> Option<DateTime> {
 
 impl Case {
     /// A case that holds nothing.
-    pub fn new(alloc: Global, moment: DateTime) -> Case {
+    pub(crate) fn new(alloc: Global, moment: DateTime) -> Case {
         Case {
             named: Vec::new(alloc),
             moment,
@@ -85,62 +127,40 @@ impl Case {
         }
     }
 
-    /// Takes a line; what is said to it where it asks.
-    pub fn take(&mut self, alloc: Global, line: &str) -> Result<Said, OutOfMemory> {
+    /// Takes a line, and adds it, with what it asks for behind it.
+    pub(crate) fn add_line(&mut self, text: &mut String, line: &str) -> Added {
+        text.push_str(line)?;
+        let alloc = *text.allocator();
         let words = words_of(alloc, line)?;
         let Some((first, rest)) = words.split_first() else {
-            return Ok(Said::Nothing);
+            return Ok(());
         };
-        match *first {
-            "octets" => self.name(alloc, rest)?,
-            "case" => self.begin(alloc),
-            "at" => self.set_moment(rest),
-            "demand" => self.demand_lists = true,
-            "items" => self.add_items(rest)?,
-            "anchors" => self.add_anchors(rest)?,
-            "vouch" => self.vouch(alloc, rest)?,
-            "path" | "none" | "other" => return self.answer(alloc, first, rest),
-            "run" => return self.run(alloc, rest),
-            "find" => return self.find(alloc, rest),
-            _ => {}
+        match found(&WORDS, first) {
+            Some(Word::Asks(question)) => self.add_answer(text, question, rest),
+            Some(word) => self.take(alloc, word, rest),
+            None => Ok(()),
         }
-        Ok(Said::Nothing)
     }
 
-    /// What a run on a target writes and answers.
-    fn run(&self, alloc: Global, words: &[&str]) -> Result<Said, OutOfMemory> {
-        let Some(target) = target_of(words) else {
-            return Ok(Said::Nothing);
-        };
-        if self.moment.subsec_nanosecond() != 0 {
-            return Ok(Said::Nothing);
+    fn take(&mut self, alloc: Global, word: Word, words: &[&str]) -> Added {
+        match word {
+            Word::Octets => self.name(alloc, words),
+            Word::Items => add_named(&mut self.items, &self.named, words),
+            Word::Anchors => add_named(&mut self.anchors, &self.named, words),
+            Word::Vouch => self.vouch(alloc, words),
+            Word::At => {
+                self.set_moment(words);
+                Ok(())
+            }
+            Word::Demand => {
+                self.demand_lists = true;
+                Ok(())
+            }
+            _ => {
+                self.begin(alloc);
+                Ok(())
+            }
         }
-        let settings = Settings {
-            target,
-            policy: Policy::new(self.moment, self.demand_lists),
-            limit: u32::MAX,
-        };
-        let text = report_of(alloc, &self.items, &self.anchors, &self.vouched, &settings)?;
-        Ok(Said::Text(text))
-    }
-
-    /// The table of the answer that is found on a target.
-    fn find(&self, alloc: Global, words: &[&str]) -> Result<Said, OutOfMemory> {
-        let Some(target) = target_of(words) else {
-            return Ok(Said::Nothing);
-        };
-        if self.moment.subsec_nanosecond() != 0 {
-            return Ok(Said::Nothing);
-        }
-        let Some(items) = framed(alloc, &self.items) else {
-            return Ok(Said::Nothing);
-        };
-        let Some(anchors) = framed(alloc, &self.anchors) else {
-            return Ok(Said::Nothing);
-        };
-        let policy = Policy::new(self.moment, self.demand_lists);
-        let answer = find(alloc, &items, target, &anchors, &self.vouched, &policy)?;
-        Ok(Said::Text(table_text(alloc, &answer)?))
     }
 
     fn begin(&mut self, alloc: Global) {
@@ -152,12 +172,13 @@ impl Case {
         };
     }
 
-    fn name(&mut self, alloc: Global, words: &[&str]) -> Result<(), AllocError> {
-        if let [name, digits] = words {
-            if let Some(octets) = octets_of(alloc, digits)? {
-                let name = String::from_str(alloc, name)?;
-                self.named.push(Named { name, octets })?;
-            }
+    fn name(&mut self, alloc: Global, words: &[&str]) -> Added {
+        let [name, digits] = words else {
+            return Ok(());
+        };
+        if let Some(octets) = octets_of(alloc, digits)? {
+            let name = String::from_str(alloc, name)?;
+            self.named.push(Named { name, octets })?;
         }
         Ok(())
     }
@@ -168,74 +189,84 @@ impl Case {
         }
     }
 
-    fn add_items(&mut self, names: &[&str]) -> Result<(), AllocError> {
-        for name in names {
-            self.items
-                .extend_from_slice(octets_named(&self.named, name))?;
+    fn vouch(&mut self, alloc: Global, names: &[&str]) -> Added {
+        let Some((key, items)) = names.split_first() else {
+            return Ok(());
+        };
+        for item in items {
+            let key = Vec::from_slice(alloc, octets_named(&self.named, key))?;
+            let item = Vec::from_slice(alloc, octets_named(&self.named, item))?;
+            self.vouched.pairs.push(VouchedPair { key, item })?;
         }
         Ok(())
     }
 
-    fn add_anchors(&mut self, names: &[&str]) -> Result<(), AllocError> {
-        for name in names {
-            self.anchors
-                .extend_from_slice(octets_named(&self.named, name))?;
-        }
-        Ok(())
-    }
-
-    fn vouch(&mut self, alloc: Global, names: &[&str]) -> Result<(), AllocError> {
-        if let Some((key, items)) = names.split_first() {
-            for item in items {
-                let key = Vec::from_slice(alloc, octets_named(&self.named, key))?;
-                let item = Vec::from_slice(alloc, octets_named(&self.named, item))?;
-                self.vouched.pairs.push(VouchedPair { key, item })?;
-            }
-        }
-        Ok(())
-    }
-
-    fn answer(&self, alloc: Global, kind: &str, words: &[&str]) -> Result<Said, OutOfMemory> {
+    /// Adds what is asked of a target; nothing where the words ask for nothing.
+    fn add_answer(&self, text: &mut String, question: Question, words: &[&str]) -> Added {
         let Some((target, rest)) = words.split_first() else {
-            return Ok(Said::Nothing);
+            return Ok(());
         };
         let Ok(target) = target.parse::<usize>() else {
-            return Ok(Said::Nothing);
+            return Ok(());
         };
-        let Some(answer) = answer_of(alloc, kind, rest)? else {
-            return Ok(Said::Nothing);
-        };
-        self.says(alloc, target, &answer)
+        if self.moment.subsec_nanosecond() != 0 {
+            return Ok(());
+        }
+        let policy = Policy::new(self.moment, self.demand_lists);
+        match question {
+            Question::Run => self.add_run(text, target, policy),
+            Question::Find => self.add_found(text, target, &policy),
+            _ => match answer_of(*text.allocator(), question, rest)? {
+                Some(answer) => self.add_check(text, target, &policy, &answer),
+                None => Ok(()),
+            },
+        }
     }
 
-    fn says(&self, alloc: Global, target: usize, answer: &Answer) -> Result<Said, OutOfMemory> {
-        if self.moment.subsec_nanosecond() != 0 {
-            return Ok(Said::Nothing);
+    /// Adds what a run on a target writes and answers.
+    fn add_run(&self, text: &mut String, target: usize, policy: Policy) -> Added {
+        let settings = Settings {
+            target,
+            policy,
+            limit: u32::MAX,
+        };
+        add_report(text, &self.items, &self.anchors, &self.vouched, &settings)
+    }
+
+    /// Adds the table of the answer that is found on a target.
+    fn add_found(&self, text: &mut String, target: usize, policy: &Policy) -> Added {
+        let alloc = *text.allocator();
+        let items = framed(alloc, &self.items)?;
+        let anchors = framed(alloc, &self.anchors)?;
+        match find(alloc, &items, target, &anchors, &self.vouched, policy) {
+            Ok(answer) => add_table(text, &answer),
+            Err(OutOfMemory) => Err(AllocError),
         }
-        let Some(items) = framed(alloc, &self.items) else {
-            return Ok(Said::Nothing);
-        };
-        let Some(anchors) = framed(alloc, &self.anchors) else {
-            return Ok(Said::Nothing);
-        };
-        let policy = Policy::new(self.moment, self.demand_lists);
-        let yes = check(
+    }
+
+    /// Adds what `check` says of the answer.
+    fn add_check(
+        &self,
+        text: &mut String,
+        target: usize,
+        policy: &Policy,
+        answer: &Answer,
+    ) -> Added {
+        let alloc = *text.allocator();
+        let items = framed(alloc, &self.items)?;
+        let anchors = framed(alloc, &self.anchors)?;
+        match check(
             alloc,
             &items,
             target,
             &anchors,
             &self.vouched,
-            &policy,
+            policy,
             answer,
-        )?;
-        Ok(Said::Check(yes))
-    }
-}
-
-fn target_of(words: &[&str]) -> Option<usize> {
-    match words {
-        [target] => target.parse::<usize>().ok(),
-        _ => None,
+        ) {
+            Ok(yes) => write!(text, " = {yes}"),
+            Err(OutOfMemory) => Err(AllocError),
+        }
     }
 }
 
@@ -247,10 +278,14 @@ fn words_of<'a>(alloc: Global, line: &'a str) -> Result<Vec<&'a str>, AllocError
     Ok(words)
 }
 
-fn answer_of(alloc: Global, kind: &str, words: &[&str]) -> Result<Option<Answer>, AllocError> {
-    match kind {
-        "path" => path_of(alloc, words),
-        "none" => match table_of(alloc, words)? {
+fn answer_of(
+    alloc: Global,
+    question: Question,
+    words: &[&str],
+) -> Result<Option<Answer>, AllocError> {
+    match question {
+        Question::Path => path_of(alloc, words),
+        Question::NoPath => match table_of(alloc, words)? {
             Some(table) => Ok(Some(Answer::NoPath { table })),
             None => Ok(None),
         },

@@ -9,27 +9,20 @@
 
 mod answers;
 mod cases;
-mod octets;
 mod reports;
 mod vouching;
 
-use crate::cases::{Case, Said};
+use crate::cases::Case;
 use jiff::civil::DateTime;
 use std::io;
 
 fn main(rt: HostRuntime) -> io::Result<()> {
-    let alloc = rt.alloc();
-    let mut case = Case::new(alloc, DateTime::MIN);
-    for line in rt.lines(alloc) {
+    let mut case = Case::new(rt.alloc(), DateTime::MIN);
+    for line in rt.lines(rt.alloc()) {
         let line = line?;
-        let Ok(said) = case.take(alloc, line.as_str()) else {
-            return Err(io::Error::from(io::ErrorKind::OutOfMemory));
-        };
-        match said {
-            Said::Nothing => println!(&rt; "{line}")?,
-            Said::Check(yes) => println!(&rt; "{line} = {yes}")?,
-            Said::Text(text) => print!(&rt; "{line}\n{text}")?,
-        }
+        let mut text = String::new(rt.alloc());
+        case.add_line(&mut text, line.as_str())?;
+        println!(rt; "{text}")?;
     }
     Ok(())
 }

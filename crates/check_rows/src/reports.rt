@@ -3,21 +3,21 @@
 use crate::vouching::{VouchedPair, VouchedPairs};
 use asn1_device::{ReadSource, WriteSink};
 use cert_graph::{Answer, Reach, Table};
-use certcheck::OutOfMemory;
 use certpath_run::{Settings, run};
+use hex_rows::{Added, add_debug};
 use sha2::{Digest, Sha256};
 use std::alloc::{AllocError, Global};
 use std::io::Cursor;
 
-fn push_digest(text: &mut String, alloc: Global, octets: &[u8]) -> Result<(), AllocError> {
-    let digits = hex::encode(alloc, Sha256::digest(octets))?;
+fn add_digest(text: &mut String, octets: &[u8]) -> Added {
+    let digits = hex::encode(*text.allocator(), Sha256::digest(octets))?;
     text.push_str(digits.as_str())
 }
 
-fn push_pair(text: &mut String, alloc: Global, pair: &VouchedPair) -> Result<(), AllocError> {
-    push_digest(text, alloc, &pair.key)?;
+fn add_pair(text: &mut String, pair: &VouchedPair) -> Added {
+    add_digest(text, &pair.key)?;
     text.push(' ')?;
-    push_digest(text, alloc, &pair.item)?;
+    add_digest(text, &pair.item)?;
     text.push('\n')
 }
 
@@ -25,19 +25,20 @@ fn push_pair(text: &mut String, alloc: Global, pair: &VouchedPair) -> Result<(),
 fn voucher_text(alloc: Global, vouched: &VouchedPairs) -> Result<String, AllocError> {
     let mut text = String::new(alloc);
     for pair in &vouched.pairs {
-        push_pair(&mut text, alloc, pair)?;
+        add_pair(&mut text, pair)?;
     }
     Ok(text)
 }
 
-/// What a run over these octets writes, and what it answers.
-pub fn report_of(
-    alloc: Global,
+/// Adds what a run over these octets writes, and what it answers.
+pub(crate) fn add_report(
+    text: &mut String,
     items: &[u8],
     anchors: &[u8],
     vouched: &VouchedPairs,
     settings: &Settings,
-) -> Result<String, OutOfMemory> {
+) -> Added {
+    let alloc = *text.allocator();
     let vouchers = voucher_text(alloc, vouched)?;
     let mut bundle = ReadSource::new(Cursor::new(items));
     let mut anchors = ReadSource::new(Cursor::new(anchors));
@@ -51,17 +52,23 @@ pub fn report_of(
         settings,
         &mut sink,
     );
-    let Ok(mut text) = String::from_utf8(sink.into_inner()) else {
-        return Err(OutOfMemory);
-    };
+    add_written(text, &sink.into_inner())?;
     match answer {
-        Ok(outcome) => writeln!(text, "{outcome:?}")?,
-        Err(error) => writeln!(text, "{error:?}")?,
+        Ok(outcome) => add_debug(text, &outcome),
+        Err(error) => add_debug(text, &error),
     }
-    Ok(text)
 }
 
-fn push_reach(text: &mut String, reach: Reach) -> Result<(), AllocError> {
+/// Adds what was written, below the line.
+fn add_written(text: &mut String, octets: &[u8]) -> Added {
+    text.push('\n')?;
+    match str::from_utf8(octets) {
+        Ok(written) => text.push_str(written),
+        Err(_) => text.push_str("no text "),
+    }
+}
+
+fn add_reach(text: &mut String, reach: Reach) -> Added {
     match reach {
         Reach::No => text.push_str("No"),
         Reach::UpTo(number) => write!(text, "{number}"),
@@ -69,29 +76,27 @@ fn push_reach(text: &mut String, reach: Reach) -> Result<(), AllocError> {
     }
 }
 
-fn push_row(text: &mut String, row: &[Reach]) -> Result<(), AllocError> {
+fn add_row(text: &mut String, row: &[Reach]) -> Added {
     for (place, reach) in row.iter().enumerate() {
         text.push(if place == 0 { ' ' } else { ',' })?;
-        push_reach(text, *reach)?;
+        add_reach(text, *reach)?;
     }
     Ok(())
 }
 
-fn push_table(text: &mut String, table: &Table) -> Result<(), AllocError> {
+fn add_rows(text: &mut String, table: &Table) -> Added {
     for row in &table.rows {
-        push_row(text, row)?;
+        add_row(text, row)?;
     }
     Ok(())
 }
 
-/// The rows of an answer's table.
-pub fn table_text(alloc: Global, answer: &Answer) -> Result<String, AllocError> {
-    let mut text = String::from_str(alloc, "table")?;
+/// Adds the rows of an answer's table, below the line.
+pub(crate) fn add_table(text: &mut String, answer: &Answer) -> Added {
+    text.push_str("\ntable")?;
     match answer {
-        Answer::Path { table, .. } => push_table(&mut text, table)?,
-        Answer::NoPath { table } => push_table(&mut text, table)?,
-        Answer::NoTarget => {}
+        Answer::Path { table, .. } => add_rows(text, table),
+        Answer::NoPath { table } => add_rows(text, table),
+        Answer::NoTarget => Ok(()),
     }
-    text.push('\n')?;
-    Ok(text)
 }

@@ -1,9 +1,51 @@
-//! What the programs of rows share: octets in hex, and a value in its debug text.
+//! What the programs of rows share: rows from standard input, each printed with its outcome; names of calls; octets in hex.
+//!
+//! A program implements `Rows` and hands it to `print_rows`. Everything that a row prints is added to one text, which is handed down.
 #![tactic(auto)]
 
 use std::alloc::{AllocError, Global};
 use std::fmt::Debug;
 use std::io;
+
+/// Whether what was to be added to a text was added, or memory ran out.
+pub type Added = Result<(), AllocError>;
+
+/// What rows mean.
+pub trait Rows {
+    /// Adds what the row means.
+    fn add_outcome(&self, text: &mut String, row: &str) -> Added;
+}
+
+/// Prints each line of standard input, and behind a row `= OUTCOME`. Empty lines and those that begin with `#` are no rows.
+pub fn print_rows<R: Rows>(rt: &HostRuntime, rows: &R) -> io::Result<()> {
+    for line in rt.lines(rt.alloc()) {
+        let line = line?;
+        let mut text = String::new(rt.alloc());
+        add_line(rows, &mut text, line.as_str())?;
+        println!(rt; "{text}")?;
+    }
+    Ok(())
+}
+
+/// Adds the line, and what it means if it is a row.
+fn add_line<R: Rows>(rows: &R, text: &mut String, line: &str) -> Added {
+    text.push_str(line)?;
+    if line.is_empty() || line.starts_with('#') {
+        return Ok(());
+    }
+    text.push_str(" = ")?;
+    rows.add_outcome(text, line)
+}
+
+/// What stands beside the name.
+pub fn found<T: Copy>(table: &[(&str, T)], name: &str) -> Option<T> {
+    for (known, value) in table {
+        if *known == name {
+            return Some(*value);
+        }
+    }
+    None
+}
 
 /// The octets that the text spells; none where it spells none.
 pub fn octets_of(alloc: Global, text: &str) -> Result<Option<Vec<u8>>, AllocError> {
@@ -44,29 +86,21 @@ fn value_of(digit: char) -> Option<u8> {
     }
 }
 
-/// The octets in hex, a blank between two; `none` of no octet.
-pub fn hex_of(alloc: Global, octets: &[u8]) -> Result<String, AllocError> {
+/// Adds the octets in hex, a blank between two; `none` of no octet.
+pub fn add_hex(text: &mut String, octets: &[u8]) -> Added {
     if octets.is_empty() {
-        return String::from_str(alloc, "none");
+        return text.push_str("none");
     }
-    let mut text = String::new(alloc);
-    for octet in octets {
-        if !text.is_empty() {
+    for (place, octet) in octets.iter().enumerate() {
+        if place > 0 {
             text.push(' ')?;
         }
         write!(text, "{octet:02x}")?;
     }
-    Ok(text)
+    Ok(())
 }
 
-/// A value in its debug text.
-pub fn told<T: Debug + Drop>(alloc: Global, value: T) -> io::Result<String> {
-    let text = format!(in alloc; "{value:?}")?;
-    Ok(text)
-}
-
-/// The text as it stands.
-pub fn literal(alloc: Global, text: &str) -> io::Result<String> {
-    let text = String::from_str(alloc, text)?;
-    Ok(text)
+/// Adds the value in its debug text.
+pub fn add_debug<T: Debug>(text: &mut String, value: &T) -> Added {
+    write!(text, "{value:?}")
 }

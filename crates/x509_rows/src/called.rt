@@ -1,182 +1,128 @@
 //! Calls on what the octets of a row begin with.
 
-use crate::call::{copies, extensions, maps, names, parsers};
-use crate::certificate::{keys, names as attributes};
-use crate::list::{lists, requests};
-use crate::row::said;
-use crate::{validator, walk};
+use crate::call::grouped::add_grouped;
+use crate::call::parsers::add_parsed;
+use crate::call::words::add_on_words;
+use crate::certificate::octets::add_on_octets;
+use crate::certificate::parts::add_part;
+use crate::kinds::{
+    Kind, OfAttribute, OfCertificate, OfEntry, OfKey, OfList, OfName, OfRequest, OfRequestInfo,
+    OfSignedList, OfSignedPart,
+};
+use crate::row::Asked;
+use crate::value::algorithms::add_algorithm_value;
+use crate::value::leaves::add_leaf;
+use crate::value::types::add_value;
+use crate::words::add_refusal;
 use asn1_traits::FromDer;
-use hex_rows::literal;
-use std::alloc::Global;
-use std::io;
-use x509_core::X509Error;
-use x509_general::SubjectAlternativeName;
+use hex_rows::Added;
+use x509_certs::{TbsCertificate, X509Certificate};
+use x509_core::{X509Error, X509Result};
 use x509_lists::{CertificateRevocationList, RevokedCertificate, TbsCertList};
-use x509_parser::certificate::{TbsCertificate, X509Certificate};
-use x509_parser::prelude::{SubjectPublicKeyInfo, X509Name};
+use x509_names::{SubjectPublicKeyInfo, X509Name};
 use x509_requests::{X509CertificationRequest, X509CertificationRequestInfo, X509CriAttribute};
 
-/// What a call is on.
-#[derive(Clone, Copy)]
-pub(crate) enum Kind {
-    Certificate,
-    SignedPart,
-    List,
-    SignedList,
-    Entry,
-    Request,
-    RequestInfo,
-    Attribute,
-    Name,
-    Key,
-    AlternativeName,
-    /// Octets, which the call reads by itself: a walk, a map, or a parser's call.
-    Shallow,
-    Grouped,
-    Parser,
-    /// There is no such call.
-    Unknown,
+/// Adds what the call answers.
+pub(crate) fn add_of_kind(text: &mut String, asked: &Asked<'_>) -> Added {
+    let octets = asked.octets;
+    match asked.kind {
+        Kind::Part(part) => add_part(text, part, octets),
+        Kind::Octets(call) => add_on_octets(text, call, asked),
+        Kind::Value(value) => add_value(text, value, octets),
+        Kind::Leaf(leaf) => add_leaf(text, leaf, octets),
+        Kind::Algorithm(value) => add_algorithm_value(text, value, octets),
+        Kind::Grouped(call) => add_grouped(text, call, octets),
+        Kind::Parsed(parser) => add_parsed(text, parser, octets, asked.is_read),
+        Kind::Words(call) => add_on_words(text, call, asked.word),
+        Kind::Unknown => text.push_str("no call"),
+        _ => add_of_value(text, asked),
+    }
 }
 
-/// What the call answers of a value of the kind that begins the octets.
-pub(crate) fn call_on(alloc: Global, kind: Kind, call: &str, octets: &[u8]) -> io::Result<String> {
+/// Adds what a call answers of a value of the call's type that begins the octets.
+fn add_of_value(text: &mut String, asked: &Asked<'_>) -> Added {
+    let absent = if asked.is_read {
+        ""
+    } else {
+        noun_of(asked.kind)
+    };
+    let octets = asked.octets;
+    match asked.kind {
+        Kind::Certificate(call) => {
+            add_of::<OfCertificate, X509Certificate<'_>>(text, call, octets, absent)
+        }
+        Kind::SignedPart(call) => {
+            add_of::<OfSignedPart, TbsCertificate<'_>>(text, call, octets, absent)
+        }
+        Kind::Name(call) => add_of::<OfName, X509Name<'_>>(text, call, octets, absent),
+        Kind::Key(call) => add_of::<OfKey, SubjectPublicKeyInfo<'_>>(text, call, octets, absent),
+        kind => add_of_list(text, kind, octets, absent),
+    }
+}
+
+/// The same of lists, requests and their parts.
+fn add_of_list(text: &mut String, kind: Kind, octets: &[u8], absent: &str) -> Added {
     match kind {
-        Kind::Certificate => of::<X509Certificate<'_>>(alloc, call, octets, "no certificate"),
-        Kind::SignedPart => of::<TbsCertificate<'_>>(alloc, call, octets, "no signed part"),
-        Kind::List => of::<CertificateRevocationList<'_>>(alloc, call, octets, "no list"),
-        Kind::SignedList => of::<TbsCertList<'_>>(alloc, call, octets, "no signed part"),
-        Kind::Entry => of::<RevokedCertificate<'_>>(alloc, call, octets, "no entry"),
-        Kind::Request => of::<X509CertificationRequest<'_>>(alloc, call, octets, "no request"),
-        Kind::RequestInfo => {
-            of::<X509CertificationRequestInfo<'_>>(alloc, call, octets, "no request")
+        Kind::List(call) => {
+            add_of::<OfList, CertificateRevocationList<'_>>(text, call, octets, absent)
         }
-        Kind::Attribute => of::<X509CriAttribute<'_>>(alloc, call, octets, "no attribute"),
-        Kind::Name => of::<X509Name<'_>>(alloc, call, octets, "no name"),
-        Kind::Key => of::<SubjectPublicKeyInfo<'_>>(alloc, call, octets, "no key"),
-        Kind::AlternativeName => {
-            of::<SubjectAlternativeName<'_>>(alloc, call, octets, "no names")
+        Kind::SignedList(call) => {
+            add_of::<OfSignedList, TbsCertList<'_>>(text, call, octets, absent)
         }
-        Kind::Shallow => walk::of_shallow(alloc, call, octets),
-        Kind::Grouped => said(alloc, maps::grouped(alloc, call, octets)),
-        Kind::Parser => said(alloc, parsers::parsed(alloc, call, octets)),
-        Kind::Unknown => literal(alloc, "no call"),
+        Kind::Entry(call) => add_of::<OfEntry, RevokedCertificate<'_>>(text, call, octets, absent),
+        Kind::Request(call) => {
+            add_of::<OfRequest, X509CertificationRequest<'_>>(text, call, octets, absent)
+        }
+        Kind::RequestInfo(call) => {
+            add_of::<OfRequestInfo, X509CertificationRequestInfo<'_>>(text, call, octets, absent)
+        }
+        Kind::Attribute(call) => {
+            add_of::<OfAttribute, X509CriAttribute<'_>>(text, call, octets, absent)
+        }
+        _ => text.push_str("no call"),
+    }
+}
+
+/// What a call is on, where no value of its type begins the octets.
+fn noun_of(kind: Kind) -> &'static str {
+    match kind {
+        Kind::Certificate(_) => "no certificate",
+        Kind::List(_) => "no list",
+        Kind::SignedPart(_) => "no signed part",
+        Kind::SignedList(_) => "no signed part",
+        Kind::Name(_) => "no name",
+        Kind::Key(_) => "no key",
+        _ => "no attribute",
     }
 }
 
 /// A type with calls that rows name.
-trait Called {
-    /// What the call of this name answers of the value.
-    fn called(&self, alloc: Global, call: &str) -> io::Result<String>;
+pub(crate) trait Called<C> {
+    /// Adds what the call answers of the value, with the octets behind it.
+    fn add_called(&self, text: &mut String, call: C, rest: &[u8]) -> Added;
 }
 
-/// What the call answers of the value that begins the octets; where none does, the text that says so.
-fn of<'a, T: FromDer<'a, X509Error> + Called + Drop>(
-    alloc: Global,
-    call: &str,
+/// Adds what the call answers of the value that begins the octets; where none does, the refusal, or the words that are there for that.
+fn add_of<'a, C: Copy, T: FromDer<'a, X509Error> + Called<C> + Drop>(
+    text: &mut String,
+    call: C,
     octets: &'a [u8],
-    refused: &str,
-) -> io::Result<String> {
-    match T::from_der(alloc, octets) {
-        Ok((_, value)) => value.called(alloc, call),
-        Err(_) => literal(alloc, refused),
-    }
+    absent: &str,
+) -> Added {
+    let alloc = *text.allocator();
+    add_called_of(text, call, T::from_der(alloc, octets), absent)
 }
 
-impl Called for X509Certificate<'_> {
-    fn called(&self, alloc: Global, call: &str) -> io::Result<String> {
-        match call {
-            "copy_certificate" => said(alloc, copies::certificate(alloc, self)),
-            "raw_serial_as_string" => said(alloc, copies::serial(alloc, self)),
-            "extensions_map" => said(alloc, extensions::of_certificate(alloc, self)),
-            "certificate" => walk::of_certificate(alloc, self),
-            _ => validator::of_certificate(alloc, call, self),
-        }
-    }
-}
-
-impl Called for TbsCertificate<'_> {
-    fn called(&self, alloc: Global, call: &str) -> io::Result<String> {
-        match call {
-            "tbs_raw_serial_as_string" => said(alloc, copies::first_part_serial(alloc, self)),
-            "tbs_extensions_map" => said(alloc, extensions::of_first_part(alloc, self)),
-            "tbs-certificate" => walk::of_tbs_certificate(alloc, self),
-            _ => validator::of_tbs(alloc, call, self),
-        }
-    }
-}
-
-impl Called for CertificateRevocationList<'_> {
-    fn called(&self, alloc: Global, call: &str) -> io::Result<String> {
-        match call {
-            "copy_list" => said(alloc, copies::list(alloc, self)),
-            "entry_serials" => said(alloc, copies::entry_serials(alloc, self)),
-            "list_extensions_map" => said(alloc, extensions::of_list(alloc, self)),
-            "crl_number" => lists::crl_number(alloc, self),
-            _ => walk::of_list(alloc, self),
-        }
-    }
-}
-
-impl Called for TbsCertList<'_> {
-    fn called(&self, alloc: Global, _call: &str) -> io::Result<String> {
-        walk::of_tbs_list(alloc, self)
-    }
-}
-
-impl Called for RevokedCertificate<'_> {
-    fn called(&self, alloc: Global, call: &str) -> io::Result<String> {
-        match call {
-            "reason_code" => lists::reason_code(alloc, self),
-            _ => lists::invalidity_date(alloc, self),
-        }
-    }
-}
-
-impl Called for X509CertificationRequest<'_> {
-    fn called(&self, alloc: Global, _call: &str) -> io::Result<String> {
-        requests::requested(alloc, self)
-    }
-}
-
-impl Called for X509CertificationRequestInfo<'_> {
-    fn called(&self, alloc: Global, call: &str) -> io::Result<String> {
-        match call {
-            "find_attribute" => requests::found_attribute(alloc, self),
-            _ => requests::mapped_attributes(alloc, self),
-        }
-    }
-}
-
-impl Called for X509CriAttribute<'_> {
-    fn called(&self, alloc: Global, _call: &str) -> io::Result<String> {
-        said(alloc, copies::attribute(alloc, self))
-    }
-}
-
-impl Called for X509Name<'_> {
-    fn called(&self, alloc: Global, call: &str) -> io::Result<String> {
-        match call {
-            "shown" => said(alloc, names::name(alloc, self)),
-            "registered" => said(alloc, names::registered(alloc, self)),
-            _ => match call.strip_prefix("iter_") {
-                Some(walked) => attributes::attributes(alloc, walked, self),
-                None => validator::of_name(alloc, self),
-            },
-        }
-    }
-}
-
-impl Called for SubjectPublicKeyInfo<'_> {
-    fn called(&self, alloc: Global, call: &str) -> io::Result<String> {
-        match call {
-            "parsed" => keys::parsed(alloc, self),
-            _ => validator::of_key(alloc, self),
-        }
-    }
-}
-
-impl Called for SubjectAlternativeName<'_> {
-    fn called(&self, alloc: Global, _call: &str) -> io::Result<String> {
-        said(alloc, names::general(alloc, self))
+/// The same of a value that was read.
+pub(crate) fn add_called_of<C: Copy, T: Called<C> + Drop>(
+    text: &mut String,
+    call: C,
+    read: X509Result<'_, T>,
+    absent: &str,
+) -> Added {
+    match read {
+        Ok((rest, value)) => value.add_called(text, call, rest),
+        Err(refusal) if absent.is_empty() => add_refusal(text, &refusal),
+        Err(_) => text.push_str(absent),
     }
 }

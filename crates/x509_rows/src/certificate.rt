@@ -3,10 +3,9 @@
 mod certificates;
 mod extensions;
 mod getters;
-pub(crate) mod keys;
+mod keys;
 pub(crate) mod names;
 mod objects;
-mod row;
+pub(crate) mod octets;
+pub(crate) mod parts;
 mod times;
-
-pub(crate) use crate::certificate::row::outcome;

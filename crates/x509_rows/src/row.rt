@@ -1,50 +1,63 @@
 //! A row, taken to its call.
 
-use crate::called::call_on;
-use crate::{call, certificate, list, validator, value, walk};
-use asn1_core::OutOfMemory;
-use hex_rows::{literal, octets_of};
+use crate::called::add_of_kind;
+use crate::kinds::Kind;
+use crate::tables::{Group, kind_of, table_of};
+use hex_rows::{Added, octets_of};
 use std::alloc::Global;
-use std::io;
 
-/// What the call of the row answers.
-pub(crate) fn outcome(alloc: Global, line: &str) -> io::Result<String> {
+/// A row: its call, the word behind the call's name, if any, and its octets.
+#[derive(Clone, Copy)]
+pub(crate) struct Asked<'r> {
+    /// What its call is on.
+    pub kind: Kind,
+    /// The word behind a colon; of a call on words all that stands behind the call.
+    pub word: &'r str,
+    /// Whether a refusal of the octets is told, and not that there is no such value alone.
+    pub is_read: bool,
+    /// The octets.
+    pub octets: &'r [u8],
+}
+
+/// Adds what the call of the row answers.
+pub(crate) fn add_row(text: &mut String, line: &str) -> Added {
     let (group, row) = line.split_once(' ').unwrap_or((line, ""));
     let (call, words) = row.split_once(' ').unwrap_or((row, ""));
-    match group {
-        "validator" if call == "refusal" => validator::refusal(alloc, words),
-        "call" if call::is_on_words(call) => said(alloc, call::on_words(alloc, call, words)),
-        "certificate" | "list" | "value" | "walk" | "validator" | "call" => {
-            spelled(alloc, group, call, words)
-        }
-        _ => literal(alloc, "no group"),
+    match table_of(group) {
+        Some(group) => add_of_group(text, group, call, words),
+        None => text.push_str("no group"),
     }
 }
 
-/// What the call answers of the octets that the digits spell.
-fn spelled(alloc: Global, group: &str, call: &str, digits: &str) -> io::Result<String> {
+fn add_of_group(text: &mut String, group: Group, call: &str, words: &str) -> Added {
+    let (name, word) = call.split_once(':').unwrap_or((call, words));
+    let asked = Asked {
+        kind: kind_of(group, name),
+        word,
+        is_read: matches!(group, Group::Certificate | Group::List | Group::Value),
+        octets: &[],
+    };
+    match asked.kind {
+        Kind::Words(_) => add_of_kind(text, &asked),
+        _ => add_spelled(text, &asked, words),
+    }
+}
+
+/// Adds what the call answers of the octets that the digits spell.
+fn add_spelled(text: &mut String, asked: &Asked<'_>, digits: &str) -> Added {
+    let alloc: Global = *text.allocator();
     match octets_of(alloc, digits)? {
-        Some(octets) => on_octets(alloc, group, call, octets.as_slice()),
-        None => literal(alloc, "no octets"),
+        Some(octets) => add_on_octets(text, asked, &octets),
+        None => text.push_str("no octets"),
     }
 }
 
-/// What the group's call answers of the octets.
-fn on_octets(alloc: Global, group: &str, call: &str, octets: &[u8]) -> io::Result<String> {
-    match group {
-        "certificate" => certificate::outcome(alloc, call, octets),
-        "list" => list::outcome(alloc, call, octets),
-        "value" => value::outcome(alloc, call, octets),
-        "walk" => call_on(alloc, walk::kind_of(call), call, octets),
-        "validator" => call_on(alloc, validator::kind_of(call), call, octets),
-        _ => call_on(alloc, call::kind_of(call), call, octets),
-    }
-}
-
-/// The answer, or that memory is wanted.
-pub(crate) fn said(alloc: Global, answer: Result<String, OutOfMemory>) -> io::Result<String> {
-    match answer {
-        Ok(text) => Ok(text),
-        Err(OutOfMemory) => literal(alloc, "want of memory"),
-    }
+fn add_on_octets(text: &mut String, asked: &Asked<'_>, octets: &[u8]) -> Added {
+    let asked = Asked {
+        kind: asked.kind,
+        word: asked.word,
+        is_read: asked.is_read,
+        octets,
+    };
+    add_of_kind(text, &asked)
 }

@@ -1,8 +1,6 @@
-//! Values of extensions by themselves, and parameters of algorithms: the row's call is the type that is read.
+//! Values of extensions by themselves, and parameters of algorithms.
 
-mod algorithms;
-mod leaves;
-mod row;
-mod told;
-
-pub(crate) use crate::value::row::outcome;
+pub(crate) mod algorithms;
+pub(crate) mod leaves;
+mod read;
+pub(crate) mod types;

@@ -1,118 +1,91 @@
 //! What a reader answers, in words.
 
 use asn1_any::Any;
-use asn1_core::{Class, Err as Refusal};
+use asn1_core::{Class, Err as Refusal, OutOfMemory};
 use asn1_traits::FromDer;
 use asn1_values::BitString;
-use hex_rows::{hex_of, literal, told};
-use std::alloc::{AllocError, Global};
+use hex_rows::{Added, add_hex};
+use std::alloc::AllocError;
 use std::fmt::Display;
-use std::{io, slice};
+use std::slice;
 use x509_core::{X509Error, X509Result};
 
 /// A value that has words.
 pub(crate) trait Words {
     /// Adds the value's parts to the text, in the order of its fields.
-    fn add_words(&self, text: &mut String) -> Result<(), AllocError>;
+    fn add_words(&self, text: &mut String) -> Added;
 }
 
-/// The words of the value that begins the octets, and the octets after it, or the refusal.
-pub(crate) fn read_of<'a, T: FromDer<'a, X509Error> + Words + Drop>(
-    alloc: Global,
+/// Adds the words of the value that begins the octets, and the octets after it, or the refusal.
+pub(crate) fn add_read<'a, T: FromDer<'a, X509Error> + Words + Drop>(
+    text: &mut String,
     octets: &'a [u8],
-) -> io::Result<String> {
-    told_of(alloc, T::from_der(alloc, octets))
-}
-
-/// The value's words and the octets after it, or the refusal.
-pub(crate) fn told_of<T: Words + Drop>(
-    alloc: Global,
-    read: X509Result<'_, T>,
-) -> io::Result<String> {
-    match read {
-        Ok((rest, value)) => words_before(alloc, &value, rest),
-        Err(refusal) => refusal_text(alloc, refusal),
+) -> Added {
+    let alloc = *text.allocator();
+    match T::from_der(alloc, octets) {
+        Ok((rest, value)) => add_words_before(text, &value, rest),
+        Err(refusal) => add_refusal(text, &refusal),
     }
 }
 
-/// The value's words.
-pub(crate) fn words_of<T: Words>(alloc: Global, value: &T) -> io::Result<String> {
-    let mut text = String::new(alloc);
-    value.add_words(&mut text)?;
-    Ok(text)
-}
-
-/// The value's words, or the error.
-pub(crate) fn words_or_error<T: Words + Drop>(
-    alloc: Global,
-    made: Result<T, X509Error>,
-) -> io::Result<String> {
+/// Adds the value's words, or the error.
+pub(crate) fn add_made<T: Words + Drop>(text: &mut String, made: Result<T, X509Error>) -> Added {
     match made {
-        Ok(value) => words_of(alloc, &value),
-        Err(error) => error_text(alloc, error),
+        Ok(value) => value.add_words(text),
+        Err(error) => add_error(text, &error),
     }
 }
 
-/// The value's words, and the octets after it.
-pub(crate) fn words_before<T: Words>(alloc: Global, value: &T, rest: &[u8]) -> io::Result<String> {
-    let mut text = String::new(alloc);
-    value.add_words(&mut text)?;
-    add_rest(&mut text, rest)?;
-    Ok(text)
+/// Adds the value's words, and the octets after it.
+pub(crate) fn add_words_before<T: Words>(text: &mut String, value: &T, rest: &[u8]) -> Added {
+    value.add_words(text)?;
+    add_rest(text, rest)
 }
 
-/// The value as text, and the octets after it.
-pub(crate) fn text_before<T: Display>(alloc: Global, value: &T, rest: &[u8]) -> io::Result<String> {
-    let mut text = String::new(alloc);
+/// Adds the value as text, and the octets after it.
+pub(crate) fn add_text_before<T: Display>(text: &mut String, value: &T, rest: &[u8]) -> Added {
     write!(text, "{value}")?;
-    add_rest(&mut text, rest)?;
-    Ok(text)
+    add_rest(text, rest)
 }
 
-/// The octets of a value in hex, and those after it.
-pub(crate) fn hex_before(alloc: Global, octets: &[u8], rest: &[u8]) -> io::Result<String> {
-    let mut text = hex_of(alloc, octets)?;
-    add_rest(&mut text, rest)?;
-    Ok(text)
+/// Adds the octets of a value in hex, and those after it.
+pub(crate) fn add_hex_before(text: &mut String, octets: &[u8], rest: &[u8]) -> Added {
+    add_hex(text, octets)?;
+    add_rest(text, rest)
 }
 
 /// Adds the octets after a value.
-pub(crate) fn add_rest(text: &mut String, rest: &[u8]) -> Result<(), AllocError> {
+pub(crate) fn add_rest(text: &mut String, rest: &[u8]) -> Added {
     text.push_str("; rest ")?;
     add_hex(text, rest)
 }
 
-/// Adds the octets in hex.
-pub(crate) fn add_hex(text: &mut String, octets: &[u8]) -> Result<(), AllocError> {
-    let hex = hex_of(*text.allocator(), octets)?;
-    text.push_str(hex.as_str())
-}
-
-/// The refusal; of an error of the readers below its kind alone, since which one it is isn't promised.
-pub(crate) fn refusal_text(alloc: Global, refusal: Refusal<X509Error>) -> io::Result<String> {
+/// Adds the refusal; of an error of the readers below its kind alone, since which one it is isn't promised.
+pub(crate) fn add_refusal(text: &mut String, refusal: &Refusal<X509Error>) -> Added {
     match refusal {
         Refusal::Error(error) => {
-            let error = error_text(alloc, error)?;
-            let text = format!(in alloc; "Error({error})")?;
-            Ok(text)
+            text.push_str("Error(")?;
+            add_error(text, error)?;
+            text.push(')')
         }
-        refusal => told(alloc, refusal),
+        refusal => write!(text, "{refusal:?}"),
     }
 }
 
-/// The error's name.
-pub(crate) fn error_text(alloc: Global, error: X509Error) -> io::Result<String> {
-    let mut text = String::new(alloc);
-    add_error(&mut text, &error)?;
-    Ok(text)
-}
-
 /// Adds the error's name.
-pub(crate) fn add_error(text: &mut String, error: &X509Error) -> Result<(), AllocError> {
+pub(crate) fn add_error(text: &mut String, error: &X509Error) -> Added {
     match error {
         X509Error::Der(_) => text.push_str("Der"),
         X509Error::NomError(_) => text.push_str("NomError"),
         error => write!(text, "{error:?}"),
+    }
+}
+
+/// What was made, or that memory ran out.
+pub(crate) fn had<T>(made: Result<T, OutOfMemory>) -> Result<T, AllocError> {
+    match made {
+        Ok(value) => Ok(value),
+        Err(OutOfMemory) => Err(AllocError),
     }
 }
 
@@ -134,7 +107,7 @@ pub(crate) fn truth_text(is_true: bool) -> &'static str {
 }
 
 /// Adds an element: class, form, tag number and content.
-pub(crate) fn add_element(text: &mut String, any: &Any<'_>) -> Result<(), AllocError> {
+pub(crate) fn add_element(text: &mut String, any: &Any<'_>) -> Added {
     let class = match any.header.class() {
         Class::Universal => "universal",
         Class::Application => "application",
@@ -151,7 +124,7 @@ pub(crate) fn add_element(text: &mut String, any: &Any<'_>) -> Result<(), AllocE
 }
 
 /// Adds a line of a part.
-pub(crate) fn add<T: Words>(text: &mut String, name: &str, part: &T) -> Result<(), AllocError> {
+pub(crate) fn add<T: Words>(text: &mut String, name: &str, part: &T) -> Added {
     write!(text, "\n  {name} ")?;
     part.add_words(text)
 }
@@ -161,7 +134,7 @@ pub(crate) fn add_each<T: Words>(
     text: &mut String,
     name: &str,
     parts: slice::Iter<'_, T>,
-) -> Result<(), AllocError> {
+) -> Added {
     for part in parts {
         add(text, name, part)?;
     }
@@ -170,7 +143,7 @@ pub(crate) fn add_each<T: Words>(
 
 impl Words for BitString<'_> {
     /// The number of unused bits, and the octets.
-    fn add_words(&self, text: &mut String) -> Result<(), AllocError> {
+    fn add_words(&self, text: &mut String) -> Added {
         write!(text, "{} unused of ", self.unused_bits)?;
         add_hex(text, self.content)
     }

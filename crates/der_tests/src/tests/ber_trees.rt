@@ -1,5 +1,5 @@
 //! The forms of lengths that objects tell, and a sequence of thousands of parts. Rows of octets are those of the program
-//! `der_rows`.
+//! `asn1_rows`.
 
 use super::{counts, has_parts, numbers, reads, seen, tells};
 use ber_tree::{more_ber_levels, one_ber_tree, parse_ber, strict_is_ber};

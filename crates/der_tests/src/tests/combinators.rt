@@ -1,4 +1,4 @@
-//! Each combinator with a closure that takes, leaves and refuses. Rows of octets are those of the program `der_rows`.
+//! Each combinator with a closure that takes, leaves and refuses. Rows of octets are those of the program `asn1_rows`.
 
 use super::{content_of, is_written, reads, tells};
 use asn1_core::{Err as Refusal, Error, Header, Tag};

@@ -1,4 +1,4 @@
-//! Calls one by one, a sequence of thousands of parts, and devices. Rows of octets are those of the program `der_rows`.
+//! Calls one by one, a sequence of thousands of parts, and devices. Rows of octets are those of the program `asn1_rows`.
 
 use super::{answers, counts, is_written, numbers, reads, says, tells};
 use asn1_core::{Error, HeaderCount};

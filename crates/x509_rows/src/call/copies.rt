@@ -1,80 +1,80 @@
-//! Copies, and numbers as text.
+//! Copies, and serial numbers as text.
 
-use crate::call::row::answer;
+use crate::words::{Words, had};
 use asn1_core::OutOfMemory;
+use hex_rows::Added;
 use std::alloc::Global;
-use x509_certs::{TbsCertificate, X509Certificate};
-use x509_lists::CertificateRevocationList;
+use std::slice;
+use x509_certs::X509Certificate;
+use x509_lists::{CertificateRevocationList, RevokedCertificate};
 use x509_requests::X509CriAttribute;
 
-/// Whether the copy of the certificate is the same.
-pub(crate) fn certificate(
-    alloc: Global,
-    certificate: &X509Certificate<'_>,
-) -> Result<String, OutOfMemory> {
-    let copy = certificate.clone(alloc)?;
-    same(alloc, copy == *certificate)
+/// A type whose values are copied.
+pub(crate) trait Copied: Sized {
+    /// The copy.
+    fn copied(&self, alloc: Global) -> Result<Self, OutOfMemory>;
 }
 
-/// Whether the copy of the list is the same, part by part.
-pub(crate) fn list(
-    alloc: Global,
-    list: &CertificateRevocationList<'_>,
-) -> Result<String, OutOfMemory> {
-    let copy = list.clone(alloc)?;
-    same(alloc, are_same(&copy, list))
-}
-
-fn are_same<'a>(
-    copy: &CertificateRevocationList<'a>,
-    list: &CertificateRevocationList<'a>,
-) -> bool {
-    copy.tbs_cert_list == list.tbs_cert_list
-        && copy.signature_algorithm == list.signature_algorithm
-        && copy.signature_value == list.signature_value
-        && copy.as_raw() == list.as_raw()
-}
-
-/// Whether the copy of the attribute is the same.
-pub(crate) fn attribute(
-    alloc: Global,
-    attribute: &X509CriAttribute<'_>,
-) -> Result<String, OutOfMemory> {
-    let copy = attribute.clone(alloc)?;
-    same(alloc, copy == *attribute)
-}
-
-fn same(alloc: Global, is_same: bool) -> Result<String, OutOfMemory> {
-    answer(alloc, if is_same { "the same" } else { "another" })
-}
-
-/// The serial number of the certificate.
-pub(crate) fn serial(
-    alloc: Global,
-    certificate: &X509Certificate<'_>,
-) -> Result<String, OutOfMemory> {
-    let text = certificate.raw_serial_as_string(alloc)?;
-    Ok(text)
-}
-
-/// The serial number of a certificate's first part.
-pub(crate) fn first_part_serial(
-    alloc: Global,
-    tbs: &TbsCertificate<'_>,
-) -> Result<String, OutOfMemory> {
-    let text = tbs.raw_serial_as_string(alloc)?;
-    Ok(text)
-}
-
-/// The serial numbers of the list's entries, each behind a blank.
-pub(crate) fn entry_serials(
-    alloc: Global,
-    list: &CertificateRevocationList<'_>,
-) -> Result<String, OutOfMemory> {
-    let mut text = String::from_str(alloc, "serials")?;
-    for entry in list.iter_revoked_certificates() {
-        let serial = entry.raw_serial_as_string(alloc)?;
-        write!(text, " {serial}")?;
+impl Copied for X509Certificate<'_> {
+    fn copied(&self, alloc: Global) -> Result<Self, OutOfMemory> {
+        self.clone(alloc)
     }
-    Ok(text)
+}
+
+impl Copied for CertificateRevocationList<'_> {
+    fn copied(&self, alloc: Global) -> Result<Self, OutOfMemory> {
+        self.clone(alloc)
+    }
+}
+
+impl Copied for X509CriAttribute<'_> {
+    fn copied(&self, alloc: Global) -> Result<Self, OutOfMemory> {
+        self.clone(alloc)
+    }
+}
+
+/// Adds whether a copy has the words of the value.
+pub(crate) fn add_copy<T: Copied + Words + Drop>(text: &mut String, value: &T) -> Added {
+    let copy = had(value.copied(*text.allocator()))?;
+    add_same(text, value, &copy)
+}
+
+fn add_same<T: Words>(text: &mut String, value: &T, copy: &T) -> Added {
+    let mut words = String::new(*text.allocator());
+    value.add_words(&mut words)?;
+    let mut others = String::new(*text.allocator());
+    copy.add_words(&mut others)?;
+    text.push_str(if words.as_str() == others.as_str() {
+        "the same"
+    } else {
+        "another"
+    })
+}
+
+/// Adds a serial number.
+pub(crate) fn add_serial(text: &mut String, serial: Result<String, OutOfMemory>) -> Added {
+    let serial = had(serial)?;
+    text.push_str(&serial)
+}
+
+/// A type whose values have a serial number.
+pub(crate) trait Numbered {
+    /// The serial number as text.
+    fn number(&self, alloc: Global) -> Result<String, OutOfMemory>;
+}
+
+impl Numbered for RevokedCertificate<'_> {
+    fn number(&self, alloc: Global) -> Result<String, OutOfMemory> {
+        self.raw_serial_as_string(alloc)
+    }
+}
+
+/// Adds the serial number of each, behind a blank.
+pub(crate) fn add_serials<T: Numbered>(text: &mut String, entries: slice::Iter<'_, T>) -> Added {
+    text.push_str("serials")?;
+    for entry in entries {
+        text.push(' ')?;
+        add_serial(text, entry.number(*text.allocator()))?;
+    }
+    Ok(())
 }

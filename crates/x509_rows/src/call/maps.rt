@@ -1,95 +1,98 @@
-//! Values by identifier.
+//! Extensions and attributes by their identifiers.
 
-use asn1_core::OutOfMemory;
+use crate::words::{Words, add_error};
 use asn1_oid::Oid;
-use asn1_traits::FromDer;
-use std::alloc::Global;
+use hex_rows::Added;
+use std::alloc::AllocError;
 use std::collections::BTreeMap;
-use std::fmt::Display;
-use x509_general::{AuthorityInfoAccess, SubjectInfoAccess};
-use x509_policies::PolicyMappings;
+use std::slice;
+use x509_core::X509Error;
+use x509_ext::X509Extension;
+use x509_lists::{CertificateRevocationList, RevokedCertificate, TbsCertList};
+use x509_requests::X509CriAttribute;
 
-type Groups<'a, T> = Result<BTreeMap<Oid<'a>, Vec<T>>, OutOfMemory>;
+/// A type whose values stand in maps by identifier.
+pub(crate) trait Mapped {
+    /// What stands behind the number of values.
+    fn behind_count() -> &'static str;
 
-// Each identifier with its values, lent or handed over.
-fn tell_groups<T: Display + Drop>(
-    groups: Groups<'_, T>,
-    text: &mut String,
-) -> Result<(), OutOfMemory> {
-    match groups {
-        Ok(groups) => tell_each(&groups, text),
-        Err(OutOfMemory) => Err(OutOfMemory),
+    /// Adds a value behind its identifier.
+    fn add_at(&self, text: &mut String, oid: &Oid<'_>) -> Added;
+}
+
+impl Mapped for X509Extension<'_> {
+    fn behind_count() -> &'static str {
+        " of them"
+    }
+
+    /// How many octets the extension's value has.
+    fn add_at(&self, text: &mut String, oid: &Oid<'_>) -> Added {
+        write!(text, " {oid} of {}", self.value.len())
     }
 }
 
-fn tell_each<T: Display>(
-    groups: &BTreeMap<Oid<'_>, Vec<T>>,
+impl Mapped for X509CriAttribute<'_> {
+    fn behind_count() -> &'static str {
+        ""
+    }
+
+    /// The attribute's words.
+    fn add_at(&self, text: &mut String, oid: &Oid<'_>) -> Added {
+        write!(text, "\n  at {oid}: ")?;
+        self.add_words(text)
+    }
+}
+
+/// Adds how many values the map has, and each behind its identifier, in their order; or the error.
+pub(crate) fn add_map<T: Mapped>(
     text: &mut String,
-) -> Result<(), OutOfMemory> {
-    for (oid, values) in groups.iter() {
-        tell_group(oid, values, text)?;
+    by_identifier: Result<BTreeMap<Oid<'_>, &T>, X509Error>,
+) -> Added {
+    match by_identifier {
+        Ok(values) => add_values(text, &values),
+        Err(X509Error::OutOfMemory) => Err(AllocError),
+        Err(error) => add_error(text, &error),
+    }
+}
+
+fn add_values<T: Mapped>(text: &mut String, values: &BTreeMap<Oid<'_>, &T>) -> Added {
+    write!(text, "{}{}", values.len(), T::behind_count())?;
+    for (oid, value) in values.iter() {
+        value.add_at(text, oid)?;
     }
     Ok(())
 }
 
-// The identifier and each value, behind a blank.
-fn tell_group<T: Display>(
-    oid: &Oid<'_>,
-    values: &[T],
-    text: &mut String,
-) -> Result<(), OutOfMemory> {
-    write!(text, " {oid}")?;
-    for value in values {
-        write!(text, " {value}")?;
+/// A type whose values have a map of their extensions.
+trait Extended {
+    /// Adds the map.
+    fn add_own_map(&self, text: &mut String) -> Added;
+}
+
+impl Extended for TbsCertList<'_> {
+    fn add_own_map(&self, text: &mut String) -> Added {
+        let alloc = *text.allocator();
+        add_map(text, self.extensions_map(alloc))
     }
-    say(text, ";")
 }
 
-/// Values by identifier, by the call of this name.
-pub(crate) fn grouped(alloc: Global, call: &str, octets: &[u8]) -> Result<String, OutOfMemory> {
-    let mut text = String::new(alloc);
-    match call {
-        "authority_info" => authority_info(alloc, octets, &mut text)?,
-        "subject_info" => subject_info(alloc, octets, &mut text)?,
-        _ => mappings(alloc, octets, &mut text)?,
+impl Extended for RevokedCertificate<'_> {
+    fn add_own_map(&self, text: &mut String) -> Added {
+        let alloc = *text.allocator();
+        add_map(text, self.extensions_map(alloc))
     }
-    Ok(text)
 }
 
-/// The places of what the issuer offers, by what is to be had there.
-fn authority_info(alloc: Global, octets: &[u8], text: &mut String) -> Result<(), OutOfMemory> {
-    let Ok((_, info)) = AuthorityInfoAccess::from_der(alloc, octets) else {
-        return say(text, "no places");
-    };
-    say(text, "lent")?;
-    tell_groups(info.as_hashmap(alloc), text)?;
-    say(text, " given")?;
-    tell_groups(info.into_hashmap(alloc), text)
+/// Adds the extensions of a list, and then of each of its entries.
+pub(crate) fn add_list_maps(text: &mut String, list: &CertificateRevocationList<'_>) -> Added {
+    list.tbs_cert_list.add_own_map(text)?;
+    add_each_map(text, list.iter_revoked_certificates())
 }
 
-/// The same of what the subject offers.
-fn subject_info(alloc: Global, octets: &[u8], text: &mut String) -> Result<(), OutOfMemory> {
-    let Ok((_, info)) = SubjectInfoAccess::from_der(alloc, octets) else {
-        return say(text, "no places");
-    };
-    say(text, "lent")?;
-    tell_groups(info.as_hashmap(alloc), text)?;
-    say(text, " given")?;
-    tell_groups(info.into_hashmap(alloc), text)
-}
-
-/// The subject's policies by the issuer's.
-fn mappings(alloc: Global, octets: &[u8], text: &mut String) -> Result<(), OutOfMemory> {
-    let Ok((_, mappings)) = PolicyMappings::from_der(alloc, octets) else {
-        return say(text, "no mappings");
-    };
-    say(text, "lent")?;
-    tell_groups(mappings.as_hashmap(alloc), text)?;
-    say(text, " given")?;
-    tell_groups(mappings.into_hashmap(alloc), text)
-}
-
-fn say(text: &mut String, words: &str) -> Result<(), OutOfMemory> {
-    text.push_str(words)?;
+fn add_each_map<T: Extended>(text: &mut String, entries: slice::Iter<'_, T>) -> Added {
+    for entry in entries {
+        text.push_str("; ")?;
+        entry.add_own_map(text)?;
+    }
     Ok(())
 }

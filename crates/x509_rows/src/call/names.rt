@@ -1,58 +1,53 @@
 //! Names as text.
 
-use crate::call::row::answer;
+use crate::words::had;
 use asn1_any::Any;
 use asn1_core::{OutOfMemory, Tag};
 use asn1_oid::Oid;
+use hex_rows::Added;
 use std::alloc::Global;
 use std::str::Split;
 use x509_general::SubjectAlternativeName;
 use x509_names::{AttributeTypeAndValue, RelativeDistinguishedName, X509Name};
-use x509_objects::{OidEntry, oid_registry};
+use x509_objects::{OidEntry, OidRegistry, oid_registry};
 
-/// The name, its types named as they are known.
-pub(crate) fn name(alloc: Global, name: &X509Name<'_>) -> Result<String, OutOfMemory> {
-    let text = format!(in alloc; "{name}")?;
-    Ok(text)
-}
-
-/// The name, its types named by a registry that knows 1.2.3 as `own` too.
-pub(crate) fn registered(alloc: Global, name: &X509Name<'_>) -> Result<String, OutOfMemory> {
-    let mut registry = oid_registry(alloc)?;
-    registry.insert(
-        alloc,
-        Oid::new(b"\x2a\x03"),
-        OidEntry::new("own", "one of one's own"),
-    )?;
+/// Adds the name, its types named by a registry that knows 1.2.3 as `own` too.
+pub(crate) fn add_registered(text: &mut String, name: &X509Name<'_>) -> Added {
+    let alloc = *text.allocator();
+    let registry = had(own_registry(alloc))?;
     match name.to_string_with_registry(alloc, &registry) {
-        Ok(text) => Ok(text),
-        Err(_) => answer(alloc, "refused"),
+        Ok(shown) => text.push_str(&shown),
+        Err(_) => text.push_str("refused"),
     }
 }
 
-/// The names of an alternative name, each behind a blank.
-pub(crate) fn general(
-    alloc: Global,
-    names: &SubjectAlternativeName<'_>,
-) -> Result<String, OutOfMemory> {
-    let mut text = String::from_str(alloc, "names")?;
+fn own_registry(alloc: Global) -> Result<OidRegistry, OutOfMemory> {
+    let mut registry = oid_registry(alloc)?;
+    let own = OidEntry::new("own", "one of one's own");
+    registry.insert(alloc, Oid::new(b"\x2a\x03"), own)?;
+    Ok(registry)
+}
+
+/// Adds the names of an alternative name, each behind a blank.
+pub(crate) fn add_general(text: &mut String, names: &SubjectAlternativeName<'_>) -> Added {
+    text.push_str("names")?;
     for name in names.general_names.iter() {
         write!(text, " {name}")?;
     }
-    Ok(text)
+    Ok(())
 }
 
-fn printable<'a>(octets: &'a [u8]) -> Any<'a> {
-    Any::from_tag_and_data(Tag::PrintableString, octets)
+/// Adds a name of five attributes: country, state, organization, and two common names in one set; their texts are the words, which a
+/// bar divides.
+pub(crate) fn add_built_name(text: &mut String, words: &str) -> Added {
+    let alloc = *text.allocator();
+    let name = had(built_name(alloc, words))?;
+    write!(text, "{name}")
 }
 
-/// A name of five attributes: country, state, organization, and two common names in one set; their texts are
-/// the words, which a bar divides.
-pub(crate) fn built_name(alloc: Global, words: &str) -> Result<String, OutOfMemory> {
+fn built_name<'a>(alloc: Global, words: &'a str) -> Result<X509Name<'a>, OutOfMemory> {
     let sets = sets_of(alloc, words)?;
-    let name = X509Name::try_from_iter(alloc, sets.into_iter())?;
-    let text = format!(in alloc; "{name}")?;
-    Ok(text)
+    X509Name::try_from_iter(alloc, sets.into_iter())
 }
 
 /// The sets of such a name.
@@ -79,7 +74,7 @@ fn add_sets<'a>(
         b"\x55\x04\x0a".as_slice(),
     ] {
         if let Some(word) = words.next() {
-            sets.push(set_of(alloc, attr_type, printable(word.as_bytes()))?)?;
+            sets.push(set_of(alloc, attr_type, word)?)?;
         }
     }
     Ok(())
@@ -92,20 +87,24 @@ fn common_names<'a>(
 ) -> Result<RelativeDistinguishedName<'a>, OutOfMemory> {
     let mut names = Vec::new(alloc);
     for word in words {
-        let value = printable(word.as_bytes());
-        names.push(AttributeTypeAndValue::new(Oid::new(b"\x55\x04\x03"), value))?;
+        names.push(attribute(b"\x55\x04\x03", word))?;
     }
-    let set = RelativeDistinguishedName::try_from_iter(alloc, names.into_iter())?;
-    Ok(set)
+    RelativeDistinguishedName::try_from_iter(alloc, names.into_iter())
 }
 
 /// A set of one attribute.
 fn set_of<'a>(
     alloc: Global,
     attr_type: &'a [u8],
-    value: Any<'a>,
+    word: &'a str,
 ) -> Result<RelativeDistinguishedName<'a>, OutOfMemory> {
     let mut set = Vec::new(alloc);
-    set.push(AttributeTypeAndValue::new(Oid::new(attr_type), value))?;
+    set.push(attribute(attr_type, word))?;
     Ok(RelativeDistinguishedName::new(set))
+}
+
+/// An attribute whose value is the word as a PrintableString.
+fn attribute<'a>(attr_type: &'a [u8], word: &'a str) -> AttributeTypeAndValue<'a> {
+    let value = Any::from_tag_and_data(Tag::PrintableString, word.as_bytes());
+    AttributeTypeAndValue::new(Oid::new(attr_type), value)
 }

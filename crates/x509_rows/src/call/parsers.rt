@@ -1,8 +1,9 @@
 //! Parsers, which parse the values of extensions or leave them.
 
-use crate::call::row::answer;
-use asn1_core::OutOfMemory;
+use crate::called::add_called_of;
+use crate::kinds::{Depth, Parser};
 use asn1_traits::FromDer;
+use hex_rows::Added;
 use std::alloc::Global;
 use x509_certs::{
     TbsCertificate, TbsCertificateParser, X509Certificate, X509CertificateParser,
@@ -10,92 +11,91 @@ use x509_certs::{
 };
 use x509_core::X509Result;
 use x509_ext::{ParsedExtension, X509Extension, X509ExtensionParser};
+use x509_lists::{
+    CertificateRevocationList, CertificateRevocationListParser, parse_crl_der, parse_x509_crl,
+};
 
-/// What the parser's call of this name answers.
-pub(crate) fn parsed(alloc: Global, call: &str, octets: &[u8]) -> Result<String, OutOfMemory> {
-    match call {
-        "tbs" | "parse_deep_tbs" | "parse_tbs" => first_part(alloc, call, octets),
-        "parse_deep_extension" | "parse_extension" => extension(alloc, call, octets),
-        _ => certificate(alloc, call, octets),
-    }
-}
-
-/// What the values of a certificate's extensions are parsed as, by the call of this name.
-fn certificate(alloc: Global, call: &str, octets: &[u8]) -> Result<String, OutOfMemory> {
-    match certificate_by(alloc, call, octets) {
-        Ok((rest, certificate)) => values(alloc, certificate.extensions(), rest),
-        Err(_) => answer(alloc, "refused"),
+/// Adds what is told of what the parser reads.
+pub(crate) fn add_parsed(text: &mut String, parser: Parser, octets: &[u8], is_read: bool) -> Added {
+    let alloc = *text.allocator();
+    let absent = if is_read { "" } else { "refused" };
+    match parser {
+        Parser::Certificate(depth, call) => {
+            add_called_of(text, call, certificate_by(alloc, depth, octets), absent)
+        }
+        Parser::SignedPart(depth, call) => {
+            add_called_of(text, call, signed_part_by(alloc, depth, octets), absent)
+        }
+        Parser::List(depth, call) => {
+            add_called_of(text, call, list_by(alloc, depth, octets), absent)
+        }
+        Parser::Extension(depth) => add_extension(text, depth, octets),
     }
 }
 
 fn certificate_by<'a>(
     alloc: Global,
-    call: &str,
+    depth: Depth,
     octets: &'a [u8],
 ) -> X509Result<'a, X509Certificate<'a>> {
-    match call {
-        "parse_x509_certificate" => parse_x509_certificate(alloc, octets),
-        "parse_x509_der" => parse_x509_der(alloc, octets),
-        "parse_deep" => X509CertificateParser::new().parse(alloc, octets),
+    match depth {
+        Depth::Function => parse_x509_certificate(alloc, octets),
+        Depth::ShortFunction => parse_x509_der(alloc, octets),
+        Depth::Deep => X509CertificateParser::new().parse(alloc, octets),
         _ => X509CertificateParser::new()
             .with_deep_parse_extensions(false)
             .parse(alloc, octets),
     }
 }
 
-/// The same of the first part.
-fn first_part(alloc: Global, call: &str, octets: &[u8]) -> Result<String, OutOfMemory> {
-    match first_part_by(alloc, call, octets) {
-        Ok((rest, tbs)) => values(alloc, tbs.extensions(), rest),
-        Err(_) => answer(alloc, "refused"),
+fn signed_part_by<'a>(
+    alloc: Global,
+    depth: Depth,
+    octets: &'a [u8],
+) -> X509Result<'a, TbsCertificate<'a>> {
+    match depth {
+        Depth::Deep => TbsCertificateParser::new().parse(alloc, octets),
+        Depth::Shallow => TbsCertificateParser::new()
+            .with_deep_parse_extensions(false)
+            .parse(alloc, octets),
+        _ => TbsCertificate::from_der(alloc, octets),
     }
 }
 
-fn first_part_by<'a>(
+fn list_by<'a>(
     alloc: Global,
-    call: &str,
+    depth: Depth,
     octets: &'a [u8],
-) -> X509Result<'a, TbsCertificate<'a>> {
-    match call {
-        "tbs" => TbsCertificate::from_der(alloc, octets),
-        "parse_deep_tbs" => TbsCertificateParser::new().parse(alloc, octets),
-        _ => TbsCertificateParser::new()
+) -> X509Result<'a, CertificateRevocationList<'a>> {
+    match depth {
+        Depth::Function => parse_x509_crl(alloc, octets),
+        Depth::ShortFunction => parse_crl_der(alloc, octets),
+        Depth::Deep => CertificateRevocationListParser::new().parse(alloc, octets),
+        _ => CertificateRevocationListParser::new()
             .with_deep_parse_extensions(false)
             .parse(alloc, octets),
     }
 }
 
-/// The same of one extension.
-fn extension(alloc: Global, call: &str, octets: &[u8]) -> Result<String, OutOfMemory> {
-    let is_deep = call == "parse_deep_extension";
+fn add_extension(text: &mut String, depth: Depth, octets: &[u8]) -> Added {
+    let is_deep = matches!(depth, Depth::Deep);
     let parser = X509ExtensionParser::new().with_deep_parse_extensions(is_deep);
-    match parser.parse(alloc, octets) {
-        Ok((rest, extension)) => kind_text(alloc, &extension, rest.len()),
-        Err(_) => answer(alloc, "refused"),
+    match parser.parse(*text.allocator(), octets) {
+        Ok((rest, extension)) => {
+            let kind = kind_of(&extension);
+            write!(text, "{kind}; rest of {}", rest.len())
+        }
+        Err(_) => text.push_str("refused"),
     }
 }
 
-fn kind_text(
-    alloc: Global,
-    extension: &X509Extension<'_>,
-    left: usize,
-) -> Result<String, OutOfMemory> {
-    let kind = kind_of(extension);
-    let text = format!(in alloc; "{kind}; rest of {left}")?;
-    Ok(text)
-}
-
-fn values(
-    alloc: Global,
-    extensions: &[X509Extension<'_>],
-    rest: &[u8],
-) -> Result<String, OutOfMemory> {
-    let mut text = String::from_str(alloc, "values")?;
+/// Adds what the values of extensions are parsed as, and how many octets are left.
+pub(crate) fn add_kinds(text: &mut String, extensions: &[X509Extension<'_>], rest: &[u8]) -> Added {
+    text.push_str("values")?;
     for extension in extensions {
         write!(text, " {}", kind_of(extension))?;
     }
-    write!(text, "; rest of {}", rest.len())?;
-    Ok(text)
+    write!(text, "; rest of {}", rest.len())
 }
 
 fn kind_of(extension: &X509Extension<'_>) -> &'static str {

@@ -1,7 +1,7 @@
 //! A type of one's own that is validated.
 
-use crate::call::row::answer;
-use asn1_core::OutOfMemory;
+use crate::validator::messages::{add_by_itself, add_log};
+use hex_rows::Added;
 use std::alloc::Global;
 use x509_validate::{LogError, Logger, Validate, Validator, VecLogger};
 
@@ -45,33 +45,21 @@ impl<'a> Validator<'a> for SmallValidator {
     }
 }
 
-/// What is said of the number that the word spells: by itself, and by its validator.
-pub(crate) fn validated(alloc: Global, word: &str) -> Result<String, OutOfMemory> {
+/// Adds what is said of the number that the word spells: by itself, and by its validator.
+pub(crate) fn add_validated(text: &mut String, word: &str) -> Added {
     let Ok(number) = word.parse::<u32>() else {
-        return answer(alloc, "no number");
+        return text.push_str("no number");
     };
     let small = Small { number };
-    let Ok((passes, warnings, errors)) = small.validate_to_vec(alloc) else {
-        return answer(alloc, "refused");
-    };
-    let mut text = String::new(alloc);
-    write!(text, "itself {passes}")?;
-    add_texts(&mut text, &warnings, &errors)?;
-    let mut logger = VecLogger::new(alloc);
-    let Ok(passes) = SmallValidator.validate(alloc, &small, &mut logger) else {
-        return answer(alloc, "refused");
-    };
-    write!(text, "; its validator {passes}")?;
-    add_texts(&mut text, logger.warnings(), logger.errors())?;
-    Ok(text)
+    text.push_str("itself ")?;
+    add_by_itself(text, &small)?;
+    text.push_str("; its validator ")?;
+    add_by_validator(text, &small)
 }
 
-fn add_texts(text: &mut String, warnings: &[String], errors: &[String]) -> Result<(), OutOfMemory> {
-    for warning in warnings {
-        write!(text, ", W {warning}")?;
-    }
-    for error in errors {
-        write!(text, ", E {error}")?;
-    }
-    Ok(())
+fn add_by_validator(text: &mut String, small: &Small) -> Added {
+    let alloc = *text.allocator();
+    let mut l = VecLogger::new(alloc);
+    let answer = SmallValidator.validate(alloc, small, &mut l);
+    add_log(text, answer, &l)
 }

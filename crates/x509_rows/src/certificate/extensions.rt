@@ -1,13 +1,13 @@
 //! What the values of extensions were parsed as.
 
-use crate::words::{Words, add_hex};
-use std::alloc::AllocError;
+use crate::words::Words;
+use hex_rows::{Added, add_hex};
 use x509_ext::ParsedExtension;
 use x509_values::CRLDistributionPoints;
 
 impl Words for ParsedExtension<'_> {
     /// The value's case and its fields; of one that its type refuses the case alone, since which error is told isn't promised.
-    fn add_words(&self, text: &mut String) -> Result<(), AllocError> {
+    fn add_words(&self, text: &mut String) -> Added {
         if self.unsupported() {
             return text.push_str("unsupported");
         }
@@ -33,7 +33,7 @@ impl Words for ParsedExtension<'_> {
 }
 
 /// Adds the points, and the text of each one's reasons.
-fn add_points(text: &mut String, points: &CRLDistributionPoints<'_>) -> Result<(), AllocError> {
+fn add_points(text: &mut String, points: &CRLDistributionPoints<'_>) -> Added {
     write!(text, "CRLDistributionPoints({points:?})")?;
     for point in points.points.iter() {
         if let Some(reasons) = &point.reasons {

@@ -1,49 +1,57 @@
 //! The calls on certificates that look for one kind of extension.
 
-use crate::words::{error_text, refusal_text, truth_text};
-use asn1_traits::FromDer;
-use hex_rows::literal;
-use std::alloc::Global;
-use std::{fmt, io};
+use crate::kinds::Getter;
+use crate::words::{add_error, truth_text};
+use hex_rows::Added;
+use std::fmt::Debug;
 use x509_certs::X509Certificate;
 use x509_core::X509Error;
 use x509_ext::BasicExtension;
 
-/// What the call of this name tells of the certificate that begins the octets.
-pub(crate) fn extension_under(alloc: Global, name: &str, octets: &[u8]) -> io::Result<String> {
-    match X509Certificate::from_der(alloc, octets) {
-        Ok((_, certificate)) => told_by(alloc, name, &certificate),
-        Err(refusal) => refusal_text(alloc, refusal),
+/// Adds what the getter tells of the certificate.
+pub(crate) fn add_extension(
+    text: &mut String,
+    getter: Getter,
+    certificate: &X509Certificate<'_>,
+) -> Added {
+    match getter {
+        Getter::BasicConstraints => add_found(text, certificate.basic_constraints()),
+        Getter::KeyUsage => add_found(text, certificate.key_usage()),
+        Getter::ExtendedKeyUsage => add_found(text, certificate.extended_key_usage()),
+        Getter::IsCa => text.push_str(truth_text(certificate.is_ca())),
+        _ => add_policies(text, getter, certificate),
     }
 }
 
-fn told_by(alloc: Global, name: &str, certificate: &X509Certificate<'_>) -> io::Result<String> {
-    match name {
-        "basic_constraints" => value_text(alloc, certificate.basic_constraints()),
-        "key_usage" => value_text(alloc, certificate.key_usage()),
-        "extended_key_usage" => value_text(alloc, certificate.extended_key_usage()),
-        "policy_constraints" => value_text(alloc, certificate.policy_constraints()),
-        "inhibit_anypolicy" => value_text(alloc, certificate.inhibit_anypolicy()),
-        "policy_mappings" => value_text(alloc, certificate.policy_mappings()),
-        "subject_alternative_name" => value_text(alloc, certificate.subject_alternative_name()),
-        "name_constraints" => value_text(alloc, certificate.name_constraints()),
-        "is_ca" => literal(alloc, truth_text(certificate.is_ca())),
-        _ => literal(alloc, "no call"),
+/// The same of policies.
+fn add_policies(text: &mut String, getter: Getter, certificate: &X509Certificate<'_>) -> Added {
+    match getter {
+        Getter::PolicyConstraints => add_found(text, certificate.policy_constraints()),
+        Getter::InhibitAnypolicy => add_found(text, certificate.inhibit_anypolicy()),
+        Getter::PolicyMappings => add_found(text, certificate.policy_mappings()),
+        _ => add_names(text, getter, certificate),
     }
 }
 
-/// Whether the extension is critical, and its value; or none, or the error.
-fn value_text<T: fmt::Debug>(
-    alloc: Global,
+/// The same of names.
+fn add_names(text: &mut String, getter: Getter, certificate: &X509Certificate<'_>) -> Added {
+    match getter {
+        Getter::SubjectAlternativeName => add_found(text, certificate.subject_alternative_name()),
+        _ => add_found(text, certificate.name_constraints()),
+    }
+}
+
+/// Adds whether the extension is critical, and its value; or none, or the error.
+fn add_found<T: Debug>(
+    text: &mut String,
     found: Result<Option<BasicExtension<&T>>, X509Error>,
-) -> io::Result<String> {
+) -> Added {
     match found {
         Ok(Some(extension)) => {
             let critical = if extension.critical { "critical, " } else { "" };
-            let text = format!(in alloc; "{critical}{:?}", extension.value)?;
-            Ok(text)
+            write!(text, "{critical}{:?}", extension.value)
         }
-        Ok(None) => literal(alloc, "none"),
-        Err(error) => error_text(alloc, error),
+        Ok(None) => text.push_str("none"),
+        Err(error) => add_error(text, &error),
     }
 }

@@ -1,18 +1,19 @@
 //! Algorithms, attributes and names.
 
-use crate::words::{Words, add_element, add_hex, error_text};
+use crate::call::names::add_registered;
+use crate::called::Called;
+use crate::kinds::{AttributeType, Check, OfName};
+use crate::validator::certificate::add_judged;
+use crate::words::{Words, add_element, add_error, add_words_before};
 use asn1_any::Any;
 use asn1_oid::Oid;
-use asn1_traits::FromDer;
-use hex_rows::{hex_of, literal};
-use std::alloc::{AllocError, Global};
-use std::io;
+use hex_rows::{Added, add_hex};
 use x509_names::{
     AlgorithmIdentifier, AttributeTypeAndValue, AttributesOf, RelativeDistinguishedName, X509Name,
 };
 
 impl Words for AlgorithmIdentifier<'_> {
-    fn add_words(&self, text: &mut String) -> Result<(), AllocError> {
+    fn add_words(&self, text: &mut String) -> Added {
         write!(text, "{}", self.oid())?;
         match self.parameters() {
             Some(parameters) => {
@@ -25,14 +26,14 @@ impl Words for AlgorithmIdentifier<'_> {
 }
 
 impl Words for AttributeTypeAndValue<'_> {
-    fn add_words(&self, text: &mut String) -> Result<(), AllocError> {
+    fn add_words(&self, text: &mut String) -> Added {
         write!(text, "{}, ", self.attr_type())?;
         add_element(text, self.attr_value())
     }
 }
 
 impl Words for RelativeDistinguishedName<'_> {
-    fn add_words(&self, text: &mut String) -> Result<(), AllocError> {
+    fn add_words(&self, text: &mut String) -> Added {
         for attribute in self.iter() {
             add_attribute(text, attribute)?;
         }
@@ -41,7 +42,7 @@ impl Words for RelativeDistinguishedName<'_> {
 }
 
 impl Words for X509Name<'_> {
-    fn add_words(&self, text: &mut String) -> Result<(), AllocError> {
+    fn add_words(&self, text: &mut String) -> Added {
         for set in self.iter_rdn() {
             add_set(text, set)?;
         }
@@ -51,30 +52,29 @@ impl Words for X509Name<'_> {
 }
 
 /// Adds a set in brackets.
-fn add_set(text: &mut String, set: &RelativeDistinguishedName<'_>) -> Result<(), AllocError> {
+fn add_set(text: &mut String, set: &RelativeDistinguishedName<'_>) -> Added {
     text.push_str("[")?;
     set.add_words(text)?;
     text.push_str("]")
 }
 
-/// What `as_str` answers of an attribute whose value is the element.
-pub(crate) fn as_str(alloc: Global, octets: &[u8]) -> io::Result<String> {
+/// Adds what `as_str` answers of an attribute whose value is the element.
+pub(crate) fn add_as_str(text: &mut String, octets: &[u8]) -> Added {
     let Some(attribute) = attribute_with(octets) else {
-        return literal(alloc, "no element");
+        return text.push_str("no element");
     };
     match attribute.as_str() {
-        Ok(text) => literal(alloc, text),
-        Err(error) => error_text(alloc, error),
+        Ok(value) => text.push_str(value),
+        Err(error) => add_error(text, &error),
     }
 }
 
-/// What `as_slice` answers of an attribute whose value is the element.
-pub(crate) fn as_slice(alloc: Global, octets: &[u8]) -> io::Result<String> {
-    let Some(attribute) = attribute_with(octets) else {
-        return literal(alloc, "no element");
-    };
-    let text = hex_of(alloc, attribute.as_slice())?;
-    Ok(text)
+/// Adds what `as_slice` answers of an attribute whose value is the element.
+pub(crate) fn add_as_slice(text: &mut String, octets: &[u8]) -> Added {
+    match attribute_with(octets) {
+        Some(attribute) => add_hex(text, attribute.as_slice()),
+        None => text.push_str("no element"),
+    }
 }
 
 /// An attribute of the type 2.5.4.3 whose value is the element.
@@ -85,52 +85,48 @@ fn attribute_with(octets: &[u8]) -> Option<AttributeTypeAndValue<'_>> {
     }
 }
 
-/// What a name's call of this name walks over, one attribute behind the other.
-pub(crate) fn attributes(alloc: Global, call: &str, name: &X509Name<'_>) -> io::Result<String> {
-    match call {
-        "attributes" => all_attributes(alloc, name),
-        _ => attributes_of_type(alloc, call, name),
+impl Called<OfName> for X509Name<'_> {
+    fn add_called(&self, text: &mut String, call: OfName, rest: &[u8]) -> Added {
+        match call {
+            OfName::Words => add_words_before(text, self, rest),
+            OfName::Shown => write!(text, "{self}"),
+            OfName::Registered => add_registered(text, self),
+            OfName::Structure => add_judged(text, Check::Structure, self),
+            OfName::Attributes => add_attributes(text, self),
+            OfName::Iter(of_type) => add_attributes_by(text, attributes_by(self, of_type)),
+        }
     }
 }
 
-fn all_attributes(alloc: Global, name: &X509Name<'_>) -> io::Result<String> {
-    let mut text = String::new(alloc);
+fn add_attributes(text: &mut String, name: &X509Name<'_>) -> Added {
     for attribute in name.iter_attributes() {
-        add_attribute(&mut text, attribute)?;
+        add_attribute(text, attribute)?;
     }
-    Ok(text)
+    Ok(())
 }
 
-fn attributes_of_type(alloc: Global, call: &str, name: &X509Name<'_>) -> io::Result<String> {
-    let Some(attributes) = attributes_by(name, call) else {
-        return literal(alloc, "no call");
-    };
-    let mut text = String::new(alloc);
+fn add_attributes_by(text: &mut String, attributes: AttributesOf<'_, '_>) -> Added {
     for attribute in attributes {
-        add_attribute(&mut text, attribute)?;
+        add_attribute(text, attribute)?;
     }
-    Ok(text)
+    Ok(())
 }
 
-/// What the call of this name walks over.
-fn attributes_by<'n, 'a>(name: &'n X509Name<'a>, call: &str) -> Option<AttributesOf<'n, 'a>> {
-    match call {
-        "common_name" => Some(name.iter_common_name()),
-        "country" => Some(name.iter_country()),
-        "organization" => Some(name.iter_organization()),
-        "organizational_unit" => Some(name.iter_organizational_unit()),
-        "state_or_province" => Some(name.iter_state_or_province()),
-        "locality" => Some(name.iter_locality()),
-        "email" => Some(name.iter_email()),
-        _ => None,
+/// What the call of a name goes over, one attribute behind the other.
+fn attributes_by<'n, 'a>(name: &'n X509Name<'a>, of_type: AttributeType) -> AttributesOf<'n, 'a> {
+    match of_type {
+        AttributeType::CommonName => name.iter_common_name(),
+        AttributeType::Country => name.iter_country(),
+        AttributeType::Organization => name.iter_organization(),
+        AttributeType::OrganizationalUnit => name.iter_organizational_unit(),
+        AttributeType::StateOrProvince => name.iter_state_or_province(),
+        AttributeType::Locality => name.iter_locality(),
+        AttributeType::Email => name.iter_email(),
     }
 }
 
 /// Adds an attribute in parentheses.
-fn add_attribute(
-    text: &mut String,
-    attribute: &AttributeTypeAndValue<'_>,
-) -> Result<(), AllocError> {
+fn add_attribute(text: &mut String, attribute: &AttributeTypeAndValue<'_>) -> Added {
     text.push_str("(")?;
     attribute.add_words(text)?;
     text.push_str(")")

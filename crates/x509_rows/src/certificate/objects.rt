@@ -1,23 +1,21 @@
 //! Names of identifiers.
 
+use crate::kinds::OnOctets;
+use crate::words::had;
 use asn1_oid::Oid;
-use hex_rows::literal;
-use std::alloc::Global;
-use std::io;
+use hex_rows::Added;
 use x509_objects::{OidRegistry, oid_registry, oid2abbrev, oid2description, oid2sn};
 
-/// What the call of this name answers of an identifier with these octets.
-pub(crate) fn name_of(alloc: Global, call: &str, octets: &[u8]) -> io::Result<String> {
-    match oid_registry(alloc) {
-        Ok(registry) => literal(alloc, name_in(&registry, call, &Oid::new(octets))),
-        Err(_) => literal(alloc, "out of memory"),
-    }
+/// Adds what the call answers of an identifier with these octets.
+pub(crate) fn add_name_of(text: &mut String, call: OnOctets, octets: &[u8]) -> Added {
+    let registry = had(oid_registry(*text.allocator()))?;
+    text.push_str(name_in(&registry, call, &Oid::new(octets)))
 }
 
-fn name_in(registry: &OidRegistry, call: &str, oid: &Oid<'_>) -> &'static str {
+fn name_in(registry: &OidRegistry, call: OnOctets, oid: &Oid<'_>) -> &'static str {
     let name = match call {
-        "oid2sn" => oid2sn(oid, registry),
-        "oid2description" => oid2description(oid, registry),
+        OnOctets::ShortName => oid2sn(oid, registry),
+        OnOctets::Description => oid2description(oid, registry),
         _ => oid2abbrev(oid, registry),
     };
     name.unwrap_or("no name")

@@ -1,18 +1,14 @@
 //! Times and validities.
 
-use crate::words::{
-    Words, error_text, refusal_text, text_before, truth_text, words_before, words_of,
-};
+use crate::words::{Words, add_error, add_refusal, add_text_before, add_words_before, truth_text};
 use asn1_core::HeaderCount;
 use asn1_traits::FromDer;
-use hex_rows::literal;
-use std::alloc::{AllocError, Global};
-use std::io;
-use x509_core::Parts;
+use hex_rows::Added;
+use x509_core::{Parts, X509Result};
 use x509_time::{ASN1Time, Validity, next_update};
 
 impl Words for ASN1Time {
-    fn add_words(&self, text: &mut String) -> Result<(), AllocError> {
+    fn add_words(&self, text: &mut String) -> Added {
         let kind = if self.is_generalizedtime() {
             "generalized"
         } else {
@@ -23,54 +19,37 @@ impl Words for ASN1Time {
 }
 
 impl Words for Validity {
-    fn add_words(&self, text: &mut String) -> Result<(), AllocError> {
+    fn add_words(&self, text: &mut String) -> Added {
         self.not_before.add_words(text)?;
         text.push_str(" to ")?;
         self.not_after.add_words(text)
     }
 }
 
-/// The time that begins the octets.
-pub(crate) fn time(alloc: Global, octets: &[u8]) -> io::Result<String> {
-    match ASN1Time::from_der(alloc, octets) {
-        Ok((rest, time)) => words_before(alloc, &time, rest),
-        Err(refusal) => refusal_text(alloc, refusal),
-    }
-}
-
-/// The validity that begins the octets.
-pub(crate) fn validity(alloc: Global, octets: &[u8]) -> io::Result<String> {
-    match Validity::from_der(alloc, octets) {
-        Ok((rest, validity)) => words_before(alloc, &validity, rest),
-        Err(refusal) => refusal_text(alloc, refusal),
-    }
-}
-
-/// Whether the validity that the octets are holds the moment so many seconds after 1970 began.
-pub(crate) fn is_valid_at(alloc: Global, seconds: &str, octets: &[u8]) -> io::Result<String> {
+/// Adds whether the validity that the octets are holds the moment so many seconds after 1970 began.
+pub(crate) fn add_is_valid_at(text: &mut String, seconds: &str, octets: &[u8]) -> Added {
     let Some(now) = time_after(seconds) else {
-        return literal(alloc, "no time");
+        return text.push_str("no time");
     };
-    match Validity::from_der(alloc, octets) {
-        Ok((_, validity)) => literal(alloc, truth_text(validity.is_valid_at(now))),
-        Err(refusal) => refusal_text(alloc, refusal),
+    let read: X509Result<'_, Validity> = Validity::from_der(*text.allocator(), octets);
+    match read {
+        Ok((_, validity)) => text.push_str(truth_text(validity.is_valid_at(now))),
+        Err(refusal) => add_refusal(text, &refusal),
     }
 }
 
-/// How many seconds the validity that the octets are goes on behind that moment.
-pub(crate) fn time_left(alloc: Global, seconds: &str, octets: &[u8]) -> io::Result<String> {
+/// Adds how many seconds the validity that the octets are goes on behind that moment.
+pub(crate) fn add_time_left(text: &mut String, seconds: &str, octets: &[u8]) -> Added {
     let Some(now) = time_after(seconds) else {
-        return literal(alloc, "no time");
+        return text.push_str("no time");
     };
-    match Validity::from_der(alloc, octets) {
+    let read: X509Result<'_, Validity> = Validity::from_der(*text.allocator(), octets);
+    match read {
         Ok((_, validity)) => match validity.time_to_expiration(now.to_datetime()) {
-            Some(left) => {
-                let text = format!(in alloc; "{} s", left.as_secs())?;
-                Ok(text)
-            }
-            None => literal(alloc, "none"),
+            Some(left) => write!(text, "{} s", left.as_secs()),
+            None => text.push_str("none"),
         },
-        Err(refusal) => refusal_text(alloc, refusal),
+        Err(refusal) => add_refusal(text, &refusal),
     }
 }
 
@@ -85,36 +64,37 @@ fn time_after(seconds: &str) -> Option<ASN1Time> {
     }
 }
 
-/// The next update that begins a content, and the octets after it.
-pub(crate) fn next_update_of(alloc: Global, octets: &[u8]) -> io::Result<String> {
+/// Adds the next update that begins a content, and the octets after it.
+pub(crate) fn add_next_update(text: &mut String, octets: &[u8]) -> Added {
     let mut count = HeaderCount::new();
-    let Ok(mut parts) = Parts::cut(alloc, octets, &mut count) else {
-        return literal(alloc, "out of memory");
+    let Ok(mut parts) = Parts::cut(*text.allocator(), octets, &mut count) else {
+        return text.push_str("out of memory");
     };
     match next_update(&mut parts, &mut count) {
-        Ok(Some(time)) => words_before(alloc, &time, parts.left()),
-        Ok(None) => text_before(alloc, &"none", parts.left()),
-        Err(refusal) => refusal_text(alloc, refusal),
+        Ok(Some(time)) => add_words_before(text, &time, parts.left()),
+        Ok(None) => add_text_before(text, &"none", parts.left()),
+        Err(refusal) => add_refusal(text, &refusal),
     }
 }
 
-/// The time so many seconds after 1970 began, and its text by RFC 2822.
-pub(crate) fn from_timestamp(alloc: Global, seconds: &str) -> io::Result<String> {
+/// Adds the time so many seconds after 1970 began, and its text by RFC 2822.
+pub(crate) fn add_from_timestamp(text: &mut String, seconds: &str) -> Added {
     let Ok(seconds) = seconds.parse::<i64>() else {
-        return literal(alloc, "no number");
+        return text.push_str("no number");
     };
     match ASN1Time::from_timestamp(seconds) {
-        Ok(time) => words_and_mail(alloc, &time),
-        Err(error) => error_text(alloc, error),
+        Ok(time) => {
+            time.add_words(text)?;
+            text.push_str("; ")?;
+            add_mail(text, time)
+        }
+        Err(error) => add_error(text, &error),
     }
 }
 
-fn words_and_mail(alloc: Global, time: &ASN1Time) -> io::Result<String> {
-    let mut text = words_of(alloc, time)?;
-    let mail = match time.to_rfc2822(alloc) {
-        Ok(mail) => mail,
-        Err(error) => error_text(alloc, error)?,
-    };
-    write!(text, "; {mail}")?;
-    Ok(text)
+fn add_mail(text: &mut String, time: ASN1Time) -> Added {
+    match time.to_rfc2822(*text.allocator()) {
+        Ok(mail) => text.push_str(&mail),
+        Err(error) => add_error(text, &error),
+    }
 }

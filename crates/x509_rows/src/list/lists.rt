@@ -1,86 +1,86 @@
 //! Revocation lists and their entries.
 
-use crate::words::{Words, add, add_each, add_hex, count_text, told_of};
+use crate::call::copies::{add_copy, add_serials};
+use crate::call::maps::add_list_maps;
+use crate::called::Called;
+use crate::kinds::{OfEntry, OfList, OfSignedList};
+use crate::walk;
+use crate::words::{Words, add, add_each, add_words_before, count_text};
 use asn1_core::HeaderCount;
-use asn1_traits::FromDer;
-use hex_rows::{hex_of, literal};
-use std::alloc::{AllocError, Global};
-use std::io;
-use x509_core::X509Result;
+use hex_rows::{Added, add_hex};
+use std::alloc::Global;
 use x509_lists::{
     CertificateRevocationList, CertificateRevocationListParser, RevokedCertificate, TbsCertList,
-    parse_crl_der, parse_x509_crl,
 };
 
 /// Whether a list is read, and whether the number of headers that were tried is in its bounds: at most eight for each octet,
 /// and at least nine of a list.
-pub(crate) fn counted(alloc: Global, octets: &[u8]) -> io::Result<String> {
+pub(crate) fn counted_list(alloc: Global, octets: &[u8]) -> &'static str {
     let mut count = HeaderCount::new();
     let is_read = CertificateRevocationListParser::new()
         .parse_counted(alloc, octets, &mut count)
         .is_ok();
-    literal(alloc, count_text(is_read, count.get(), 9, octets.len()))
+    count_text(is_read, count.get(), 9, octets.len())
 }
 
-/// What the parser's call of this name makes of the list that begins the octets.
-pub(crate) fn parsed(alloc: Global, call: &str, octets: &[u8]) -> io::Result<String> {
-    told_of(alloc, list_by(alloc, call, octets))
-}
-
-fn list_by<'a>(
-    alloc: Global,
-    call: &str,
-    octets: &'a [u8],
-) -> X509Result<'a, CertificateRevocationList<'a>> {
-    match call {
-        "list" => CertificateRevocationList::from_der(alloc, octets),
-        "parse_x509_crl" => parse_x509_crl(alloc, octets),
-        "parse_crl_der" => parse_crl_der(alloc, octets),
-        "parse_deep" => CertificateRevocationListParser::new().parse(alloc, octets),
-        _ => CertificateRevocationListParser::new()
-            .with_deep_parse_extensions(false)
-            .parse(alloc, octets),
+impl Called<OfList> for CertificateRevocationList<'_> {
+    fn add_called(&self, text: &mut String, call: OfList, rest: &[u8]) -> Added {
+        match call {
+            OfList::Words => add_words_before(text, self, rest),
+            OfList::Copy => add_copy(text, self),
+            OfList::Serials => add_serials(text, self.iter_revoked_certificates()),
+            OfList::Map => add_list_maps(text, self),
+            OfList::Number => add_number(text, self),
+            OfList::Walk => walk::list::add_list(text, self),
+        }
     }
 }
 
-/// The number of the list.
-pub(crate) fn crl_number(
-    alloc: Global,
-    list: &CertificateRevocationList<'_>,
-) -> io::Result<String> {
+impl Called<OfSignedList> for TbsCertList<'_> {
+    fn add_called(&self, text: &mut String, call: OfSignedList, rest: &[u8]) -> Added {
+        match call {
+            OfSignedList::Words => add_words_before(text, self, rest),
+            OfSignedList::Walk => walk::list::add_tbs(text, self),
+        }
+    }
+}
+
+impl Called<OfEntry> for RevokedCertificate<'_> {
+    fn add_called(&self, text: &mut String, call: OfEntry, rest: &[u8]) -> Added {
+        match call {
+            OfEntry::Words => add_words_before(text, self, rest),
+            OfEntry::Reason => add_reason(text, self),
+            OfEntry::Date => add_date(text, self),
+        }
+    }
+}
+
+/// Adds the number of the list.
+fn add_number(text: &mut String, list: &CertificateRevocationList<'_>) -> Added {
     match list.crl_number() {
-        Some(number) => {
-            let text = hex_of(alloc, number.as_bytes())?;
-            Ok(text)
-        }
-        None => literal(alloc, "none"),
+        Some(number) => add_hex(text, number.as_bytes()),
+        None => text.push_str("none"),
     }
 }
 
-/// Why the entry's certificate was revoked.
-pub(crate) fn reason_code(alloc: Global, entry: &RevokedCertificate<'_>) -> io::Result<String> {
+/// Adds why the entry's certificate was revoked.
+fn add_reason(text: &mut String, entry: &RevokedCertificate<'_>) -> Added {
     match entry.reason_code() {
-        Some((critical, reason)) => {
-            let text = format!(in alloc; "{reason}, critical {critical}")?;
-            Ok(text)
-        }
-        None => literal(alloc, "none"),
+        Some((critical, reason)) => write!(text, "{reason}, critical {critical}"),
+        None => text.push_str("none"),
     }
 }
 
-/// Since when the entry's certificate is thought to be invalid.
-pub(crate) fn invalidity_date(alloc: Global, entry: &RevokedCertificate<'_>) -> io::Result<String> {
+/// Adds since when the entry's certificate is thought to be invalid.
+fn add_date(text: &mut String, entry: &RevokedCertificate<'_>) -> Added {
     match entry.invalidity_date() {
-        Some((critical, date)) => {
-            let text = format!(in alloc; "{}, critical {critical}", date.timestamp())?;
-            Ok(text)
-        }
-        None => literal(alloc, "none"),
+        Some((critical, date)) => write!(text, "{}, critical {critical}", date.timestamp()),
+        None => text.push_str("none"),
     }
 }
 
 impl Words for RevokedCertificate<'_> {
-    fn add_words(&self, text: &mut String) -> Result<(), AllocError> {
+    fn add_words(&self, text: &mut String) -> Added {
         add_hex(text, self.raw_serial())?;
         text.push_str(", number ")?;
         add_hex(text, self.serial().as_bytes())?;
@@ -91,7 +91,7 @@ impl Words for RevokedCertificate<'_> {
 }
 
 impl Words for TbsCertList<'_> {
-    fn add_words(&self, text: &mut String) -> Result<(), AllocError> {
+    fn add_words(&self, text: &mut String) -> Added {
         add_hex(text, self.as_ref())?;
         if let Some(version) = &self.version {
             write!(text, "\n  version {version}")?;
@@ -108,7 +108,7 @@ impl Words for TbsCertList<'_> {
 }
 
 impl Words for CertificateRevocationList<'_> {
-    fn add_words(&self, text: &mut String) -> Result<(), AllocError> {
+    fn add_words(&self, text: &mut String) -> Added {
         self.tbs_cert_list.add_words(text)?;
         add(text, "algorithm", &self.signature_algorithm)?;
         add(text, "signature value", &self.signature_value)?;

@@ -1,77 +1,80 @@
 //! Certification requests and their attributes.
 
-use crate::words::{Words, add, add_each, add_hex, words_of};
+use crate::call::copies::add_copy;
+use crate::call::maps::add_map;
+use crate::called::Called;
+use crate::kinds::{OfAttribute, OfRequest, OfRequestInfo};
+use crate::words::{Words, add, add_each, add_words_before};
 use asn1_oid::Oid;
-use hex_rows::{literal, told};
-use std::alloc::{AllocError, Global};
-use std::collections::BTreeMap;
-use std::io;
+use hex_rows::{Added, add_hex};
 use x509_requests::{
     ExtensionRequest, ParsedCriAttribute, X509CertificationRequest, X509CertificationRequestInfo,
     X509CriAttribute,
 };
 
-/// What the requested extensions were parsed as, one behind the other.
-pub(crate) fn requested(
-    alloc: Global,
-    request: &X509CertificationRequest<'_>,
-) -> io::Result<String> {
+impl Called<OfRequest> for X509CertificationRequest<'_> {
+    fn add_called(&self, text: &mut String, call: OfRequest, rest: &[u8]) -> Added {
+        match call {
+            OfRequest::Words => add_words_before(text, self, rest),
+            OfRequest::Extensions => add_requested(text, self),
+        }
+    }
+}
+
+impl Called<OfRequestInfo> for X509CertificationRequestInfo<'_> {
+    fn add_called(&self, text: &mut String, call: OfRequestInfo, rest: &[u8]) -> Added {
+        let alloc = *text.allocator();
+        match call {
+            OfRequestInfo::Words => add_words_before(text, self, rest),
+            OfRequestInfo::Find => add_password(text, self),
+            OfRequestInfo::Map => add_map(text, self.attributes_map(alloc)),
+        }
+    }
+}
+
+impl Called<OfAttribute> for X509CriAttribute<'_> {
+    fn add_called(&self, text: &mut String, call: OfAttribute, rest: &[u8]) -> Added {
+        match call {
+            OfAttribute::Words => add_words_before(text, self, rest),
+            OfAttribute::Copy => add_copy(text, self),
+        }
+    }
+}
+
+/// Adds what the requested extensions were parsed as, one behind the other.
+fn add_requested(text: &mut String, request: &X509CertificationRequest<'_>) -> Added {
     let Some(extensions) = request.requested_extensions() else {
-        return literal(alloc, "none");
+        return text.push_str("none");
     };
-    let mut text = String::new(alloc);
     for extension in extensions {
-        add_in_parentheses(&mut text, extension)?;
+        add_in_parentheses(text, extension)?;
     }
-    Ok(text)
+    Ok(())
 }
 
-fn add_in_parentheses<T: Words>(text: &mut String, value: &T) -> Result<(), AllocError> {
-    text.push_str("(")?;
+fn add_in_parentheses<T: Words>(text: &mut String, value: &T) -> Added {
+    text.push('(')?;
     value.add_words(text)?;
-    text.push_str(")")
+    text.push(')')
 }
 
-/// The first challenge password.
-pub(crate) fn found_attribute(
-    alloc: Global,
-    info: &X509CertificationRequestInfo<'_>,
-) -> io::Result<String> {
+/// Adds the first challenge password.
+fn add_password(text: &mut String, info: &X509CertificationRequestInfo<'_>) -> Added {
     match info.find_attribute(&Oid::new(b"\x2a\x86\x48\x86\xf7\x0d\x01\x09\x07")) {
-        Some(attribute) => words_of(alloc, attribute),
-        None => literal(alloc, "none"),
+        Some(attribute) => attribute.add_words(text),
+        None => text.push_str("none"),
     }
-}
-
-/// How many attributes a map by identifier has, and each behind its key, in the keys' order.
-pub(crate) fn mapped_attributes(
-    alloc: Global,
-    info: &X509CertificationRequestInfo<'_>,
-) -> io::Result<String> {
-    match info.attributes_map(alloc) {
-        Ok(by_oid) => map_text(alloc, &by_oid),
-        Err(e) => told(alloc, e),
-    }
-}
-
-fn map_text<T: Words>(alloc: Global, by_oid: &BTreeMap<Oid<'_>, &T>) -> io::Result<String> {
-    let mut text = format!(in alloc; "{}", by_oid.len())?;
-    for (oid, attribute) in by_oid.iter() {
-        write!(text, "\n  at {oid}: ")?;
-        attribute.add_words(&mut text)?;
-    }
-    Ok(text)
 }
 
 impl Words for ExtensionRequest<'_> {
-    fn add_words(&self, text: &mut String) -> Result<(), AllocError> {
+    fn add_words(&self, text: &mut String) -> Added {
         text.push_str("extensions")?;
         add_each(text, "  extension", self.extensions.iter())
     }
 }
 
 impl Words for X509CriAttribute<'_> {
-    fn add_words(&self, text: &mut String) -> Result<(), AllocError> {
+    fn add_words(&self, text: &mut String) -> Added {
         write!(text, "{}, ", self.oid)?;
         add_hex(text, self.value)?;
         text.push_str(", ")?;
@@ -86,7 +89,7 @@ impl Words for X509CriAttribute<'_> {
 }
 
 impl Words for X509CertificationRequestInfo<'_> {
-    fn add_words(&self, text: &mut String) -> Result<(), AllocError> {
+    fn add_words(&self, text: &mut String) -> Added {
         add_hex(text, self.raw)?;
         write!(text, "\n  version {}", self.version)?;
         add(text, "subject", &self.subject)?;
@@ -96,7 +99,7 @@ impl Words for X509CertificationRequestInfo<'_> {
 }
 
 impl Words for X509CertificationRequest<'_> {
-    fn add_words(&self, text: &mut String) -> Result<(), AllocError> {
+    fn add_words(&self, text: &mut String) -> Added {
         self.certification_request_info.add_words(text)?;
         add(text, "algorithm", &self.signature_algorithm)?;
         add(text, "signature value", &self.signature_value)?;

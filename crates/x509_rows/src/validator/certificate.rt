@@ -1,71 +1,73 @@
-//! Certificates, and their signed parts by themselves.
+//! Certificates, their signed parts by themselves, names and keys.
 
-use crate::validator::loggers::{handed, written};
-use crate::validator::row::told;
-use hex_rows::literal;
+use crate::kinds::Check;
+use crate::validator::loggers::{add_handed, add_written};
+use crate::validator::messages::{add_by_itself, add_log};
+use hex_rows::Added;
 use std::alloc::Global;
-use std::io;
 use x509_parser::certificate::{TbsCertificate, X509Certificate};
+use x509_parser::prelude::{SubjectPublicKeyInfo, X509Name};
 use x509_parser::validate::{
-    LogError, TbsCertificateStructureValidator, Validate, Validator, VecLogger,
-    X509CertificateValidator, X509ExtensionsValidator, X509StructureValidator,
+    LogError, TbsCertificateStructureValidator, Validator, VecLogger, X509CertificateValidator,
+    X509ExtensionsValidator, X509NameStructureValidator, X509PublicKeyValidator,
+    X509StructureValidator,
 };
 
-/// What the validator says of the certificate.
-pub(crate) fn of_certificate(
-    alloc: Global,
-    validator: &str,
+/// Adds what the validator says of the certificate.
+pub(crate) fn add_check(
+    text: &mut String,
+    check: Check,
     certificate: &X509Certificate<'_>,
-) -> io::Result<String> {
-    match validator {
-        "validate" => of_itself(alloc, certificate),
-        "written" => written(alloc, certificate),
-        "handed" => handed(alloc, certificate),
-        _ => {
-            let mut l = VecLogger::new(alloc);
-            match answer_of(alloc, validator, certificate, &mut l) {
-                Ok(answer) => told(alloc, answer, l.warnings(), l.errors()),
-                Err(_) => literal(alloc, "refused"),
-            }
+) -> Added {
+    match check {
+        Check::Validate => add_by_itself(text, certificate),
+        Check::Written => add_written(text, certificate),
+        Check::Handed => add_handed(text, certificate),
+        _ => add_judged(text, check, certificate),
+    }
+}
+
+/// A type whose values are judged by validators.
+pub(crate) trait Judged {
+    /// What the validator says.
+    fn judge(&self, alloc: Global, check: Check, l: &mut VecLogger) -> Result<bool, LogError>;
+}
+
+/// Adds what the validator says of the value.
+pub(crate) fn add_judged<T: Judged>(text: &mut String, check: Check, value: &T) -> Added {
+    let alloc = *text.allocator();
+    let mut l = VecLogger::new(alloc);
+    let answer = value.judge(alloc, check, &mut l);
+    add_log(text, answer, &l)
+}
+
+impl Judged for X509Certificate<'_> {
+    fn judge(&self, alloc: Global, check: Check, l: &mut VecLogger) -> Result<bool, LogError> {
+        match check {
+            Check::Structure => X509StructureValidator.validate(alloc, self, l),
+            Check::Extensions => X509CertificateValidator.validate(alloc, self, l),
+            Check::ExtensionList => X509ExtensionsValidator.validate(alloc, self.extensions(), l),
+            _ => X509StructureValidator
+                .chain(X509CertificateValidator)
+                .validate(alloc, self, l),
         }
     }
 }
 
-/// The same of a signed part.
-pub(crate) fn of_tbs(
-    alloc: Global,
-    validator: &str,
-    tbs: &TbsCertificate<'_>,
-) -> io::Result<String> {
-    if validator == "tbs-validate" {
-        return of_itself(alloc, tbs);
-    }
-    let mut l = VecLogger::new(alloc);
-    match TbsCertificateStructureValidator.validate(alloc, tbs, &mut l) {
-        Ok(answer) => told(alloc, answer, l.warnings(), l.errors()),
-        Err(_) => literal(alloc, "refused"),
+impl Judged for TbsCertificate<'_> {
+    fn judge(&self, alloc: Global, _check: Check, l: &mut VecLogger) -> Result<bool, LogError> {
+        TbsCertificateStructureValidator.validate(alloc, self, l)
     }
 }
 
-fn of_itself<T: Validate>(alloc: Global, item: &T) -> io::Result<String> {
-    match item.validate_to_vec(alloc) {
-        Ok((answer, warnings, errors)) => told(alloc, answer, &warnings, &errors),
-        Err(_) => literal(alloc, "refused"),
+impl Judged for X509Name<'_> {
+    fn judge(&self, alloc: Global, _check: Check, l: &mut VecLogger) -> Result<bool, LogError> {
+        X509NameStructureValidator.validate(alloc, self, l)
     }
 }
 
-fn answer_of(
-    alloc: Global,
-    validator: &str,
-    certificate: &X509Certificate<'_>,
-    l: &mut VecLogger,
-) -> Result<bool, LogError> {
-    match validator {
-        "structure" => X509StructureValidator.validate(alloc, certificate, l),
-        "extensions" => X509CertificateValidator.validate(alloc, certificate, l),
-        "extension-list" => X509ExtensionsValidator.validate(alloc, certificate.extensions(), l),
-        _ => X509StructureValidator
-            .chain(X509CertificateValidator)
-            .validate(alloc, certificate, l),
+impl Judged for SubjectPublicKeyInfo<'_> {
+    fn judge(&self, alloc: Global, _check: Check, l: &mut VecLogger) -> Result<bool, LogError> {
+        X509PublicKeyValidator.validate(alloc, self, l)
     }
 }

@@ -1,58 +1,66 @@
 //! Loggers that keep nothing themselves.
 
-use hex_rows::literal;
-use std::alloc::Global;
+use hex_rows::Added;
 use std::cell::RefCell;
-use std::io;
 use std::rc::Rc;
 use x509_parser::prelude::{
     CallbackLogger, LogError, StderrLogger, Validate, WriteSink, X509Certificate,
 };
 
-/// The answer, and the lines that are written, `/` for the end of each.
-pub(crate) fn written(alloc: Global, certificate: &X509Certificate<'_>) -> io::Result<String> {
+/// Adds the answer, and the lines that are written, `/` for the end of each.
+pub(crate) fn add_written(text: &mut String, certificate: &X509Certificate<'_>) -> Added {
+    let alloc = *text.allocator();
     let mut l = StderrLogger::new(WriteSink::new(Vec::new(alloc)));
-    let Ok(answer) = certificate.validate(alloc, &mut l) else {
-        return literal(alloc, "refused");
+    match certificate.validate(alloc, &mut l) {
+        Ok(answer) => {
+            write!(text, "{answer} ")?;
+            add_lines(text, &l.into_inner().into_inner())
+        }
+        Err(_) => text.push_str("refused"),
+    }
+}
+
+fn add_lines(text: &mut String, octets: &[u8]) -> Added {
+    let Ok(lines) = str::from_utf8(octets) else {
+        return text.push_str("no text");
     };
-    let octets = l.into_inner().into_inner();
-    let Ok(lines) = str::from_utf8(octets.as_slice()) else {
-        return literal(alloc, "no text");
-    };
-    let mut text = String::new(alloc);
-    write!(text, "{answer} ")?;
     for letter in lines.chars() {
         text.push(if letter == '\n' { '/' } else { letter })?;
     }
-    Ok(text)
+    Ok(())
 }
 
-/// The answer, and what two closures are handed, in order.
-pub(crate) fn handed(alloc: Global, certificate: &X509Certificate<'_>) -> io::Result<String> {
+/// Adds the answer, and what two closures are handed, in order.
+pub(crate) fn add_handed(text: &mut String, certificate: &X509Certificate<'_>) -> Added {
+    let alloc = *text.allocator();
     let kept = Rc::new(alloc, RefCell::new(String::new(alloc)))?;
     let of_warnings = Rc::clone(&kept)?;
     let of_errors = Rc::clone(&kept)?;
     let on_warning = Box::new(alloc, move |text: &str| keep(&of_warnings, "W", text))?;
     let on_error = Box::new(alloc, move |text: &str| keep(&of_errors, "E", text))?;
     let mut l = CallbackLogger::new(on_warning, on_error);
-    let Ok(answer) = certificate.validate(alloc, &mut l) else {
-        return literal(alloc, "refused");
-    };
-    let Ok(texts) = kept.try_replace(String::new(alloc)) else {
-        return literal(alloc, "lent");
-    };
-    let text = format!(in alloc; "{answer}{texts}")?;
-    Ok(text)
+    match certificate.validate(alloc, &mut l) {
+        Ok(answer) => add_kept(text, answer, &kept),
+        Err(_) => text.push_str("refused"),
+    }
 }
 
-/// Why a message isn't taken, as text, by the name of the case.
-pub(crate) fn refusal(alloc: Global, name: &str) -> io::Result<String> {
-    let refusal = match name {
-        "memory" => LogError::OutOfMemory,
-        _ => LogError::Write,
+fn add_kept(text: &mut String, answer: bool, kept: &RefCell<String>) -> Added {
+    write!(text, "{answer}")?;
+    match kept.try_replace(String::new(*text.allocator())) {
+        Ok(texts) => text.push_str(&texts),
+        Err(_) => text.push_str("lent"),
+    }
+}
+
+/// Adds why a message isn't taken, as text, by the name of the case.
+pub(crate) fn add_log_error(text: &mut String, name: &str) -> Added {
+    let error = if name == "memory" {
+        LogError::OutOfMemory
+    } else {
+        LogError::Write
     };
-    let text = format!(in alloc; "{refusal}")?;
-    Ok(text)
+    write!(text, "{error}")
 }
 
 fn keep(kept: &RefCell<String>, mark: &str, text: &str) {

@@ -1,34 +1,32 @@
 //! Rows of algorithms, their parameters and values of signatures.
 
-use crate::words::{Words, add_error, add_hex, read_of, words_or_error};
+use crate::kinds::Algorithm;
+use crate::words::{Words, add_error, add_made, add_read};
 use asn1_any::Any;
 use asn1_oid::Oid;
 use asn1_traits::FromDer;
-use hex_rows::literal;
-use std::alloc::{AllocError, Global};
-use std::io;
+use hex_rows::{Added, add_hex};
 use x509_algorithms::{
     EcdsaSigValue, MaskGenAlgorithm, RsaAesOaepParams, RsaSsaPssParams, SignatureAlgorithm,
 };
-use x509_core::X509Error;
+use x509_core::{X509Error, X509Result};
 use x509_names::AlgorithmIdentifier;
 
-/// What the reader of the row's type answers.
-pub(crate) fn of_algorithms(alloc: Global, name: &str, octets: &[u8]) -> io::Result<String> {
-    match name {
-        "EcdsaSigValue" => read_of::<EcdsaSigValue<'_>>(alloc, octets),
-        "RsaSsaPssParams" => read_of::<RsaSsaPssParams<'_>>(alloc, octets),
-        "RsaSsaPssParamsElement" => pss_element(alloc, octets),
-        "RsaAesOaepParams" => read_of::<RsaAesOaepParams<'_>>(alloc, octets),
-        "RsaAesOaepParamsElement" => oaep_element(alloc, octets),
-        "RsaAesOaepParamsEmpty" => algorithm_text(alloc, &RsaAesOaepParams::empty()),
-        "SignatureAlgorithm" => signature_algorithm(alloc, octets),
-        _ => literal(alloc, "no type"),
+/// Adds what the reader of the type answers.
+pub(crate) fn add_algorithm_value(text: &mut String, value: Algorithm, octets: &[u8]) -> Added {
+    match value {
+        Algorithm::EcdsaSigValue => add_read::<EcdsaSigValue<'_>>(text, octets),
+        Algorithm::RsaSsaPssParams => add_read::<RsaSsaPssParams<'_>>(text, octets),
+        Algorithm::RsaSsaPssParamsElement => add_pss_element(text, octets),
+        Algorithm::RsaAesOaepParams => add_read::<RsaAesOaepParams<'_>>(text, octets),
+        Algorithm::RsaAesOaepParamsElement => add_oaep_element(text, octets),
+        Algorithm::RsaAesOaepParamsEmpty => add_algorithm(text, &RsaAesOaepParams::empty()),
+        Algorithm::SignatureAlgorithm => add_signature_algorithm(text, octets),
     }
 }
 
 impl Words for EcdsaSigValue<'_> {
-    fn add_words(&self, text: &mut String) -> Result<(), AllocError> {
+    fn add_words(&self, text: &mut String) -> Added {
         add_hex(text, self.r.content)?;
         text.push_str(", ")?;
         add_hex(text, self.s.content)
@@ -36,25 +34,25 @@ impl Words for EcdsaSigValue<'_> {
 }
 
 impl Words for RsaSsaPssParams<'_> {
-    fn add_words(&self, text: &mut String) -> Result<(), AllocError> {
+    fn add_words(&self, text: &mut String) -> Added {
         add_hash(
             text,
             &self.hash_algorithm_oid(),
             self.hash_algorithm().is_none(),
         )?;
         add_mask(text, self.mask_gen_algorithm())?;
-        let told = by_default(self.mask_gen_algorithm_raw().is_none());
+        let by_default = by_default(self.mask_gen_algorithm_raw().is_none());
         let salt = self.salt_length();
         write!(
             text,
-            "{told}, salt {salt}, trailer {}",
+            "{by_default}, salt {salt}, trailer {}",
             self.trailer_field()
         )
     }
 }
 
 impl Words for RsaAesOaepParams<'_> {
-    fn add_words(&self, text: &mut String) -> Result<(), AllocError> {
+    fn add_words(&self, text: &mut String) -> Added {
         add_hash(
             text,
             &self.hash_algorithm_oid(),
@@ -67,34 +65,36 @@ impl Words for RsaAesOaepParams<'_> {
     }
 }
 
-/// The parameters that the element at the front holds.
-fn pss_element(alloc: Global, octets: &[u8]) -> io::Result<String> {
-    let Ok((_, any)) = Any::from_der(octets) else {
-        return literal(alloc, "no element");
-    };
-    words_or_error(alloc, RsaSsaPssParams::try_from(alloc, any))
+/// Adds the parameters that the element at the front holds.
+fn add_pss_element(text: &mut String, octets: &[u8]) -> Added {
+    match Any::from_der(octets) {
+        Ok((_, any)) => add_made(text, RsaSsaPssParams::try_from(*text.allocator(), any)),
+        Err(_) => text.push_str("no element"),
+    }
 }
 
-/// The parameters that the element at the front holds.
-fn oaep_element(alloc: Global, octets: &[u8]) -> io::Result<String> {
-    let Ok((_, any)) = Any::from_der(octets) else {
-        return literal(alloc, "no element");
-    };
-    words_or_error(alloc, RsaAesOaepParams::try_from(alloc, any))
+/// Adds the parameters that the element at the front holds.
+fn add_oaep_element(text: &mut String, octets: &[u8]) -> Added {
+    match Any::from_der(octets) {
+        Ok((_, any)) => add_made(text, RsaAesOaepParams::try_from(*text.allocator(), any)),
+        Err(_) => text.push_str("no element"),
+    }
 }
 
-/// What the algorithm is that begins the octets.
-fn signature_algorithm(alloc: Global, octets: &[u8]) -> io::Result<String> {
-    match AlgorithmIdentifier::from_der(alloc, octets) {
-        Ok((_, algorithm)) => {
-            words_or_error(alloc, SignatureAlgorithm::try_from(alloc, &algorithm))
-        }
-        Err(_) => literal(alloc, "no algorithm"),
+/// Adds what the algorithm is that begins the octets.
+fn add_signature_algorithm(text: &mut String, octets: &[u8]) -> Added {
+    let alloc = *text.allocator();
+    let read: X509Result<'_, AlgorithmIdentifier<'_>> = AlgorithmIdentifier::from_der(
+        alloc, octets,
+    );
+    match read {
+        Ok((_, algorithm)) => add_made(text, SignatureAlgorithm::try_from(alloc, &algorithm)),
+        Err(_) => text.push_str("no algorithm"),
     }
 }
 
 impl Words for SignatureAlgorithm<'_> {
-    fn add_words(&self, text: &mut String) -> Result<(), AllocError> {
+    fn add_words(&self, text: &mut String) -> Added {
         match self {
             SignatureAlgorithm::RSA => text.push_str("RSA"),
             SignatureAlgorithm::RSASSA_PSS(value) => {
@@ -112,27 +112,18 @@ impl Words for SignatureAlgorithm<'_> {
     }
 }
 
-fn add_hash(text: &mut String, hash: &Oid<'_>, is_default: bool) -> Result<(), AllocError> {
+fn add_hash(text: &mut String, hash: &Oid<'_>, is_default: bool) -> Added {
     write!(text, "hash {hash}{}, mask ", by_default(is_default))
 }
 
-fn add_mask(
-    text: &mut String,
-    mask: Result<MaskGenAlgorithm<'_, '_>, X509Error>,
-) -> Result<(), AllocError> {
+fn add_mask(text: &mut String, mask: Result<MaskGenAlgorithm<'_, '_>, X509Error>) -> Added {
     match mask {
         Ok(mask) => write!(text, "{} with {}", mask.mgf, mask.hash),
         Err(error) => add_error(text, &error),
     }
 }
 
-fn algorithm_text(alloc: Global, algorithm: &AlgorithmIdentifier<'_>) -> io::Result<String> {
-    let mut text = String::new(alloc);
-    add_algorithm(&mut text, algorithm)?;
-    Ok(text)
-}
-
-fn add_algorithm(text: &mut String, algorithm: &AlgorithmIdentifier<'_>) -> Result<(), AllocError> {
+fn add_algorithm(text: &mut String, algorithm: &AlgorithmIdentifier<'_>) -> Added {
     let parameters = match algorithm.parameters() {
         Some(_) => "with parameters",
         None => "without parameters",

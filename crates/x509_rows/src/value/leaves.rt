@@ -1,72 +1,71 @@
-//! Rows of values of one element, and of texts.
+//! Values of one element, and texts.
 
-use crate::value::algorithms::of_algorithms;
-use crate::value::told::{fault, fault_of, read_of, shown, told_of};
-use crate::words::{hex_before, refusal_text, text_before};
+use crate::kinds::Leaf;
+use crate::value::read::{add_fault, add_fault_of, add_fields, add_fields_of, add_text_of};
+use crate::words::{add_hex_before, add_refusal, add_text_before};
 use asn1_traits::FromDer;
-use hex_rows::literal;
-use std::alloc::Global;
-use std::io;
+use hex_rows::Added;
+use x509_core::X509Result;
 use x509_flags::{KeyIdentifier, KeyUsage, NSCertType};
 use x509_leaves::{BasicConstraints, crl_number, invalidity_date, netscape_comment, reason_code};
 use x509_points::CRLDistributionPoints;
 
-/// What the reader of the row's type answers.
-pub(crate) fn of_leaves(alloc: Global, name: &str, octets: &[u8]) -> io::Result<String> {
-    match name {
-        "BasicConstraints" => read_of::<BasicConstraints>(alloc, octets),
-        "BasicConstraintsFault" => fault_of::<BasicConstraints>(alloc, octets),
-        "CRLNumber" => number(alloc, octets),
-        "ReasonCode" => told_of(alloc, reason_code(octets)),
-        "ReasonCodeFault" => fault(alloc, reason_code(octets)),
-        "InvalidityDate" => date(alloc, octets),
-        "NetscapeComment" => comment(alloc, octets),
-        "KeyUsageText" => shown::<KeyUsage>(alloc, octets),
-        "NSCertTypeText" => shown::<NSCertType>(alloc, octets),
-        "KeyIdentifierText" => shown::<KeyIdentifier<'_>>(alloc, octets),
-        "ReasonFlagsText" => reasons(alloc, octets),
-        _ => of_algorithms(alloc, name, octets),
+/// Adds what the reader of the value answers.
+pub(crate) fn add_leaf(text: &mut String, leaf: Leaf, octets: &[u8]) -> Added {
+    match leaf {
+        Leaf::BasicConstraints => add_fields_of::<BasicConstraints>(text, octets),
+        Leaf::BasicConstraintsFault => add_fault_of::<BasicConstraints>(text, octets),
+        Leaf::CRLNumber => add_number(text, octets),
+        Leaf::ReasonCode => add_fields(text, reason_code(octets)),
+        Leaf::ReasonCodeFault => add_fault(text, reason_code(octets)),
+        Leaf::InvalidityDate => add_date(text, octets),
+        Leaf::NetscapeComment => add_comment(text, octets),
+        Leaf::KeyUsageText => add_text_of::<KeyUsage>(text, octets),
+        Leaf::NSCertTypeText => add_text_of::<NSCertType>(text, octets),
+        Leaf::KeyIdentifierText => add_text_of::<KeyIdentifier<'_>>(text, octets),
+        Leaf::ReasonFlagsText => add_reasons(text, octets),
     }
 }
 
-fn number(alloc: Global, octets: &[u8]) -> io::Result<String> {
+fn add_number(text: &mut String, octets: &[u8]) -> Added {
     match crl_number(octets) {
-        Ok((rest, number)) => hex_before(alloc, number.as_bytes(), rest),
-        Err(refusal) => refusal_text(alloc, refusal),
+        Ok((rest, number)) => add_hex_before(text, number.as_bytes(), rest),
+        Err(refusal) => add_refusal(text, &refusal),
     }
 }
 
-fn date(alloc: Global, octets: &[u8]) -> io::Result<String> {
+fn add_date(text: &mut String, octets: &[u8]) -> Added {
     match invalidity_date(octets) {
-        Ok((rest, time)) => text_before(alloc, &time, rest),
-        Err(refusal) => refusal_text(alloc, refusal),
+        Ok((rest, time)) => add_text_before(text, &time, rest),
+        Err(refusal) => add_refusal(text, &refusal),
     }
 }
 
-fn comment(alloc: Global, octets: &[u8]) -> io::Result<String> {
+fn add_comment(text: &mut String, octets: &[u8]) -> Added {
     match netscape_comment(octets) {
-        Ok((rest, comment)) => hex_before(alloc, comment.as_bytes(), rest),
-        Err(refusal) => refusal_text(alloc, refusal),
+        Ok((rest, comment)) => add_hex_before(text, comment.as_bytes(), rest),
+        Err(refusal) => add_refusal(text, &refusal),
     }
 }
 
-/// The reasons of the first of the places that the octets tell.
-fn reasons(alloc: Global, octets: &[u8]) -> io::Result<String> {
-    match CRLDistributionPoints::from_der(alloc, octets) {
-        Ok((_, places)) => first_reasons(alloc, &places),
-        Err(_) => literal(alloc, "no places"),
+/// Adds the reasons of the first of the places that the octets tell.
+fn add_reasons(text: &mut String, octets: &[u8]) -> Added {
+    let read: X509Result<'_, CRLDistributionPoints<'_>> = CRLDistributionPoints::from_der(
+        *text.allocator(),
+        octets,
+    );
+    match read {
+        Ok((_, places)) => add_first_reasons(text, &places),
+        Err(_) => text.push_str("no places"),
     }
 }
 
-fn first_reasons(alloc: Global, places: &CRLDistributionPoints<'_>) -> io::Result<String> {
+fn add_first_reasons(text: &mut String, places: &CRLDistributionPoints<'_>) -> Added {
     let Some(place) = places.points.first() else {
-        return literal(alloc, "no place");
+        return text.push_str("no place");
     };
     match &place.reasons {
-        Some(reasons) => {
-            let text = format!(in alloc; "{reasons}")?;
-            Ok(text)
-        }
-        None => literal(alloc, "no reasons"),
+        Some(reasons) => write!(text, "{reasons}"),
+        None => text.push_str("no reasons"),
     }
 }

@@ -1,39 +1,38 @@
 //! Revocation lists, and their signed parts by themselves.
 
-use crate::walk::record::{Record, agreed};
-use hex_rows::literal;
-use std::alloc::Global;
-use std::io;
+ghost use Rattle.std.specs.Prelude.{⊤};
+
+use crate::walk::record::{Count, Record, add_record};
+use hex_rows::Added;
 use x509_lists::{
-    CertificateRevocationList, CertificateRevocationListParser, CertificateRevocationListVisitor,
-    TbsCertList,
+    CertificateRevocationList, CertificateRevocationListVisitor, ListVisit, ListVisits, TbsCertList,
 };
 
-/// The calls of a walk over the list that begins the octets, whose values of extensions aren't parsed.
-pub(crate) fn of_shallow(alloc: Global, octets: &[u8]) -> io::Result<String> {
-    let parser = CertificateRevocationListParser::new().with_deep_parse_extensions(false);
-    match parser.parse(alloc, octets) {
-        Ok((_, list)) => of_list(alloc, &list),
-        Err(_) => literal(alloc, "no list"),
+impl ListVisits for Count {
+    ghost sees = { λ old call new. ⊤ };
+
+    fn visit(&mut self, _call: ListVisit<'_, '_>) {
+        self.add();
     }
 }
 
-/// The calls of a walk over the list.
-pub(crate) fn of_list(alloc: Global, list: &CertificateRevocationList<'_>) -> io::Result<String> {
-    let mut of_visitor = Record::new(alloc);
-    of_visitor.walk(list);
-    let mut of_list = Record::new(alloc);
-    list.walk(&mut of_list);
-    let mut cases = Record::new(alloc);
-    list.walk_visits(&mut cases);
-    agreed(alloc, cases, &[of_visitor, of_list])
+/// Adds the calls of a walk over the list.
+pub(crate) fn add_list(text: &mut String, list: &CertificateRevocationList<'_>) -> Added {
+    let alloc = *text.allocator();
+    let mut methods = Record::new(alloc);
+    methods.walk(list);
+    let mut other = Record::new(alloc);
+    list.walk(&mut other);
+    let mut count = Count::new();
+    list.walk_visits(&mut count);
+    add_record(text, &methods, &other, count)
 }
 
-/// The calls of a walk over the signed part.
-pub(crate) fn of_tbs_list(alloc: Global, tbs: &TbsCertList<'_>) -> io::Result<String> {
-    let mut methods = Record::new(alloc);
+/// Adds the calls of a walk over the signed part.
+pub(crate) fn add_tbs(text: &mut String, tbs: &TbsCertList<'_>) -> Added {
+    let mut methods = Record::new(*text.allocator());
     tbs.walk(&mut methods);
-    let mut cases = Record::new(alloc);
-    tbs.walk_visits(&mut cases);
-    agreed(alloc, cases, &[methods])
+    let mut count = Count::new();
+    tbs.walk_visits(&mut count);
+    add_record(text, &methods, &methods, count)
 }

@@ -1,18 +1,36 @@
 //! Records of calls.
 
 use asn1_oid::Oid;
-use hex_rows::literal;
+use hex_rows::Added;
 use std::alloc::Global;
 use std::fmt::Display;
-use std::io;
 use x509_ext::{UniqueIdentifier, X509Version};
 use x509_names::X509Name;
 use x509_time::{ASN1Time, Validity};
+
+/// How many calls there were.
+#[derive(Clone, Copy)]
+pub(crate) struct Count {
+    calls: usize,
+}
+
+impl Count {
+    /// No call.
+    pub(crate) fn new() -> Count {
+        Count { calls: 0 }
+    }
+
+    /// A call more.
+    pub(crate) fn add(&mut self) {
+        self.calls = self.calls.saturating_add(1);
+    }
+}
 
 /// The calls so far, as text.
 #[derive(Drop)]
 pub(crate) struct Record {
     text: String,
+    count: Count,
     failed: bool,
 }
 
@@ -21,15 +39,16 @@ impl Record {
     pub(crate) fn new(alloc: Global) -> Record {
         Record {
             text: String::new(alloc),
+            count: Count::new(),
             failed: false,
         }
     }
 
     /// A call.
     pub(crate) fn call(&mut self, name: &str) {
-        if self.push(name).is_err() {
-            self.failed = true;
-        }
+        self.count.add();
+        let added = add_name(&mut self.text, name);
+        self.note(added);
     }
 
     /// A call, and the identifier that it tells.
@@ -59,16 +78,16 @@ impl Record {
 
     /// A call, and something of what it tells.
     pub(crate) fn call_with<T: Display>(&mut self, name: &str, what: &T) {
-        if self.push_with(name, what).is_err() {
-            self.failed = true;
-        }
+        self.count.add();
+        let added = add_with(&mut self.text, name, what);
+        self.note(added);
     }
 
     /// A call, and the octets that it tells.
     pub(crate) fn call_with_octets(&mut self, name: &str, octets: &[u8]) {
-        if self.push_with_octets(name, octets).is_err() {
-            self.failed = true;
-        }
+        self.count.add();
+        let added = add_with_octets(&mut self.text, name, octets);
+        self.note(added);
     }
 
     /// A call, and the octets of the bits that it tells, if it tells some.
@@ -82,43 +101,54 @@ impl Record {
     /// A call, and when what it tells begins and ends, in seconds since 1970.
     pub(crate) fn call_with_validity(&mut self, name: &str, validity: &Validity) {
         self.call_at(name, &validity.not_before);
-        self.call_at("to", &validity.not_after);
+        let added = add_with(&mut self.text, "to", &validity.not_after.timestamp());
+        self.note(added);
     }
 
-    fn push(&mut self, name: &str) -> io::Result<()> {
-        if !self.text.is_empty() {
-            self.text.push_str("; ")?;
+    fn note(&mut self, added: Added) {
+        if added.is_err() {
+            self.failed = true;
         }
-        self.text.push_str(name)?;
-        Ok(())
-    }
-
-    fn push_with<T: Display>(&mut self, name: &str, what: &T) -> io::Result<()> {
-        self.push(name)?;
-        write!(self.text, " {what}")?;
-        Ok(())
-    }
-
-    fn push_with_octets(&mut self, name: &str, octets: &[u8]) -> io::Result<()> {
-        self.push(name)?;
-        self.text.push(' ')?;
-        for octet in octets {
-            write!(self.text, "{octet:02x}")?;
-        }
-        Ok(())
     }
 }
 
-/// The calls that a walk told as values, where each walk by methods told the same ones.
-pub(crate) fn agreed(alloc: Global, cases: Record, methods: &[Record]) -> io::Result<String> {
-    for record in methods {
-        if record.failed || cases.failed {
-            return literal(alloc, "out of memory");
-        }
-        if record.text.as_str() != cases.text.as_str() {
-            let text = format!(in alloc; "methods {}, cases {}", record.text, cases.text)?;
-            return Ok(text);
-        }
+fn add_name(text: &mut String, name: &str) -> Added {
+    if !text.is_empty() {
+        text.push_str("; ")?;
     }
-    Ok(cases.text)
+    text.push_str(name)
+}
+
+fn add_with<T: Display>(text: &mut String, name: &str, what: &T) -> Added {
+    add_name(text, name)?;
+    write!(text, " {what}")
+}
+
+fn add_with_octets(text: &mut String, name: &str, octets: &[u8]) -> Added {
+    add_name(text, name)?;
+    text.push(' ')?;
+    for octet in octets {
+        write!(text, "{octet:02x}")?;
+    }
+    Ok(())
+}
+
+/// Adds the calls of the methods, where both walks made the same and `walk_visits` as many; where not, what it was that differs.
+pub(crate) fn add_record(
+    text: &mut String,
+    methods: &Record,
+    other: &Record,
+    visits: Count,
+) -> Added {
+    if methods.failed || other.failed {
+        return text.push_str("out of memory");
+    }
+    text.push_str(&methods.text)?;
+    if other.text.as_str() != methods.text.as_str() {
+        write!(text, ", by the other walk {}", other.text)?;
+    }
+    if visits.calls != methods.count.calls {
+        write!(text, ", {} calls by walk_visits", visits.calls)?;
+    }
+    Ok(())
 }
