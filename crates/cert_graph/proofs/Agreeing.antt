@@ -6,7 +6,7 @@ use Rattle.cert_graph.specs.declared.answer.Answer.{Answer}
 use Rattle.cert_graph.specs.declared.answer.Answer.TheVariants.{Path, NoPath, NoTarget}
 use Rattle.cert_graph.specs.Reach.{Takes, IsAtMost, lesser, less_one}
 use Rattle.cert_graph.specs.Graph.{Graph, counted, IsValidPath}
-use Rattle.cert_graph.specs.Adequate.{at_row, row_of, rows_of, issuers_of, passed_by, HasAnchoredAt, IsSuccessor, IsAdequate, IsTrueAnswer}
+use Rattle.cert_graph.specs.Adequate.{at_row, row_of, rows_of, issuers_of, passed_by, HasAnchoredAt, IsSuccessor, IsAdequatePath, IsAdequateNone, IsAdequate, IsTrueAnswer}
 use Rattle.cert_graph.specs.Laws.{FitIsUsable, Carries, Agrees}
 use Rattle.cert_graph.specs.Steps.{one_of}
 use Rattle.cert_graph.proofs.Tails.{counted_cons}
@@ -55,20 +55,22 @@ successor_same g h e r s k v w fv fw edge =
 pub valid_same : (g h : Graph) → Agrees g h → FitIsUsable h → (target : ℕ) (ps : List ℕ) (a : ℕ) → IsValidPath g target ps a → IsValidPath h target ps a
 valid_same g h e fu target ps a v = subst (λ (qs : List ℕ). IsValidPath h target qs a) (map_same ps) (path_carried (λ x. x) g h (agreed_carries g h e) fu target ps a v)
 
-pub adequate_same : (g h : Graph) → Agrees g h → FitIsUsable h → (target : ℕ) (answer : Answer) → IsAdequate g target answer → IsAdequate h target answer
-adequate_same g h e fu target (Path ps a table) k = record {
-  valid = valid_same g h e fu target ps.items a k.valid;
+pub path_same : (g h : Graph) → Agrees g h → FitIsUsable h → (target : ℕ) (ps : List ℕ) (a : ℕ) (rows : List (List Reach)) → IsAdequatePath g target ps a rows → IsAdequatePath h target ps a rows
+path_same g h e fu target ps a rows k = record {
+  valid = valid_same g h e fu target ps a k.valid;
   count = k.count;
   whole = λ i d lt. k.whole i d lt ∙ e.items;
   anchored = λ i d lt v. anchored_same g h e _ v (k.anchored i d lt v);
-  successors = λ i lt. successor_same g h e (row_of (rows_of table) i) (row_of (rows_of table) (i + 1)) (k.successors i lt);
+  successors = λ i lt. successor_same g h e (row_of rows i) (row_of rows (i + 1)) (k.successors i lt);
   least_anchor = λ front v x b lt edge. k.least_anchor front v x b lt ((e.anchored v b).1 edge);
   not_alone = λ two b edge. k.not_alone two b ((e.anchored target b).1 edge);
   not_shorter = λ i w x fit edge. k.not_shorter i w x ((e.fit w).1 fit) ((e.edge target w ((e.fit w).1 fit)).1 edge);
   not_smaller = λ front back v p w x lt fit edge takes. k.not_smaller front back v p w x lt ((e.fit w).1 fit) ((e.edge v w ((e.fit w).1 fit)).1 edge)
-      (subst (λ (n : ℕ). Takes (at_row (row_of (rows_of table) (length back)) w) n) (counted_same g h e (issuers_of (front ++ v ∷ []))) takes);
+      (subst (λ (n : ℕ). Takes (at_row (row_of rows (length back)) w) n) (counted_same g h e (issuers_of (front ++ v ∷ []))) takes);
 }
-adequate_same g h e fu target (NoPath table) k = record {
+
+pub none_same : (g h : Graph) → Agrees g h → (target : ℕ) (rows : List (List Reach)) → IsAdequateNone g target rows → IsAdequateNone h target rows
+none_same g h e target rows k = record {
   certificate = (e.certificate target).0 k.certificate;
   row = k.row;
   one = k.one;
@@ -80,6 +82,10 @@ adequate_same g h e fu target (NoPath table) k = record {
     | inr x ↦ inr (λ b edge. x.0 b ((e.anchored target b).1 edge), λ w fit edge. x.1 w ((e.fit w).1 fit) ((e.edge target w ((e.fit w).1 fit)).1 edge))
   ];
 }
+
+pub adequate_same : (g h : Graph) → Agrees g h → FitIsUsable h → (target : ℕ) (answer : Answer) → IsAdequate g target answer → IsAdequate h target answer
+adequate_same g h e fu target (Path ps a table) k = path_same g h e fu target ps.items a (rows_of table) k
+adequate_same g h e fu target (NoPath table) k = none_same g h e target (rows_of table) k
 adequate_same g h e fu target NoTarget k = λ x. k ((e.certificate target).1 x)
 
 -- fit is usable in one graph where it is so in the other

@@ -4,7 +4,6 @@ use Rattle.std.specs.Prelude.{◌↔◌, ◌⊎◌, Contains}
 use Rattle.std.proofs.lemmas.Bool.{cases_lt}
 use Rattle.std.proofs.lemmas.List.{take_more, take_all}
 use Rattle.std.proofs.lemmas.List.Elements.{at_read, Contains-append_left, Contains-push, Contains-push_cases}
-use Rattle.cert_graph.specs.declared.entries.Entry.{Entry}
 use Rattle.cert_graph.specs.Entries.{IsAt}
 use Rattle.cert_graph.specs.Lists.{NamedSoFar}
 
@@ -72,7 +71,7 @@ named_more R v named i within u k small =
       ],
     )
 
-pub named_all : (f : Entry → List ℕ) (entries : List Entry) (v : ℕ) (e : Entry) (named : List ℕ) (i : ℕ) → v < length entries → e ≡ get_or entries v e → named ≡ f e → length named ≤ i
+pub named_all : {X : Type 0} (f : X → List ℕ) (entries : List X) (v : ℕ) (e : X) (named : List ℕ) (i : ℕ) → v < length entries → e ≡ get_or entries v e → named ≡ f e → length named ≤ i
     → (u k : ℕ) → u < v + 1 → IsAt entries u (λ x. Contains (f x) k) ↔ ((u < v + 1) × NamedSoFar (λ w j. IsAt entries w (λ x. Contains (f x) j)) v (take i named) u k)
 named_all f entries v e named i within is own past u k small =
     let whole : take i named ≡ f e = take_all i named past ∙ own in (

@@ -14,3 +14,14 @@ pub mod Filled
 pub mod EntryFacts
 pub mod Joined
 pub mod BuiltFacts
+pub mod Changing
+pub mod Sharing
+pub mod AgreeingInventories
+pub mod OneInventory
+pub mod Anything
+pub mod Lowest
+pub mod Climbing
+pub mod Flights
+pub mod Looking
+pub mod Halving
+pub mod ExampleInventory

@@ -72,7 +72,7 @@ one_first g target ps qs a b h k = elim (comes_or_same ps qs a b) [
 ]
 
 -- the target of a valid path is a certificate
-certificate_of : (g : Graph) → UsableIsCertificate g → (target : ℕ) (ps : List ℕ) (a : ℕ) → IsValidPath g target ps a → g.IsCertificate target
+pub certificate_of : (g : Graph) → UsableIsCertificate g → (target : ℕ) (ps : List ℕ) (a : ℕ) → IsValidPath g target ps a → g.IsCertificate target
 certificate_of g uc target ps a v = uc target (All-head g.Usable target v.issuers (subst (All g.Usable) v.starts v.usable))
 
 pub one_true_answer : (g : Graph) → UsableIsCertificate g → (target : ℕ) (answer other : Answer) → IsTrueAnswer g target answer → IsTrueAnswer g target other → SayTheSame answer other

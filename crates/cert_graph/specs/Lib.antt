@@ -9,3 +9,11 @@ pub mod Groups
 pub mod Tables
 pub mod Lists
 pub mod Entries
+pub mod Changes
+pub mod Inventory
+pub mod Issuing
+pub mod LawsOfInventories
+pub mod Least
+pub mod Stairs
+pub mod Lookup
+pub mod Examples

@@ -1,5 +1,7 @@
 //! Laws of answers and paths, proved for all nodes.
 
+ghost use Rattle.cert_graph.specs.Examples.{ExampleOfAnInventory};
+ghost use Rattle.cert_graph.specs.LawsOfInventories.{LawAdequateInventoryIsTrue, LawAgreeingInventories, LawOneTrueInventory, LawInventoryAnswers};
 ghost use Rattle.cert_graph.specs.LawsOfNodes.{LawAdequateIsTrue, LawOneTrueAnswer, LawFirstNamesNoneTwice, LawCarriedPaths, LawFurtherNodes, LawReorderedNodes, LawAgreeingNodes};
 
 /// An adequate answer is true.
@@ -38,4 +40,32 @@ pub fn law_reordered_nodes()
 /// Nodes that say the same of each position have the same adequate and the same true answers.
 pub fn law_agreeing_nodes()
     ensures { LawAgreeingNodes }
+{}
+
+/// An adequate inventory is true. `example_of_an_inventory` has one, over a graph.
+pub fn law_adequate_inventory_is_true()
+    ensures { LawAdequateInventoryIsTrue }
+{}
+
+/// Nodes that say the same of each position have the same adequate inventories.
+pub fn law_agreeing_inventories()
+    ensures { LawAgreeingInventories }
+{}
+
+/// No two true inventories of the same nodes say different things: verdict by verdict they name the same path to the
+/// same anchor, or both that there is none, or both that the item is no certificate.
+pub fn law_one_true_inventory()
+    ensures { LawOneTrueInventory }
+{}
+
+/// What a true inventory says of an item is what each true answer on that item says, so also what the search for this
+/// one target finds.
+pub fn law_inventory_answers()
+    ensures { LawInventoryAnswers }
+{}
+
+/// An adequate inventory of four items: an issuer under the anchor, a certificate under it, one under nobody, and an
+/// item that is no certificate. It is worked out by the prover, part by part.
+pub fn example_of_an_inventory()
+    ensures { ExampleOfAnInventory }
 {}

@@ -2,6 +2,7 @@ ghost use Rattle.std.specs.Prelude.{ℕ, ◌↔◌, ◌<◌, IsTrue, Contains};
 ghost use Rattle.cert_graph.specs.Nodes.{HasLink, HasAnchorLink, graph_of};
 ghost use Rattle.cert_graph.specs.Groups.{HasSomeAnchor, HasAnchorBelow};
 
+use crate::ascending::has;
 use crate::{Group, Nodes};
 
 impl Group {
@@ -9,19 +10,19 @@ impl Group {
     pub fn has_issued(&self, certificate: usize) -> bool
         ensures { IsTrue result ↔ Contains self.now.issued.items certificate }
     {
-        self.issued.contains(&certificate)
+        has(&self.issued, certificate)
     }
 
-    fn has_member(&self, certificate: usize) -> bool
+    pub(crate) fn has_member(&self, certificate: usize) -> bool
         ensures { IsTrue result ↔ Contains self.now.members.items certificate }
     {
-        self.members.contains(&certificate)
+        has(&self.members, certificate)
     }
 
-    fn has_anchor(&self, anchor: usize) -> bool
+    pub(crate) fn has_anchor(&self, anchor: usize) -> bool
         ensures { IsTrue result ↔ Contains self.now.anchors.items anchor }
     {
-        self.anchors.contains(&anchor)
+        has(&self.anchors, anchor)
     }
 
     fn has_link(&self, certificate: usize, issuer: usize) -> bool

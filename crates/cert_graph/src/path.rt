@@ -6,7 +6,7 @@ ghost use Rattle.cert_graph.specs.Nodes.{graph_of};
 use crate::rows::may_take_below;
 use crate::{Nodes, Reach};
 
-fn counted_on(self_issued: bool, count: usize) -> usize
+pub(crate) fn counted_on(self_issued: bool, count: usize) -> usize
     requires { count < usize.MAX }
     ensures { result ≡ count + cond (not self_issued) 1 0 }
 {

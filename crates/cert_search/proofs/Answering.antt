@@ -18,7 +18,8 @@ use Rattle.cert_graph.proofs.PathLaws.{valid_from, no_two, only, first_names_non
 use Rattle.cert_graph.proofs.True.{first_path}
 use Rattle.cert_graph.proofs.NodeFacts.{fit_is_usable}
 use Rattle.cert_search.specs.Exact.{HoldsExactly, HoldsAll, HoldsNoElsewhere, HasExactRows, IsShort}
-use Rattle.cert_search.specs.Rows.{IsFixed, Opens, IsLeast}
+use Rattle.cert_graph.specs.Least.{IsLeast}
+use Rattle.cert_search.specs.Rows.{IsFixed, Opens}
 use Rattle.cert_search.specs.Found.{IsAlone, IsOneRow}
 use Rattle.cert_search.proofs.Exactness.{fixed_anchored, fixed_successor, fixed_holds_all, exact_no_elsewhere}
 
@@ -96,13 +97,19 @@ distinct_of (x ∷ ps) h = (
 )
 
 -- so a path has no more positions than there are items, and its table fewer rows
+pub path_short : (nodes : Nodes) (target : ℕ) (ps : List ℕ) (a : ℕ) (rows : List (List Reach)) → IsAdequatePath (graph_of nodes) target ps a rows → NamesNoneTwice ps × (length ps ≤ length nodes.items.items)
+path_short nodes target ps a rows h =
+    let once : NamesNoneTwice ps = first_names_none_twice (graph_of nodes) (fit_is_usable nodes) target ps a (first_path (graph_of nodes) target ps a rows h) in (
+      once,
+      length-le_from_distinct_below ps (length nodes.items.items) (distinct_of ps once)
+          (λ q e. (All-contains (graph_of nodes).Usable ps q h.valid.usable (Contains-from_any (λ x y t. eqb-true x y t) q ps e)).0),
+    )
+
 pub adequate_short : (nodes : Nodes) (target : ℕ) (answer : Answer) → IsAdequate (graph_of nodes) target answer → IsShort (graph_of nodes) answer
 adequate_short nodes target (Path ps a table) h =
-    let once : NamesNoneTwice ps.items = first_names_none_twice (graph_of nodes) (fit_is_usable nodes) target ps.items a (first_path (graph_of nodes) target ps.items a (rows_of table) h) in
-    let few : length ps.items ≤ length nodes.items.items =
-    length-le_from_distinct_below ps.items (length nodes.items.items) (distinct_of ps.items once)
-    (λ q e. (All-contains (graph_of nodes).Usable ps.items q h.valid.usable (Contains-from_any (λ x y t. eqb-true x y t) q ps.items e)).0) in
+    let short = path_short nodes target ps.items a (rows_of table) h in
+    let few = short.1 in
     let count : length (rows_of table) + 1 ≡ length ps.items = h.count in
-    (once, omega arith)
+    (short.0, omega arith)
 adequate_short nodes target (NoPath table) h = tt
 adequate_short nodes target NoTarget h = tt

@@ -14,12 +14,12 @@ use Rattle.cert_graph.specs.Graph.{Graph}
 use Rattle.cert_graph.specs.Adequate.{at_row}
 use Rattle.cert_graph.specs.Nodes.{graph_of}
 use Rattle.cert_graph.proofs.ReachFacts.{more_takes, at_most_from_takes}
-use Rattle.cert_search.specs.declared.changes.Change.{Change}
-use Rattle.cert_search.specs.Changes.{changed}
+use Rattle.cert_graph.specs.declared.changes.Change.{Change}
+use Rattle.cert_graph.specs.Changes.{changed}
 use Rattle.cert_search.specs.Rows.{AreOffers, IsRaisedBy, GroupOffers}
 use Rattle.cert_search.specs.Rising.{IsGroup, AreAnchored, ArePlaces, AreRaised, HaveRisen, ChangeTakes, MemberTakes, LetsThrough, AreHanded, AreBests}
-use Rattle.cert_search.proofs.Anything.{any_push, any_more}
-use Rattle.cert_search.proofs.Changing.{changed_push}
+use Rattle.cert_graph.proofs.Anything.{any_push, any_more}
+use Rattle.cert_graph.proofs.Changing.{changed_push}
 use Rattle.cert_search.proofs.Offering.{offered_more, issued_more, groups_go_on}
 use Rattle.cert_search.proofs.Placing.{apart, same_group, nothing_in, lists_of}
 

@@ -3,11 +3,9 @@ pub mod Ranking
 pub mod Running
 pub mod Walking
 pub mod Answering
-pub mod Anything
 pub mod Offering
-pub mod Changing
-pub mod Lowest
 pub mod Carried
 pub mod Placing
 pub mod Handing
 pub mod Rounding
+pub mod AllRows

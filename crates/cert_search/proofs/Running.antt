@@ -9,9 +9,9 @@ use Rattle.cert_graph.specs.Graph.{Graph}
 use Rattle.cert_graph.specs.Adequate.{row_of}
 use Rattle.cert_search.specs.Exact.{HoldsExactly}
 use Rattle.cert_search.specs.Rows.{IsRun, Opens}
-use Rattle.cert_search.specs.declared.changes.Change.{Change}
-use Rattle.cert_search.specs.Changes.{changed, rows_by}
-use Rattle.cert_search.proofs.Changing.{items_by, last_by, rows_grow, length-rows}
+use Rattle.cert_graph.specs.declared.changes.Change.{Change}
+use Rattle.cert_graph.specs.Changes.{changed, rows_by}
+use Rattle.cert_graph.proofs.Changing.{items_by, last_by, rows_grow, length-rows}
 
 -- the rows so far, none of which opens the target
 pub record SoFar (g : Graph) (target : ℕ) (rows : List (List Reach)) : Type 0 where
@@ -19,7 +19,7 @@ pub record SoFar (g : Graph) (target : ℕ) (rows : List (List Reach)) : Type 0 
   pub exact : (k : ℕ) → k < length rows → HoldsExactly g (k + 1) (row_of rows k)
   pub closed : (k : ℕ) → k < length rows → Opens g target (row_of rows k) → ⊥
 
-push_exact : (g : Graph) (rows : List (List Reach)) (row : List Reach) → ((k : ℕ) → k < length rows → HoldsExactly g (k + 1) (row_of rows k)) → HoldsExactly g (length rows + 1) row
+pub push_exact : (g : Graph) (rows : List (List Reach)) (row : List Reach) → ((k : ℕ) → k < length rows → HoldsExactly g (k + 1) (row_of rows k)) → HoldsExactly g (length rows + 1) row
     → (k : ℕ) → k < length rows + 1 → HoldsExactly g (k + 1) (row_of (rows ++ row ∷ []) k)
 push_exact g rows row h e k lt = elim (cases_lt k (length rows)) [
   | inl below ↦ subst (HoldsExactly g (k + 1)) (sym (get_or_append_left rows (row ∷ []) [] k below)) (h k below)

@@ -1,5 +1,5 @@
 -- The walk that takes the least position each time gives the first path.
-use Rattle.std.proofs.Common.{◌≡◌, ℕ, zero, suc, ◌+◌, ◌-◌, ◌≤◌, ◌<◌, not, cond, List, [], ◌∷◌, ◌++◌, length, map, get_or, None, Vec, Global, arith, zero-add, add-zero, ap, sym, ◌∙◌, subst, refl, inr, length-append, append_assoc, append-nil}
+use Rattle.std.proofs.Common.{◌≡◌, ℕ, zero, suc, ◌+◌, ◌-◌, ◌≤◌, ◌<◌, not, cond, List, [], ◌∷◌, ◌++◌, length, map, get_or, None, Vec, Global, arith, zero-add, add-zero, ap, sym, ◌∙◌, subst, refl, inl, inr, length-append, append_assoc, append-nil}
 use Rattle.std.proofs.lemmas.List.{get_or_default, get_or-map}
 use Rattle.std.proofs.lemmas.List.Sums.{sum_by_push}
 use Rattle.cert_graph.specs.declared.reach.Reach.{Reach}
@@ -12,7 +12,8 @@ use Rattle.cert_graph.proofs.ReachFacts.{no_takes}
 use Rattle.cert_graph.proofs.Tails.{count_moved, tail_fit, tail_takes, chain_of_tail, tail_from_chain}
 use Rattle.cert_graph.proofs.PathLaws.{valid_from, no_one, no_two}
 use Rattle.cert_graph.proofs.Checks.{count_split}
-use Rattle.cert_search.specs.Rows.{IsRun, IsLeast, IsLeastOption}
+use Rattle.cert_graph.specs.Least.{IsLeast, IsLeastOption}
+use Rattle.cert_search.specs.Rows.{IsRun, Opens}
 use Rattle.cert_search.proofs.Exactness.{exact_anchored, exact_successor}
 
 -- each step takes the least position, down the rows to that of k
@@ -171,6 +172,19 @@ pub record Walks (g : Graph) (target : ℕ) (rows : List (List Reach)) (left : �
   pub issuers : List ℕ
   pub starts : positions ≡ target ∷ issuers
   pub part : Part g target rows left issuers last count
+
+-- the walk begins at the target, where the last row opens it and no anchor follows it
+pub walks_start : (g : Graph) (target : ℕ) (rows : List (List Reach)) (left : ℕ) (positions : List ℕ) → length rows ≡ left → ((a : ℕ) → g.AnchorEdge target a → ⊥)
+    → (k : ℕ) × (k + 1 ≡ left) × Opens g target (row_of rows k) → positions ≡ target ∷ [] → Walks g target rows left positions target 0
+walks_start g target rows left positions size alone o e =
+    let k = o.0 in
+    let ends : k + 1 ≡ left = o.1 in
+    let down : suc k ≡ left = omega arith in
+    let long : suc k ≡ length rows = omega arith in
+    subst (λ (n : ℕ). Walks g target rows n positions target 0) down (elim o.2.1 [
+      | inl a ↦ absurd (alone a.0 a.1)
+      | inr x ↦ record { issuers = []; starts = e; part = part_start g target rows k o.2.0 long x.0 (x.1, x.2, x.3) }
+    ])
 
 next_is_there : (g : Graph) (target : ℕ) (rows : List (List Reach)) (k : ℕ) (ps : List ℕ) (last count : ℕ) → Part g target rows (suc k) ps last count → IsLeastOption (MayTake g (row_of rows k) last count) None → ⊥
 next_is_there g target rows k ps last count h none = none h.leads.0 h.leads.1

@@ -1,6 +1,6 @@
 pub mod Exact
 pub mod Rows
 pub mod Found
-pub mod Changes
 pub mod LawsOfTables
 pub mod Rising
+pub mod Inventory

@@ -9,9 +9,9 @@ use Rattle.cert_graph.specs.Graph.{Graph}
 use Rattle.cert_graph.specs.Adequate.{at_row}
 use Rattle.cert_graph.specs.Steps.{one_of}
 use Rattle.cert_graph.specs.Nodes.{graph_of}
-use Rattle.cert_search.specs.declared.changes.Change.{Change}
+use Rattle.cert_graph.specs.declared.changes.Change.{Change}
 use Rattle.cert_search.specs.declared.rising.Rising.{Rising}
-use Rattle.cert_search.specs.Changes.{changed}
+use Rattle.cert_graph.specs.Changes.{changed}
 use Rattle.cert_search.specs.Rows.{AreOffers, IsRaisedBy, GroupOffers}
 
 -- a group stands at a place

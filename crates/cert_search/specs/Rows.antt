@@ -1,5 +1,5 @@
 -- How a search raises its rows, each from the one before it.
-use Rattle.std.specs.Prelude.{◌≡◌, ℕ, ◌+◌, ◌<◌, min, Option, Some, None, List, length, All, ◌⊎◌, ◌↔◌}
+use Rattle.std.specs.Prelude.{◌≡◌, ℕ, ◌+◌, ◌<◌, List, length, All, ◌⊎◌, ◌↔◌}
 use Rattle.cert_graph.specs.declared.reach.Reach.{Reach}
 use Rattle.cert_graph.specs.declared.nodes.Group.{Group}
 use Rattle.cert_graph.specs.declared.nodes.Nodes.{Nodes}
@@ -45,22 +45,3 @@ pub record IsRun (g : Graph) (target : ℕ) (rows : List (List Reach)) : Type 0 
   pub whole : All (λ row. length row ≡ g.items) rows
   pub exact : (k : ℕ) → k < length rows → HoldsExactly g (k + 1) (row_of rows k)
   pub closed : (k : ℕ) → k + 1 < length rows → Opens g target (row_of rows k) → ⊥
-
--- the least number with a property
-abbrev pub IsLeast : (ℕ → Type 0) → ℕ → Type 0
-IsLeast P n = P n × ((m : ℕ) → m < n → P m → ⊥)
-
--- the least number with a property, or none has it
-abbrev pub IsLeastOption : (ℕ → Type 0) → Option ℕ → Type 0
-IsLeastOption P None = (n : ℕ) → P n → ⊥
-IsLeastOption P (Some n) = IsLeast P n
-
--- the lower of two numbers, each of which may be missing
-abbrev pub lower_of : Option ℕ → Option ℕ → Option ℕ
-lower_of None n = n
-lower_of (Some m) None = Some m
-lower_of (Some m) (Some n) = Some (min m n)
-
--- a row takes a count at a fit issuer
-abbrev pub IsOpen : Graph → List Reach → ℕ → ℕ → Type 0
-IsOpen g row count w = g.Fit w × Takes (at_row row w) count

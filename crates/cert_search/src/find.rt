@@ -4,10 +4,9 @@ ghost use Rattle.cert_graph.specs.Nodes.{graph_of};
 ghost use Rattle.cert_search.specs.Exact.{HasExactRows, IsShort};
 ghost use Rattle.cert_search.specs.Found.{IsAlone, IsOneRow};
 
-use crate::least::least_anchor;
 use crate::rounds::{Found, rows_to};
 use crate::walk::first_path;
-use cert_graph::{Answer, Nodes, Reach, Table};
+use cert_graph::{Answer, Nodes, Reach, Table, least_anchor};
 use std::alloc::{AllocError, Global};
 
 /// The first valid path from a target, told by its position from 0, or that there is none, with the table that shows it.

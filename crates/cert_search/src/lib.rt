@@ -5,16 +5,20 @@
 //! Where a row gives a path, a walk down the rows takes the least position at each step. The rows are the answer's
 //! table, by which `cert_graph::check_nodes` sees that the answer is true. Until the target has a path, one row is
 //! kept, and of each row before where the next differs.
+//! `find_all_nodes` does so for every item at once: it raises the rows until one stands still, and takes each item's
+//! path from the first row that leads it on.
 #![tactic(auto)]
 
-mod changes;
+mod all_rows;
 mod find;
+mod find_all;
 pub mod laws;
-mod least;
 mod offers;
 mod places;
 mod rising;
 mod rounds;
+mod verdicts;
 mod walk;
 
 pub use find::find_nodes;
+pub use find_all::find_all_nodes;

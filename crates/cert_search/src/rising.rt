@@ -3,15 +3,14 @@ ghost use Rattle.cert_graph.specs.declared.reach.Reach.TheVariants.{No};
 ghost use Rattle.cert_graph.specs.Reach.{Takes};
 ghost use Rattle.cert_graph.specs.Adequate.{at_row};
 ghost use Rattle.cert_graph.specs.Nodes.{graph_of};
-ghost use Rattle.cert_search.specs.Changes.{changed};
+ghost use Rattle.cert_graph.specs.Changes.{changed};
 ghost use Rattle.cert_search.specs.Rows.{IsRaisedBy, GroupOffers};
 ghost use Rattle.cert_graph.specs.declared.nodes.Group.{Group};
 ghost use Rattle.cert_search.specs.Rising.{IsGroup, ArePlaces, AreRaised, HaveRisen, ChangeTakes, MemberTakes, LetsThrough, AreHanded, AreBests, IsRising, IsRound, IsBegun};
 
-use crate::changes::Change;
 use crate::offers::{offer_of, raised_at};
 use crate::places::{Places, anchored_of};
-use cert_graph::{Nodes, Reach, reach_at};
+use cert_graph::{Change, Nodes, Reach, reach_at};
 use std::alloc::{AllocError, Global};
 
 /// A search between two rounds: a row, and what is kept to raise the next from it.

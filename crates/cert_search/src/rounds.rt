@@ -4,10 +4,9 @@ ghost use Rattle.cert_graph.specs.Adequate.{at_row};
 ghost use Rattle.cert_graph.specs.Nodes.{graph_of};
 ghost use Rattle.cert_search.specs.Found.{IsFound};
 
-use crate::changes::rows_of;
 use crate::places::noted;
 use crate::rising::{begin, has_risen, rise};
-use cert_graph::{Nodes, Reach, reach_at};
+use cert_graph::{Nodes, Reach, reach_at, rows_of};
 use std::alloc::{AllocError, Global};
 
 /// What the raising of rows comes to.

@@ -4,8 +4,7 @@ ghost use Rattle.cert_graph.specs.Nodes.{graph_of};
 ghost use Rattle.cert_search.specs.Exact.{HasExactRows};
 ghost use Rattle.cert_search.specs.Rows.{IsRun, Opens};
 
-use crate::least::{least_anchor, least_next};
-use cert_graph::{Answer, Nodes, Reach, Table};
+use cert_graph::{Answer, Nodes, Reach, Table, least_anchor, least_next};
 use std::alloc::{AllocError, Global};
 
 /// The walk down the rows of a search, which takes the least position at each step, and then the least anchor.

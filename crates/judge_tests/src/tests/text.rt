@@ -37,7 +37,8 @@ fn certificate(usable: bool, fit: bool, self_issued: bool, limit: Option<u32>) -
     }
 }
 
-fn node(kind: &str, limit: Option<u32>) -> Result<Node, Fail> {
+/// The node of a kind of item.
+pub fn node(kind: &str, limit: Option<u32>) -> Result<Node, Fail> {
     match kind {
         "leaf" => Ok(certificate(true, false, false, limit)),
         "root" => Ok(certificate(true, false, true, limit)),

@@ -3,7 +3,7 @@ use Rattle.std.proofs.lemmas.List.{take_all, length-map}
 use Rattle.smallvec.specs.SmallVec.{SmallVec}
 use Rattle.cert_graph.specs.declared.reach.Reach.{Reach}
 use Rattle.cert_graph.specs.declared.reach.Reach.TheVariants.{No}
-use Rattle.cert_search.specs.declared.changes.Change.{Change}
+use Rattle.cert_graph.specs.declared.changes.Change.{Change}
 use Rattle.cert_search.specs.Rising.{AreRaised, HaveRisen, MemberTakes}
 use Rattle.cert_search.proofs.Placing.{lists_of, read_list}
 use Rattle.cert_search.proofs.Handing.{members_more, members_still, risen_twice}

@@ -6,7 +6,7 @@ use Rattle.cert_graph.specs.declared.reach.Reach.TheVariants.{No}
 use Rattle.cert_graph.specs.Reach.{Takes, IsAtMost}
 use Rattle.cert_graph.specs.Steps.{one_of}
 use Rattle.cert_graph.specs.Nodes.{graph_of}
-use Rattle.cert_search.specs.declared.changes.Change.{Change}
+use Rattle.cert_graph.specs.declared.changes.Change.{Change}
 use Rattle.cert_search.specs.Rising.{LetsThrough}
 use Rattle.cert_search.proofs.Handing.{SoRaised, row_more, row_still, row_all}
 use Rattle.cert_search.proofs.rising.raise_row.Goals as goal

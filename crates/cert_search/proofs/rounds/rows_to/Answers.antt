@@ -5,14 +5,14 @@ use Rattle.cert_graph.specs.declared.reach.Reach.TheVariants.{No}
 use Rattle.cert_graph.specs.Reach.{Takes}
 use Rattle.cert_graph.specs.Adequate.{at_row}
 use Rattle.cert_graph.specs.Nodes.{graph_of}
-use Rattle.cert_search.specs.declared.changes.Change.{Change}
-use Rattle.cert_search.specs.Changes.{rows_by}
+use Rattle.cert_graph.specs.declared.changes.Change.{Change}
+use Rattle.cert_graph.specs.Changes.{rows_by}
 use Rattle.cert_search.specs.Exact.{HoldsExactly}
 use Rattle.cert_search.specs.Rows.{StandsUnder}
 use Rattle.cert_search.proofs.Exactness.{OffersExactly, raised_exact, offers_exact, offers_rise, stands_fixed}
 use Rattle.cert_search.proofs.Ranking.{bound_of, rank_falls, offers_within, limits_within}
 use Rattle.cert_search.proofs.Running.{SoFar, items_of, so_far_more, run_more}
-use Rattle.cert_search.proofs.Changing.{items_by, last_grows, length-rows}
+use Rattle.cert_graph.proofs.Changing.{items_by, last_grows, length-rows}
 use Rattle.cert_search.proofs.Rounding.{moves, stands}
 use Rattle.cert_search.proofs.rounds.rows_to.Goals as goal
 

@@ -1,0 +1,188 @@
+ghost use Rattle.std.specs.Prelude.{◌≡◌, ◌↔◌, ◌<◌, ◌-◌, ℕ, List, [], ◌∷◌, ◌++◌, length, map, replicate, slice_index_or, All, IsTrue, IfOk, OnOk};
+ghost use Rattle.cert_graph.specs.declared.nodes.Nodes.{Nodes};
+ghost use Rattle.cert_graph.specs.declared.reach.Reach.{Reach};
+ghost use Rattle.cert_graph.specs.declared.reach.Reach.TheVariants.{No};
+ghost use Rattle.cert_graph.specs.declared.stairs.Flight.{Flight};
+ghost use Rattle.cert_graph.specs.Adequate.{row_of};
+ghost use Rattle.cert_graph.specs.Changes.{rows_by};
+ghost use Rattle.cert_graph.specs.Least.{IsLeastOption};
+ghost use Rattle.cert_graph.specs.Nodes.{graph_of};
+ghost use Rattle.cert_graph.specs.Stairs.{OpenIn, AreStairs, AreFlights, AreFlightsSoFar, OfEachGroup};
+
+use crate::changes::{make, row_of_none};
+use crate::{Change, Group, Nodes, Reach, reach_at};
+use std::alloc::{AllocError, Global};
+
+/// A fit member of a group that reaches further, in a row, than each one before it.
+#[derive(Clone, Copy)]
+pub(crate) struct Stair {
+    pub position: usize,
+    pub reach: Reach,
+}
+
+/// The stairs of a group from a row on, up to the next row that changes them.
+#[derive(Drop)]
+pub(crate) struct Flight {
+    pub row: usize,
+    pub stairs: Vec<Stair>,
+}
+
+/// The stairs of a group in a row.
+fn stairs_of(
+    alloc: Global,
+    nodes: &Nodes,
+    row: &[Reach],
+    group: &Group,
+) -> Result<Vec<Stair>, AllocError>
+    ensures { IfOk result (λ stairs. AreStairs (graph_of nodes.now) row.now group.now.members.items stairs.items) }
+{
+    let mut stairs = Vec::new(alloc);
+    let mut best = Reach::No;
+    for w in &group.members {
+        if nodes.is_fit(*w) {
+            let reach = reach_at(row, *w);
+            if !reach.is_at_most(best) {
+                stairs.push(Stair {
+                    position: *w,
+                    reach,
+                })?;
+                best = reach;
+            }
+        }
+    }
+    Ok(stairs)
+}
+
+/// The least member that takes a count: that of the first stair that does.
+fn first_stair(stairs: &[Stair], count: usize) -> Option<usize>
+    ensures { (nodes : Nodes) (row : List Reach) (members : List ℕ) → AreStairs (graph_of nodes) row members stairs.now → IsLeastOption (OpenIn (graph_of nodes) row members count) result }
+{
+    for stair in stairs {
+        if stair.reach.takes(count) {
+            return Some(stair.position);
+        }
+    }
+    None
+}
+
+/// The least member of a group that is open in a row at a count.
+pub(crate) fn least_in(flights: &[Flight], row: usize, count: usize) -> Option<usize>
+    ensures { (nodes : Nodes) (rows : List (List Reach)) (members : List ℕ) → AreFlights (graph_of nodes) rows members flights.now → row < length rows → IsLeastOption (OpenIn (graph_of nodes) (row_of rows row) members count) result }
+{
+    for back in 0..flights.len() {
+        let flight = &flights[flights.len() - 1 - back];
+        if flight.row <= row {
+            return first_stair(&flight.stairs, count);
+        }
+    }
+    None
+}
+
+/// Whether two stairs are one.
+fn is_same(first: Stair, second: Stair) -> bool
+    ensures { IsTrue result ↔ first ≡ second }
+{
+    if first.position != second.position {
+        return false;
+    }
+    if !first.reach.is_at_most(second.reach) {
+        return false;
+    }
+    second.reach.is_at_most(first.reach)
+}
+
+/// Whether two lists of stairs are one.
+fn are_same(first: &[Stair], second: &[Stair]) -> bool
+    ensures { IsTrue result ↔ first.now ≡ second.now }
+{
+    if first.len() != second.len() {
+        return false;
+    }
+    for place in 0..first.len() {
+        if !is_same(first[place], second[place]) {
+            return false;
+        }
+    }
+    true
+}
+
+/// Whether the last of some flights has these stairs.
+fn ends_in(flights: &[Flight], stairs: &[Stair]) -> bool
+    ensures { IsTrue result ↔ ((0 < length flights.now) × ((d : Flight) → (slice_index_or flights.now (length flights.now - 1) d).stairs.items ≡ stairs.now)) }
+{
+    if flights.is_empty() {
+        return false;
+    }
+    let last = &flights[flights.len() - 1];
+    are_same(&last.stairs, stairs)
+}
+
+/// Goes on with a group's flights by one row: a further flight, unless the last has the row's stairs.
+fn climb(
+    alloc: Global,
+    nodes: &Nodes,
+    row: &[Reach],
+    number: usize,
+    group: &Group,
+    flights: &mut Vec<Flight>,
+) -> Result<(), AllocError>
+    ensures { OnOk result ((rows : List (List Reach)) → length rows ≡ number → AreFlightsSoFar (graph_of nodes.now) rows group.now.members.items flights.old.items → AreFlightsSoFar (graph_of nodes.now) (rows ++ row.now ∷ []) group.now.members.items flights.new.items) }
+{
+    let stairs = stairs_of(alloc, nodes, row, group)?;
+    if ends_in(flights, &stairs) {
+        return Ok(());
+    }
+    flights.push(Flight {
+        row: number,
+        stairs,
+    })?;
+    Ok(())
+}
+
+/// Goes on with the flights of each group by one row.
+fn climb_all(
+    alloc: Global,
+    nodes: &Nodes,
+    row: &[Reach],
+    number: usize,
+    flights: &mut Vec<Vec<Flight>>,
+) -> Result<(), AllocError>
+    requires { length flights.old.items ≡ length nodes.now.groups.items }
+    ensures { OnOk result ((rows : List (List Reach)) → length rows ≡ number → OfEachGroup (AreFlightsSoFar (graph_of nodes.now) rows) nodes.now.groups.items (map (λ f. f.items) flights.old.items) → OfEachGroup (AreFlightsSoFar (graph_of nodes.now) (rows ++ row.now ∷ [])) nodes.now.groups.items (map (λ f. f.items) flights.new.items)) }
+{
+    for (place, group) in nodes.groups.iter().enumerate() {
+        climb(alloc, nodes, row, number, group, &mut flights[place])?;
+    }
+    Ok(())
+}
+
+/// So many groups, each without a flight.
+fn no_flights(alloc: Global, number: usize) -> Result<Vec<Vec<Flight>>, AllocError>
+    ensures count { IfOk result (λ flights. length flights.items ≡ number) }
+    ensures empty { IfOk result (λ flights. All (λ f. f.items ≡ []) flights.items) }
+{
+    let mut flights = Vec::with_capacity(alloc, number)?;
+    for _ in 0..number {
+        flights.push(Vec::new(alloc))?;
+    }
+    Ok(flights)
+}
+
+/// The flights of each group over the rows that come of some changes.
+///
+/// Goes over the members of all groups once for each row.
+pub(crate) fn flights_of(
+    alloc: Global,
+    nodes: &Nodes,
+    steps: &[Vec<Change>],
+) -> Result<Vec<Vec<Flight>>, AllocError>
+    ensures { IfOk result (λ flights. OfEachGroup (AreFlights (graph_of nodes.now) (rows_by (replicate (length nodes.now.items.items) No) (map (λ s. s.items) steps.now))) nodes.now.groups.items (map (λ f. f.items) flights.items)) }
+{
+    let mut flights = no_flights(alloc, nodes.groups.len())?;
+    let mut row = row_of_none(alloc, nodes.items.len())?;
+    for (number, step) in steps.iter().enumerate() {
+        make(&mut row, step);
+        climb_all(alloc, nodes, &row, number, &mut flights)?;
+    }
+    Ok(flights)
+}
