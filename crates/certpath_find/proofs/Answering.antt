@@ -47,7 +47,7 @@ check_says_yes r items anchors target answer said check find =
     let b = one_classing anchors find.1 check.1 find.3 check.3 in
     check.4.1 (subst (λ xs. IsAdequate (graph_of_items r xs check.1) target answer) a (subst (λ ys. IsAdequate (graph_of_items r find.0 ys) target answer) b find.4))
 
-certificate_at : (octets : List (List ℕ)) (items : List Item) (P : Certificate → Type 0) (p : ℕ) → AreClassed octets items → IsAt items p (IsCertificateWith P) → IsAt octets p (λ s. (c : Certificate) × IsCertificateItem s c)
+pub certificate_at : (octets : List (List ℕ)) (items : List Item) (P : Certificate → Type 0) (p : ℕ) → AreClassed octets items → IsAt items p (IsCertificateWith P) → IsAt octets p (λ s. (c : Certificate) × IsCertificateItem s c)
 certificate_at octets items P p classed at =
     let count : length items ≡ length octets = sym (length-map items octets_of) ∙ ap length classed.octets_are in
     let below : p < length octets = omega (arith, count, at.0) in (

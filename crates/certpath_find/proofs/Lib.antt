@@ -1,3 +1,4 @@
 pub mod Answering
+mod AnsweringAll
 mod KeyIdFacts
 mod ValueFacts

@@ -5,9 +5,11 @@
 
 mod classing;
 mod finding;
+mod finding_all;
 mod key_ids;
 pub mod laws;
 mod reading;
 
 pub use crate::finding::{find, find_judged};
+pub use crate::finding_all::{find_all, find_all_judged};
 pub use crate::reading::judged_items;
