@@ -1,0 +1,18 @@
+use Rattle.std.proofs.Common.{map}
+use Rattle.cert_judge.specs.Items.{item_of, certificate_of, certificate_item, rules_by}
+use Rattle.certpath_why.specs.Why.{TellsLink}
+use Rattle.std.proofs.lemmas.List.Elements.{Contains-get_or}
+use Rattle.certpath_why.proofs.Texts.{texts_none, texts_more, texts_all}
+use Rattle.certpath_why.proofs.certificates.tell_links.Goals as goal
+
+pub tell_link-requires : goal.tell_link-requires
+tell_link-requires g c = (c.requires.exact _).0 (Contains-get_or c.args.issuers.now c.loop-issuer.issuer-index 0 c.loop-issuer-test.true)
+
+pub loop-issuer-init : goal.loop-issuer-init
+loop-issuer-init g c = texts_none (TellsLink (rules_by c.args.policy.now.moment c.args.policy.now.demand_lists (g.V.Vouch.vouches_for c.args.vouch.now)) (map item_of c.args.found.now.items.now) c.args.place (certificate_item c.args.certificate.now) (certificate_of c.args.certificate.now)) c.args.issuers.now _
+
+pub loop-issuer-preserved : goal.loop-issuer-preserved
+loop-issuer-preserved g c = texts_more (TellsLink (rules_by c.args.policy.now.moment c.args.policy.now.demand_lists (g.V.Vouch.vouches_for c.args.vouch.now)) (map item_of c.args.found.now.items.now) c.args.place (certificate_item c.args.certificate.now) (certificate_of c.args.certificate.now)) c.args.issuers.now c.loop-issuer.issuer-index 0 _ _ _ c.loop-issuer-test.true c.loop-issuer.invariant c.in_ok-tell_link.ensures
+
+pub returns : goal.returns
+returns g c = texts_all (TellsLink (rules_by c.args.policy.now.moment c.args.policy.now.demand_lists (g.V.Vouch.vouches_for c.args.vouch.now)) (map item_of c.args.found.now.items.now) c.args.place (certificate_item c.args.certificate.now) (certificate_of c.args.certificate.now)) c.args.issuers.now c.loop-issuer.issuer-index _ _ c.loop-issuer-test.false c.loop-issuer.invariant

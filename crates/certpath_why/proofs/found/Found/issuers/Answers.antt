@@ -1,0 +1,9 @@
+use Rattle.std.proofs.Common.{map}
+use Rattle.certpath_why.specs.Found.{subject_place}
+use Rattle.certpath_why.proofs.Items.{shows_subject, positions_as}
+use Rattle.certpath_why.proofs.found.Found.issuers.Goals as goal
+
+pub returns : goal.returns
+returns c =
+    let f = c.args.self.now in
+    positions_as c.positions.result.now (shows_subject f.items.now c.args.name.now) (c.positions.ensures (map subject_place f.items.now) c.requires.subjects)

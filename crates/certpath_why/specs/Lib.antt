@@ -1,0 +1,9 @@
+pub mod Texts
+pub mod Lines
+pub mod Reached
+pub mod Why
+pub mod Appended
+pub mod LinkText
+pub mod Numbered
+pub mod Directories
+pub mod Found

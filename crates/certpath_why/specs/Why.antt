@@ -1,0 +1,141 @@
+-- What stands in the way of a path: the lines of a certificate, of a list, and the whole. A text is related
+-- to the items by the definitions of reasons, each list of which is exact and in its order. This page is to
+-- be believed.
+use Rattle.std.specs.Prelude.{◌≡◌, ◌↔◌, ◌⊎◌, ℕ, zero, suc, nat_eq, Bool, if◌then◌else◌, List, [], ◌∷◌, ◌++◌, length, Contains}
+use Rattle.std.specs.List.{flat_map}
+use Rattle.cert_graph.specs.Entries.{IsAt}
+use Rattle.cert_graph.specs.Adequate.{rows_of, row_of, at_row}
+use Rattle.cert_graph.specs.declared.answer.Answer.{Answer}
+use Rattle.cert_graph.specs.declared.answer.Answer.TheVariants.{Path, NoPath, NoTarget}
+use Rattle.cert_graph.specs.declared.reach.Reach.{Reach}
+use Rattle.cert_graph.specs.declared.reach.Reach.TheVariants.{No}
+use Rattle.cert_model.specs.Class.{Class, certificate, list, other}
+use Rattle.cert_model.specs.Fields.{CivilTime, Certificate, RevocationList}
+use Rattle.cert_model.specs.Octets.{name_octets, key_octets}
+use Rattle.cert_judge.specs.Revoking.{Item, Rules}
+use Rattle.cert_judge.specs.ItemGraph.{IsCertificateWith, HaveSameKeyId}
+use Rattle.cert_reasons.specs.declared.certificates.Unusable.{Unusable}
+use Rattle.cert_reasons.specs.declared.issuers.NoIssuer.{NoIssuer}
+use Rattle.cert_reasons.specs.declared.links.Unlinked.{Unlinked}
+use Rattle.cert_reasons.specs.declared.lists.Unused.{Unused}
+use Rattle.cert_reasons.specs.Order.{AreAll}
+use Rattle.cert_reasons.specs.Certificates.{HasReason, order_of}
+use Rattle.cert_reasons.specs.Issuers.{HasIssuerReason, issuer_order}
+use Rattle.cert_reasons.specs.Links.{HasLinkReason, link_order}
+use Rattle.cert_reasons.specs.Lists.{HasReasonAmong, list_order}
+use Rattle.certpath_why.specs.Lines.{reach_lines, subject_line, unusable_line, issuer_line, missing_line, to_item, to_anchor, link_lines, list_lines}
+use Rattle.certpath_why.specs.Reached.{HasSubject, IsCertificateAt, IsFurther, ArePositions}
+
+-- a text for each element of a list, one behind the other
+abbrev pub AreTexts : {X : Type 0} → (X → List ℕ → Type 0) → List X → List ℕ → Type 0
+AreTexts IsText [] text = text ≡ []
+AreTexts IsText (x ∷ xs) text = (first : List ℕ) × (rest : List ℕ) × IsText x first × AreTexts IsText xs rest × (text ≡ first ++ rest)
+
+-- a line for each reason why the certificate at a position is not usable
+abbrev pub TellsUnusable : CivilTime → ℕ → Certificate → List ℕ → Type 0
+TellsUnusable moment v c text = (reasons : List Unusable) × AreAll order_of (HasReason moment c) reasons × (text ≡ flat_map (unusable_line v c) reasons)
+
+-- a line for each reason why it may not issue others; none of the target, which needs to issue nothing
+abbrev pub TellsNoIssuer : Bool → ℕ → Certificate → List ℕ → Type 0
+TellsNoIssuer is_target v c text =
+    (reasons : List NoIssuer) × AreAll issuer_order (HasIssuerReason c) reasons × (text ≡ (if is_target then [] else flat_map (issuer_line v) reasons))
+
+-- how a certificate is linked to one of its issuer's name
+abbrev pub TellsLink : Rules → List Item → ℕ → Item → Certificate → ℕ → List ℕ → Type 0
+TellsLink r items v x c w text = IsAt items w (IsCertificateWith (λ d. (reasons : List Unlinked)
+    × AreAll link_order (HasLinkReason r items x c (name_octets d.subject) (key_octets d.key) (HaveSameKeyId c d)) reasons
+    × (text ≡ link_lines (to_item v w) reasons)))
+
+-- how it is linked to an anchor of its issuer's name, of which the subject and the key count and nothing else
+abbrev pub TellsAnchor : Rules → List Item → List Item → ℕ → Item → Certificate → ℕ → List ℕ → Type 0
+TellsAnchor r items anchors v x c a text = IsAt anchors a (IsCertificateWith (λ d. (reasons : List Unlinked)
+    × AreAll link_order (HasLinkReason r items x c (name_octets d.subject) (key_octets d.key) (Unit {0})) reasons
+    × (text ≡ link_lines (to_anchor v a) reasons)))
+
+-- a line where no certificate and no anchor has its issuer's name
+abbrev pub missing_lines : ℕ → List ℕ → List ℕ → List ℕ → List ℕ
+missing_lines v issuer [] [] = missing_line v issuer
+missing_lines v issuer (w ∷ ws) roots = []
+missing_lines v issuer [] (a ∷ roots) = []
+
+-- What is told of a certificate, given the certificates and anchors of its issuer's name.
+pub record TellsLinks (r : Rules) (items anchors : List Item) (v : ℕ) (x : Item) (c : Certificate) (text : List ℕ) : Type 0 where
+  pub issuers : List ℕ
+  pub issuers_are : ArePositions (HasSubject items (name_octets c.issuer)) issuers
+  pub roots : List ℕ
+  pub roots_are : ArePositions (HasSubject anchors (name_octets c.issuer)) roots
+  pub to_issuers : List ℕ
+  pub to_issuers_is : AreTexts (TellsLink r items v x c) issuers to_issuers
+  pub to_roots : List ℕ
+  pub to_roots_is : AreTexts (TellsAnchor r items anchors v x c) roots to_roots
+  pub text_is : text ≡ to_issuers ++ (to_roots ++ missing_lines v (name_octets c.issuer) issuers roots)
+
+-- All lines of a certificate.
+pub record TellsCertificate (r : Rules) (items anchors : List Item) (target v : ℕ) (x : Item) (c : Certificate) (text : List ℕ) : Type 0 where
+  pub unusable : List ℕ
+  pub unusable_is : TellsUnusable r.moment v c unusable
+  pub no_issuer : List ℕ
+  pub no_issuer_is : TellsNoIssuer (nat_eq v target) v c no_issuer
+  pub links : List ℕ
+  pub links_are : TellsLinks r items anchors v x c links
+  pub text_is : text ≡ subject_line v (name_octets c.subject) ++ (unusable ++ (no_issuer ++ links))
+
+abbrev pub TellsAt : Rules → List Item → List Item → ℕ → ℕ → List ℕ → Type 0
+TellsAt r items anchors target v text = IsAt items v (λ x. IsCertificateWith (λ c. TellsCertificate r items anchors target v x c text) x)
+
+-- a certificate among these has this subject and key
+abbrev pub HasKeyHere : List Item → List ℕ → List ℕ → Type 0
+HasKeyHere items name key = (w : ℕ) × IsAt items w (IsCertificateWith (λ d. (name_octets d.subject ≡ name) × (key_octets d.key ≡ key)))
+
+-- exactly the keys of the certificates and anchors of a name
+abbrev pub AreKeysOf : List Item → List Item → List ℕ → List (List ℕ) → Type 0
+AreKeysOf items anchors name keys = (key : List ℕ) → Contains keys key ↔ (HasKeyHere items name key ⊎ HasKeyHere anchors name key)
+
+-- what is told of a list: nothing where it is used under one of the keys of its issuer's name
+abbrev pub TellsList : Rules → List Item → List Item → ℕ → Item → RevocationList → List ℕ → Type 0
+TellsList r items anchors p x l text =
+    (keys : List (List ℕ)) × (reasons : List Unused) × AreKeysOf items anchors (name_octets l.issuer) keys
+    × AreAll list_order (HasReasonAmong r keys x l) reasons × (text ≡ list_lines p (name_octets l.issuer) l reasons)
+
+-- what is told of an item that is a list; of others nothing
+abbrev pub TellsItem : Rules → List Item → List Item → ℕ → Item → Class → List ℕ → Type 0
+TellsItem r items anchors p x (certificate c) text = text ≡ []
+TellsItem r items anchors p x (list l) text = TellsList r items anchors p x l text
+TellsItem r items anchors p x other text = text ≡ []
+
+abbrev pub TellsItemAt : Rules → List Item → List Item → ℕ → List ℕ → Type 0
+TellsItemAt r items anchors p text = IsAt items p (λ x. TellsItem r items anchors p x x.class text)
+
+-- the positions from the first on
+abbrev pub positions : ℕ → List ℕ
+positions zero = []
+positions (suc k) = positions k ++ k ∷ []
+
+-- how far a certificate leads to an anchor, by the row of an answer that there is no path
+abbrev pub reach_by : Answer → ℕ → Reach
+reach_by (NoPath table) v = at_row (row_of (rows_of table) 0) v
+reach_by (Path positions anchor table) v = No
+reach_by NoTarget v = No
+
+-- The lines of the target, where it is a certificate, and then of each further one that is reached from it; then how
+-- far each of these leads, where a path length bounds it and there is no path.
+pub record TellsReached (r : Rules) (items anchors : List Item) (target : ℕ) (answer : Answer) (text : List ℕ) : Type 0 where
+  pub further : List ℕ
+  pub further_are : ArePositions (IsFurther items target) further
+  pub own : List ℕ
+  pub own_is : TellsAt r items anchors target target own ⊎ ((IsCertificateAt items target → ⊥) × (own ≡ []))
+  pub rest : List ℕ
+  pub rest_is : AreTexts (TellsAt r items anchors target) further rest
+  pub text_is : text ≡ own ++ (rest ++ flat_map (λ v. reach_lines v (reach_by answer v)) further)
+
+-- The whole: what is reached, and the lists that nobody uses.
+pub record IsWhy (r : Rules) (items anchors : List Item) (target : ℕ) (answer : Answer) (text : List ℕ) : Type 0 where
+  pub reached : List ℕ
+  pub reached_is : TellsReached r items anchors target answer reached
+  pub lists : List ℕ
+  pub lists_are : AreTexts (TellsItemAt r items anchors) (positions (length items)) lists
+  pub text_is : text ≡ reached ++ lists
+
+-- exactly those lines are appended
+abbrev pub AppendsWhy : Rules → List Item → List Item → ℕ → Answer → List ℕ → List ℕ → Type 0
+AppendsWhy r items anchors target answer old new = (text : List ℕ) × (new ≡ old ++ text) × IsWhy r items anchors target answer text

@@ -1,0 +1,246 @@
+//! The lines of a certificate.
+
+ghost use Rattle.std.specs.Prelude.{◌≡◌, ◌++◌, ℕ, List, [], nat_eq, OnOk, IfOk, map, string_bytes};
+ghost use Rattle.cert_graph.specs.Entries.{IsAt};
+ghost use Rattle.cert_model.specs.Octets.{name_octets};
+ghost use Rattle.cert_model.specs.View.{time_view};
+ghost use Rattle.cert_judge.specs.Items.{item_of, certificate_of, certificate_item, rules_by};
+ghost use Rattle.cert_judge.specs.declared.items.ReadItem.TheVariants.{Certificate as certificate_read};
+ghost use Rattle.certpath_why.specs.Reached.{ArePositions, HasSubject, IsCertificateAt};
+ghost use Rattle.certpath_why.specs.Lines.{missing_line};
+ghost use Rattle.certpath_why.specs.Why.{AreTexts, TellsUnusable, TellsNoIssuer, TellsLink, TellsAnchor, missing_lines, TellsLinks, TellsCertificate, TellsAt};
+ghost use Rattle.certpath_why.specs.Found.{IsFound};
+ghost use Rattle.certpath_why.specs.Appended.{Appends};
+
+use crate::found::{Found, certificate_at};
+use crate::lines::{
+    Link, push_all_no_issuer, push_all_unusable, push_link, push_missing, push_subject,
+};
+use asn1_core::OutOfMemory;
+use cert_judge::{CertificateItem, Policy, Vouch};
+use cert_reasons::{why_no_issuer, why_unlinked, why_unlinked_to_anchor, why_unusable};
+use std::alloc::{AllocError, Global};
+
+fn tell_unusable(
+    text: &mut String,
+    alloc: Global,
+    place: usize,
+    certificate: &CertificateItem<'_>,
+    policy: &Policy,
+) -> Result<(), AllocError>
+    ensures { OnOk result (Appends (TellsUnusable (time_view policy.now.moment) place (certificate_of certificate.now)) (string_bytes text.old) (string_bytes text.new)) }
+{
+    let moment = policy.moment();
+    let reasons = why_unusable(alloc, &certificate.fields, &moment)?;
+    push_all_unusable(text, place, &certificate.fields, &reasons)?;
+    Ok(())
+}
+
+fn tell_no_issuer(
+    text: &mut String,
+    alloc: Global,
+    target: usize,
+    place: usize,
+    certificate: &CertificateItem<'_>,
+) -> Result<(), AllocError>
+    ensures { OnOk result (Appends (TellsNoIssuer (nat_eq place target) place (certificate_of certificate.now)) (string_bytes text.old) (string_bytes text.new)) }
+{
+    let reasons = why_no_issuer(alloc, &certificate.fields)?;
+    if place == target {
+        return Ok(());
+    }
+    push_all_no_issuer(text, place, &reasons)?;
+    Ok(())
+}
+
+/// The lines of the link to a certificate of the issuer's name.
+fn tell_link<V: Vouch>(
+    text: &mut String,
+    alloc: Global,
+    found: &Found<'_, '_>,
+    place: usize,
+    certificate: &CertificateItem<'_>,
+    issuer: usize,
+    vouch: &V,
+    policy: &Policy,
+) -> Result<(), AllocError>
+    requires { HasSubject (map item_of found.now.items.now) certificate.now.issuer.now issuer }
+    ensures { OnOk result (Appends (TellsLink (rules_by policy.now.moment policy.now.demand_lists (V.vouches_for vouch.now)) (map item_of found.now.items.now) place (certificate_item certificate.now) (certificate_of certificate.now) issuer) (string_bytes text.old) (string_bytes text.new)) }
+{
+    let Some(item) = certificate_at(found.items, issuer) else {
+        return Ok(());
+    };
+    let reasons = why_unlinked(alloc, found.items, certificate, item, vouch, policy)?;
+    push_link(text, Link::Item(place, issuer), &reasons)?;
+    Ok(())
+}
+
+fn tell_links<V: Vouch>(
+    text: &mut String,
+    alloc: Global,
+    found: &Found<'_, '_>,
+    place: usize,
+    certificate: &CertificateItem<'_>,
+    issuers: &[usize],
+    vouch: &V,
+    policy: &Policy,
+) -> Result<(), AllocError>
+    requires { ArePositions (HasSubject (map item_of found.now.items.now) certificate.now.issuer.now) issuers.now }
+    ensures { OnOk result (Appends (AreTexts (TellsLink (rules_by policy.now.moment policy.now.demand_lists (V.vouches_for vouch.now)) (map item_of found.now.items.now) place (certificate_item certificate.now) (certificate_of certificate.now)) issuers.now) (string_bytes text.old) (string_bytes text.new)) }
+{
+    for issuer in issuers {
+        tell_link(
+            text,
+            alloc,
+            found,
+            place,
+            certificate,
+            *issuer,
+            vouch,
+            policy,
+        )?;
+    }
+    Ok(())
+}
+
+/// The lines of the link to an anchor of the issuer's name.
+fn tell_anchor<V: Vouch>(
+    text: &mut String,
+    alloc: Global,
+    found: &Found<'_, '_>,
+    place: usize,
+    certificate: &CertificateItem<'_>,
+    root: usize,
+    vouch: &V,
+    policy: &Policy,
+) -> Result<(), AllocError>
+    requires { HasSubject (map item_of found.now.anchors.now) certificate.now.issuer.now root }
+    ensures { OnOk result (Appends (TellsAnchor (rules_by policy.now.moment policy.now.demand_lists (V.vouches_for vouch.now)) (map item_of found.now.items.now) (map item_of found.now.anchors.now) place (certificate_item certificate.now) (certificate_of certificate.now) root) (string_bytes text.old) (string_bytes text.new)) }
+{
+    let Some(anchor) = certificate_at(found.anchors, root) else {
+        return Ok(());
+    };
+    let reasons = why_unlinked_to_anchor(alloc, found.items, certificate, anchor, vouch, policy)?;
+    push_link(text, Link::Anchor(place, root), &reasons)?;
+    Ok(())
+}
+
+fn tell_anchors<V: Vouch>(
+    text: &mut String,
+    alloc: Global,
+    found: &Found<'_, '_>,
+    place: usize,
+    certificate: &CertificateItem<'_>,
+    roots: &[usize],
+    vouch: &V,
+    policy: &Policy,
+) -> Result<(), AllocError>
+    requires { ArePositions (HasSubject (map item_of found.now.anchors.now) certificate.now.issuer.now) roots.now }
+    ensures { OnOk result (Appends (AreTexts (TellsAnchor (rules_by policy.now.moment policy.now.demand_lists (V.vouches_for vouch.now)) (map item_of found.now.items.now) (map item_of found.now.anchors.now) place (certificate_item certificate.now) (certificate_of certificate.now)) roots.now) (string_bytes text.old) (string_bytes text.new)) }
+{
+    for root in roots {
+        tell_anchor(text, alloc, found, place, certificate, *root, vouch, policy)?;
+    }
+    Ok(())
+}
+
+/// A line where neither a certificate nor an anchor has the issuer's name.
+fn tell_missing(
+    text: &mut String,
+    alloc: Global,
+    found: &Found<'_, '_>,
+    place: usize,
+    certificate: &CertificateItem<'_>,
+    issuers: &[usize],
+    roots: &[usize],
+) -> Result<(), OutOfMemory>
+    ensures { OnOk result (string_bytes text.new ≡ string_bytes text.old ++ missing_lines place certificate.now.issuer.now issuers.now roots.now) }
+{
+    if !issuers.is_empty() {
+        return Ok(());
+    }
+    if !roots.is_empty() {
+        return Ok(());
+    }
+    push_missing(text, alloc, &found.labels, place, certificate.issuer)?;
+    Ok(())
+}
+
+fn tell_all_links<V: Vouch>(
+    text: &mut String,
+    alloc: Global,
+    found: &Found<'_, '_>,
+    place: usize,
+    certificate: &CertificateItem<'_>,
+    vouch: &V,
+    policy: &Policy,
+) -> Result<(), OutOfMemory>
+    requires known { IsFound found.now }
+    ensures { OnOk result (Appends (TellsLinks (rules_by policy.now.moment policy.now.demand_lists (V.vouches_for vouch.now)) (map item_of found.now.items.now) (map item_of found.now.anchors.now) place (certificate_item certificate.now) (certificate_of certificate.now)) (string_bytes text.old) (string_bytes text.new)) }
+{
+    let issuers = found.issuers(certificate.issuer);
+    let roots = found.roots(certificate.issuer);
+    tell_links(
+        text,
+        alloc,
+        found,
+        place,
+        certificate,
+        issuers,
+        vouch,
+        policy,
+    )?;
+    tell_anchors(text, alloc, found, place, certificate, roots, vouch, policy)?;
+    tell_missing(text, alloc, found, place, certificate, issuers, roots)?;
+    Ok(())
+}
+
+fn tell_certificate<V: Vouch>(
+    text: &mut String,
+    alloc: Global,
+    found: &Found<'_, '_>,
+    target: usize,
+    place: usize,
+    certificate: &CertificateItem<'_>,
+    vouch: &V,
+    policy: &Policy,
+) -> Result<(), OutOfMemory>
+    requires known { IsFound found.now }
+    ensures { OnOk result (Appends (TellsCertificate (rules_by policy.now.moment policy.now.demand_lists (V.vouches_for vouch.now)) (map item_of found.now.items.now) (map item_of found.now.anchors.now) target place (certificate_item certificate.now) (certificate_of certificate.now)) (string_bytes text.old) (string_bytes text.new)) }
+{
+    push_subject(text, alloc, &found.labels, place, certificate.subject)?;
+    tell_unusable(text, alloc, place, certificate, policy)?;
+    tell_no_issuer(text, alloc, target, place, certificate)?;
+    tell_all_links(text, alloc, found, place, certificate, vouch, policy)?;
+    Ok(())
+}
+
+/// All lines of the certificate at a position.
+pub(crate) fn tell_at<V: Vouch>(
+    text: &mut String,
+    alloc: Global,
+    found: &Found<'_, '_>,
+    target: usize,
+    place: usize,
+    vouch: &V,
+    policy: &Policy,
+) -> Result<(), OutOfMemory>
+    requires known { IsFound found.now }
+    requires certificate { IsCertificateAt (map item_of found.now.items.now) place }
+    ensures { OnOk result (Appends (TellsAt (rules_by policy.now.moment policy.now.demand_lists (V.vouches_for vouch.now)) (map item_of found.now.items.now) (map item_of found.now.anchors.now) target place) (string_bytes text.old) (string_bytes text.new)) }
+{
+    let Some(certificate) = certificate_at(found.items, place) else {
+        return Ok(());
+    };
+    tell_certificate(
+        text,
+        alloc,
+        found,
+        target,
+        place,
+        certificate,
+        vouch,
+        policy,
+    )?;
+    Ok(())
+}

@@ -1,0 +1,113 @@
+//! Items and anchors with their directories.
+
+ghost use Rattle.std.specs.Prelude.{◌≡◌, ◌↔◌, map, IfOk, IfSome, IsNone, IsTrue};
+ghost use Rattle.cert_graph.specs.Entries.{IsAt};
+ghost use Rattle.cert_judge.specs.Items.{item_of};
+ghost use Rattle.cert_judge.specs.declared.items.ReadItem.TheVariants.{Certificate as certificate_read};
+ghost use Rattle.certpath_why.specs.Found.{IsFound, IsCertificateRead, subject_place};
+ghost use Rattle.certpath_why.specs.Directories.{IsDirectory};
+ghost use Rattle.certpath_why.specs.Reached.{ArePositions, HasSubject, IsCertificateAt};
+
+use crate::directory::Directory;
+use crate::names::Labels;
+use asn1_core::OutOfMemory;
+use cert_groups::Place;
+use cert_judge::{CertificateItem, ReadItem};
+use std::alloc::{AllocError, Global};
+
+/// Items and anchors, and the positions of each subject among them.
+#[derive(Drop)]
+pub(crate) struct Found<'b, 'a> {
+    pub(crate) items: &'b [ReadItem<'a>],
+    pub(crate) anchors: &'b [ReadItem<'a>],
+    pub(crate) labels: Labels,
+    subjects: Directory<'a>,
+    roots: Directory<'a>,
+}
+
+fn subject_place<'a>(item: &ReadItem<'a>) -> Place<'a>
+    ensures { result ≡ subject_place item.now }
+{
+    let name = match item {
+        ReadItem::Certificate(certificate) => Some(certificate.subject),
+        _ => None,
+    };
+    Place {
+        name,
+        key: None,
+        id: None,
+    }
+}
+
+fn directory_of<'a>(alloc: Global, items: &[ReadItem<'a>]) -> Result<Directory<'a>, AllocError>
+    ensures { IfOk result (λ d. IsDirectory (map subject_place items.now) d.buckets.items) }
+{
+    let mut places = Vec::with_capacity(alloc, items.len())?;
+    for item in items {
+        places.push(subject_place(item))?;
+    }
+    Directory::new(alloc, &places)
+}
+
+/// The item at a position, where it is a certificate.
+pub(crate) fn certificate_at<'b, 'a>(
+    items: &'b [ReadItem<'a>],
+    place: usize,
+) -> Option<&'b CertificateItem<'a>>
+    ensures found { IfSome result (λ c. IsAt items.now place (λ x. x ≡ certificate_read c.now)) }
+    ensures only { IsNone result → IsAt items.now place IsCertificateRead → ⊥ }
+{
+    match items.get(place) {
+        Some(ReadItem::Certificate(certificate)) => Some(certificate),
+        _ => None,
+    }
+}
+
+/// Whether the item at a position is a certificate.
+pub(crate) fn is_certificate(items: &[ReadItem<'_>], place: usize) -> bool
+    ensures { IsTrue result ↔ IsCertificateAt (map item_of items.now) place }
+{
+    match certificate_at(items, place) {
+        Some(_) => true,
+        None => false,
+    }
+}
+
+impl<'b, 'a> Found<'b, 'a> {
+    pub(crate) fn new(
+        alloc: Global,
+        items: &'b [ReadItem<'a>],
+        anchors: &'b [ReadItem<'a>],
+    ) -> Result<Found<'b, 'a>, OutOfMemory>
+        ensures known { IfOk result IsFound }
+        ensures items { IfOk result (λ found. found.items.now ≡ items.now) }
+        ensures anchors { IfOk result (λ found. found.anchors.now ≡ anchors.now) }
+    {
+        let labels = Labels::new(alloc)?;
+        let subjects = directory_of(alloc, items)?;
+        let roots = directory_of(alloc, anchors)?;
+        Ok(Found {
+            items,
+            anchors,
+            labels,
+            subjects,
+            roots,
+        })
+    }
+
+    /// The positions of the certificates of this subject.
+    pub(crate) fn issuers(&self, name: &[u8]) -> &[usize]
+        requires { IsFound self.now }
+        ensures { ArePositions (HasSubject (map item_of self.now.items.now) name.now) result.now }
+    {
+        self.subjects.positions(name)
+    }
+
+    /// The positions of the anchors of this subject.
+    pub(crate) fn roots(&self, name: &[u8]) -> &[usize]
+        requires { IsFound self.now }
+        ensures { ArePositions (HasSubject (map item_of self.now.anchors.now) name.now) result.now }
+    {
+        self.roots.positions(name)
+    }
+}

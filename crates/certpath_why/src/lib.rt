@@ -1,0 +1,21 @@
+//! What stands in the way of a certification path, as lines of text (RFC 5280, 6.1 and 6.3).
+//!
+//! The lines say, for each certificate that is reached from the target by the names of issuers, why it is
+//! not usable, why it may not issue others, and how it is linked. Then they name each revocation list that
+//! nobody uses. Each line is a reason of `cert_reasons`: none is missing, and none is there that does not
+//! apply.
+#![tactic(auto)]
+
+mod bounds;
+mod certificates;
+mod directory;
+mod found;
+mod lines;
+mod lists;
+mod names;
+mod reached;
+mod why;
+mod words;
+
+pub use crate::why::push_why;
+pub use cert_reading::read_items;

@@ -1,0 +1,221 @@
+//! The lines, each of one fact.
+
+ghost use Rattle.std.specs.Prelude.{◌≡◌, ◌++◌, ◌∷◌, [], codes, OnOk, string_bytes};
+ghost use Rattle.std.specs.Fmt.{decimal};
+ghost use Rattle.std.specs.List.{flat_map};
+ghost use Rattle.cert_model.specs.View.{certificate_view, list_view};
+ghost use Rattle.certpath_why.specs.Lines.{unusable_line, issuer_line, missing_line, subject_line, unlinked_line, link_lines, unused_line, list_line, list_lines};
+ghost use Rattle.certpath_why.specs.LinkText.{link_text};
+
+use crate::names::{Labels, push_name};
+use crate::words::{push_issuer_words, push_link_words, push_list_words, push_unusable_words};
+use asn1_core::OutOfMemory;
+use cert_model::fields::{CertFields, ListFields};
+use cert_reasons::{NoIssuer, Unlinked, Unusable, Unused};
+use std::alloc::{AllocError, Global};
+
+/// The certificate's own line.
+pub(crate) fn push_subject(
+    text: &mut String,
+    alloc: Global,
+    labels: &Labels,
+    place: usize,
+    subject: &[u8],
+) -> Result<(), OutOfMemory>
+    ensures { OnOk result (string_bytes text.new ≡ string_bytes text.old ++ subject_line place subject.now) }
+{
+    write!(text, "at {place} ")?;
+    push_name(text, alloc, labels, subject)?;
+    text.push('\n')?;
+    Ok(())
+}
+
+fn push_unusable(
+    text: &mut String,
+    place: usize,
+    fields: &CertFields<'_>,
+    reason: Unusable,
+) -> Result<(), AllocError>
+    ensures { OnOk result (string_bytes text.new ≡ string_bytes text.old ++ unusable_line place (certificate_view fields.now) reason) }
+{
+    write!(text, "at {place}")?;
+    text.push_str(" not usable: ")?;
+    push_unusable_words(text, fields, reason)?;
+    text.push_str("\n")?;
+    Ok(())
+}
+
+/// A line for each reason why a certificate is not usable.
+pub(crate) fn push_all_unusable(
+    text: &mut String,
+    place: usize,
+    fields: &CertFields<'_>,
+    reasons: &[Unusable],
+) -> Result<(), AllocError>
+    ensures { OnOk result (string_bytes text.new ≡ string_bytes text.old ++ flat_map (unusable_line place (certificate_view fields.now)) reasons.now) }
+{
+    for reason in reasons {
+        push_unusable(text, place, fields, *reason)?;
+    }
+    Ok(())
+}
+
+fn push_no_issuer(text: &mut String, place: usize, reason: NoIssuer) -> Result<(), AllocError>
+    ensures { OnOk result (string_bytes text.new ≡ string_bytes text.old ++ issuer_line place reason) }
+{
+    write!(text, "at {place}")?;
+    text.push_str(" no issuer: ")?;
+    push_issuer_words(text, reason)?;
+    text.push_str("\n")?;
+    Ok(())
+}
+
+/// A line for each reason why a certificate may not issue others.
+pub(crate) fn push_all_no_issuer(
+    text: &mut String,
+    place: usize,
+    reasons: &[NoIssuer],
+) -> Result<(), AllocError>
+    ensures { OnOk result (string_bytes text.new ≡ string_bytes text.old ++ flat_map (issuer_line place) reasons.now) }
+{
+    for reason in reasons {
+        push_no_issuer(text, place, *reason)?;
+    }
+    Ok(())
+}
+
+/// No certificate and no anchor has the issuer's name.
+pub(crate) fn push_missing(
+    text: &mut String,
+    alloc: Global,
+    labels: &Labels,
+    place: usize,
+    issuer: &[u8],
+) -> Result<(), OutOfMemory>
+    ensures { OnOk result (string_bytes text.new ≡ string_bytes text.old ++ missing_line place issuer.now) }
+{
+    write!(text, "at {place} no issuer here: ")?;
+    push_name(text, alloc, labels, issuer)?;
+    text.push('\n')?;
+    Ok(())
+}
+
+/// From the certificate at a position to an item or an anchor.
+#[derive(Clone, Copy, Debug)]
+pub(crate) enum Link {
+    Item(usize, usize),
+    Anchor(usize, usize),
+}
+
+fn push_ends(text: &mut String, link: Link) -> Result<(), AllocError>
+    ensures { OnOk result (string_bytes text.new ≡ string_bytes text.old ++ link_text link) }
+{
+    match link {
+        Link::Item(from, to) => write!(text, "at {from} to {to}"),
+        Link::Anchor(from, to) => write!(text, "at {from} to anchor {to}"),
+    }
+}
+
+fn push_linked(text: &mut String, link: Link) -> Result<(), AllocError>
+    ensures { OnOk result (string_bytes text.new ≡ string_bytes text.old ++ (link_text link ++ codes " linked\n")) }
+{
+    push_ends(text, link)?;
+    text.push_str(" linked\n")?;
+    Ok(())
+}
+
+fn push_unlinked(text: &mut String, link: Link, reason: Unlinked) -> Result<(), AllocError>
+    ensures { OnOk result (string_bytes text.new ≡ string_bytes text.old ++ unlinked_line (link_text link) reason) }
+{
+    push_ends(text, link)?;
+    text.push_str(" not linked: ")?;
+    push_link_words(text, reason)?;
+    text.push_str("\n")?;
+    Ok(())
+}
+
+fn push_all_unlinked(text: &mut String, link: Link, reasons: &[Unlinked]) -> Result<(), AllocError>
+    ensures { OnOk result (string_bytes text.new ≡ string_bytes text.old ++ flat_map (unlinked_line (link_text link)) reasons.now) }
+{
+    for reason in reasons {
+        push_unlinked(text, link, *reason)?;
+    }
+    Ok(())
+}
+
+/// The lines of a link: `linked`, or a line for each reason.
+pub(crate) fn push_link(
+    text: &mut String,
+    link: Link,
+    reasons: &[Unlinked],
+) -> Result<(), AllocError>
+    ensures { OnOk result (string_bytes text.new ≡ string_bytes text.old ++ link_lines (link_text link) reasons.now) }
+{
+    if reasons.is_empty() {
+        return push_linked(text, link);
+    }
+    push_all_unlinked(text, link, reasons)
+}
+
+fn push_unused(
+    text: &mut String,
+    place: usize,
+    fields: &ListFields<'_>,
+    reason: Unused,
+) -> Result<(), AllocError>
+    ensures { OnOk result (string_bytes text.new ≡ string_bytes text.old ++ unused_line place (list_view fields.now) reason) }
+{
+    write!(text, "list {place} not used: ")?;
+    push_list_words(text, fields, reason)?;
+    text.push('\n')?;
+    Ok(())
+}
+
+fn push_all_unused(
+    text: &mut String,
+    place: usize,
+    fields: &ListFields<'_>,
+    reasons: &[Unused],
+) -> Result<(), AllocError>
+    ensures { OnOk result (string_bytes text.new ≡ string_bytes text.old ++ flat_map (unused_line place (list_view fields.now)) reasons.now) }
+{
+    for reason in reasons {
+        push_unused(text, place, fields, *reason)?;
+    }
+    Ok(())
+}
+
+fn push_list_name(
+    text: &mut String,
+    alloc: Global,
+    labels: &Labels,
+    place: usize,
+    issuer: &[u8],
+) -> Result<(), OutOfMemory>
+    ensures { OnOk result (string_bytes text.new ≡ string_bytes text.old ++ list_line place issuer.now) }
+{
+    write!(text, "list {place} ")?;
+    push_name(text, alloc, labels, issuer)?;
+    text.push('\n')?;
+    Ok(())
+}
+
+/// The lines of a list: none where it is used.
+pub(crate) fn push_list(
+    text: &mut String,
+    alloc: Global,
+    labels: &Labels,
+    place: usize,
+    issuer: &[u8],
+    fields: &ListFields<'_>,
+    reasons: &[Unused],
+) -> Result<(), OutOfMemory>
+    ensures { OnOk result (string_bytes text.new ≡ string_bytes text.old ++ list_lines place issuer.now (list_view fields.now) reasons.now) }
+{
+    if reasons.is_empty() {
+        return Ok(());
+    }
+    push_list_name(text, alloc, labels, place, issuer)?;
+    push_all_unused(text, place, fields, reasons)?;
+    Ok(())
+}

@@ -1,0 +1,132 @@
+//! Which certificates are reached from the target by the names of issuers.
+
+ghost use Rattle.std.specs.Prelude.{◌≡◌, ◌≢◌, ◌↔◌, ◌<◌, ◌⊎◌, ℕ, [], ◌∷◌, length, map, Contains, IfOk, OnOk, IsTrue};
+ghost use Rattle.cert_judge.specs.Items.{item_of};
+ghost use Rattle.certpath_why.specs.Found.{IsFound, IsMarked, Spreads, SpreadsFrom};
+ghost use Rattle.certpath_why.specs.Reached.{ArePositions, IsReached, IsFurther};
+
+use crate::found::{Found, certificate_at, is_certificate};
+use std::alloc::{AllocError, Global};
+
+fn no_marks(alloc: Global, count: usize) -> Result<Vec<bool>, AllocError>
+    ensures count { IfOk result (λ marks. length marks.items ≡ count) }
+    ensures none { IfOk result (λ marks. (u : ℕ) → IsMarked marks.items u → ⊥) }
+{
+    let mut marks = Vec::with_capacity(alloc, count)?;
+    for _place in 0..count {
+        marks.push(false)?;
+    }
+    Ok(marks)
+}
+
+fn is_marked(marks: &[bool], place: usize) -> bool
+    ensures { IsTrue result ↔ IsMarked marks.now place }
+{
+    match marks.get(place) {
+        Some(mark) => *mark,
+        None => false,
+    }
+}
+
+fn put_mark(marks: &mut Vec<bool>, place: usize)
+    requires { place < length marks.now.items }
+    ensures count { length marks.new.items ≡ length marks.old.items }
+    ensures exact { (u : ℕ) → IsMarked marks.new.items u ↔ (IsMarked marks.old.items u ⊎ (u ≡ place)) }
+{
+    marks[place] = true;
+}
+
+/// Marks a place, and puts it at the end of the queue, where it was not marked.
+fn visit(marks: &mut Vec<bool>, queue: &mut Vec<usize>, place: usize) -> Result<(), AllocError>
+    requires { place < length marks.now.items }
+    ensures { OnOk result (Spreads (place ∷ []) marks.old.items queue.old.items marks.new.items queue.new.items) }
+{
+    if is_marked(marks, place) {
+        return Ok(());
+    }
+    put_mark(marks, place);
+    queue.push(place)?;
+    Ok(())
+}
+
+/// Marks some places, and puts those that were not marked at the end of the queue.
+fn spread(marks: &mut Vec<bool>, queue: &mut Vec<usize>, places: &[usize]) -> Result<(), AllocError>
+    requires { (u : ℕ) → Contains places.now u → u < length marks.now.items }
+    ensures { OnOk result (Spreads places.now marks.old.items queue.old.items marks.new.items queue.new.items) }
+{
+    for place in places {
+        visit(marks, queue, *place)?;
+    }
+    Ok(())
+}
+
+/// Marks the certificates whose subject is the issuer of the one at a position.
+fn spread_from(
+    marks: &mut Vec<bool>,
+    queue: &mut Vec<usize>,
+    found: &Found<'_, '_>,
+    place: usize,
+) -> Result<(), AllocError>
+    requires known { IsFound found.now }
+    requires count { length marks.now.items ≡ length found.now.items.now }
+    ensures { OnOk result (SpreadsFrom (map item_of found.now.items.now) place marks.old.items queue.old.items marks.new.items queue.new.items) }
+{
+    let Some(certificate) = certificate_at(found.items, place) else {
+        return Ok(());
+    };
+    spread(marks, queue, found.issuers(certificate.issuer))?;
+    Ok(())
+}
+
+/// Marks of exactly the certificates that are reached. Each is in the queue once.
+fn reached_marks(
+    alloc: Global,
+    found: &Found<'_, '_>,
+    target: usize,
+) -> Result<Vec<bool>, AllocError>
+    requires known { IsFound found.now }
+    ensures { IfOk result (λ marks. (u : ℕ) → IsMarked marks.items u ↔ IsReached (map item_of found.now.items.now) target u) }
+{
+    let mut marks = no_marks(alloc, found.items.len())?;
+    if !is_certificate(found.items, target) {
+        return Ok(marks);
+    }
+    let mut queue = Vec::new(alloc);
+    visit(&mut marks, &mut queue, target)?;
+    for done in 0..usize::MAX {
+        let waiting = queue.as_slice();
+        if done >= waiting.len() {
+            return Ok(marks);
+        }
+        let place = waiting[done];
+        spread_from(&mut marks, &mut queue, found, place)?;
+    }
+    Ok(marks)
+}
+
+fn is_further(marks: &[bool], target: usize, place: usize) -> bool
+    ensures { IsTrue result ↔ (IsMarked marks.now place × (place ≢ target)) }
+{
+    is_marked(marks, place) && place != target
+}
+
+/// The positions of the certificates that are reached, without the target.
+pub(crate) fn further_than(
+    alloc: Global,
+    found: &Found<'_, '_>,
+    target: usize,
+) -> Result<Vec<usize>, AllocError>
+    requires known { IsFound found.now }
+    ensures { IfOk result (λ further. ArePositions (IsFurther (map item_of found.now.items.now) target) further.items) }
+{
+    let reached = reached_marks(alloc, found, target)?;
+    let marks = reached.as_slice();
+    let mut further = Vec::new(alloc);
+    for place in 0..marks.len() {
+        if !is_further(marks, target, place) {
+            continue;
+        }
+        further.push(place)?;
+    }
+    Ok(further)
+}

@@ -1,0 +1,107 @@
+//! The whole.
+
+ghost use Rattle.std.specs.Prelude.{◌≡◌, ◌⊎◌, OnOk, [], map, string_bytes};
+ghost use Rattle.cert_judge.specs.Items.{item_of, rules_by};
+ghost use Rattle.certpath_why.specs.Reached.{ArePositions, IsFurther, IsCertificateAt};
+ghost use Rattle.certpath_why.specs.Why.{AreTexts, TellsAt, TellsReached, AppendsWhy};
+ghost use Rattle.certpath_why.specs.Found.{IsFound};
+ghost use Rattle.certpath_why.specs.Appended.{Appends};
+
+use crate::bounds::push_all_bounds;
+use crate::certificates::tell_at;
+use crate::found::{Found, is_certificate};
+use crate::lists::tell_lists;
+use crate::reached::further_than;
+use asn1_core::OutOfMemory;
+use cert_graph::Answer;
+use cert_judge::{Policy, ReadItem, Vouch};
+use std::alloc::Global;
+
+fn tell_target<V: Vouch>(
+    text: &mut String,
+    alloc: Global,
+    found: &Found<'_, '_>,
+    target: usize,
+    vouch: &V,
+    policy: &Policy,
+) -> Result<(), OutOfMemory>
+    requires known { IsFound found.now }
+    ensures { OnOk result (Appends (λ own. TellsAt (rules_by policy.now.moment policy.now.demand_lists (V.vouches_for vouch.now)) (map item_of found.now.items.now) (map item_of found.now.anchors.now) target target own
+        ⊎ ((IsCertificateAt (map item_of found.now.items.now) target → ⊥) × (own ≡ []))) (string_bytes text.old) (string_bytes text.new)) }
+{
+    if is_certificate(found.items, target) {
+        tell_at(text, alloc, found, target, target, vouch, policy)?;
+        return Ok(());
+    }
+    Ok(())
+}
+
+fn tell_further<V: Vouch>(
+    text: &mut String,
+    alloc: Global,
+    found: &Found<'_, '_>,
+    target: usize,
+    further: &[usize],
+    vouch: &V,
+    policy: &Policy,
+) -> Result<(), OutOfMemory>
+    requires known { IsFound found.now }
+    requires further { ArePositions (IsFurther (map item_of found.now.items.now) target) further.now }
+    ensures { OnOk result (Appends (AreTexts (TellsAt (rules_by policy.now.moment policy.now.demand_lists (V.vouches_for vouch.now)) (map item_of found.now.items.now) (map item_of found.now.anchors.now) target) further.now) (string_bytes text.old) (string_bytes text.new)) }
+{
+    for place in further {
+        tell_at(text, alloc, found, target, *place, vouch, policy)?;
+    }
+    Ok(())
+}
+
+fn tell_reached<V: Vouch>(
+    text: &mut String,
+    alloc: Global,
+    found: &Found<'_, '_>,
+    target: usize,
+    answer: &Answer,
+    vouch: &V,
+    policy: &Policy,
+) -> Result<(), OutOfMemory>
+    requires known { IsFound found.now }
+    ensures { OnOk result (Appends (TellsReached (rules_by policy.now.moment policy.now.demand_lists (V.vouches_for vouch.now)) (map item_of found.now.items.now) (map item_of found.now.anchors.now) target answer.now) (string_bytes text.old) (string_bytes text.new)) }
+{
+    let further = further_than(alloc, found, target)?;
+    tell_target(text, alloc, found, target, vouch, policy)?;
+    tell_further(text, alloc, found, target, &further, vouch, policy)?;
+    push_all_bounds(text, answer, &further)?;
+    Ok(())
+}
+
+/// Appends what stands in the way of a path: the lines of the target, where it is a certificate, and of each
+/// further certificate that is reached from it by the names of issuers, in ascending order. If there is no
+/// path, those whose way to an anchor a path length bounds have a line each. Then come the lines of each list
+/// that nobody uses, also where there is a path. Of items that are neither certificates nor lists there is no
+/// line.
+///
+/// Positions count from 0, those of anchors by themselves. Names are printable ASCII: any other octet and
+/// the backslash are escaped, so no name holds a line feed.
+///
+/// The bounds are those of the answer's row: of an answer of `find`, exactly how far each issuer leads.
+///
+/// The only error is out of memory; the text then ends anywhere. Certificates and lists are found by sorted
+/// maps of names; each link costs what `why_unlinked` costs, and each list what `why_list_unused_by_any`
+/// costs for the keys of its issuer's name.
+pub fn push_why<V: Vouch>(
+    text: &mut String,
+    alloc: Global,
+    items: &[ReadItem<'_>],
+    anchors: &[ReadItem<'_>],
+    target: usize,
+    answer: &Answer,
+    vouch: &V,
+    policy: &Policy,
+) -> Result<(), OutOfMemory>
+    ensures { OnOk result (AppendsWhy (rules_by policy.now.moment policy.now.demand_lists (V.vouches_for vouch.now)) (map item_of items.now) (map item_of anchors.now) target answer.now (string_bytes text.old) (string_bytes text.new)) }
+{
+    let found = Found::new(alloc, items, anchors)?;
+    tell_reached(text, alloc, &found, target, answer, vouch, policy)?;
+    tell_lists(text, alloc, &found, vouch, policy)?;
+    Ok(())
+}
