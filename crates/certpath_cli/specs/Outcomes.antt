@@ -6,6 +6,13 @@ use Rattle.certpath_engine.specs.declared.path_exit.PathFiles.{PathFiles}
 use Rattle.certpath_engine.specs.declared.path_exit.PathOutcome.{PathOutcome}
 use Rattle.certpath_engine.specs.declared.path_exit.PathOutcome.TheVariants as paths
 use Rattle.certpath_engine.specs.PathExits.{word_of}
+use Rattle.certpath_engine.specs.declared.questions_exit.ItemFiles.{ItemFiles}
+use Rattle.certpath_engine.specs.declared.questions_exit.QuestionsOutcome.{QuestionsOutcome}
+use Rattle.certpath_engine.specs.declared.questions_exit.QuestionsOutcome.TheVariants as asked
+use Rattle.certpath_engine.specs.QuestionsExits.{item_word_of}
+use Rattle.certpath_run.specs.declared.asking.ItemInput.{ItemInput}
+use Rattle.certpath_run.specs.declared.asking.ItemInput.TheVariants as items
+use Rattle.certpath_run.specs.declared.asking.QuestionsError.TheVariants as questions
 use Rattle.certpath_run.specs.declared.settings.Input.{Input}
 use Rattle.certpath_run.specs.declared.settings.Input.TheVariants.{Bundle, Anchors, Vouchers}
 use Rattle.certpath_run.specs.declared.settings.Outcome.{Outcome}
@@ -18,11 +25,21 @@ IsOfFile word (Unopened file) = file.now ≡ word
 IsOfFile word (Framed file answer) = file.now ≡ word
 
 -- an input's file could not be opened, or memory was refused
-abbrev pub IsUnopened : PathFiles → Input → PathOutcome → Type 0
+abbrev pub IsUnopened : {T : Type 0} → PathFiles → Input → PathOutcome T → Type 0
 IsUnopened files input (paths.Unopened file) = file.now ≡ word_of files input
 IsUnopened files input (paths.Ran of answer) = (of ≡ files) × (answer ≡ Err OutOfMemory)
 
 -- it tells of these files: of one that could not be opened, or of a run over them
-abbrev pub IsOfFiles : PathFiles → PathOutcome → Type 0
+abbrev pub IsOfFiles : {T : Type 0} → PathFiles → PathOutcome T → Type 0
 IsOfFiles files (paths.Unopened file) = (file.now ≡ word_of files Bundle) ⊎ (file.now ≡ word_of files Anchors) ⊎ (file.now ≡ word_of files Vouchers)
 IsOfFiles files (paths.Ran of answer) = of ≡ files
+
+-- a file of items could not be opened, or memory was refused
+abbrev pub AreItemsUnopened : ItemFiles → ItemInput → QuestionsOutcome → Type 0
+AreItemsUnopened files input (asked.Unopened file) = file.now ≡ item_word_of files input
+AreItemsUnopened files input (asked.Asked of answer) = (of ≡ files) × (answer ≡ Err questions.OutOfMemory)
+
+-- it tells of these files of items
+abbrev pub IsOfItemFiles : ItemFiles → QuestionsOutcome → Type 0
+IsOfItemFiles files (asked.Unopened file) = (file.now ≡ item_word_of files items.Bundle) ⊎ (file.now ≡ item_word_of files items.Anchors)
+IsOfItemFiles files (asked.Asked of answer) = of ≡ files

@@ -2,14 +2,18 @@
 #![tactic(auto)]
 
 ghost use Rattle.std.specs.Prelude.{◌≡◌, IfErr};
-ghost use Rattle.certpath_cli.specs.Outcomes.{IsOfFile, IsOfFiles, IsUnopened};
+ghost use Rattle.certpath_cli.specs.Outcomes.{IsOfFile, IsOfFiles, IsUnopened, IsOfItemFiles, AreItemsUnopened};
 
 use asn1_device::{ReadSource, WriteSink};
 use certpath_engine::{
-    Command, Exit, FrameError, FrameOutcome, Input, PathFiles, PathOutcome, WordFault, frame,
-    frame_status, path_status, read_words, words_status,
+    Command, Exit, FrameError, FrameOutcome, Input, ItemFiles, ItemInput, PathFiles, PathOutcome,
+    Question, QuestionsOutcome, WordFault, frame, frame_status, path_status, paths_status,
+    questions_status, read_words, words_status,
 };
-use certpath_run::{RunError, Settings};
+use certpath_run::{
+    AllOutcome, AllSettings, Outcome, QuestionsError, RunError, run, run_all, run_questions,
+    run_why,
+};
 use std::alloc::Global;
 use std::process::ExitCode;
 use std::rt::{Files, Runtime};
@@ -27,8 +31,13 @@ fn status_of<R: Runtime + AllocGlobal>(rt: &R) -> u8 {
     };
     match read_words(rt.alloc(), words.as_slice()) {
         Ok(Command::Frame { file, limit }) => tell(rt, frame_status(frame_file(rt, file, limit))),
-        Ok(Command::Path { files, settings }) => {
-            tell(rt, path_status(run_files(rt, files, &settings)))
+        Ok(Command::Path(question)) => tell(rt, path_status(find_path(rt, &question))),
+        Ok(Command::Why(question)) => tell(rt, path_status(tell_why(rt, &question))),
+        Ok(Command::Paths { files, settings }) => {
+            tell(rt, paths_status(find_paths(rt, files, &settings)))
+        }
+        Ok(Command::Questions { files, limit }) => {
+            tell(rt, questions_status(ask_questions(rt, files, limit)))
         }
         Err(fault) => tell(rt, words_status(fault)),
     }
@@ -72,47 +81,151 @@ fn frame_file<'a, R: Runtime + AllocGlobal>(rt: &R, file: &'a str, limit: u32) -
     }
 }
 
-/// Runs over three files, to standard output. All are opened before one is read.
-fn run_files<'a, R: Runtime + AllocGlobal>(
+/// Finds a path over three files, to standard output.
+fn find_path<'a, R: Runtime + AllocGlobal>(
+    rt: &R,
+    question: &Question<'a>,
+) -> PathOutcome<'a, Outcome>
+    ensures { IsOfFiles question.now.files result }
+{
+    let files = question.files;
+    let mut inputs = match opened_inputs(rt, files) {
+        Ok(inputs) => inputs,
+        Err(outcome) => return outcome,
+    };
+    let mut writer = WriteSink::new(io::writer(rt));
+    let answer = run(
+        rt.alloc(),
+        &mut inputs.bundle,
+        &mut inputs.anchors,
+        &mut inputs.vouchers,
+        &question.settings,
+        &mut writer,
+    );
+    PathOutcome::Ran(files, answer)
+}
+
+/// Writes what stands in the way of a path, over three files, to standard output.
+fn tell_why<'a, R: Runtime + AllocGlobal>(
+    rt: &R,
+    question: &Question<'a>,
+) -> PathOutcome<'a, Outcome>
+    ensures { IsOfFiles question.now.files result }
+{
+    let files = question.files;
+    let mut inputs = match opened_inputs(rt, files) {
+        Ok(inputs) => inputs,
+        Err(outcome) => return outcome,
+    };
+    let mut writer = WriteSink::new(io::writer(rt));
+    let answer = run_why(
+        rt.alloc(),
+        &mut inputs.bundle,
+        &mut inputs.anchors,
+        &mut inputs.vouchers,
+        &question.settings,
+        &mut writer,
+    );
+    PathOutcome::Ran(files, answer)
+}
+
+/// Finds the paths of all items over three files, to standard output.
+fn find_paths<'a, R: Runtime + AllocGlobal>(
     rt: &R,
     files: PathFiles<'a>,
-    settings: &Settings,
-) -> PathOutcome<'a>
+    settings: &AllSettings,
+) -> PathOutcome<'a, AllOutcome>
     ensures { IsOfFiles files.entry result }
 {
-    let bundle = match opened(rt, files, Input::Bundle) {
-        Ok(opened) => opened,
+    let mut inputs = match opened_inputs(rt, files) {
+        Ok(inputs) => inputs,
         Err(outcome) => return outcome,
     };
-    let anchors = match opened(rt, files, Input::Anchors) {
-        Ok(opened) => opened,
-        Err(outcome) => return outcome,
-    };
-    let vouchers = match opened(rt, files, Input::Vouchers) {
-        Ok(opened) => opened,
-        Err(outcome) => return outcome,
-    };
-    let mut bundle = ReadSource::new(bundle);
-    let mut anchors = ReadSource::new(anchors);
-    let mut vouchers = ReadSource::new(vouchers);
     let mut writer = WriteSink::new(io::writer(rt));
-    let answer = certpath_run::run(
+    let answer = run_all(
         rt.alloc(),
-        &mut bundle,
-        &mut anchors,
-        &mut vouchers,
+        &mut inputs.bundle,
+        &mut inputs.anchors,
+        &mut inputs.vouchers,
         settings,
         &mut writer,
     );
     PathOutcome::Ran(files, answer)
 }
 
+/// Asks over two files which keys may have signed which items, to standard output. Both are opened before one is read.
+fn ask_questions<'a, R: Runtime + AllocGlobal>(
+    rt: &R,
+    files: ItemFiles<'a>,
+    limit: u32,
+) -> QuestionsOutcome<'a>
+    ensures { IsOfItemFiles files.entry result }
+{
+    let bundle = match opened_items(rt, files, ItemInput::Bundle) {
+        Ok(opened) => opened,
+        Err(outcome) => return outcome,
+    };
+    let anchors = match opened_items(rt, files, ItemInput::Anchors) {
+        Ok(opened) => opened,
+        Err(outcome) => return outcome,
+    };
+    let mut bundle = ReadSource::new(bundle);
+    let mut anchors = ReadSource::new(anchors);
+    let mut writer = WriteSink::new(io::writer(rt));
+    let answer = run_questions(rt.alloc(), &mut bundle, &mut anchors, limit, &mut writer);
+    QuestionsOutcome::Asked(files, answer)
+}
+
+/// Opens a file of items, or says how far the run came without it.
+fn opened_items<'a, R: Runtime + AllocGlobal>(
+    rt: &R,
+    files: ItemFiles<'a>,
+    input: ItemInput,
+) -> Result<R::File, QuestionsOutcome<'a>>
+    ensures { IfErr result (AreItemsUnopened files.entry input) }
+{
+    let word = files.word(input);
+    match fs::open(rt, word) {
+        Ok(opened) => Ok(opened),
+        Err(error) if error.kind() == io::ErrorKind::OutOfMemory => Err(QuestionsOutcome::Asked(
+            files,
+            Err(QuestionsError::OutOfMemory),
+        )),
+        Err(_) => Err(QuestionsOutcome::Unopened(word)),
+    }
+}
+
+/// The three inputs, open.
+#[derive(Drop)]
+struct Inputs<F> {
+    bundle: ReadSource<F>,
+    anchors: ReadSource<F>,
+    vouchers: ReadSource<F>,
+}
+
+/// Opens the files of the three inputs, in order, or says how far the run came without one. All are opened before one is read.
+fn opened_inputs<'a, R: Runtime + AllocGlobal, T: Drop>(
+    rt: &R,
+    files: PathFiles<'a>,
+) -> Result<Inputs<R::File>, PathOutcome<'a, T>>
+    ensures { IfErr result (IsOfFiles files.entry) }
+{
+    let bundle = opened(rt, files, Input::Bundle)?;
+    let anchors = opened(rt, files, Input::Anchors)?;
+    let vouchers = opened(rt, files, Input::Vouchers)?;
+    Ok(Inputs {
+        bundle: ReadSource::new(bundle),
+        anchors: ReadSource::new(anchors),
+        vouchers: ReadSource::new(vouchers),
+    })
+}
+
 /// Opens an input's file, or says how far the run came without it.
-fn opened<'a, R: Runtime + AllocGlobal>(
+fn opened<'a, R: Runtime + AllocGlobal, T: Drop>(
     rt: &R,
     files: PathFiles<'a>,
     input: Input,
-) -> Result<R::File, PathOutcome<'a>>
+) -> Result<R::File, PathOutcome<'a, T>>
     ensures { IfErr result (IsUnopened files.entry input) }
 {
     let file = files.word(input);

@@ -1,5 +1,5 @@
 -- What clap's clauses say of a subcommand, in the words of `Asks`.
-use Rattle.std.proofs.Common.{◌≡◌, ◌<◌, ℕ, length, List, Option, Some, None, true, codes, refl, sym, ap, ◌∙◌, Result, Ok, Err}
+use Rattle.std.proofs.Common.{◌≡◌, ◌<◌, ℕ, suc, length, List, ◌∷◌, arith, Option, Some, None, true, codes, inr, refl, sym, ap, ◌∙◌, Result, Ok, Err}
 use Rattle.std.specs.Option.{option_map}
 use Rattle.std.specs.Prelude.{slice_index_or}
 use Rattle.clap.specs.Matches.{found_of, first_value, subcommand_name_of}
@@ -11,10 +11,12 @@ use Rattle.clap.specs.declared.error.kind.ErrorKind.TheVariants.{OutOfMemory as 
 use Rattle.clap.proofs.WalkLemmas.{first_value-rows}
 use Rattle.clap.specs.declared.parser.matches.ArgMatches.{ArgMatches}
 use Rattle.certpath_engine.specs.Words.{certpath_app}
-use Rattle.certpath_engine.specs.Asking.{AreFrameTexts, ArePathTexts, LacksOneOf, TellsTexts, AnswersTexts, IsRefusal}
-use Rattle.certpath_engine.specs.declared.words.FrameTexts.{FrameTexts}
-use Rattle.certpath_engine.specs.declared.words.PathTexts.{PathTexts}
-use Rattle.certpath_engine.specs.declared.words.Asked.{Asked}
+use Rattle.certpath_engine.specs.Asking.{AreFrameTexts, ArePathTexts, AreQuestionsTexts, AreAllTexts, LacksOneOf, TellsTexts, TellsQuestion, TellsAll, all_arguments, path_arguments, RefusesQuestion, RefusesSettings, AnswersTexts, IsRefusal}
+use Rattle.certpath_engine.specs.declared.texts.FrameTexts.{FrameTexts}
+use Rattle.certpath_engine.specs.declared.texts.PathTexts.{PathTexts}
+use Rattle.certpath_engine.specs.declared.questions_texts.QuestionsTexts.{QuestionsTexts}
+use Rattle.certpath_engine.specs.declared.texts.AllTexts.{AllTexts}
+use Rattle.certpath_engine.specs.declared.texts.Asked.{Asked}
 use Rattle.certpath_engine.specs.declared.words.WordFault.{WordFault}
 use Rattle.certpath_engine.specs.declared.words.WordFault.TheVariants as faults
 
@@ -75,16 +77,56 @@ pub frame_values : (found : ArgMatches) (t : FrameTexts) → Some t.file.now ≡
     → AreFrameTexts (rows_of (found_of found)) t
 frame_values found t file limit = record { file = value found (codes "FILE") t.file.now file; limit = value found (codes "limit") t.limit.now limit }
 
-pub path_values : (found : ArgMatches) (t : PathTexts) → Some t.bundle.now ≡ first_value (found_of found) (codes "BUNDLE") → Some t.anchors.now ≡ first_value (found_of found) (codes "ANCHORS")
-    → Some t.vouchers.now ≡ first_value (found_of found) (codes "VOUCHERS") → Some t.target.now ≡ first_value (found_of found) (codes "target") → Some t.moment.now ≡ first_value (found_of found) (codes "at")
+pub path_values : (found : ArgMatches) (t : PathTexts) → Some t.target.now ≡ first_value (found_of found) (codes "target") → AreAllTexts (rows_of (found_of found)) t.all → ArePathTexts (rows_of (found_of found)) t
+path_values found t target all = record { target = value found (codes "target") t.target.now target; all = all }
+
+-- one of the further arguments has no value
+pub lacks_further : (id : Text) (arguments : List Text) (rows : List Row) → LacksOneOf arguments rows → LacksOneOf (id ∷ arguments) rows
+lacks_further id arguments rows l = record { argument = l.argument; listed = (suc l.listed.0, omega (arith, l.listed.1), l.listed.2); lacks = l.lacks }
+
+pub questions_values : (found : ArgMatches) (t : QuestionsTexts) → Some t.bundle.now ≡ first_value (found_of found) (codes "BUNDLE") → Some t.anchors.now ≡ first_value (found_of found) (codes "ANCHORS")
+    → Some t.limit.now ≡ first_value (found_of found) (codes "limit") → AreQuestionsTexts (rows_of (found_of found)) t
+questions_values found t bundle anchors limit = record {
+  bundle = value found (codes "BUNDLE") t.bundle.now bundle;
+  anchors = value found (codes "ANCHORS") t.anchors.now anchors;
+  limit = value found (codes "limit") t.limit.now limit;
+}
+
+pub all_values : (found : ArgMatches) (t : AllTexts) → Some t.bundle.now ≡ first_value (found_of found) (codes "BUNDLE") → Some t.anchors.now ≡ first_value (found_of found) (codes "ANCHORS")
+    → Some t.vouchers.now ≡ first_value (found_of found) (codes "VOUCHERS") → Some t.moment.now ≡ first_value (found_of found) (codes "at")
     → Some t.demand.now ≡ first_value (found_of found) (codes "demand-lists") → Some t.limit.now ≡ first_value (found_of found) (codes "limit")
-    → ArePathTexts (rows_of (found_of found)) t
-path_values found t bundle anchors vouchers target moment demand limit = record {
+    → AreAllTexts (rows_of (found_of found)) t
+all_values found t bundle anchors vouchers moment demand limit = record {
   bundle = value found (codes "BUNDLE") t.bundle.now bundle;
   anchors = value found (codes "ANCHORS") t.anchors.now anchors;
   vouchers = value found (codes "VOUCHERS") t.vouchers.now vouchers;
-  target = value found (codes "target") t.target.now target;
   moment = value found (codes "at") t.moment.now moment;
   demand = value found (codes "demand-lists") t.demand.now demand;
   limit = value found (codes "limit") t.limit.now limit;
 }
+
+-- ---- faults, handed on
+
+pub question_fault : (name : Text) (rows : List Row) (fault : WordFault) → TellsQuestion rows (Err fault) → TellsTexts name path_arguments rows (Err fault)
+question_fault name rows (faults.Refused said) t = t
+question_fault name rows faults.Number t = t
+question_fault name rows faults.Moment t = t
+question_fault name rows faults.OutOfMemory t = t
+
+pub all_fault : (name : Text) (rows : List Row) (fault : WordFault) → TellsAll rows (Err fault) → TellsTexts name all_arguments rows (Err fault)
+all_fault name rows (faults.Refused said) t = t
+all_fault name rows faults.Number t = t
+all_fault name rows faults.Moment t = t
+all_fault name rows faults.OutOfMemory t = t
+
+pub target_fault : (rows : List Row) (fault : WordFault) → TellsAll rows (Err fault) → TellsQuestion rows (Err fault)
+target_fault rows (faults.Refused said) t = t
+target_fault rows faults.Number t = t
+target_fault rows faults.Moment t = t
+target_fault rows faults.OutOfMemory t = lacks_further (codes "target") all_arguments rows t
+
+pub settings_fault : (t : PathTexts) (fault : WordFault) → RefusesSettings t.all fault → RefusesQuestion t fault
+settings_fault t (faults.Refused said) r = r
+settings_fault t faults.Number r = inr r
+settings_fault t faults.Moment r = r
+settings_fault t faults.OutOfMemory r = r

@@ -11,12 +11,17 @@ use Rattle.cert_model.specs.View.{time_view}
 use Rattle.certpath_moment.specs.Moments.{WritesMoment}
 use Rattle.certpath_engine.specs.Numbers.{WritesNumber}
 use Rattle.certpath_engine.specs.Words.{certpath_app}
-use Rattle.certpath_engine.specs.declared.words.Asked.{Asked}
-use Rattle.certpath_engine.specs.declared.words.Asked.TheVariants as asks
-use Rattle.certpath_engine.specs.declared.words.FrameTexts.{FrameTexts}
-use Rattle.certpath_engine.specs.declared.words.PathTexts.{PathTexts}
+use Rattle.certpath_engine.specs.declared.texts.Asked.{Asked}
+use Rattle.certpath_engine.specs.declared.texts.Asked.TheVariants as asks
+use Rattle.certpath_engine.specs.declared.texts.FrameTexts.{FrameTexts}
+use Rattle.certpath_engine.specs.declared.texts.PathTexts.{PathTexts}
+use Rattle.certpath_engine.specs.declared.questions_texts.QuestionsTexts.{QuestionsTexts}
+use Rattle.certpath_engine.specs.declared.texts.AllTexts.{AllTexts}
+use Rattle.certpath_run.specs.declared.settings.AllSettings.{AllSettings}
+use Rattle.certpath_run.specs.declared.settings.Settings.{Settings}
+use Rattle.certpath_engine.specs.declared.path_exit.PathFiles.{PathFiles}
 use Rattle.certpath_engine.specs.declared.words.Command.{Command}
-use Rattle.certpath_engine.specs.declared.words.Command.TheVariants.{Frame, Path}
+use Rattle.certpath_engine.specs.declared.words.Command.TheVariants.{Frame, Path, Why, Questions, Paths}
 use Rattle.certpath_engine.specs.declared.words.WordFault.{WordFault}
 use Rattle.certpath_engine.specs.declared.words.WordFault.TheVariants.{Refused, Number, Moment, OutOfMemory}
 
@@ -25,29 +30,49 @@ pub record AreFrameTexts (rows : List Row) (t : FrameTexts) : Type 0 where
   pub file : first_of (codes "FILE") rows ≡ Some t.file.now
   pub limit : first_of (codes "limit") rows ≡ Some t.limit.now
 
-pub record ArePathTexts (rows : List Row) (t : PathTexts) : Type 0 where
+pub record AreQuestionsTexts (rows : List Row) (t : QuestionsTexts) : Type 0 where
+  pub bundle : first_of (codes "BUNDLE") rows ≡ Some t.bundle.now
+  pub anchors : first_of (codes "ANCHORS") rows ≡ Some t.anchors.now
+  pub limit : first_of (codes "limit") rows ≡ Some t.limit.now
+
+pub record AreAllTexts (rows : List Row) (t : AllTexts) : Type 0 where
   pub bundle : first_of (codes "BUNDLE") rows ≡ Some t.bundle.now
   pub anchors : first_of (codes "ANCHORS") rows ≡ Some t.anchors.now
   pub vouchers : first_of (codes "VOUCHERS") rows ≡ Some t.vouchers.now
-  pub target : first_of (codes "target") rows ≡ Some t.target.now
   pub moment : first_of (codes "at") rows ≡ Some t.moment.now
   pub demand : first_of (codes "demand-lists") rows ≡ Some t.demand.now
   pub limit : first_of (codes "limit") rows ≡ Some t.limit.now
 
+pub record ArePathTexts (rows : List Row) (t : PathTexts) : Type 0 where
+  pub target : first_of (codes "target") rows ≡ Some t.target.now
+  pub all : AreAllTexts rows t.all
+
 abbrev pub AsksOf : List Row → Asked → Type 0
 AsksOf rows (asks.Frame t) = AreFrameTexts rows t
 AsksOf rows (asks.Path t) = ArePathTexts rows t
+AsksOf rows (asks.Why t) = ArePathTexts rows t
+AsksOf rows (asks.Questions t) = AreQuestionsTexts rows t
+AsksOf rows (asks.Paths t) = AreAllTexts rows t
 
 abbrev pub name_of : Asked → Text
 name_of (asks.Frame t) = codes "frame"
 name_of (asks.Path t) = codes "path"
+name_of (asks.Why t) = codes "why"
+name_of (asks.Questions t) = codes "questions"
+name_of (asks.Paths t) = codes "paths"
 
--- the words of a command's arguments
+-- the words of a command's arguments, those of `why` are those of `path`
 abbrev pub frame_arguments : List Text
 frame_arguments = codes "FILE" ∷ codes "limit" ∷ []
 
+abbrev pub all_arguments : List Text
+all_arguments = codes "BUNDLE" ∷ codes "ANCHORS" ∷ codes "VOUCHERS" ∷ codes "at" ∷ codes "demand-lists" ∷ codes "limit" ∷ []
+
 abbrev pub path_arguments : List Text
-path_arguments = codes "BUNDLE" ∷ codes "ANCHORS" ∷ codes "VOUCHERS" ∷ codes "target" ∷ codes "at" ∷ codes "demand-lists" ∷ codes "limit" ∷ []
+path_arguments = codes "target" ∷ all_arguments
+
+abbrev pub questions_arguments : List Text
+questions_arguments = codes "BUNDLE" ∷ codes "ANCHORS" ∷ codes "limit" ∷ []
 
 -- one of these arguments has no value
 pub record LacksOneOf (arguments : List Text) (rows : List Row) : Type 0 where
@@ -63,6 +88,22 @@ TellsTexts name arguments rows (Err Number) = ⊥
 TellsTexts name arguments rows (Err Moment) = ⊥
 TellsTexts name arguments rows (Err OutOfMemory) = LacksOneOf arguments rows
 
+-- the words of a question on one target; none only where one of its arguments has no value
+abbrev pub TellsQuestion : List Row → Result PathTexts WordFault → Type 0
+TellsQuestion rows (Ok texts) = ArePathTexts rows texts
+TellsQuestion rows (Err (Refused said)) = ⊥
+TellsQuestion rows (Err Number) = ⊥
+TellsQuestion rows (Err Moment) = ⊥
+TellsQuestion rows (Err OutOfMemory) = LacksOneOf path_arguments rows
+
+-- the files, and how all items are judged; likewise
+abbrev pub TellsAll : List Row → Result AllTexts WordFault → Type 0
+TellsAll rows (Ok texts) = AreAllTexts rows texts
+TellsAll rows (Err (Refused said)) = ⊥
+TellsAll rows (Err Number) = ⊥
+TellsAll rows (Err Moment) = ⊥
+TellsAll rows (Err OutOfMemory) = LacksOneOf all_arguments rows
+
 -- clap reads the words as this command with these values
 abbrev pub Asks : List Text → Asked → Type 0
 Asks words asked = (rows : List Row) × (subcommand_of certpath_app words ≡ Some (name_of asked, rows)) × AsksOf rows asked
@@ -77,28 +118,75 @@ IsNoMoment text = (t : CivilTime) → ¬ (WritesMoment text t)
 -- what is answered to the words behind `frame`
 abbrev pub ReadsFrame : FrameTexts → Result Command WordFault → Type 0
 ReadsFrame t (Ok (Frame file limit)) = (file.now ≡ t.file.now) × WritesNumber t.limit.now limit
-ReadsFrame t (Ok (Path files settings)) = ⊥
+ReadsFrame t (Ok _) = ⊥
 ReadsFrame t (Err (Refused said)) = ⊥
 ReadsFrame t (Err Number) = IsNoNumber t.limit.now
 ReadsFrame t (Err Moment) = ⊥
 ReadsFrame t (Err OutOfMemory) = ⊥
 
--- and to those behind `path`
+-- the words name these files
+abbrev pub NamesFiles : AllTexts → PathFiles → Type 0
+NamesFiles t files = (files.bundle.now ≡ t.bundle.now) × (files.anchors.now ≡ t.anchors.now) × (files.vouchers.now ≡ t.vouchers.now)
+
+-- the words write how all items are judged
+abbrev pub WritesSettings : AllTexts → AllSettings → Type 0
+WritesSettings t settings =
+    WritesMoment t.moment.now (time_view settings.policy.moment) × (IsTrue settings.policy.demand_lists ↔ (t.demand.now ≡ codes "true"))
+    × WritesNumber t.limit.now settings.limit
+
+-- or they write nothing of the kind
+abbrev pub RefusesSettings : AllTexts → WordFault → Type 0
+RefusesSettings t (Refused said) = ⊥
+RefusesSettings t Number = IsNoNumber t.limit.now
+RefusesSettings t Moment = IsNoMoment t.moment.now
+RefusesSettings t OutOfMemory = ⊥
+
+-- the words of a question write these values
+abbrev pub WritesQuestion : PathTexts → PathFiles → Settings → Type 0
+WritesQuestion t files settings =
+    NamesFiles t.all files × WritesNumber t.target.now settings.target × WritesMoment t.all.moment.now (time_view settings.policy.moment)
+    × (IsTrue settings.policy.demand_lists ↔ (t.all.demand.now ≡ codes "true")) × WritesNumber t.all.limit.now settings.limit
+
+-- or they write none
+abbrev pub RefusesQuestion : PathTexts → WordFault → Type 0
+RefusesQuestion t (Refused said) = ⊥
+RefusesQuestion t Number = IsNoNumber t.target.now ⊎ IsNoNumber t.all.limit.now
+RefusesQuestion t Moment = IsNoMoment t.all.moment.now
+RefusesQuestion t OutOfMemory = ⊥
+
+-- what is answered to the words behind `path`, and behind `why`
 abbrev pub ReadsPath : PathTexts → Result Command WordFault → Type 0
-ReadsPath t (Ok (Frame file limit)) = ⊥
-ReadsPath t (Ok (Path files settings)) =
-    (files.bundle.now ≡ t.bundle.now) × (files.anchors.now ≡ t.anchors.now) × (files.vouchers.now ≡ t.vouchers.now)
-    × WritesNumber t.target.now settings.target × WritesMoment t.moment.now (time_view settings.policy.moment)
-    × (IsTrue settings.policy.demand_lists ↔ (t.demand.now ≡ codes "true")) × WritesNumber t.limit.now settings.limit
-ReadsPath t (Err (Refused said)) = ⊥
-ReadsPath t (Err Number) = IsNoNumber t.target.now ⊎ IsNoNumber t.limit.now
-ReadsPath t (Err Moment) = IsNoMoment t.moment.now
-ReadsPath t (Err OutOfMemory) = ⊥
+ReadsPath t (Ok (Path question)) = WritesQuestion t question.files question.settings
+ReadsPath t (Ok _) = ⊥
+ReadsPath t (Err fault) = RefusesQuestion t fault
+
+abbrev pub ReadsWhy : PathTexts → Result Command WordFault → Type 0
+ReadsWhy t (Ok (Why question)) = WritesQuestion t question.files question.settings
+ReadsWhy t (Ok _) = ⊥
+ReadsWhy t (Err fault) = RefusesQuestion t fault
+
+-- and behind `questions`
+abbrev pub ReadsQuestions : QuestionsTexts → Result Command WordFault → Type 0
+ReadsQuestions t (Ok (Questions files limit)) = (files.bundle.now ≡ t.bundle.now) × (files.anchors.now ≡ t.anchors.now) × WritesNumber t.limit.now limit
+ReadsQuestions t (Ok _) = ⊥
+ReadsQuestions t (Err (Refused said)) = ⊥
+ReadsQuestions t (Err Number) = IsNoNumber t.limit.now
+ReadsQuestions t (Err Moment) = ⊥
+ReadsQuestions t (Err OutOfMemory) = ⊥
+
+-- and behind `paths`
+abbrev pub ReadsPaths : AllTexts → Result Command WordFault → Type 0
+ReadsPaths t (Ok (Paths files settings)) = NamesFiles t files × WritesSettings t settings
+ReadsPaths t (Ok _) = ⊥
+ReadsPaths t (Err fault) = RefusesSettings t fault
 
 -- what is answered to a command's words
 abbrev pub Reads : Asked → Result Command WordFault → Type 0
 Reads (asks.Frame t) r = ReadsFrame t r
 Reads (asks.Path t) r = ReadsPath t r
+Reads (asks.Why t) r = ReadsWhy t r
+Reads (asks.Questions t) r = ReadsQuestions t r
+Reads (asks.Paths t) r = ReadsPaths t r
 
 -- What is answered to the words: what their command's values write. They are refused only where clap does not take them.
 abbrev pub AnswersWords : List Text → Result Command WordFault → Type 0

@@ -1,5 +1,6 @@
 pub mod Exits
 pub mod PathExits
+pub mod QuestionsExits
 pub mod Numbers
 pub mod Runs
 pub mod Text

@@ -28,16 +28,37 @@ limit_rule = record (new_rule (codes "limit")) { long = Some (codes "limit"); va
 abbrev pub frame_app : App
 frame_app = with_rule (with_rule (new_app (codes "frame")) (file_rule (codes "FILE"))) limit_rule
 
--- `path BUNDLE ANCHORS VOUCHERS --target N --at YYYY-MM-DDTHH:MM:SS [--demand-lists] [--limit N]`
-abbrev pub files_app : App
-files_app = with_rule (with_rule (with_rule (new_app (codes "path")) (file_rule (codes "BUNDLE"))) (file_rule (codes "ANCHORS"))) (file_rule (codes "VOUCHERS"))
+-- an app with the three files
+abbrev pub with_files : App → App
+with_files app = with_rule (with_rule (with_rule app (file_rule (codes "BUNDLE"))) (file_rule (codes "ANCHORS"))) (file_rule (codes "VOUCHERS"))
 
-abbrev pub question_app : App
-question_app = with_rule (with_rule files_app target_rule) moment_rule
+-- `--at YYYY-MM-DDTHH:MM:SS [--demand-lists] [--limit N]` behind it
+abbrev pub with_policy : App → App
+with_policy app = with_rule (with_rule (with_rule app moment_rule) demand_rule) limit_rule
 
+-- `BUNDLE ANCHORS VOUCHERS --target N --at YYYY-MM-DDTHH:MM:SS [--demand-lists] [--limit N]` behind it
+abbrev pub with_question : App → App
+with_question app = with_policy (with_rule (with_files app) target_rule)
+
+-- `path` and `why`, each with these words
 abbrev pub path_app : App
-path_app = with_rule (with_rule question_app demand_rule) limit_rule
+path_app = with_question (new_app (codes "path"))
 
--- the program, which has these two subcommands, and must be given one
+abbrev pub why_app : App
+why_app = with_question (new_app (codes "why"))
+
+-- `questions BUNDLE ANCHORS [--limit N]`
+abbrev pub questions_app : App
+questions_app = with_rule (with_rule (with_rule (new_app (codes "questions")) (file_rule (codes "BUNDLE"))) (file_rule (codes "ANCHORS"))) limit_rule
+
+-- `paths BUNDLE ANCHORS VOUCHERS --at YYYY-MM-DDTHH:MM:SS [--demand-lists] [--limit N]`
+abbrev pub paths_app : App
+paths_app = with_policy (with_files (new_app (codes "paths")))
+
+-- the program with the commands over items
+abbrev pub items_app : App
+items_app = with_subcommand (with_subcommand (on_top (λ s. record s { subcommand_required = true }) (new_app (codes "certpath"))) frame_app.top) questions_app.top
+
+-- the program, which has these subcommands too, and must be given one
 abbrev pub certpath_app : App
-certpath_app = with_subcommand (with_subcommand (on_top (λ s. record s { subcommand_required = true }) (new_app (codes "certpath"))) frame_app.top) path_app.top
+certpath_app = with_subcommand (with_subcommand (with_subcommand items_app path_app.top) why_app.top) paths_app.top

@@ -3,18 +3,23 @@
 //! It runs over any reader and writer; the program itself only opens files and prints.
 #![tactic(auto)]
 
+mod commands;
 mod exit;
 mod framing;
 mod number;
 mod path_exit;
+mod questions_exit;
+mod questions_texts;
 mod text;
+mod texts;
 mod words;
 
 pub use cert_framing::End;
 pub use certpath_input::{MAX_READS, READ_SIZE};
-pub use certpath_run::Input;
+pub use certpath_run::{Input, ItemInput};
 pub use exit::{Exit, FrameOutcome, Message, frame_status, words_status};
 pub use framing::{FrameError, frame};
 pub use number::read_number;
-pub use path_exit::{PathFiles, PathOutcome, path_status};
-pub use words::{Command, WordFault, read_words};
+pub use path_exit::{PathFiles, PathOutcome, path_status, paths_status};
+pub use questions_exit::{ItemFiles, QuestionsOutcome, questions_status};
+pub use words::{Command, Question, WordFault, read_words};

@@ -1,10 +1,10 @@
-//! What the program ends with after `path`.
-ghost use Rattle.std.specs.Prelude.{◌≡◌, Err};
+//! What the program ends with after `path`, `why` and `paths`.
+ghost use Rattle.std.specs.Prelude.{◌≡◌};
 ghost use Rattle.certpath_engine.specs.Exits.{words_of};
-ghost use Rattle.certpath_engine.specs.PathExits.{path_exit, ran_exit_of, status_of, word_of};
+ghost use Rattle.certpath_engine.specs.PathExits.{path_exit, paths_exit, ran_exit_of, all_exit_of, refused_exit_of, status_of, all_status_of, word_of};
 
 use crate::exit::{Exit, Message, ended, silent};
-use certpath_run::{Input, Outcome, RunError};
+use certpath_run::{AllOutcome, Input, Outcome, RunError};
 
 /// The files of `path`, by their words.
 #[derive(Clone, Copy, Debug, PartialEq, Eq)]
@@ -27,23 +27,34 @@ impl<'a> PathFiles<'a> {
     }
 }
 
-/// How far the command `path` came.
+/// How far a command over three files came that answers by a T.
 #[derive(Debug, Drop)]
-pub enum PathOutcome<'a> {
+pub enum PathOutcome<'a, T> {
     /// This file can't be opened.
     Unopened(&'a str),
     /// These files were opened, and the run over them answered this.
-    Ran(PathFiles<'a>, Result<Outcome, RunError>),
+    Ran(PathFiles<'a>, Result<T, RunError>),
 }
 
-/// The status that `path` ends with, and what it says on standard error.
-pub fn path_status<'a>(outcome: PathOutcome<'a>) -> Exit<'a>
+/// The status that `path` and `why` end with, and what they say on standard error.
+pub fn path_status<'a>(outcome: PathOutcome<'a, Outcome>) -> Exit<'a>
     ensures status { result.status ≡ (path_exit outcome.entry).0 }
     ensures words { words_of result.message ≡ (path_exit outcome.entry).1 }
 {
     match outcome {
         PathOutcome::Unopened(file) => ended(4, Message::CannotRead(file)),
         PathOutcome::Ran(files, answer) => ran_exit(files, answer),
+    }
+}
+
+/// The status that `paths` ends with, and what it says on standard error.
+pub fn paths_status<'a>(outcome: PathOutcome<'a, AllOutcome>) -> Exit<'a>
+    ensures status { result.status ≡ (paths_exit outcome.entry).0 }
+    ensures words { words_of result.message ≡ (paths_exit outcome.entry).1 }
+{
+    match outcome {
+        PathOutcome::Unopened(file) => ended(4, Message::CannotRead(file)),
+        PathOutcome::Ran(files, answer) => all_exit(files, answer),
     }
 }
 
@@ -54,6 +65,17 @@ fn ran_exit<'a>(files: PathFiles<'a>, answer: Result<Outcome, RunError>) -> Exit
 {
     match answer {
         Ok(outcome) => silent(outcome_status(outcome)),
+        Err(error) => refused_exit(files, error),
+    }
+}
+
+/// How it ends where they were opened, and all items are asked about.
+fn all_exit<'a>(files: PathFiles<'a>, answer: Result<AllOutcome, RunError>) -> Exit<'a>
+    ensures status { result.status ≡ (all_exit_of files.entry answer).0 }
+    ensures words { words_of result.message ≡ (all_exit_of files.entry answer).1 }
+{
+    match answer {
+        Ok(outcome) => silent(all_status(outcome)),
         Err(error) => refused_exit(files, error),
     }
 }
@@ -69,10 +91,20 @@ fn outcome_status(outcome: Outcome) -> u8
     }
 }
 
+/// The status where it has one for all items.
+fn all_status(outcome: AllOutcome) -> u8
+    ensures { result ≡ all_status_of outcome }
+{
+    match outcome {
+        AllOutcome::Each => 0,
+        AllOutcome::NotEach => 1,
+    }
+}
+
 /// How the program ends where it has none.
 fn refused_exit<'a>(files: PathFiles<'a>, error: RunError) -> Exit<'a>
-    ensures status { result.status ≡ (ran_exit_of files.entry (Err error)).0 }
-    ensures words { words_of result.message ≡ (ran_exit_of files.entry (Err error)).1 }
+    ensures status { result.status ≡ (refused_exit_of files.entry error).0 }
+    ensures words { words_of result.message ≡ (refused_exit_of files.entry error).1 }
 {
     match error {
         RunError::Read(input) | RunError::TooLong(input) => {

@@ -1,19 +1,16 @@
-//! The words of the command line.
-ghost use Rattle.std.specs.Prelude.{◌≡◌, false, IfOk, map, string_bytes, codes};
-ghost use Rattle.clap.specs.Matches.{found_of};
-ghost use Rattle.clap.specs.Words.{app_of, kind_of, rule_of, rows_of};
-ghost use Rattle.clap.specs.declared.builder.command.Command.TheViews.{out-Command};
-ghost use Rattle.certpath_engine.specs.Words.{certpath_app, frame_app, files_app, question_app, path_app, file_rule, target_rule, moment_rule, demand_rule, limit_rule};
-ghost use Rattle.certpath_engine.specs.Asking.{TellsTexts, frame_arguments, path_arguments, ReadsFrame, ReadsPath, AnswersWords, AnswersTexts, IsRefusal};
+//! What the words of the command line ask for.
+ghost use Rattle.std.specs.Prelude.{map, string_bytes, IfOk, IfErr};
+ghost use Rattle.certpath_engine.specs.Asking.{ReadsFrame, ReadsPath, ReadsWhy, ReadsQuestions, ReadsPaths, WritesQuestion, RefusesQuestion, NamesFiles, WritesSettings, RefusesSettings, AnswersWords};
 
 use crate::number::read_number;
 use crate::path_exit::PathFiles;
+use crate::questions_exit::ItemFiles;
+use crate::questions_texts::QuestionsTexts;
+use crate::texts::{AllTexts, Asked, FrameTexts, PathTexts, read_texts};
 use cert_judge::Policy;
 use certpath_moment::read_moment;
-use certpath_run::Settings;
-use clap::error::ErrorKind;
-use clap::{Arg, ArgAction, ArgMatches};
-use std::alloc::{AllocError, Global};
+use certpath_run::{AllSettings, Settings};
+use std::alloc::Global;
 
 /// What the words ask for.
 #[derive(Drop)]
@@ -26,12 +23,32 @@ pub enum Command<'a> {
         limit: u32,
     },
     /// Find a path.
-    Path {
+    Path(Question<'a>),
+    /// Tell what stands in the way of a path.
+    Why(Question<'a>),
+    /// Find the paths of all items.
+    Paths {
         /// The files' names.
         files: PathFiles<'a>,
-        /// The target, the moment, whether lists are demanded, and the most content octets that an item has.
-        settings: Settings,
+        /// The moment, whether lists are demanded, and the most content octets that an item has.
+        settings: AllSettings,
     },
+    /// Ask which keys may have signed which items.
+    Questions {
+        /// The files' names.
+        files: ItemFiles<'a>,
+        /// The most content octets that an item has.
+        limit: u32,
+    },
+}
+
+/// What is asked about one target.
+#[derive(Drop)]
+pub struct Question<'a> {
+    /// The files' names.
+    pub files: PathFiles<'a>,
+    /// The target, the moment, whether lists are demanded, and the most content octets that an item has.
+    pub settings: Settings,
 }
 
 /// Why the words ask for nothing.
@@ -47,29 +64,6 @@ pub enum WordFault {
     OutOfMemory,
 }
 
-/// The words behind a command, as they were written.
-enum Asked<'a> {
-    Frame(FrameTexts<'a>),
-    Path(PathTexts<'a>),
-}
-
-#[derive(Clone, Copy)]
-struct FrameTexts<'a> {
-    file: &'a str,
-    limit: &'a str,
-}
-
-#[derive(Clone, Copy)]
-struct PathTexts<'a> {
-    bundle: &'a str,
-    anchors: &'a str,
-    vouchers: &'a str,
-    target: &'a str,
-    moment: &'a str,
-    demand: &'a str,
-    limit: &'a str,
-}
-
 /// Reads the words, the program's name first.
 ///
 /// `Refused` where `clap` does not take them, `Number` where an N is not one or more decimal digits, or above 4,294,967,295, `Moment`
@@ -80,6 +74,9 @@ pub fn read_words<'a>(alloc: Global, words: &'a [String]) -> Result<Command<'a>,
     match read_texts(alloc, words) {
         Ok(Asked::Frame(texts)) => frame_of(texts),
         Ok(Asked::Path(texts)) => path_of(texts),
+        Ok(Asked::Why(texts)) => why_of(texts),
+        Ok(Asked::Questions(texts)) => questions_of(texts),
+        Ok(Asked::Paths(texts)) => paths_of(texts),
         Err(fault) => Err(fault),
     }
 }
@@ -101,218 +98,94 @@ fn frame_of<'a>(texts: FrameTexts<'a>) -> Result<Command<'a>, WordFault>
 fn path_of<'a>(texts: PathTexts<'a>) -> Result<Command<'a>, WordFault>
     ensures { ReadsPath texts.entry result }
 {
+    match question_of(texts) {
+        Ok(question) => Ok(Command::Path(question)),
+        Err(fault) => Err(fault),
+    }
+}
+
+/// The command `why` of these words.
+fn why_of<'a>(texts: PathTexts<'a>) -> Result<Command<'a>, WordFault>
+    ensures { ReadsWhy texts.entry result }
+{
+    match question_of(texts) {
+        Ok(question) => Ok(Command::Why(question)),
+        Err(fault) => Err(fault),
+    }
+}
+
+/// The command `questions` of these words.
+fn questions_of<'a>(texts: QuestionsTexts<'a>) -> Result<Command<'a>, WordFault>
+    ensures { ReadsQuestions texts.entry result }
+{
+    let Some(limit) = read_number(texts.limit) else {
+        return Err(WordFault::Number);
+    };
+    let files = ItemFiles {
+        bundle: texts.bundle,
+        anchors: texts.anchors,
+    };
+    Ok(Command::Questions { files, limit })
+}
+
+/// The command `paths` of these words.
+fn paths_of<'a>(texts: AllTexts<'a>) -> Result<Command<'a>, WordFault>
+    ensures { ReadsPaths texts.entry result }
+{
+    match settings_of(texts) {
+        Ok(settings) => Ok(Command::Paths {
+            files: files_of(texts),
+            settings,
+        }),
+        Err(fault) => Err(fault),
+    }
+}
+
+/// The question of these words.
+#[tactic(auto, using(crate::proofs::WordLemmas::settings_fault))]
+fn question_of<'a>(texts: PathTexts<'a>) -> Result<Question<'a>, WordFault>
+    ensures ok { IfOk result (λ question. WritesQuestion texts.entry question.files question.settings) }
+    ensures refused { IfErr result (RefusesQuestion texts.entry) }
+{
     let Some(target) = read_number(texts.target) else {
         return Err(WordFault::Number);
     };
+    let settings = match settings_of(texts.all) {
+        Ok(settings) => settings,
+        Err(fault) => return Err(fault),
+    };
+    Ok(Question {
+        files: files_of(texts.all),
+        settings: Settings {
+            target: target as usize,
+            policy: settings.policy,
+            limit: settings.limit,
+        },
+    })
+}
+
+/// The names of the files.
+fn files_of<'a>(texts: AllTexts<'a>) -> PathFiles<'a>
+    ensures { NamesFiles texts.entry result }
+{
+    PathFiles {
+        bundle: texts.bundle,
+        anchors: texts.anchors,
+        vouchers: texts.vouchers,
+    }
+}
+
+/// How all items are judged.
+fn settings_of(texts: AllTexts<'_>) -> Result<AllSettings, WordFault>
+    ensures ok { IfOk result (WritesSettings texts.entry) }
+    ensures refused { IfErr result (RefusesSettings texts.entry) }
+{
     let Some(limit) = read_number(texts.limit) else {
         return Err(WordFault::Number);
     };
     let Some(moment) = read_moment(texts.moment) else {
         return Err(WordFault::Moment);
     };
-    let files = PathFiles {
-        bundle: texts.bundle,
-        anchors: texts.anchors,
-        vouchers: texts.vouchers,
-    };
-    let settings = Settings {
-        target: target as usize,
-        policy: Policy::new(moment, texts.demand == "true"),
-        limit,
-    };
-    Ok(Command::Path { files, settings })
-}
-
-/// The command, and its words as they were written.
-fn read_texts<'a>(alloc: Global, words: &'a [String]) -> Result<Asked<'a>, WordFault>
-    ensures { AnswersTexts (map string_bytes words.entry.now) result }
-{
-    let Ok(command) = program(alloc) else {
-        return Err(WordFault::OutOfMemory);
-    };
-    let matches = match command.try_get_matches_from(words) {
-        Ok(matches) => matches,
-        Err(error) => return Err(refusal(alloc, &error)),
-    };
-    match matches.subcommand() {
-        Some(("frame", found)) => frame_texts(found),
-        Some(("path", found)) => path_texts(found),
-        _ => Err(WordFault::OutOfMemory),
-    }
-}
-
-/// The words behind `frame`.
-fn frame_texts<'a>(found: &ArgMatches<'a>) -> Result<Asked<'a>, WordFault>
-    ensures { TellsTexts (codes "frame") frame_arguments (rows_of (found_of found.now)) result }
-{
-    let Some(file) = found.get_str("FILE") else {
-        return Err(WordFault::OutOfMemory);
-    };
-    let Some(limit) = found.get_str("limit") else {
-        return Err(WordFault::OutOfMemory);
-    };
-    Ok(Asked::Frame(FrameTexts { file, limit }))
-}
-
-/// The words behind `path`.
-fn path_texts<'a>(found: &ArgMatches<'a>) -> Result<Asked<'a>, WordFault>
-    ensures { TellsTexts (codes "path") path_arguments (rows_of (found_of found.now)) result }
-{
-    let Some(bundle) = found.get_str("BUNDLE") else {
-        return Err(WordFault::OutOfMemory);
-    };
-    let Some(anchors) = found.get_str("ANCHORS") else {
-        return Err(WordFault::OutOfMemory);
-    };
-    let Some(vouchers) = found.get_str("VOUCHERS") else {
-        return Err(WordFault::OutOfMemory);
-    };
-    let Some(target) = found.get_str("target") else {
-        return Err(WordFault::OutOfMemory);
-    };
-    let Some(moment) = found.get_str("at") else {
-        return Err(WordFault::OutOfMemory);
-    };
-    let Some(demand) = found.get_str("demand-lists") else {
-        return Err(WordFault::OutOfMemory);
-    };
-    let Some(limit) = found.get_str("limit") else {
-        return Err(WordFault::OutOfMemory);
-    };
-    Ok(Asked::Path(PathTexts {
-        bundle,
-        anchors,
-        vouchers,
-        target,
-        moment,
-        demand,
-        limit,
-    }))
-}
-
-/// What `clap` says of words that it refuses.
-fn refusal(alloc: Global, error: &clap::Error) -> WordFault
-    ensures { IsRefusal (kind_of error.now) result }
-{
-    if error.kind() == ErrorKind::OutOfMemory {
-        return WordFault::OutOfMemory;
-    }
-    match format!(in alloc; "{error}") {
-        Ok(text) => WordFault::Refused(text),
-        Err(_) => WordFault::OutOfMemory,
-    }
-}
-
-/// The program's commands and their words.
-fn program<'a>(alloc: Global) -> Result<clap::Command<'a>, AllocError>
-    ensures { IfOk result (λ c. app_of c ≡ certpath_app) }
-{
-    clap::Command::new(alloc, "certpath")
-        .about("Reads certificates and revocation lists in DER")
-        .bin_name("certpath")?
-        .subcommand_required(true)
-        .subcommand(frame_command(alloc)?)?
-        .subcommand(path_command(alloc)?)
-}
-
-/// The command `frame`.
-fn frame_command<'a>(alloc: Global) -> Result<clap::Command<'a>, AllocError>
-    ensures app { IfOk result (λ c. app_of c ≡ frame_app) }
-    ensures local { IfOk result (λ c. (out-Command c).has_globals ≡ false) }
-{
-    clap::Command::new(alloc, "frame")
-        .about("Tells where the items of a file lie, and how it ends")
-        .arg(file_argument(alloc, "FILE", "The items, one behind the other"))?
-        .arg(limit_argument(alloc))
-}
-
-/// The command `path`.
-fn path_command<'a>(alloc: Global) -> Result<clap::Command<'a>, AllocError>
-    ensures app { IfOk result (λ c. app_of c ≡ path_app) }
-    ensures local { IfOk result (λ c. (out-Command c).has_globals ≡ false) }
-{
-    question_command(alloc)?
-        .arg(demand_argument(alloc))?
-        .arg(limit_argument(alloc))
-}
-
-/// Its files, the target and the moment.
-fn question_command<'a>(alloc: Global) -> Result<clap::Command<'a>, AllocError>
-    ensures app { IfOk result (λ c. app_of c ≡ question_app) }
-    ensures local { IfOk result (λ c. (out-Command c).has_globals ≡ false) }
-{
-    files_command(alloc)?
-        .arg(target_argument(alloc))?
-        .arg(moment_argument(alloc))
-}
-
-/// Its files.
-fn files_command<'a>(alloc: Global) -> Result<clap::Command<'a>, AllocError>
-    ensures app { IfOk result (λ c. app_of c ≡ files_app) }
-    ensures local { IfOk result (λ c. (out-Command c).has_globals ≡ false) }
-{
-    clap::Command::new(alloc, "path")
-        .about("Finds the first of the shortest valid paths, and checks it")
-        .arg(file_argument(alloc, "BUNDLE", "The items, one behind the other"))?
-        .arg(file_argument(alloc, "ANCHORS", "The anchors, one behind the other"))?
-        .arg(file_argument(
-            alloc,
-            "VOUCHERS",
-            "Digests of a key and of what it vouches for, a line each",
-        ))
-}
-
-/// A file.
-fn file_argument<'a>(alloc: Global, name: &'a str, help: &'a str) -> Arg<'a>
-    ensures rule { rule_of result ≡ file_rule name.entry.now }
-    ensures local { result.global ≡ false }
-{
-    Arg::new(alloc, name).required(true).help(help)
-}
-
-/// `--target N`.
-fn target_argument<'a>(alloc: Global) -> Arg<'a>
-    ensures rule { rule_of result ≡ target_rule }
-    ensures local { result.global ≡ false }
-{
-    Arg::new(alloc, "target")
-        .long("target")
-        .value_name("N")
-        .required(true)
-        .help("The position of the target among the items, from 0 on")
-}
-
-/// `--at YYYY-MM-DDTHH:MM:SS`.
-fn moment_argument<'a>(alloc: Global) -> Arg<'a>
-    ensures rule { rule_of result ≡ moment_rule }
-    ensures local { result.global ≡ false }
-{
-    Arg::new(alloc, "at")
-        .long("at")
-        .value_name("YYYY-MM-DDTHH:MM:SS")
-        .required(true)
-        .help("The moment that is judged by, in universal time")
-}
-
-/// `--demand-lists`.
-fn demand_argument<'a>(alloc: Global) -> Arg<'a>
-    ensures rule { rule_of result ≡ demand_rule }
-    ensures local { result.global ≡ false }
-{
-    Arg::new(alloc, "demand-lists")
-        .long("demand-lists")
-        .action(ArgAction::SetTrue)
-        .help("A certificate needs a revocation list of its issuer")
-}
-
-/// `--limit N`.
-fn limit_argument<'a>(alloc: Global) -> Arg<'a>
-    ensures rule { rule_of result ≡ limit_rule }
-    ensures local { result.global ≡ false }
-{
-    Arg::new(alloc, "limit")
-        .long("limit")
-        .value_name("N")
-        .help("The most content octets of an item")
-        .default_value("16777216")
+    let policy = Policy::new(moment, texts.demand == "true");
+    Ok(AllSettings { policy, limit })
 }

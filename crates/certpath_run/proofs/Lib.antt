@@ -1,2 +1,3 @@
 mod InputFacts
+mod InventoryFacts
 mod ReportFacts

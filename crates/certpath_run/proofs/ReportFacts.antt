@@ -14,7 +14,7 @@ use Rattle.cert_judge.specs.Revoking.{Item}
 use Rattle.certpath_run.specs.Report.{class_word, item_lines, is_certificate, certificates_among, end_line, position_words, answer_line, check_line, report}
 use Rattle.certpath_run.specs.JudgedReport.{judged_word, judged_line, judged_lines, one_certificate, certificates_of, counts_line, judged_report}
 
-drop_next : {X : Type 0} (xs : List X) (k : ℕ) (d : X) → k < length xs → drop k xs ≡ get_or xs k d ∷ drop (k + 1) xs
+pub drop_next : {X : Type 0} (xs : List X) (k : ℕ) (d : X) → k < length xs → drop k xs ≡ get_or xs k d ∷ drop (k + 1) xs
 drop_next xs k d lt = drop-cons xs k d lt ∙ ap (λ n. get_or xs k d ∷ drop n xs) (sym (add-one k))
 
 pub item_pushed : (items : List JudgedItem) (k : ℕ) (d : JudgedItem) (first text more : List ℕ) → k < length items → text ++ judged_lines k (drop k items) ≡ first → more ≡ text ++ judged_line k (get_or items k d)
@@ -52,13 +52,13 @@ all_counted items k count le c =
 
 -- judged items show what their classes are
 
-judged_first : (moment : CivilTime) (x : Item) (xs : List Item) (j : JudgedItem) (js : List JudgedItem) → AreJudged moment (x ∷ xs) (j ∷ js) → IsJudged moment x j × AreJudged moment xs js
+pub judged_first : (moment : CivilTime) (x : Item) (xs : List Item) (j : JudgedItem) (js : List JudgedItem) → AreJudged moment (x ∷ xs) (j ∷ js) → IsJudged moment x j × AreJudged moment xs js
 judged_first moment x xs j js a = (
   a.each 0 x j (omega arith),
   record { count = omega (arith, a.count); each = λ v y k lt. a.each (suc v) y k (omega (arith, lt)) },
 )
 
-same_word : (moment : CivilTime) (x : Item) (j : JudgedItem) → IsJudged moment x j → judged_word j ≡ class_word x.class
+pub same_word : (moment : CivilTime) (x : Item) (j : JudgedItem) → IsJudged moment x j → judged_word j ≡ class_word x.class
 same_word moment x (certificate_judged j) p = sym (ap class_word p.class)
 same_word moment x (list_judged j) p = sym (ap class_word p.class)
 same_word moment x other_judged p = sym (ap class_word p)

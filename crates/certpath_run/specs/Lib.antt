@@ -1,3 +1,5 @@
+pub mod AllReport
+pub mod Asking
 pub mod JudgedReport
 pub mod Report
 pub mod Runs

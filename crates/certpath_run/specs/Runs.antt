@@ -1,5 +1,5 @@
 -- What a run does to its readers and its writer. Where a device tells no octets, the relations say of some stream.
-use Rattle.std.specs.Prelude.{◌≡◌, ℕ, true, List, Option}
+use Rattle.std.specs.Prelude.{◌≡◌, ℕ, true, List, ◌++◌, Option}
 use Rattle.std.specs.Io.KnownBytes.{Appends}
 use Rattle.asn1_device.specs.Counts.{AppendsFront}
 use Rattle.sha2.specs.Sha256.{sha256}
@@ -20,7 +20,8 @@ use Rattle.certpath_run.specs.declared.settings.Outcome.{Outcome}
 use Rattle.certpath_run.specs.declared.settings.Outcome.TheVariants.{Path, NoPath, NoTarget}
 use Rattle.certpath_run.specs.declared.settings.RunError.{RunError}
 use Rattle.certpath_run.specs.declared.settings.RunError.TheVariants.{Read, TooLong, BadLine, OutOfMemory, Write}
-use Rattle.certpath_run.specs.Report.{report}
+use Rattle.certpath_run.specs.Report.{report, answer_line, check_line}
+use Rattle.certpath_why.specs.Why.{IsWhy}
 
 -- the pairs vouch for a key and an item whose SHA-256 digests are one of them
 abbrev pub VouchesBy : Vouchers → List ℕ → List ℕ → Type 0
@@ -42,6 +43,19 @@ pub record IsReport (r : Rules) (items anchors : Framed) (target : ℕ) (text : 
   pub text_is : text ≡ report classed items.end classed_anchors anchors.end answer true
   pub outcome_is : outcome ≡ kind_of answer
 
+-- the true answer, what the check says of it: yes; and what stands in the way of a path
+pub record IsWhyReport (r : Rules) (items anchors : Framed) (target : ℕ) (text : List ℕ) (outcome : Outcome) : Type 0 where
+  pub classed : List Item
+  pub classed_anchors : List Item
+  pub answer : Answer
+  pub are_classed : AreClassed items.items classed
+  pub anchors_are_classed : AreClassed anchors.items classed_anchors
+  pub holds : IsTrueAnswer (graph_of_items r classed classed_anchors) target answer
+  pub why : List ℕ
+  pub is_why : IsWhy r classed classed_anchors target answer why
+  pub text_is : text ≡ answer_line answer ++ (check_line true ++ why)
+  pub outcome_is : outcome ≡ kind_of answer
+
 -- all three inputs were read to their ends, and this stands in them
 pub record AreInputs (bundle bundle' anchors anchors' vouchers vouchers' : Option (List ℕ)) (limit : ℕ) (items anchor_items : Framed) (pairs : Vouchers) : Type 0 where
   pub items_read : ReadsItems bundle bundle' limit items.items items.end
@@ -50,26 +64,32 @@ pub record AreInputs (bundle bundle' anchors anchors' vouchers vouchers' : Optio
   pub text_read : ReadsAll vouchers vouchers' text
   pub pairs_are : AreVouchersOf text pairs
 
--- a run that read these inputs has this report
-pub record HasReport (bundle bundle' anchors anchors' vouchers vouchers' : Option (List ℕ)) (settings : Settings) (text : List ℕ) (outcome : Outcome) : Type 0 where
+-- a run that read these inputs has this text, which is right for the items, the anchors and the pairs that stand in them
+pub record HasText (IsRight : Framed → Framed → Vouchers → List ℕ → Type 0) (bundle bundle' anchors anchors' vouchers vouchers' : Option (List ℕ)) (limit : ℕ) (text : List ℕ) : Type 0 where
   pub items : Framed
   pub anchor_items : Framed
   pub pairs : Vouchers
-  pub inputs : AreInputs bundle bundle' anchors anchors' vouchers vouchers' settings.limit items anchor_items pairs
-  pub is_report : IsReport (rules_by settings.policy.moment settings.policy.demand_lists (VouchesBy pairs)) items anchor_items settings.target text outcome
+  pub inputs : AreInputs bundle bundle' anchors anchors' vouchers vouchers' limit items anchor_items pairs
+  pub is_right : IsRight items anchor_items pairs text
 
 -- and exactly this was written
-pub record Runs (bundle bundle' anchors anchors' vouchers vouchers' sink sink' : Option (List ℕ)) (settings : Settings) (outcome : Outcome) : Type 0 where
+pub record Writes (IsRight : Framed → Framed → Vouchers → List ℕ → Type 0) (bundle bundle' anchors anchors' vouchers vouchers' sink sink' : Option (List ℕ)) (limit : ℕ) : Type 0 where
   pub text : List ℕ
-  pub has_report : HasReport bundle bundle' anchors anchors' vouchers vouchers' settings text outcome
+  pub has_text : HasText IsRight bundle bundle' anchors anchors' vouchers vouchers' limit text
   pub wrote : Appends sink sink' text
 
 -- and a front of it was written
-pub record RunsInPart (bundle bundle' anchors anchors' vouchers vouchers' sink sink' : Option (List ℕ)) (settings : Settings) : Type 0 where
+pub record WritesInPart (IsRight : Framed → Framed → Vouchers → List ℕ → Type 0) (bundle bundle' anchors anchors' vouchers vouchers' sink sink' : Option (List ℕ)) (limit : ℕ) : Type 0 where
   pub text : List ℕ
-  pub outcome : Outcome
-  pub has_report : HasReport bundle bundle' anchors anchors' vouchers vouchers' settings text outcome
+  pub has_text : HasText IsRight bundle bundle' anchors anchors' vouchers vouchers' limit text
   pub wrote : AppendsFront sink sink' text
+
+-- the text is the report on the target of these settings, and the answer is of this kind
+abbrev pub IsReportOn : Settings → Outcome → Framed → Framed → Vouchers → List ℕ → Type 0
+IsReportOn settings outcome items anchors pairs text = IsReport (rules_by settings.policy.moment settings.policy.demand_lists (VouchesBy pairs)) items anchors settings.target text outcome
+
+abbrev pub IsWhyOn : Settings → Outcome → Framed → Framed → Vouchers → List ℕ → Type 0
+IsWhyOn settings outcome items anchors pairs text = IsWhyReport (rules_by settings.policy.moment settings.policy.demand_lists (VouchesBy pairs)) items anchors settings.target text outcome
 
 -- all was read, and the vouchers have this first bad line
 pub record MeetsBadLine (bundle bundle' anchors anchors' vouchers vouchers' : Option (List ℕ)) (limit number : ℕ) : Type 0 where

@@ -11,7 +11,11 @@ use cert_judge::JudgedItem;
 use std::alloc::{AllocError, Global};
 
 /// The line of item `k`.
-fn push_item(text: &mut String, k: usize, item: &JudgedItem<'_>) -> Result<(), AllocError>
+pub(crate) fn push_item(
+    text: &mut String,
+    k: usize,
+    item: &JudgedItem<'_>,
+) -> Result<(), AllocError>
     ensures { OnOk result (string_bytes text.new ≡ string_bytes text.old ++ judged_line k item.now) }
 {
     match item {
@@ -32,7 +36,7 @@ fn push_items(text: &mut String, items: &[JudgedItem<'_>]) -> Result<(), AllocEr
 }
 
 /// How the stream of items ends.
-fn push_end(text: &mut String, end: End) -> Result<(), AllocError>
+pub(crate) fn push_end(text: &mut String, end: End) -> Result<(), AllocError>
     ensures { OnOk result (string_bytes text.new ≡ string_bytes text.old ++ end_line end) }
 {
     match end {
@@ -54,7 +58,7 @@ fn certificates_in(item: &JudgedItem<'_>) -> usize
 }
 
 /// How many items are certificates.
-fn count_certificates(items: &[JudgedItem<'_>]) -> usize
+pub(crate) fn count_certificates(items: &[JudgedItem<'_>]) -> usize
     ensures { result ≡ certificates_of items.now }
 {
     let mut count = 0;
@@ -65,7 +69,7 @@ fn count_certificates(items: &[JudgedItem<'_>]) -> usize
 }
 
 /// How many of the anchor items are certificates, and how their stream ends.
-fn push_anchors(
+pub(crate) fn push_anchors(
     text: &mut String,
     certificates: usize,
     all: usize,
@@ -89,7 +93,11 @@ fn push_positions(text: &mut String, positions: &[usize]) -> Result<(), AllocErr
     Ok(())
 }
 
-fn push_path(text: &mut String, positions: &[usize], anchor: usize) -> Result<(), AllocError>
+pub(crate) fn push_path(
+    text: &mut String,
+    positions: &[usize],
+    anchor: usize,
+) -> Result<(), AllocError>
     ensures { OnOk result (string_bytes text.new ≡ string_bytes text.old ++ (codes "path" ++ (position_words positions.now ++ (codes " anchor " ++ (decimal anchor ++ 10 ∷ []))))) }
 {
     write!(text, "path")?;
@@ -99,7 +107,7 @@ fn push_path(text: &mut String, positions: &[usize], anchor: usize) -> Result<()
 }
 
 /// The line of the answer.
-fn push_answer(text: &mut String, answer: &Answer) -> Result<(), AllocError>
+pub(crate) fn push_answer(text: &mut String, answer: &Answer) -> Result<(), AllocError>
     ensures { OnOk result (string_bytes text.new ≡ string_bytes text.old ++ answer_line answer.now) }
 {
     match answer {
@@ -114,7 +122,7 @@ fn push_answer(text: &mut String, answer: &Answer) -> Result<(), AllocError>
 }
 
 /// What the check says.
-fn push_check(text: &mut String, said: bool) -> Result<(), AllocError>
+pub(crate) fn push_check(text: &mut String, said: bool) -> Result<(), AllocError>
     ensures { OnOk result (string_bytes text.new ≡ string_bytes text.old ++ check_line said) }
 {
     if said {

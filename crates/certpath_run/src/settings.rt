@@ -14,6 +14,24 @@ pub struct Settings {
     pub limit: u32,
 }
 
+/// What a run over all items is asked.
+#[derive(Drop)]
+pub struct AllSettings {
+    /// The moment, and whether revocation lists are demanded.
+    pub policy: Policy,
+    /// The most content octets that an item has, in bundle and anchors.
+    pub limit: u32,
+}
+
+/// Whether the certificates have paths.
+#[derive(Clone, Copy, Debug, PartialEq, Eq, Hash)]
+pub enum AllOutcome {
+    /// Each certificate of the bundle has a valid path.
+    Each,
+    /// Some certificate has none.
+    NotEach,
+}
+
 /// The kind of the answer.
 #[derive(Clone, Copy, Debug, PartialEq, Eq, Hash)]
 pub enum Outcome {

@@ -1,7 +1,7 @@
 use Rattle.std.proofs.Common.{arith, codes, refl}
 use Rattle.certpath_engine.specs.Asking.{frame_arguments}
 use Rattle.certpath_engine.proofs.WordLemmas.{lacks_one, frame_values}
-use Rattle.certpath_engine.proofs.words.frame_texts.Goals as goal
+use Rattle.certpath_engine.proofs.texts.frame_texts.Goals as goal
 
 pub returns : goal.returns
 returns c = (refl, frame_values c.args.found.now _ c.in-Some.ensures c.in-Some-get_str.ensures)

@@ -1,0 +1,16 @@
+use Rattle.std.proofs.Common.{arith, codes, refl}
+use Rattle.certpath_engine.specs.Asking.{questions_arguments}
+use Rattle.certpath_engine.proofs.WordLemmas.{lacks_one, questions_values}
+use Rattle.certpath_engine.proofs.questions_texts.questions_texts.Goals as goal
+
+pub returns : goal.returns
+returns c = (refl, questions_values c.args.found.now _ c.in-Some.ensures c.in-Some-get_str.ensures c.in-Some-get_str-2.ensures)
+
+pub returns-in_default : goal.returns-in_default
+returns-in_default c = lacks_one questions_arguments c.args.found.now 0 (codes "BUNDLE") (omega arith) refl c.in_default.ensures
+
+pub returns-in_default-get_str : goal.returns-in_default-get_str
+returns-in_default-get_str c = lacks_one questions_arguments c.args.found.now 1 (codes "ANCHORS") (omega arith) refl c.in_default-get_str.ensures
+
+pub returns-in_default-get_str-2 : goal.returns-in_default-get_str-2
+returns-in_default-get_str-2 c = lacks_one questions_arguments c.args.found.now 2 (codes "limit") (omega arith) refl c.in_default-get_str-2.ensures

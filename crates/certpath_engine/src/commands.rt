@@ -1,0 +1,181 @@
+//! The program's commands and their words, as `clap` reads them.
+ghost use Rattle.std.specs.Prelude.{◌≡◌, false, IfOk};
+ghost use Rattle.clap.specs.Words.{app_of, rule_of};
+ghost use Rattle.clap.specs.declared.builder.command.Command.TheViews.{out-Command};
+ghost use Rattle.certpath_engine.specs.Words.{certpath_app, items_app, frame_app, path_app, why_app, questions_app, paths_app, with_question, with_files, with_policy, file_rule, target_rule, moment_rule, demand_rule, limit_rule};
+
+use clap::{Arg, ArgAction, Command};
+use std::alloc::{AllocError, Global};
+
+/// All commands.
+pub(crate) fn program<'a>(alloc: Global) -> Result<Command<'a>, AllocError>
+    ensures { IfOk result (λ c. app_of c ≡ certpath_app) }
+{
+    item_commands(alloc)?
+        .subcommand(path_command(alloc)?)?
+        .subcommand(why_command(alloc)?)?
+        .subcommand(paths_command(alloc)?)
+}
+
+/// The commands over items.
+fn item_commands<'a>(alloc: Global) -> Result<Command<'a>, AllocError>
+    ensures app { IfOk result (λ c. app_of c ≡ items_app) }
+    ensures local { IfOk result (λ c. (out-Command c).has_globals ≡ false) }
+{
+    Command::new(alloc, "certpath")
+        .about("Reads certificates and revocation lists in DER")
+        .bin_name("certpath")?
+        .subcommand_required(true)
+        .subcommand(frame_command(alloc)?)?
+        .subcommand(questions_command(alloc)?)
+}
+
+/// The command `frame`.
+fn frame_command<'a>(alloc: Global) -> Result<Command<'a>, AllocError>
+    ensures app { IfOk result (λ c. app_of c ≡ frame_app) }
+    ensures local { IfOk result (λ c. (out-Command c).has_globals ≡ false) }
+{
+    Command::new(alloc, "frame")
+        .about("Tells where the items of a file lie, and how it ends")
+        .arg(file_argument(alloc, "FILE", "The items, one behind the other"))?
+        .arg(limit_argument(alloc))
+}
+
+/// The command `path`.
+fn path_command<'a>(alloc: Global) -> Result<Command<'a>, AllocError>
+    ensures app { IfOk result (λ c. app_of c ≡ path_app) }
+    ensures local { IfOk result (λ c. (out-Command c).has_globals ≡ false) }
+{
+    let path = Command::new(alloc, "path").about(
+        "Finds the first of the shortest valid paths, and checks it",
+    );
+    with_question(alloc, path)
+}
+
+/// The command `why`.
+fn why_command<'a>(alloc: Global) -> Result<Command<'a>, AllocError>
+    ensures app { IfOk result (λ c. app_of c ≡ why_app) }
+    ensures local { IfOk result (λ c. (out-Command c).has_globals ≡ false) }
+{
+    let why = Command::new(alloc, "why").about(
+        "Prints the answer of path, and what stands in the way of a path",
+    );
+    with_question(alloc, why)
+}
+
+/// The command `questions`.
+fn questions_command<'a>(alloc: Global) -> Result<Command<'a>, AllocError>
+    ensures app { IfOk result (λ c. app_of c ≡ questions_app) }
+    ensures local { IfOk result (λ c. (out-Command c).has_globals ≡ false) }
+{
+    Command::new(alloc, "questions")
+        .about("Prints which keys may have signed which items")
+        .arg(file_argument(alloc, "BUNDLE", "The items, one behind the other"))?
+        .arg(file_argument(alloc, "ANCHORS", "The anchors, one behind the other"))?
+        .arg(limit_argument(alloc))
+}
+
+/// The command `paths`.
+fn paths_command<'a>(alloc: Global) -> Result<Command<'a>, AllocError>
+    ensures app { IfOk result (λ c. app_of c ≡ paths_app) }
+    ensures local { IfOk result (λ c. (out-Command c).has_globals ≡ false) }
+{
+    let paths = Command::new(alloc, "paths").about(
+        "Finds the first of the shortest valid paths of every item, and checks them",
+    );
+    let paths = with_files(alloc, paths)?;
+    with_policy(alloc, paths)
+}
+
+/// A command with the words of a question on one target: the files, the target, the moment, whether lists are demanded, the limit.
+fn with_question<'a>(alloc: Global, command: Command<'a>) -> Result<Command<'a>, AllocError>
+    requires { (out-Command command).has_globals ≡ false }
+    ensures app { IfOk result (λ c. app_of c ≡ with_question (app_of command.entry)) }
+    ensures local { IfOk result (λ c. (out-Command c).has_globals ≡ false) }
+{
+    let command = with_files(alloc, command)?.arg(target_argument(alloc))?;
+    with_policy(alloc, command)
+}
+
+/// A command with the three files.
+fn with_files<'a>(alloc: Global, command: Command<'a>) -> Result<Command<'a>, AllocError>
+    requires { (out-Command command).has_globals ≡ false }
+    ensures app { IfOk result (λ c. app_of c ≡ with_files (app_of command.entry)) }
+    ensures local { IfOk result (λ c. (out-Command c).has_globals ≡ false) }
+{
+    command
+        .arg(file_argument(alloc, "BUNDLE", "The items, one behind the other"))?
+        .arg(file_argument(alloc, "ANCHORS", "The anchors, one behind the other"))?
+        .arg(file_argument(
+            alloc,
+            "VOUCHERS",
+            "Digests of a key and of what it vouches for, a line each",
+        ))
+}
+
+/// A command with the moment, whether lists are demanded, and the limit.
+fn with_policy<'a>(alloc: Global, command: Command<'a>) -> Result<Command<'a>, AllocError>
+    requires { (out-Command command).has_globals ≡ false }
+    ensures app { IfOk result (λ c. app_of c ≡ with_policy (app_of command.entry)) }
+    ensures local { IfOk result (λ c. (out-Command c).has_globals ≡ false) }
+{
+    command
+        .arg(moment_argument(alloc))?
+        .arg(demand_argument(alloc))?
+        .arg(limit_argument(alloc))
+}
+
+/// A file.
+fn file_argument<'a>(alloc: Global, name: &'a str, help: &'a str) -> Arg<'a>
+    ensures rule { rule_of result ≡ file_rule name.entry.now }
+    ensures local { result.global ≡ false }
+{
+    Arg::new(alloc, name).required(true).help(help)
+}
+
+/// `--target N`.
+fn target_argument<'a>(alloc: Global) -> Arg<'a>
+    ensures rule { rule_of result ≡ target_rule }
+    ensures local { result.global ≡ false }
+{
+    Arg::new(alloc, "target")
+        .long("target")
+        .value_name("N")
+        .required(true)
+        .help("The position of the target among the items, from 0 on")
+}
+
+/// `--at YYYY-MM-DDTHH:MM:SS`.
+fn moment_argument<'a>(alloc: Global) -> Arg<'a>
+    ensures rule { rule_of result ≡ moment_rule }
+    ensures local { result.global ≡ false }
+{
+    Arg::new(alloc, "at")
+        .long("at")
+        .value_name("YYYY-MM-DDTHH:MM:SS")
+        .required(true)
+        .help("The moment that is judged by, in universal time")
+}
+
+/// `--demand-lists`.
+fn demand_argument<'a>(alloc: Global) -> Arg<'a>
+    ensures rule { rule_of result ≡ demand_rule }
+    ensures local { result.global ≡ false }
+{
+    Arg::new(alloc, "demand-lists")
+        .long("demand-lists")
+        .action(ArgAction::SetTrue)
+        .help("A certificate needs a revocation list of its issuer")
+}
+
+/// `--limit N`.
+fn limit_argument<'a>(alloc: Global) -> Arg<'a>
+    ensures rule { rule_of result ≡ limit_rule }
+    ensures local { result.global ≡ false }
+{
+    Arg::new(alloc, "limit")
+        .long("limit")
+        .value_name("N")
+        .help("The most content octets of an item")
+        .default_value("16777216")
+}

@@ -1,0 +1,20 @@
+use Rattle.std.proofs.Common.{◌≡◌, ap, sym, subst, true}
+use Rattle.cert_model.specs.View.{time_view}
+use Rattle.cert_judge.specs.Items.{rules_by, rules_at}
+use Rattle.cert_judge.specs.ItemGraph.{graph_of_items}
+use Rattle.certpath_find.specs.Answered.{IsFound}
+use Rattle.certpath_find.proofs.Answering.{check_says_yes}
+use Rattle.certpath_run.specs.Runs.{VouchesBy}
+use Rattle.certpath_run.proofs.answering.answer_on.Goals as goal
+
+pub returns : goal.returns
+returns c = λ xs ys xs_are ys_are judged anchors_judged.
+    let V = VouchesBy c.args.vouch.now.vouchers.now in
+    let policy = c.args.settings.now.policy in
+    let target = c.args.settings.now.target in
+    let m = time_view policy.moment in
+    let r = rules_by policy.moment policy.demand_lists V in
+    let answer = c.in_ok-answer.answer in
+    let found : IsFound (graph_of_items r xs ys) target answer = subst (λ d. IsFound (graph_of_items (rules_at m d V) xs ys) target answer) c.demands_lists.ensures (c.in_ok-answer.ensures m xs ys judged anchors_judged) in
+    let said : c.in_ok-said.said ≡ true = check_says_yes r c.args.inputs.now.items.items c.args.inputs.now.anchors.items target answer c.in_ok-said.said c.in_ok-said.ensures.exact (xs, ys, xs_are, ys_are, found.adequate) in
+    (said, found.holds)

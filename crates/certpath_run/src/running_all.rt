@@ -1,0 +1,55 @@
+//! A run over all items at once.
+
+ghost use Rattle.std.specs.Prelude.{◌≡◌, ◌≢◌, ◌+◌, ◌≤◌, IfOk, IfErr, OnOk, IsErrOf};
+ghost use Rattle.certpath_run.specs.AllReport.{IsAllReportOn};
+ghost use Rattle.certpath_run.specs.Runs.{Writes, WritesInPart, MeetsRefusal};
+ghost use Rattle.certpath_run.specs.Uses.{UseReaders, failed_writes};
+
+use crate::inputs::read_inputs;
+use crate::reporting_all::report_on_all;
+use crate::settings::{AllOutcome, AllSettings, RunError};
+use crate::writing::write_text;
+use asn1_device::{Sink, Source};
+use std::alloc::Global;
+
+/// Reads bundle, anchors and vouchers, in this order and each to its end, finds the first of the shortest valid paths of every item at
+/// once and checks them, and writes the report to `writer`: a line for each item with its path, `none` or its class, how the bundle
+/// ends, how many of the anchor items are certificates and how they end, and what the check says.
+///
+/// When something is written, and which refusal comes when, is as of `run`.
+pub fn run_all<B: Source, A: Source, V: Source, W: Sink>(
+    alloc: Global,
+    bundle: &mut B,
+    anchors: &mut A,
+    vouchers: &mut V,
+    settings: &AllSettings,
+    writer: &mut W,
+) -> Result<AllOutcome, RunError>
+    // What was read and written.
+    ensures ok { IfOk result (λ outcome. Writes (IsAllReportOn settings.now outcome) (B.remaining bundle.old) (B.remaining bundle.new) (A.remaining anchors.old) (A.remaining anchors.new)
+        (V.remaining vouchers.old) (V.remaining vouchers.new) (W.contents writer.old) (W.contents writer.new) settings.now.limit) }
+    ensures part { IsErrOf result RunError.Write → (outcome : AllOutcome) × WritesInPart (IsAllReportOn settings.now outcome) (B.remaining bundle.old) (B.remaining bundle.new)
+        (A.remaining anchors.old) (A.remaining anchors.new) (V.remaining vouchers.old) (V.remaining vouchers.new) (W.contents writer.old) (W.contents writer.new) settings.now.limit }
+    ensures nothing { IfErr result (λ e. e ≢ RunError.Write → writer.new ≡ writer.old) }
+    ensures flushed { OnOk result (W.flushes writer.new ≡ W.flushes writer.old + 1) }
+    ensures once { W.flushes writer.new ≤ W.flushes writer.old + 1 }
+
+    // When each refusal comes.
+    ensures refused { IfErr result (MeetsRefusal (B.remaining bundle.old) (B.remaining bundle.new) (A.remaining anchors.old) (A.remaining anchors.new)
+        (V.remaining vouchers.old) (V.remaining vouchers.new) settings.now.limit) }
+    ensures write { W.failures writer.new ≡ W.failures writer.old + failed_writes result }
+    ensures uses { UseReaders result
+        (record { reads = B.reads bundle.old; failures = B.failures bundle.old; ends = B.ends bundle.old; widest = B.widest bundle.old })
+        (record { reads = B.reads bundle.new; failures = B.failures bundle.new; ends = B.ends bundle.new; widest = B.widest bundle.new })
+        (record { reads = A.reads anchors.old; failures = A.failures anchors.old; ends = A.ends anchors.old; widest = A.widest anchors.old })
+        (record { reads = A.reads anchors.new; failures = A.failures anchors.new; ends = A.ends anchors.new; widest = A.widest anchors.new })
+        (record { reads = V.reads vouchers.old; failures = V.failures vouchers.old; ends = V.ends vouchers.old; widest = V.widest vouchers.old })
+        (record { reads = V.reads vouchers.new; failures = V.failures vouchers.new; ends = V.ends vouchers.new; widest = V.widest vouchers.new }) }
+{
+    let inputs = read_inputs(alloc, bundle, anchors, vouchers, settings.limit)?;
+    let Ok(reported) = report_on_all(alloc, &inputs, settings) else {
+        return Err(RunError::OutOfMemory);
+    };
+    write_text(writer, reported.text.as_bytes())?;
+    Ok(reported.outcome)
+}
