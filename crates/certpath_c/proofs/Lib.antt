@@ -1,0 +1,3 @@
+pub mod Spans
+pub mod Pairs
+pub mod TableRows

@@ -1,0 +1,12 @@
+pub mod Status
+pub mod Writing
+pub mod Framing
+pub mod Classing
+pub mod Fields
+pub mod Times
+pub mod Naming
+pub mod Asking
+pub mod Answers
+pub mod Asked
+pub mod Finding
+pub mod Checking

@@ -1,0 +1,18 @@
+//! The calls of `include/certpath.h`: thin exports over the crates that read and judge. Each tests what the call below it
+//! requires, answers a status, and writes into the caller's buffers what its contract says.
+#![tactic(auto)]
+
+mod answers;
+mod asked;
+mod asking;
+mod checking;
+mod classing;
+mod fields;
+mod finding;
+mod framing;
+mod naming;
+mod status;
+mod tables;
+mod times;
+mod version;
+mod writing;

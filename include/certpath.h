@@ -1,0 +1,221 @@
+/*
+ * certpath.h: X.509 certificates and revocation lists, cut, classed and judged by proved code.
+ *
+ * The functions of dist/libcertpath.so and dist/libcertpath.a. docs/EMBEDDING.md has whole
+ * examples, and docs/RULES.md says which certificates lead to which.
+ *
+ * Each call takes octets and numbers, and writes numbers, octets and text into buffers of the
+ * caller's. Nothing is kept between calls, so any number of threads may call at once.
+ *
+ * Buffers. A buffer is a pointer, followed by its room (how many elements it has). The pointer may
+ * be null where the room is 0. A call that needs more room returns CERTPATH_TOO_SMALL, writes
+ * nothing into any buffer, and says in its result how much it needs: so a first call with room 0
+ * asks for the size. All other pointers must point to a value. No two arguments may overlap, where
+ * one of them is written.
+ *
+ * Status. Each call returns CERTPATH_DONE or one of the other statuses below. Unless it is
+ * CERTPATH_DONE, no buffer was written, and results hold only what the call says of its status.
+ */
+#ifndef CERTPATH_H
+#define CERTPATH_H
+
+#include <stddef.h>
+#include <stdint.h>
+
+#ifdef __cplusplus
+extern "C" {
+#endif
+
+/* ---- statuses */
+
+enum {
+    CERTPATH_DONE = 0,          /* the call did what it says */
+    CERTPATH_OUT_OF_MEMORY = 1, /* the C library gave no memory */
+    CERTPATH_TOO_SMALL = 2,     /* a buffer is too small; the result says how large it must be */
+    CERTPATH_NO_FIELD = 3,      /* the item has no such field */
+    CERTPATH_BAD_NAME = 4,      /* the octets of a name can't be read */
+    CERTPATH_BAD_MOMENT = 5,    /* a moment is no date and time */
+    CERTPATH_BAD_ANSWER = 6     /* an answer to be checked isn't one: its numbers don't fit */
+};
+
+/* ---- cutting files into items */
+
+/* How a file ends after its items. */
+enum {
+    CERTPATH_CLEAN = 0, /* nothing follows */
+    CERTPATH_CUT = 1,   /* an item begins and is cut off */
+    CERTPATH_FAULT = 2  /* what follows neither is nor begins an item */
+};
+
+/* The largest item that the program takes where no limit is given: content octets. */
+#define CERTPATH_LIMIT 16777216
+
+/* A part of octets: where it begins, and how long it is. */
+typedef struct {
+    size_t offset;
+    size_t length;
+} certpath_span;
+
+typedef struct {
+    size_t count; /* how many items there are */
+    size_t at;    /* where they end */
+    uint32_t end; /* CERTPATH_CLEAN, CERTPATH_CUT or CERTPATH_FAULT */
+} certpath_framed;
+
+/*
+ * Cuts octets into items: DER SEQUENCEs of at most `limit` content octets, one after another.
+ * Writes the span of each into `items`. `framed` is set with CERTPATH_DONE and CERTPATH_TOO_SMALL;
+ * `framed->count` is the room that is needed.
+ */
+int32_t certpath_frame(const uint8_t *octets, size_t octets_length, uint32_t limit,
+                       certpath_span *items, size_t room, certpath_framed *framed);
+
+/* ---- single items */
+
+enum {
+    CERTPATH_OTHER = 0,       /* anything else */
+    CERTPATH_CERTIFICATE = 1, /* a certificate in its one spelling (RFC 5280, 4.1) */
+    CERTPATH_LIST = 2         /* a revocation list in its one spelling (RFC 5280, 5.1) */
+};
+
+/* What an item is, by its octets. */
+int32_t certpath_class(const uint8_t *item, size_t item_length, uint32_t *item_class);
+
+/* Fields of an item, as the octets that it has there. */
+enum {
+    CERTPATH_ISSUER = 0,         /* the name of the issuer, a whole element */
+    CERTPATH_SUBJECT = 1,        /* the name of a certificate's subject, a whole element */
+    CERTPATH_KEY = 2,            /* a certificate's key (SubjectPublicKeyInfo), a whole element */
+    CERTPATH_SERIAL = 3,         /* a certificate's serial number: big-endian, two's complement */
+    CERTPATH_ALGORITHM = 4       /* the identifier of the signature's algorithm: the content of
+                                    its OBJECT IDENTIFIER */
+};
+
+/*
+ * Writes a field of an item into `octets`. CERTPATH_NO_FIELD where the item is neither a
+ * certificate nor a list, or has no such field. `length` is set with CERTPATH_DONE and
+ * CERTPATH_TOO_SMALL.
+ */
+int32_t certpath_field(const uint8_t *item, size_t item_length, uint32_t field, uint8_t *octets,
+                       size_t room, size_t *length);
+
+/* A date and time in UTC, by the Gregorian calendar. */
+typedef struct {
+    int16_t year;  /* 0 to 9999 */
+    int8_t month;  /* 1 to 12 */
+    int8_t day;    /* 1 to 31 */
+    int8_t hour;   /* 0 to 23 */
+    int8_t minute; /* 0 to 59 */
+    int8_t second; /* 0 to 59 */
+} certpath_moment;
+
+typedef struct {
+    certpath_moment first; /* a certificate's notBefore; a list's thisUpdate */
+    certpath_moment last;  /* a certificate's notAfter; a list's nextUpdate */
+    uint32_t has_last;     /* 1, or 0 for a list that has no nextUpdate */
+} certpath_validity;
+
+/* The times of a certificate or a list; CERTPATH_NO_FIELD for anything else. */
+int32_t certpath_times(const uint8_t *item, size_t item_length, certpath_validity *validity);
+
+/*
+ * Writes a name, by its element's octets, as text (UTF-8, no 0 at the end). CERTPATH_BAD_NAME
+ * where it can't be read. `length` is set with CERTPATH_DONE and CERTPATH_TOO_SMALL.
+ */
+int32_t certpath_name(const uint8_t *name, size_t name_length, uint8_t *text, size_t room,
+                      size_t *length);
+
+/* ---- whose signatures matter */
+
+/* Whether the key of a certificate verifies the signature of an item of the bundle. */
+typedef struct {
+    size_t item;        /* the item's position in the bundle, from 0 */
+    size_t holder;      /* the certificate's position in the bundle or among the anchors */
+    uint32_t is_anchor; /* 1 where it is an anchor, else 0 */
+} certpath_question;
+
+/*
+ * Writes all questions of a bundle and anchors, both octets as certpath_frame cuts them. Nothing
+ * else is asked of signatures: whoever answers these alike has the same paths. `count` is set with
+ * CERTPATH_DONE and CERTPATH_TOO_SMALL.
+ */
+int32_t certpath_questions(const uint8_t *bundle, size_t bundle_length, const uint8_t *anchors,
+                           size_t anchors_length, uint32_t limit, certpath_question *questions,
+                           size_t room, size_t *count);
+
+/* ---- paths */
+
+/* A key that verifies the signature of an item, by SHA-256 digests (FIPS 180-4). */
+typedef struct {
+    uint8_t key[32];  /* of the key, as CERTPATH_KEY writes it */
+    uint8_t item[32]; /* of the item, all of its octets */
+} certpath_voucher;
+
+/* What is asked: a path from an item of the bundle to an anchor. */
+typedef struct {
+    size_t target;          /* the position of the certificate in the bundle, from 0 */
+    uint32_t limit;         /* of the items of both files, content octets */
+    uint32_t demands_lists; /* not 0: each certificate needs a revocation list that is used */
+    certpath_moment moment; /* at which all has to be valid */
+} certpath_settings;
+
+/* What is answered. */
+enum {
+    CERTPATH_PATH = 0,     /* there is a path */
+    CERTPATH_NO_PATH = 1,  /* the target is a certificate, and there is no path */
+    CERTPATH_NO_TARGET = 2 /* the target is no certificate, or there is no such item */
+};
+
+typedef struct {
+    uint32_t outcome; /* CERTPATH_PATH, CERTPATH_NO_PATH or CERTPATH_NO_TARGET */
+    size_t length;    /* how many positions the path has; 0 where there is none */
+    size_t anchor;    /* of a path: the anchor's position among the anchors, from 0; else 0 */
+    size_t entries;   /* how many entries the table has */
+} certpath_answer;
+
+/*
+ * Entries of a table: how far an issuer leads to an anchor. A row has an entry for each item of the
+ * bundle. The first row is for one issuer, each further row for one issuer more.
+ */
+#define CERTPATH_REACH_NO ((uint64_t)0)             /* it doesn't */
+#define CERTPATH_REACH_UP_TO(n) ((uint64_t)(n) + 1) /* with up to n certificates below it */
+#define CERTPATH_REACH_ANY UINT64_MAX               /* with any number of them */
+
+/*
+ * Finds the first of the shortest valid paths. Writes into `path` the positions of its
+ * certificates in the bundle, from the target on, and into `table` the rows that show that the
+ * answer is right, one after another. `answer` is set with CERTPATH_DONE and CERTPATH_TOO_SMALL:
+ * the room that is needed is `answer->length` positions and `answer->entries` entries.
+ * CERTPATH_BAD_MOMENT where the calendar has no such date, or a clock no such time.
+ */
+int32_t certpath_find(const uint8_t *bundle, size_t bundle_length, const uint8_t *anchors,
+                      size_t anchors_length, const certpath_voucher *vouchers,
+                      size_t vouchers_count, const certpath_settings *settings, size_t *path,
+                      size_t path_room, uint64_t *table, size_t table_room,
+                      certpath_answer *answer);
+
+/*
+ * Whether an answer is right, as its table shows: `says_yes` is set to 1 or 0 with
+ * CERTPATH_DONE. The items are read by another reader than that of certpath_find, and nothing is
+ * searched for. CERTPATH_BAD_ANSWER where the lengths aren't those of `answer`, an entry stands for
+ * nothing, the table doesn't have whole rows, or an answer without a path has positions or an
+ * anchor. CERTPATH_BAD_MOMENT as above.
+ */
+int32_t certpath_check(const uint8_t *bundle, size_t bundle_length, const uint8_t *anchors,
+                       size_t anchors_length, const certpath_voucher *vouchers,
+                       size_t vouchers_count, const certpath_settings *settings,
+                       const certpath_answer *answer, const size_t *path, size_t path_length,
+                       const uint64_t *table, size_t table_entries, uint32_t *says_yes);
+
+/* ---- the library */
+
+/* The version of these calls: it grows where one of them changes. */
+#define CERTPATH_VERSION 1
+
+uint32_t certpath_version(void);
+
+#ifdef __cplusplus
+}
+#endif
+
+#endif
