@@ -1,7 +1,6 @@
-//! Pairs read, written and read back, by themselves and within other types; a struct of one's own by a pair.
+//! Pairs read, written and read back, by themselves and within other types.
 
 use super::{back_again, same};
-use crate::own::Ticket;
 use asn1_core::{Err as Refusal, Error, IResult, Needed};
 use asn1_lists::SetOf;
 use asn1_pairs::Pair;
@@ -50,19 +49,4 @@ fn pairs_under_tags(rt: HostRuntime) {
         Ok((_, tagged)) => same(&rt, tagged.is_none(), true),
         Err(e) => panic!(rt; "{e}"),
     }
-}
-
-#[test]
-fn tickets(rt: HostRuntime) -> Result<(), Fail> {
-    let alloc = rt.alloc();
-    let octets = b"\x30\x06\x02\x01\x05\x01\x01\xff\x09";
-    let (rest, ticket) = <Ticket as FromDer<'_, Error>>::from_der(alloc, octets)?;
-    same(&rt, rest, &octets[8..]);
-    let wanted = Ticket {
-        serial: 5,
-        valid: true,
-    };
-    same(&rt, ticket, wanted);
-    same(&rt, ticket.to_der_vec(alloc)?.as_slice(), &octets[..8]);
-    Ok(())
 }

@@ -1,5 +1,5 @@
 use Rattle.asn1_traits.proofs.Outcomes.{refused_too}
-use Rattle.asn1_tests.proofs.own.TicketFromDerAny.try_from_der_any.Goals as goal
+use Rattle.example_own_type.proofs.ticket.TicketFromDerAny.try_from_der_any.Goals as goal
 
 pub returns-in-Err : goal.returns-in-Err
 returns-in-Err g c =

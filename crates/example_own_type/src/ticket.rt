@@ -1,4 +1,4 @@
-//! A struct of one's own, read and written as a SEQUENCE by `Pair`.
+//! A struct of one's own, read and written as a SEQUENCE of two values by `Pair`.
 
 ghost use Rattle.std.specs.Prelude.{◌≡◌, ◌⊎◌, Some};
 ghost use Rattle.asn1_pairs.specs.Pairs.{PairMeans, pair_element};
