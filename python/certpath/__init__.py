@@ -1,0 +1,32 @@
+"""X.509 certificates and revocation lists, cut, classed and judged by proved code.
+
+    from datetime import datetime, timezone
+    import certpath
+    import certpath.openssl
+
+    bundle = certpath.frame(open("bundle.der", "rb").read())
+    anchors = certpath.frame(open("anchors.der", "rb").read())
+    for item in bundle:
+        if item.kind is certpath.Kind.CERTIFICATE:
+            print(item.subject, item.not_valid_after_utc)
+    vouchers = certpath.openssl.vouch(bundle, anchors).vouchers
+    print(certpath.find(bundle, anchors, vouchers, target=0, at=datetime.now(timezone.utc)))
+
+Everything is read in a shared library, whose functions are proved; this package hands octets over
+and gives names to what comes back. It reads no DER. No call keeps anything, so any number of
+threads may call at once.
+"""
+from .items import (LIMIT, Certificate, End, Item, Items, Kind, Name, Other, RevocationList,
+                    class_of, frame)
+from .library import (BadAnswer, BadMoment, BadName, Error, LibraryMissing, NoField, OutOfMemory,
+                      version)
+from .paths import Answer, Outcome, check, find
+from .questions import Question, questions
+from .vouchers import Vouchers
+
+__all__ = [
+    "Answer", "BadAnswer", "BadMoment", "BadName", "Certificate", "End", "Error", "Item", "Items",
+    "Kind", "LIMIT", "LibraryMissing", "Name", "NoField", "Other", "OutOfMemory", "Outcome",
+    "Question", "RevocationList", "Vouchers", "check", "class_of", "find", "frame", "questions",
+    "version",
+]

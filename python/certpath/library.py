@@ -1,0 +1,149 @@
+"""The shared library: its functions, its structures, and the errors that its statuses are."""
+import ctypes
+import functools
+import os
+from ctypes import POINTER, byref, c_int8, c_int16, c_int32, c_size_t, c_uint8, c_uint32, c_uint64
+
+# The version of the calls that this package makes (CERTPATH_VERSION in certpath.h).
+VERSION = 1
+NAME = "libcertpath.so"
+# The library stands in the package, or where this is a checkout of the repository in its dist/.
+FOLDERS = (os.path.dirname(os.path.abspath(__file__)),
+           os.path.join(os.path.dirname(os.path.abspath(__file__)), "..", "..", "dist"))
+
+
+class Error(Exception):
+    """A call that was refused; each reason has a class of its own."""
+
+
+class LibraryMissing(Error):
+    """libcertpath.so isn't there, can't be loaded, or is of another version."""
+
+
+class OutOfMemory(Error, MemoryError):
+    """The C library gave no memory."""
+
+
+class NoField(Error, LookupError):
+    """An item has no such field."""
+
+
+class BadName(Error, ValueError):
+    """The octets of a name can't be read."""
+
+
+class BadMoment(Error, ValueError):
+    """A moment is no date and time."""
+
+
+class BadAnswer(Error, ValueError):
+    """The numbers of an answer that is to be checked can't be an answer's."""
+
+
+DONE, TOO_SMALL = 0, 2
+ERRORS = {1: OutOfMemory, 3: NoField, 4: BadName, 5: BadMoment, 6: BadAnswer}
+# The octets of a voucher: two SHA-256 digests.
+PAIR = 64
+
+
+class Span(ctypes.Structure):
+    _fields_ = [("offset", c_size_t), ("length", c_size_t)]
+
+
+class Framed(ctypes.Structure):
+    _fields_ = [("count", c_size_t), ("at", c_size_t), ("end", c_uint32)]
+
+
+class Moment(ctypes.Structure):
+    _fields_ = [("year", c_int16), ("month", c_int8), ("day", c_int8), ("hour", c_int8),
+                ("minute", c_int8), ("second", c_int8)]
+
+
+class Validity(ctypes.Structure):
+    _fields_ = [("first", Moment), ("last", Moment), ("has_last", c_uint32)]
+
+
+class QuestionRow(ctypes.Structure):
+    _fields_ = [("item", c_size_t), ("holder", c_size_t), ("is_anchor", c_uint32)]
+
+
+class Settings(ctypes.Structure):
+    _fields_ = [("target", c_size_t), ("limit", c_uint32), ("demands_lists", c_uint32),
+                ("moment", Moment)]
+
+
+class AnswerRow(ctypes.Structure):
+    _fields_ = [("outcome", c_uint32), ("length", c_size_t), ("anchor", c_size_t),
+                ("entries", c_size_t)]
+
+
+# Octets are handed over as they lie in a `bytes`, which is never written.
+OCTETS, SIZE, SIZES = ctypes.c_char_p, c_size_t, POINTER(c_size_t)
+INPUT = [OCTETS, SIZE]
+TEXT = [POINTER(c_uint8), SIZE, SIZES]
+ASKED = [*INPUT, *INPUT, *INPUT, POINTER(Settings)]
+POSITIONS, TABLE = [SIZES, SIZE], [POINTER(c_uint64), SIZE]
+# What each function takes; all but the last answer a status.
+FUNCTIONS = {
+    "certpath_frame": [*INPUT, c_uint32, POINTER(Span), SIZE, POINTER(Framed)],
+    "certpath_class": [*INPUT, POINTER(c_uint32)],
+    "certpath_field": [*INPUT, c_uint32, *TEXT],
+    "certpath_times": [*INPUT, POINTER(Validity)],
+    "certpath_name": [*INPUT, *TEXT],
+    "certpath_questions": [*INPUT, *INPUT, c_uint32, POINTER(QuestionRow), SIZE, SIZES],
+    "certpath_find": [*ASKED, *POSITIONS, *TABLE, POINTER(AnswerRow)],
+    "certpath_check": [*ASKED, POINTER(AnswerRow), *POSITIONS, *TABLE, POINTER(c_uint32)],
+    "certpath_version": [],
+}
+
+
+@functools.lru_cache(maxsize=None)
+def loaded():
+    """The library, with its functions typed."""
+    paths = [os.path.join(folder, NAME) for folder in FOLDERS]
+    path = next(filter(os.path.exists, paths), None)
+    if path is None:
+        raise LibraryMissing(f"{NAME} is in none of {', '.join(map(os.path.dirname, paths))}")
+    try:
+        library = ctypes.CDLL(path)
+        for name, takes in FUNCTIONS.items():
+            function = getattr(library, name)
+            function.argtypes, function.restype = takes, c_int32
+    except (OSError, AttributeError) as error:
+        raise LibraryMissing(f"{path} can't be loaded: {error}") from error
+    if library.certpath_version() != VERSION:
+        raise LibraryMissing(f"{path} has version {library.certpath_version()} of the calls, and "
+                             f"this package makes those of version {VERSION}")
+    return library
+
+
+def version():
+    """The version of the library's calls."""
+    return loaded().certpath_version()
+
+
+def refuse(status):
+    """Raises the error that a status is, unless the call was done."""
+    if status != DONE:
+        raise ERRORS.get(status, Error)(f"status {status}")
+
+
+def octets_of(data):
+    """Octets as a call takes them, and their length."""
+    octets = bytes(data)
+    return octets, len(octets)
+
+
+def sized(call, guess):
+    """Makes a call that writes octets, with more room where it asks for it; gives the octets.
+
+    `call` takes a buffer, its room and a place for the length, and gives the status.
+    """
+    room, length = guess, c_size_t()
+    while True:
+        buffer = (c_uint8 * room)()
+        status = call(buffer, room, byref(length))
+        if status != TOO_SMALL:
+            refuse(status)
+            return bytes(buffer[:length.value])
+        room = length.value
