@@ -1,0 +1,96 @@
+"""The package `certpath` of this repository, and what it shows of items."""
+import hashlib
+import os
+import sys
+from typing import NamedTuple
+
+import repo
+import streams
+from verify.faults import MEMORY, NO_PROGRAM, Fault
+
+FOLDER = os.path.join(repo.TOP, "python")
+if FOLDER not in sys.path:
+    sys.path.insert(1, FOLDER)
+import certpath
+import certpath.openssl
+
+Kind = certpath.Kind
+
+
+def need():
+    """Ends the run where the library isn't there."""
+    try:
+        certpath.version()
+    except certpath.LibraryMissing as error:
+        raise Fault(NO_PROGRAM, f"the library of certpath is missing: {error}") from error
+
+
+class Shown(NamedTuple):
+    """What is shown of a certificate: where it stands, its file, and its fields. Names are fit for a terminal."""
+    position: int
+    is_anchor: bool
+    file: str
+    subject: str
+    issuer: str
+    begin: object
+    end: object
+    serial: str
+    sha256: str
+
+    @property
+    def place(self):
+        return f"anchor {self.position}" if self.is_anchor else f"item {self.position}"
+
+
+def name_of(name):
+    """A name as text, in which what isn't printable is escaped; its octets where it has no text."""
+    try:
+        return streams.shown(name.text) or "(empty)"
+    except certpath.BadName:
+        return f"#{name.public_bytes().hex().upper()}"
+
+
+def fingerprint(octets):
+    return hashlib.sha256(octets).hexdigest()
+
+
+def serial_of(number):
+    """A serial number in hex, two digits an octet."""
+    digits = f"{abs(number):x}"
+    return ("-" if number < 0 else "") + digits.zfill(len(digits) + len(digits) % 2)
+
+
+class Side:
+    """The items of the bundle or the anchors, with the file of each."""
+
+    def __init__(self, items, is_anchors, limit=None):
+        self.is_anchors, self.limit = is_anchors, certpath.LIMIT if limit is None else int(limit)
+        self.given = items if self.framed(items).end.is_clean else [it for it in items if self.framed([it]).end.is_clean]
+        self.left_out = [] if self.given is items else [
+            f"{it.file}: an item of {len(it.octets)} octets, above the limit; left out" for it in items if not self.framed([it]).end.is_clean]
+        self.items, self.shown = self.framed(self.given), {}
+
+    def framed(self, items):
+        return certpath.frame(b"".join(it.octets for it in items), self.limit)
+
+    def positions(self, kind):
+        return [k for k, it in enumerate(self.items) if it.kind is kind]
+
+    def file(self, position):
+        return self.given[position].file
+
+    def certificate(self, position):
+        """What is shown of a certificate."""
+        if position not in self.shown:
+            it = self.items[position]
+            self.shown[position] = Shown(position, self.is_anchors, self.file(position), name_of(it.subject), name_of(it.issuer),
+                                         it.not_valid_before_utc, it.not_valid_after_utc, serial_of(it.serial_number), fingerprint(it.public_bytes()))
+        return self.shown[position]
+
+
+def run_of(call):
+    """What a call gives; the run ends where the library has no memory."""
+    try:
+        return call()
+    except certpath.OutOfMemory as error:
+        raise Fault(MEMORY, "out of memory") from error

@@ -1,0 +1,38 @@
+"""The answer as JSON, an object a line for each target. docs/VERIFY.md names each field."""
+import json
+
+from verify import faults, people, times
+from verify.answers import NOT_JUDGED
+
+
+def of_certificate(it):
+    if it is None:
+        return None
+    return {"place": it.place, "position": it.position, "file": it.file, "subject": it.subject, "issuer": it.issuer, "serial": it.serial,
+            "not_before": times.as_shown(it.begin), "not_after": times.as_shown(it.end), "sha256": it.sha256}
+
+
+def of_obstacle(it):
+    return {"of": it.of.place, "subject": it.of.subject, "to": it.to.place if it.to else None, "reason": it.words,
+            "text": it.sentence.text, "rule": it.sentence.rule, "advice": it.sentence.advice}
+
+
+def of_list(it):
+    return {"position": it.position, "file": it.file, "issuer": it.issuer, "reasons": it.words, "texts": [one.text for one in it.sentences],
+            "revokes": it.revokes, "of": it.of.place if it.of and it.revokes != "no" else None}
+
+
+def status_of(answer):
+    if answer.target is None:
+        return faults.NO_TARGET
+    return faults.PATH if answer.path else faults.NONE
+
+
+def text(answer, moment, anchors, notes):
+    """The line of one target."""
+    return json.dumps({
+        "headline": people.headline(answer, moment), "status": status_of(answer), "outcome": answer.outcome, "checked": answer.is_checked,
+        "at": times.as_shown(moment), "target": of_certificate(answer.target), "path": [of_certificate(it) for it in answer.path],
+        "anchor": of_certificate(answer.anchor), "reasons": [] if answer.path else [of_obstacle(it) for it in answer.obstacles],
+        "unused_lists": [of_list(it) for it in answer.unused], "warnings": [*people.warnings(answer, notes)],
+        "anchors": anchors, "not_judged": [*NOT_JUDGED]}, ensure_ascii=True) + "\n"

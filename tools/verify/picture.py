@@ -1,0 +1,80 @@
+"""The picture of a path: a box for each certificate, its validity as a bar, and the moment across all bars."""
+from html import escape
+
+from verify import times
+
+WIDTH, BOX, GAP, EDGE = 360, 74, 26, 8
+BAR_LEFT, BAR_WIDTH, BAR_TOP, BAR_HEIGHT = 20, 320, 46, 8
+# So many characters of a name stand in a box; the whole name stands in the box's title.
+MOST_CHARACTERS = 44
+
+
+def shortened(text):
+    return text if len(text) <= MOST_CHARACTERS else f"{text[:MOST_CHARACTERS - 2]}.."
+
+
+def steps(answer):
+    """The certificates of the path, the anchor last; where there is none, those that the target leads to, one way, as far as it goes."""
+    if answer.path:
+        return [*answer.path, answer.anchor]
+    found = [answer.target] if answer.target else []
+    while found:
+        ways = [it for it in answer.edges if it.of == found[-1] and it.to not in found]
+        if not ways:
+            break
+        found.append(min(ways, key=lambda it: (len(it.words), not it.to.is_anchor)).to)
+    return found
+
+
+class Scale:
+    """Where moments stand in the bars."""
+
+    def __init__(self, certificates, moment):
+        stamps = [it.timestamp() for one in certificates for it in (one.begin, one.end)] + [moment.timestamp()]
+        self.first, self.length = min(stamps), max(max(stamps) - min(stamps), 1)
+
+    def at(self, moment):
+        return BAR_LEFT + BAR_WIDTH * (moment.timestamp() - self.first) / self.length
+
+
+def box(it, top, scale, against):
+    """The box of a certificate."""
+    look = "bad" if against else "anchor" if it.is_anchor else "good"
+    begin, end = scale.at(it.begin), scale.at(it.end)
+    dates = f"{it.begin:%Y-%m-%d} to {it.end:%Y-%m-%d}{', not judged' if it.is_anchor else ''}"
+    return (f'<g class="{look}"><title>{escape(it.place)}: {escape(it.subject)}; valid {dates}</title>'
+            f'<rect class="box" x="{EDGE}" y="{top}" width="{WIDTH - 2 * EDGE}" height="{BOX}" rx="6"/>'
+            f'<text class="place" x="20" y="{top + 18}">{escape(it.place)}{" &#10007;" if against else ""}</text>'
+            f'<text x="20" y="{top + 37}">{escape(shortened(it.subject))}</text>'
+            f'<rect class="bar" x="{begin:.1f}" y="{top + BAR_TOP}" width="{max(end - begin, 1.5):.1f}" height="{BAR_HEIGHT}" rx="3"/>'
+            f'<text class="dates" x="20" y="{top + 67}">{dates}</text></g>')
+
+
+def arrow(top, words):
+    """The step from a certificate to its issuer."""
+    middle, look = WIDTH // 2, "bad" if words else "good"
+    note = f'<text class="note" x="{middle + 12}" y="{top + 17}">{escape(shortened(words[0]))}</text>' if words else ""
+    return (f'<g class="{look}"><path class="arrow" d="M{middle} {top}V{top + GAP - 7}"/>'
+            f'<path class="head" d="M{middle - 5} {top + GAP - 8}h10l-5 7z"/>{note}</g>')
+
+
+def svg(answer, moment, number):
+    """The picture of one target; nothing where the target is no certificate."""
+    found = steps(answer)
+    if not found:
+        return ""
+    scale, height = Scale(found, moment), len(found) * (BOX + GAP) + 8
+    against = {it.of.place for it in answer.obstacles if it.to is None} if not answer.path else set()
+    words, places = {(it.of.place, it.to.place): it.words for it in answer.edges}, [it.place for it in found]
+    parts = [box(it, 18 + k * (BOX + GAP), scale, it.place in against) for k, it in enumerate(found)]
+    parts += [arrow(18 + BOX + k * (BOX + GAP), words.get(step, [])) for k, step in enumerate(zip(places, places[1:]))]
+    at = scale.at(moment)
+    anchored = "end" if at > WIDTH / 2 else "start"
+    marks = "".join(f"M{at:.1f} {18 + k * (BOX + GAP) + BAR_TOP - 5}v{BAR_HEIGHT + 10}" for k in range(len(found)))
+    parts.append(f'<g class="moment"><path class="all" d="M{at:.1f} 14V{height - GAP}"/><path d="{marks}"/>'
+                 f'<text x="{at:.1f}" y="11" text-anchor="{anchored}">{times.as_shown(moment)}</text></g>')
+    said = "; then ".join(f"{it.place} {it.subject}, valid {it.begin:%Y-%m-%d} to {it.end:%Y-%m-%d}" for it in found)
+    return (f'<svg viewBox="0 0 {WIDTH} {height}" role="img" aria-labelledby="t{number} d{number}">'
+            f'<title id="t{number}">The way from the target up</title>'
+            f'<desc id="d{number}">{escape(said)}; the moment is {times.as_shown(moment)}.</desc>'
+            f'{"".join(parts)}</svg>')

@@ -1,0 +1,97 @@
+"""The report of `certpath why`, line by line, as facts."""
+import re
+from typing import NamedTuple
+
+ANSWER = re.compile(r"path ((?:\d+ )+)anchor (\d+)")
+AT, LIST = re.compile(r"at (\d+) (.*)"), re.compile(r"list (\d+) (.*)")
+LINK = re.compile(r"to (anchor )?(\d+) (?:(linked)|not linked: (.*))")
+BOUND = re.compile(r"leads to an anchor with at most (\d+) below")
+REVOKED = re.compile(r"revoked by list (\d+)")
+NOT_USABLE, NO_ISSUER, MISSING, NOT_USED = "not usable: ", "no issuer: ", "no issuer here: ", "not used: "
+
+
+class Link(NamedTuple):
+    """From a certificate to one of its issuer's name: a position of the bundle or of the anchors."""
+    to: int
+    is_anchor: bool
+
+
+class Node:
+    """A certificate that the target leads to by names, and what stands in its way."""
+
+    def __init__(self, position):
+        self.position, self.not_usable, self.no_issuer = position, [], []
+        self.links, self.most, self.is_missing = {}, None, False
+
+    def take(self, fact):
+        """Takes what a line says of it."""
+        link, bound = LINK.fullmatch(fact), BOUND.fullmatch(fact)
+        if link:
+            whys = self.links.setdefault(Link(int(link[2]), bool(link[1])), [])
+            whys += [] if link[3] else [link[4]]
+        elif bound:
+            self.most = int(bound[1])
+        elif fact.startswith(NOT_USABLE):
+            self.not_usable.append(fact[len(NOT_USABLE):])
+        elif fact.startswith(MISSING):
+            self.is_missing = True
+        elif fact.startswith(NO_ISSUER):
+            self.no_issuer.append(fact[len(NO_ISSUER):])
+
+
+def answers_of(lines):
+    """The reports of `certpath paths`: for each certificate the answer alone, by position."""
+    rows = [line.partition(" ") for line in lines]
+    ends = [line for line in lines if line.startswith("check ")]
+    return {int(position): Report([rest, *ends]) for position, _, rest in rows if position.isdigit() and (rest == "none" or ANSWER.fullmatch(rest))}
+
+
+class Report:
+    """The answer, the certificates by position, and the lists that aren't used, each with the reasons."""
+
+    def __init__(self, lines):
+        self.outcome, self.path, self.anchor, self.nodes, self.unused = "no target", None, None, {}, {}
+        self.is_checked = "check yes" in lines[:2]
+        for line in lines:
+            self.take(line)
+
+    def take(self, line):
+        answer, node, unused = ANSWER.fullmatch(line), AT.fullmatch(line), LIST.fullmatch(line)
+        if answer:
+            self.outcome, self.path, self.anchor = "path", [*map(int, answer[1].split())], int(answer[2])
+        elif line == "none":
+            self.outcome = line
+        elif node:
+            self.take_node(int(node[1]), node[2])
+        elif unused:
+            whys = self.unused.setdefault(int(unused[1]), [])
+            whys += [unused[2][len(NOT_USED):]] if unused[2].startswith(NOT_USED) else []
+
+    def take_node(self, position, fact):
+        """Takes what a line says of a certificate; the first line of each has its name."""
+        if position in self.nodes:
+            self.nodes[position].take(fact)
+        else:
+            self.nodes[position] = Node(position)
+
+    def revokers(self):
+        """Which lists revoke which certificates: pairs of positions, the certificate's first."""
+        found = {(node.position, REVOKED.fullmatch(why)) for node in self.nodes.values() for whys in node.links.values() for why in whys}
+        return {(position, int(it[1])) for position, it in found if it}
+
+    def is_too_long(self):
+        """Whether a way of good links and certificates leads to an anchor although there is no path: then a path length stands in its
+        way."""
+        if self.outcome != "none":
+            return False
+        waiting = [it for it in [*self.nodes.values()][:1] if not it.not_usable]
+        seen = {it.position for it in waiting}
+        while waiting:
+            for link in (it for it, whys in waiting.pop().links.items() if not whys):
+                node = None if link.is_anchor else self.nodes.get(link.to)
+                if link.is_anchor:
+                    return True
+                if node and node.position not in seen and not node.not_usable and not node.no_issuer:
+                    seen.add(node.position)
+                    waiting.append(node)
+        return False
