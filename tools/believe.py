@@ -272,8 +272,9 @@ This page is written by `python3 tools/believe.py --write`; `./test quick` compa
 
 A contract is proved, so its code and proofs needn't be read. What has to be read, to know what it
 promises, is the clauses of the function and the definitions that their words stand for. This page
-counts these definitions for the calls that matter most. `python3 tools/believe.py CRATE::CALL`
-prints their names, page by page: `python3 tools/believe.py certcheck::check`.
+counts these definitions for the calls that matter most.
+`python3 tools/believe.py CRATE::CALL` prints their names, page by page: for example of
+`certcheck::check`.
 
 How it is made: from the words of the clauses (`ensures`, `requires`) and of the signature, through
 the `ghost use` lines of the source, to the definitions in `specs/`, and from the words of each

@@ -1,13 +1,14 @@
 """Builds a crate's program from its sources: `rt ci` proves it and all that it stands on, on a
 copy, and the program is kept below out/programs/ with a record of what it was built from.
 
-`rt` keeps each crate that it proved beside the toolchain, for this machine: a build that was
-stopped goes on where it was, and builds and the gate take what the other proved. One build at a
-time runs in a checkout; others wait for it.
+Some toolchains keep each crate that they proved beside them, for this machine (`keeps_work`): a
+build that was stopped goes on where it was, and builds and the gate take what the other proved.
+With others each build begins at nothing. One build at a time runs in a checkout; others wait for it.
 """
 import collections
 import contextlib
 import fcntl
+import functools
 import os
 import queue
 import re
@@ -179,6 +180,19 @@ def kit():
     return ran.stdout.strip()
 
 
+@functools.cache
+def keeps_work():
+    """Whether `rt ci` takes what earlier runs on this machine proved, unless `--anew` forbids it. By
+    its help: a toolchain that says of `rt ci` that it proves all from nothing, and knows no `--anew`,
+    keeps nothing."""
+    try:
+        ran = subprocess.run(["rt", "help"], stdin=subprocess.DEVNULL, stdout=subprocess.PIPE,
+                             stderr=subprocess.STDOUT, text=True, errors="replace", check=False)
+    except OSError:
+        return False
+    return "--anew" in ran.stdout or "from nothing" not in ran.stdout
+
+
 def needs_of(octets):
     """The machine that a program needs, by the versions of the C library that it names."""
     versions = {it.decode() for it in VERSION_OF_LIBC.findall(octets)}
@@ -228,7 +242,7 @@ def made(crate, watch):
     log = os.path.join("out", f"{crate}.log")
     with a_copy(crate) as (copy, room), open_log(log, "w") as out:
         digest, progress = sources.digest(crate, copy), Progress(crate, side_by_side())
-        progress.announce(log)
+        progress.announce(log, keeps_work())
         status = proved(started(copy, room, progress.at_a_time), progress, out, watch)
         program = os.path.join(copy, "crates", crate, "out", crate)
         if not status and os.path.isfile(program):
@@ -263,7 +277,8 @@ def build(crate, why):
         except processes.Stopped as stopped:
             number = stopped.number
             with contextlib.suppress(OSError):
-                say(f"{title}: stopped by {stopped}; crates that were proved are kept")
+                kept = "crates that were proved are kept" if keeps_work() else "this toolchain keeps nothing"
+                say(f"{title}: stopped by {stopped}; {kept}")
         except BrokenPipeError:
             number = signal.SIGPIPE
         except OSError as error:

@@ -1,8 +1,10 @@
 #!/usr/bin/env python3
-"""Makes dist/certpath, the program that a clone runs at once, and checks it against the sources.
+"""Makes dist/certpath, the program that a clone runs at once, and the libraries beside it, and
+checks them against the sources.
 
     python3 tools/dist.py make             builds certpath from the sources, where they or the
                                            toolchain changed, and writes dist/
+    python3 tools/dist.py make library     the libraries alone
     python3 tools/dist.py check [PROGRAM]  compares dist/certpath with PROGRAM, just built from the
                                            sources: what the gate left, where none is named
 
@@ -16,6 +18,7 @@ import sys
 import tempfile
 
 sys.dont_write_bytecode = True
+import library
 import programs
 import repo
 import sources
@@ -66,7 +69,7 @@ def make():
     size = os.path.getsize(os.path.join(repo.TOP, programs.SHIPPED))
     record = programs.read_record(programs.SHIPPED_RECORD)
     print(f"dist: {programs.SHIPPED} has {size} octets, SHA-256 {record.program}; by {record.kit}")
-    return 0
+    return library.make() if library.is_there() else 0
 
 
 def check(program):
@@ -78,6 +81,7 @@ def check(program):
     if not amiss:
         record, kit = programs.read_record(programs.SHIPPED_RECORD), building.kit()
         amiss = [*(unequal(program) if kit == record.kit else unlike(program, record.kit, kit))]
+    amiss += library.check() if library.is_there() else []
     for line in amiss:
         print(f"dist: {line}")
     print(f"dist: {0 if amiss else 1} passed, {len(amiss)} failed")
@@ -114,6 +118,8 @@ def unlike(program, of_record, kit):
 def main(words):
     if words == ["make"]:
         return make()
+    if words == ["make", "library"]:
+        return library.make()
     if words[:1] == ["check"] and len(words) <= 2:
         return check(words[1] if len(words) == 2 else os.path.join(repo.TOP, BY_THE_GATE))
     sys.exit(__doc__)

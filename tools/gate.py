@@ -2,7 +2,7 @@
 """Runs `rt ci`, and prints what each crate cost; or makes the table of docs/GATE.md from the log of a whole run.
 
     python3 tools/gate.py                runs `rt ci` as ./test does
-    python3 tools/gate.py anew           likewise, and takes nothing that earlier runs kept
+    python3 tools/gate.py anew           likewise, and takes nothing that earlier runs kept, where the toolchain keeps any
     python3 tools/gate.py table LOG..    prints the table; of a crate that several logs name, the last one counts
     python3 tools/gate.py write LOG..    writes the table into docs/GATE.md
 
@@ -19,7 +19,6 @@ import threading
 import time
 
 import building
-import lanes
 import repo
 
 PAGE = "docs/GATE.md"
@@ -101,10 +100,19 @@ class Watch:
         return sums
 
 
+def words_of(is_anew):
+    """What `rt ci` is called with. A toolchain that keeps nothing between runs knows no `--anew`, and needs none."""
+    if building.keeps_work():
+        return ["--anew"] if is_anew else []
+    print("gate: this toolchain keeps nothing between runs: each run proves all from nothing", flush=True)
+    return []
+
+
 def gate(words):
     began, before = time.monotonic(), building.digests()
-    side_by_side = os.environ.get("RT_JOBS") or str(lanes.lanes(lanes.FROM_NOTHING))
-    ran = subprocess.Popen(["rt", "ci", *words], env={**os.environ, "RT_JOBS": side_by_side})
+    # (a number in RT_JOBS would have `rt` start that many proofs at a time whatever memory is free)
+    side_by_side = os.environ.get("RT_JOBS") or str(len(os.sched_getaffinity(0)))
+    ran = subprocess.Popen(["rt", "ci", *words])
     watch = Watch(ran.pid)
     status = ran.wait()
     if status == 0:
@@ -183,6 +191,6 @@ if __name__ == "__main__":
     elif len(sys.argv) > 2 and sys.argv[1] == "write":
         write(sys.argv[2:])
     elif sys.argv[1:] in ([], ["anew"]):
-        sys.exit(gate(["--anew"] if sys.argv[1:] else []))
+        sys.exit(gate(words_of(bool(sys.argv[1:]))))
     else:
         sys.exit(__doc__)

@@ -2,14 +2,14 @@
 import os
 import re
 
+import calling
 import pages
 import repo
 
 WIDTH, LONGEST_SENTENCE = 100, 40
 README, README_WORDS, README_LINES = "README.md", 900, 120
 # Pages from before lines had a width, which still have longer ones.
-WIDE_PAGES = ("docs/ARCHITECTURE.md", "docs/DECISIONS.md", "docs/OTHER.md", "docs/OWN_TYPES.md", "docs/PROMISES.md", "docs/PROOFS.md",
-              "docs/RULES.md")
+WIDE_PAGES = ("docs/OTHER.md",)
 # Pages for a reader's first minutes.
 PLAIN_PAGES = (README, "docs/CLI.md")
 WALK = "docs/ARCHITECTURE.md"
@@ -28,10 +28,13 @@ def found_pages():
 
 
 def narrow_pages():
-    """Lines of pages end by a column; rows of tables, which can't be cut, may go on."""
+    """Lines of pages end by a column; rows of tables, and what CALLING.md quotes of sources, may go on."""
     for path in found_pages():
+        is_quoted = False
         for number, line in enumerate(repo.read(path).splitlines(), 1):
-            if path not in WIDE_PAGES and len(line) > WIDTH and not line.startswith("|"):
+            if line.startswith("```"):
+                is_quoted = path.endswith("CALLING.md") and not is_quoted
+            if path not in WIDE_PAGES and len(line) > WIDTH and not line.startswith("|") and not is_quoted:
                 yield f"{path}:{number}: {len(line)} columns, and at most {WIDTH} are kept"
 
 
@@ -126,6 +129,18 @@ def tables_made():
         yield f"{pages.PAGE}: a table isn't what the sources say: run tools/pages.py"
 
 
+def notes_made():
+    """Each crate has a page of its own, whose lines are what crates.txt says."""
+    for path, page, made in pages.notes():
+        if page != made:
+            yield f"{path}: {'there is none' if page is None else 'its lines are not what crates.txt says'}: run tools/pages.py"
+
+
+def calling_made():
+    """Each CALLING.md quotes contracts and callers as the sources have them."""
+    yield from calling.faults()
+
+
 def bullet(section, name):
     """The code of a bullet of a crate's section, as it stands between ticks."""
     found = re.search(rf"(?m)^- \*{name}\*:((?:.|\n  )*)", section)
@@ -149,4 +164,4 @@ def promises_name():
 
 
 CHECKS = (narrow_pages, short_sentences, short_readme, anchors_lead, walk_stands, promises_name,
-          tables_made)
+          tables_made, notes_made, calling_made)

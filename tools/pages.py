@@ -1,7 +1,8 @@
 #!/usr/bin/env python3
-"""Makes the tables of docs/CRATES.md that say where an extension, a type and a rule is, from the sources.
+"""Makes the tables of docs/CRATES.md that say where an extension, a type and a rule is, from the sources; and of each
+crate's README.md the lines that say what it stands on and what runs it.
 
-    python3 tools/pages.py               writes them into the page
+    python3 tools/pages.py               writes them into the pages; makes a README.md where a crate has none
     python3 tools/pages.py above NAME..  prints the crates that stand on the named ones, which a change of these proves again
 
 `tools/quick.py` asks `written` whether they are as the sources say.
@@ -21,6 +22,7 @@ SECTION = re.compile(r"(RFC \d+), ((?:appendix )?[A-Z]?[\d.]*\d)|(X\.\d+), (\d[\
 DECLARED = re.compile(r"(?m)^pub (struct|enum|trait|type) (\w+)")
 # What runs code, and holds none that others build on.
 TOPS = ("_rows", "_tests", "bench")
+EXAMPLES = "example_"
 # The crates that hand on others by name.
 PORTS = ("asn1_rs", "der_parser", "x509_parser")
 
@@ -108,7 +110,7 @@ def extensions():
 def types():
     rows = []
     for crate in repo.crates():
-        if crate.endswith(TOPS):
+        if crate.endswith(TOPS) or crate.startswith(EXAMPLES):
             continue
         for path in sources(crate, "src"):
             rows += [[code(name), kind, code(path.removeprefix("crates/"))] for kind, name in DECLARED.findall(text(path))]
@@ -166,6 +168,65 @@ def rules():
     return table(["definition", "of", "sections", "code", "proofs", "rows and tests"], rows)
 
 
+# ---- the page of a crate
+
+NOTE_BEGIN, NOTE_END = "<!-- lines: made by tools/pages.py -->\n", "<!-- end of lines -->\n"
+
+
+def note(crate):
+    """The path of a crate's own page."""
+    return f"crates/{crate}/README.md"
+
+
+def linked(names):
+    return ", ".join(f"[`{it}`](../{it}/README.md)" for it in names)
+
+
+def wrapped(line):
+    """A line of a list, cut before column 100 at commas."""
+    found = [""]
+    for word in re.split(r"(?<=,) ", line):
+        joined = f"{found[-1]} {word}".strip() if found[-1] else word
+        if found[-1] and len(joined) + (0 if len(found) == 1 else 2) > 98:
+            found.append(word)
+        else:
+            found[-1] = joined
+    return "\n  ".join(found) + "\n"
+
+
+def note_lines(crate):
+    """What crates.txt says of a crate, and where its promises stand."""
+    listed = repo.crates()
+    has_section = crate in dict(crate_sections())
+    rest = "examples" if crate.startswith(EXAMPLES) else "rows-tests-benches"
+    place = f"docs/CRATES.md#{crate if has_section else rest}"
+    users = [it for it in listed if crate in listed[it]]
+    lines = [f"- Promises, and the pages to believe: [docs/CRATES.md](../../{place})."]
+    if listed[crate]:
+        lines.append(wrapped(f"- Stands on {linked(listed[crate])}.").rstrip("\n"))
+    if users:
+        lines.append(wrapped(f"- Used by {linked(users)}.").rstrip("\n"))
+    if not crate.endswith(TOPS) and not crate.startswith(EXAMPLES):
+        lines.append(wrapped(f"- Rows and tests: {linked(runs(crate))}.").rstrip("\n"))
+    return "\n".join(lines) + "\n"
+
+
+def written_note(crate, page):
+    """A crate's page with its lines as crates.txt says."""
+    if page is None:
+        page = f"# `{crate}`\n\n{NOTE_BEGIN}{NOTE_END}"
+    before, _, after = page.partition(NOTE_BEGIN)
+    return before + NOTE_BEGIN + note_lines(crate) + NOTE_END + after.partition(NOTE_END)[2]
+
+
+def notes():
+    """Each crate's page as it stands, none where there is none, and as it is made."""
+    for crate in repo.crates():
+        path = note(crate)
+        page = repo.read(path) if os.path.exists(os.path.join(repo.TOP, path)) else None
+        yield path, page, written_note(crate, page)
+
+
 TABLES = {"extensions": extensions, "types": types, "rules": rules}
 
 
@@ -187,6 +248,11 @@ def above(names):
     return [it for it in repo.below(listed, listed) if {*names} & {*repo.below([it], listed)}]
 
 
+def put(path, text):
+    with open(os.path.join(repo.TOP, path), "w", encoding="utf-8") as file:
+        file.write(text)
+
+
 def main(words):
     if words[:1] == ["above"] and words[1:]:
         print(*above(words[1:]), sep="\n")
@@ -194,8 +260,10 @@ def main(words):
         sys.exit("usage: tools/pages.py [above NAME..]")
     else:
         made = written(repo.read(PAGE))
-        with open(os.path.join(repo.TOP, PAGE), "w", encoding="utf-8") as file:
-            file.write(made)
+        put(PAGE, made)
+        for path, page, made in notes():
+            if page != made:
+                put(path, made)
 
 
 if __name__ == "__main__":

@@ -1,10 +1,13 @@
-"""Command lines of `certpath path` on worked cases: the cases stand in crates/check_rows/stdin, what is printed of them in tools/paths.txt."""
+"""Command lines of `certpath path`, `why`, `paths` and `questions` on worked cases: the cases stand in crates/check_rows/stdin, what is
+printed of them in a file of tools/ for each command."""
 import hashlib
 import os
 
 import repo
 
-CASES, PRINTED = "crates/check_rows/stdin", "tools/paths.txt"
+CASES = "crates/check_rows/stdin"
+# What is printed, by the command.
+PRINTED = {"path": "tools/paths.txt", "why": "tools/why.txt", "paths": "tools/all_paths.txt", "questions": "tools/questions.txt"}
 # Copies of one certificate, each of which an anchor vouches for; the last is asked for.
 EQUALS = 300
 # What is printed of one certificate that is its own anchor, where a key vouches for it and where none does.
@@ -46,10 +49,10 @@ def worked():
     return octets, cases
 
 
-def printed():
-    """Of each title: the words `target` and `behind`, the lines that are printed, and the status."""
+def printed(command):
+    """Of each title: the words `target` and `behind`, the lines that the command prints, and the status."""
     found = {}
-    for line in repo.read(PRINTED).splitlines():
+    for line in repo.read(PRINTED[command]).splitlines():
         word, _, rest = line.partition(" ")
         if word == "case":
             row = found[rest] = {"target": "0", "behind": "", "text": "", "status": ""}
@@ -69,23 +72,55 @@ def vouchers(pairs):
     return "".join(f"{digest(key)} {digest(item)}\n" for key, item in pairs).encode()
 
 
+def words_of(command, files, row, case):
+    """The words that ask a command about a case."""
+    if command == "questions":
+        return [command, *files[:2]]
+    target = [] if command == "paths" else ["--target", row["target"]]
+    return [command, *files, *target, "--at", case.moment] + ["--demand-lists"] * case.demand
+
+
+def case_rows(made, command, octets, cases):
+    """Rows of a command on the worked cases that its file names."""
+    rows = []
+    for number, (title, row) in enumerate(printed(command).items()):
+        case = cases[title]
+        bundle = made(f"{command}_bundle{number}", b"".join(octets[it] for it in case.items) + bytes.fromhex(row["behind"]))
+        anchors = made(f"{command}_anchors{number}", b"".join(octets[it] for it in case.anchors))
+        lines = made(f"{command}_vouchers{number}", vouchers((octets[key], octets[item]) for key, item in case.vouching))
+        rows.append((words_of(command, (bundle, anchors, lines), row, case), b"", int(row["status"]), row["text"].encode(), b""))
+    return rows
+
+
 def table(made):
     """Rows of words, standard input, status, standard output, standard error; `made` makes a file of a name and octets."""
     octets, cases = worked()
-    rows = []
-    for number, (title, row) in enumerate(printed().items()):
-        case = cases[title]
-        bundle = made(f"bundle{number}", b"".join(octets[it] for it in case.items) + bytes.fromhex(row["behind"]))
-        anchors = made(f"anchors{number}", b"".join(octets[it] for it in case.anchors))
-        lines = made(f"vouchers{number}", vouchers((octets[key], octets[item]) for key, item in case.vouching))
-        words = ["path", bundle, anchors, lines, "--target", row["target"], "--at", case.moment]
-        rows.append((words + ["--demand-lists"] * case.demand, b"", int(row["status"]), row["text"].encode(), b""))
+    rows = [it for command in PRINTED for it in case_rows(made, command, octets, cases)]
     one, key = octets["A"], octets["K"]
     many = made("many_equals", one * EQUALS)
     words = ["path", many, made("equal", one), made("equal_vouchers", vouchers([(key, one)])), "--target", str(EQUALS - 1), "--at", "2025-06-01T00:00:00"]
     lines = [f"{k} cert\n" for k in range(EQUALS)] + ["end clean\n", "anchors 1 of 1, clean\n", f"path {EQUALS - 1} anchor 0\n", "check yes\n"]
     rows.append((words, b"", 0, "".join(lines).encode(), b""))
-    return rows + voucher_rows(made, one, key) + file_rows(made, one, key) + word_rows(made, one)
+    return rows + voucher_rows(made, one, key) + file_rows(made, one, key) + word_rows(made, one) + command_rows(made, one, key)
+
+
+def command_rows(made, one, key):
+    """Rows of the other commands: files that can't be opened or read, a bad line of the vouchers, and wrong words."""
+    item, bad, at = made("one", one), made("bad_lines", b"-"), ["--at", "2025-06-01T00:00:00"]
+    three = [("missing.der", item, bad), (item, ".", bad), (item, item, "missing.txt")]
+    told = [b"cannot read missing.der\n", b"cannot read .\n", b"cannot read missing.txt\n"]
+    rows = []
+    for command, target in (("why", ["--target", "0"]), ("paths", [])):
+        rows += [([command, *files, *target, *at], b"", 4, b"", said) for files, said in zip(three, told)]
+        rows += [([command, item, item, bad, *target, *at], b"", 5, b"", b"vouchers line 1\n"),
+                 ([command, item, item, bad, *target, "--at", "2025-06-31T00:00:00"], b"", 2, b"", b"bad moment\n"),
+                 ([command, item, item, bad, *target, *at, "--limit", "x"], b"", 2, b"", b"bad number\n")]
+    rows.append((["why", item, item, bad, "--target", "x", *at], b"", 2, b"", b"bad number\n"))
+    rows += [(["questions", "missing.der", item], b"", 4, b"", b"cannot read missing.der\n"),
+             (["questions", item, "."], b"", 4, b"", b"cannot read .\n"),
+             (["questions", item, item, "--limit", ""], b"", 2, b"", b"bad number\n"),
+             (["questions", item, item, "--limit", "66"], b"", 0, b"", b"")]
+    return rows
 
 
 def asked(bundle, anchors, lines, target="0", moment="2025-06-01T00:00:00"):

@@ -67,12 +67,12 @@ class Progress:
             ends[it] = own + max((ends[use] for use in self.uses[it]), default=0)
         return max(sum(self.costs[it] for it in self.left) / self.at_a_time, max(ends.values()))
 
-    def announce(self, log):
-        count = len(self.crates)
+    def announce(self, log, is_kept):
+        """Reports what the build costs; `is_kept` where what earlier runs proved is taken."""
+        count, less = len(self.crates), ", and less where crates are proved already" if is_kept else ""
         say(f"{self.title}: proving {count} crates, {self.at_a_time} at a time, takes about "
             f"{minutes(self.whole)}, {max(1, round(count * DISK))} GB of disk and up to "
-            f"{self.at_a_time * MEMORY} GB of memory, and less where crates are proved already; "
-            f"what rt prints goes to {log}")
+            f"{self.at_a_time * MEMORY} GB of memory{less}; what rt prints goes to {log}")
 
     def step(self, names, are_kept, busy):
         """Reports that crates are done, by this or by an earlier build, and what is under way."""

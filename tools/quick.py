@@ -10,18 +10,22 @@ import sys
 import bundling
 import dist
 import items
+import library
 import laws
+import manual
 import page_checks
 import repo
 import source_checks
+import words
 
 # The gate tries the named wrong bodies alone: so many edits, in so many crates.
 MOST_EDITS, MOST_CRATES = 25, 12
 MOST_LINES = 800
 # How many files the gate may read for its sums of what libraries are made from: each takes it some 0.15 ms, one after another.
-MOST_READS = 20_000_000
+MOST_READS = 22_000_000
 OF_FUNCTION = ("Invariants.antt", "Answers.antt", "Proof.antt")
 BESIDE_SRC = ("args", "stdin", "stdout", "status")
+PAGES = ("README.md", "CALLING.md")
 LABEL = re.compile(r"(?:^|[^\w/.-])((?:[DTLW]\d{1,2}|R\d{1,2}(?:\.\d+)?|0[1-4], ?\d|document 0[1-4]))(?:\W|$)")
 # What stands in quotes in code: octets and words of a test, and no label.
 QUOTED = re.compile(r"""b?'[^'\n]{1,4}'|"(?:[^"\\\n]|\\.)*\"""")
@@ -41,7 +45,7 @@ def files():
 
 FILES = files()
 OF_RATTLE = [it for it in FILES if it.endswith((".rt", ".antt"))]
-SCRIPTS = [it for it in FILES if it.endswith((".py", ".sh")) or it in ("test", "certpath", "rows", "bundle", "vouch", ".ci/run")]
+SCRIPTS = [it for it in FILES if it.endswith((".py", ".sh")) or it in ("test", "certpath", "rows", "bundle", "vouch", "verify", ".ci/run")]
 TEXTS = [it for it in FILES if it.endswith((".md", ".edit")) or it == "crates.txt"]
 DOCS = [it for it in FILES if it.endswith(".md")]
 CRATES = repo.crates()
@@ -107,7 +111,7 @@ def is_read(path, reached, words):
         lists = [f"{above}/Lib.antt", f"{above}.antt"]
         listed = "\n".join(repo.read(it) for it in lists if it in FILES)
         return path == lists[0] or bool(re.search(rf"(?m)^(?:pub )?mod {re.escape(name[:-len('.antt')])}\s*$", listed))
-    return not inner and part in BESIDE_SRC or part == "data" and not name.endswith((".rt", ".antt"))
+    return not inner and part in (*BESIDE_SRC, *PAGES) or part == "data" and not name.endswith((".rt", ".antt"))
 
 
 def all_read():
@@ -196,9 +200,9 @@ def judge_alone():
 
 def roads_apart():
     """The search shares no reading with the check: outside tests no source of a `certpath_` crate names `read_tree`, or the check's
-    calls for key identifiers."""
+    calls for key identifiers. `certpath_c` hands calls out, and `certpath_why` reports: neither searches."""
     for path in FILES:
-        if not re.match(r"crates/certpath_\w+/src/.*\.rt$", path) or re.search(r"/tests?\b", path):
+        if not re.match(r"crates/certpath_(?!c/|why/)\w+/src/.*\.rt$", path) or re.search(r"/tests?\b", path):
             continue
         code = "\n".join(line.split("//")[0] for line in repo.read(path).splitlines())
         for name in re.findall(r"\b(?:read_tree|authority_key_id|subject_key_id)\b", code):
@@ -246,13 +250,28 @@ def items_spelled():
         yield f"{items.STDIN}: an item isn't what the comment above it spells: run tools/items.py"
 
 
+def manual_is_made():
+    """The manual page and the completion of bash are what the docs and the commands' helps say."""
+    yield from manual.faults()
+
+
 def dist_is_built():
     """dist/certpath is the program that was built from the sources as they are."""
     yield from dist.faults()
 
 
+def plain_words():
+    """Doc comments have no word that the glossary avoids, but for those that files had before."""
+    yield from words.faults()
+
+
+def libraries_are_built():
+    """The libraries of dist/ are those that were built from the sources as they are."""
+    yield from library.faults()
+
+
 def main():
-    checks = (layout, edits_apply, few_edits, all_read, no_labels, no_machine, docs_name_files, crates_listed, few_ways, judge_alone, roads_apart, headers_counted, no_handles, short_files, items_spelled, worked_causes, bundles, dist_is_built)
+    checks = (layout, edits_apply, few_edits, all_read, no_labels, no_machine, docs_name_files, crates_listed, few_ways, judge_alone, roads_apart, headers_counted, no_handles, short_files, items_spelled, worked_causes, bundles, manual_is_made, dist_is_built, libraries_are_built, plain_words)
     checks += source_checks.CHECKS
     checks += page_checks.CHECKS
     failed = 0

@@ -2,6 +2,7 @@
 """Runs the commands of README.md, and compares what each prints with what stands below it.
 
     python3 tools/readme.py [PAGE..]
+    python3 tools/readme.py --write PAGE   puts what the commands print below them, for a reader to compare with what is right
 
 A command is a line of a code block that begins with `$ `; the lines to the next command, or to the end of the block, are
 what it has to print on standard output and standard error. All commands of a page run in one copy of the repository, in
@@ -100,7 +101,32 @@ def page_failures(path):
     return len(wanted), failed
 
 
+def filled(page, outputs):
+    """A page with the outputs of its commands, in their order, below them."""
+    found, outputs, is_output = [], iter(outputs), False
+    for line in page.splitlines():
+        if line.startswith(INDENT + PROMPT):
+            found += [line, *(INDENT + it for it in next(outputs))]
+            is_output = True
+        elif not is_output or not line.startswith(INDENT):
+            found.append(line)
+            is_output = False
+    return "\n".join(found) + "\n"
+
+
+def write(path):
+    page = repo.read(path)
+    with tempfile.TemporaryDirectory() as room:
+        top, environment = copied(room), hidden(room)
+        outputs = [printed(command, top, environment) for command, _ in commands(page)]
+    with open(os.path.join(repo.TOP, path), "w", encoding="utf-8") as file:
+        file.write(filled(page, outputs))
+
+
 def main(pages):
+    if pages[:1] == ["--write"] and len(pages) == 2:
+        write(pages[1])
+        return 0
     passed = failures = 0
     for path in pages or ["README.md"]:
         ran, failed = page_failures(path)

@@ -8,21 +8,36 @@ import counting
 import syntax
 
 
+# The runs of `certpath_run`, and by which call each finds and by which it checks.
+ASKED = [("run", "find_judged", "check"), ("run_why", "find_judged", "check"), ("run_all", "find_all_judged", "check_all")]
+# What is made of what a check said: lines of a report.
+TOLD = r"\b(?:report_of|report_of_all|push_check)\(([^;]*)\)\?;"
+
+
 def check_asked():
-    """`certpath_run::run` comes to one call of `certcheck::check`, of the answer that it found, and what that says is what the report is made with."""
-    check = calls.function("certcheck::check")
-    callers = [it for it in calls.come_to([calls.function("certpath_run::run")]) if it.file.crate == "certpath_run" and check in calls.called(it)]
-    if [it.body.count("check(") for it in callers] != [1]:
-        yield "crates/certpath_run: one function, which run comes to, calls certcheck::check once, and no other does"
-        return
-    body = callers[0].body
-    found = re.search(r"let (\w+) = find_judged\(", body)
-    said = re.search(r"let (\w+) = check\(([^;]*)\)\?;", body)
-    made = re.search(r"\breport_of\(([^;]*)\)\?;", body[said.end():]) if said else None
-    if not (found and made) or f"&{found[1]}" not in said[2] or f"&{found[1]}" not in made[1] or said[1] not in re.findall(r"\w+", made[1]):
-        yield f"{callers[0].file.path}: the answer that find_judged gives is what check is asked of, and report_of gets both it and what check said"
+    """Each run of `certpath_run` comes to one call of the check in `certcheck`, of what it found, and what that says is what the report is made with."""
+    for run, finds, checks in ASKED:
+        check = calls.function(f"certcheck::{checks}")
+        reached = [it for it in calls.come_to([calls.function(f"certpath_run::{run}")]) if it.file.crate == "certpath_run"]
+        callers = [it for it in reached if check in calls.called(it)]
+        if [len(re.findall(rf"\b{checks}\(", it.body)) for it in callers] != [1]:
+            yield f"crates/certpath_run: one function, which {run} comes to, calls certcheck::{checks} once, and no other does"
+            continue
+        yield from (f"{callers[0].file.path}: {it}" for it in said_of_found(callers[0].body, finds, checks))
+        told = [it for it in reached for text in re.findall(TOLD, it.body) if re.search(r"\bsaid\b", text)]
+        if not told:
+            yield f"crates/certpath_run: what certcheck::{checks} said is in no report that {run} makes"
+
+
+def said_of_found(body, finds, checks):
+    """What is amiss in a function that finds and checks: it checks what it found, and hands on both."""
+    found = re.search(rf"let (\w+) = {finds}\(", body)
+    said = re.search(rf"let (\w+) = {checks}\(([^;]*)\)\?;", body)
+    after = set(re.findall(r"\w+", body[said.end():])) if said else set()
+    if not (found and said) or f"&{found[1]}" not in said[2] or not {found[1], said[1]} <= after:
+        yield f"what {finds} gives is what {checks} is asked of, and what both gave is handed on"
     elif any(len(re.findall(rf"\b{it}\s*=(?!=)", body)) > 1 for it in (found[1], said[1])):
-        yield f"{callers[0].file.path}: what find_judged gave or check said is put in place anew"
+        yield f"what {finds} gave or {checks} said is put in place anew"
 
 
 def key_ids_read_apart():

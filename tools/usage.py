@@ -5,13 +5,16 @@ import streams
 
 VERSION = "0.1.0"
 INPUT = "/dev/stdin"
-COMMANDS = ("frame", "path")
+COMMANDS = ("frame", "path", "paths", "questions", "why")
 HELP, VERSIONS, BUILD = ("-h", "--help", "help"), ("-V", "--version", "version"), "--build"
 WELL, REFUSED, UNWRITTEN = 0, 2, 7
 SEE = "see './certpath --help'"
 
 USAGE = """\
 usage: certpath path BUNDLE ANCHORS VOUCHERS --target N --at MOMENT [--demand-lists] [--limit N]
+       certpath why BUNDLE ANCHORS VOUCHERS --target N --at MOMENT [--demand-lists] [--limit N]
+       certpath paths BUNDLE ANCHORS VOUCHERS --at MOMENT [--demand-lists] [--limit N]
+       certpath questions BUNDLE ANCHORS [--limit N]
        certpath frame FILE [--limit N]
        certpath help [COMMAND] | --version | --build
 """
@@ -21,9 +24,13 @@ Reads X.509 certificates and revocation lists in DER, and finds certificate path
 
 {USAGE}
 Commands:
-  path    prints what each item of a file is, and the first of the shortest valid paths to an anchor
-  frame   prints where each item of a file begins and how long it is
-  help    prints this help, or that of the command behind it
+  path       prints what each item of a file is, and the first of the shortest valid paths to an
+             anchor
+  why        prints the same answer, and each reason why there is no path or a list isn't used
+  paths      prints the first of the shortest valid paths of every item of a file at once
+  questions  prints which keys may have signed which items
+  frame      prints where each item of a file begins and how long it is
+  help       prints this help, or that of the command behind it
 
 Options:
   -h, --help     prints this help; behind a command, that of the command
@@ -33,16 +40,15 @@ Options:
 The word - as a file is standard input. PEM files are made into such files by ./bundle.
 """
 
-PATH = """\
-Prints the class of each item, and the first of the shortest valid paths to an anchor.
-
-usage: certpath path BUNDLE ANCHORS VOUCHERS --target N --at MOMENT [--demand-lists] [--limit N]
-
+FILES = """\
 Arguments:
   BUNDLE    certificates and revocation lists in DER, one after another, as ./bundle writes them
   ANCHORS   trust anchors: certificates in DER, one after another
   VOUCHERS  which key verifies which item, as ./vouch writes it: two SHA-256 digests a line
+"""
 
+QUESTION = f"""\
+{FILES}
 Options:
   --target N      the position in BUNDLE, from 0 on, of the certificate that needs a path
   --at MOMENT     the time of the validation, in UTC: YYYY-MM-DDTHH:MM:SS
@@ -53,6 +59,59 @@ Options:
 Exit status: 0 a path; 1 none; 2 wrong words; 3 the target is no certificate of BUNDLE; 4 a file
 can't be read; 5 a line of VOUCHERS is malformed; 6 out of memory; 7 standard output fails; 70 no
 program could be run.
+"""
+
+PATH = f"""\
+Prints the class of each item, and the first of the shortest valid paths to an anchor. Where that is
+none, certpath why prints the reasons.
+
+usage: certpath path BUNDLE ANCHORS VOUCHERS --target N --at MOMENT [--demand-lists] [--limit N]
+
+{QUESTION}"""
+
+WHY = f"""\
+Prints the answer of certpath path; then each certificate that the target leads to by names, with
+each reason why it is no part of a path; then each revocation list that isn't used, and why.
+
+usage: certpath why BUNDLE ANCHORS VOUCHERS --target N --at MOMENT [--demand-lists] [--limit N]
+
+{QUESTION}"""
+
+PATHS = f"""\
+Prints a line for each item of BUNDLE: the first of its shortest valid paths to an anchor, none, or
+what it is.
+
+usage: certpath paths BUNDLE ANCHORS VOUCHERS --at MOMENT [--demand-lists] [--limit N]
+
+{FILES}
+Options:
+  --at MOMENT     the time of the validation, in UTC: YYYY-MM-DDTHH:MM:SS
+  --demand-lists  each certificate of a path needs a revocation list of its issuer
+  --limit N       the most content octets of an item [default: 16777216]
+  -h, --help      prints this help
+
+Exit status: 0 every certificate has a path; 1 some has none; 2 wrong words; 4 a file can't be read;
+5 a line of VOUCHERS is malformed; 6 out of memory; 7 standard output fails; 70 no program could be
+run.
+"""
+
+QUESTIONS = """\
+Prints a line for each question that a checker of signatures has to answer: the position of an item
+of BUNDLE, the word item or anchor, and the position of a certificate there whose key may have
+signed it.
+
+usage: certpath questions BUNDLE ANCHORS [--limit N]
+
+Arguments:
+  BUNDLE   certificates and revocation lists in DER, one after another, as ./bundle writes them
+  ANCHORS  trust anchors: certificates in DER, one after another
+
+Options:
+  --limit N   the most content octets of an item [default: 16777216]
+  -h, --help  prints this help
+
+Exit status: 0 done; 2 wrong words; 4 a file can't be read; 6 out of memory; 7 standard output
+fails; 70 no program could be run.
 """
 
 FRAME = """\
@@ -72,7 +131,7 @@ Exit status: 0 the file is items to its end; 1 it ends within an item, or with w
 could be run.
 """
 
-TEXTS = {"path": PATH, "frame": FRAME}
+TEXTS = {"path": PATH, "why": WHY, "paths": PATHS, "questions": QUESTIONS, "frame": FRAME}
 
 
 def main(words):

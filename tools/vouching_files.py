@@ -98,7 +98,7 @@ def patched(t, setting):
 
 def absences(t):
     """Without OpenSSL's library or the program that cuts files nothing is written."""
-    t.same("no libcrypto", patched(t, "import libcrypto; libcrypto.candidates = lambda: ['libnone.so']"),
+    t.same("no libcrypto", patched(t, "import package, certpath.libcrypto as it; it.candidates = lambda: ['libnone.so']"),
            (4, b"", "vouch: OpenSSL cannot be called: no libcrypto of OpenSSL 3 is there"))
     t.same("no ctypes", patched(t, "sys.modules['ctypes'] = None"), (4, b"", "vouch: OpenSSL cannot be called: import"))
     t.same("no certpath", patched(t, "import repo; repo.ready = lambda *_: None"), (4, b"", "vouch: certpath, which cuts the files, could not be built"))

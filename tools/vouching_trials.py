@@ -1,4 +1,4 @@
-"""Runs ./vouch and ./bundle, and counts what goes as it should."""
+"""Runs the scripts of this repository, and counts what goes as it should."""
 import os
 import re
 import subprocess
@@ -17,8 +17,8 @@ REASON = re.compile(r"(not verified by \d+ keys?) \([^()]+\)")
 class Trials:
     """The trials in a workshop's folder."""
 
-    def __init__(self, shop):
-        self.shop, self.passed, self.failed = shop, 0, 0
+    def __init__(self, shop, subject="vouch"):
+        self.shop, self.subject, self.passed, self.failed = shop, subject, 0, 0
 
     def same(self, title, found, wanted):
         """A trial: whether what was found is what is wanted."""
@@ -26,7 +26,7 @@ class Trials:
             self.passed += 1
         else:
             self.failed += 1
-            print(f"vouch: {title}: {found!r:.1200}, wanted is {wanted!r:.1200}", flush=True)
+            print(f"{self.subject}: {title}: {found!r:.1200}, wanted is {wanted!r:.1200}", flush=True)
 
     def run(self, script, words, octets=b"", output=subprocess.PIPE):
         """A script's status, what it wrote to standard output where that is piped, and its lines on standard error."""

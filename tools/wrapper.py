@@ -6,6 +6,7 @@ Nothing is proved. In the place of the toolchain stands a script that prints wha
 writes a program that prints its words. The first trial alone has dist/certpath itself, and runs the
 commands of README.md with no toolchain on the path.
 """
+import contextlib
 import os
 import re
 import shutil
@@ -25,7 +26,8 @@ import usage
 
 SECONDS = 120
 # What ./certpath needs of the repository beside crates, and the items of tools/paths.py.
-NEEDED = ("certpath", "bundle", "vouch", "tools", "samples", "HANDLES", "crates/check_rows/stdin")
+NEEDED = ("certpath", "bundle", "vouch", "tools", "python", "samples", "HANDLES",
+          "crates/check_rows/stdin")
 # Crates as the program may stand on, each with one source.
 CRATES = ("low", "middle: low", f"{programs.CERTPATH}: middle")
 MAIN = os.path.join("crates", programs.CERTPATH, "src", "main.rt")
@@ -41,6 +43,8 @@ import os, subprocess, sys, time
 if sys.argv[1:] == ["version"]:
     print({KIT!r})
     sys.exit()
+if sys.argv[1:] == ["help"]:
+    sys.exit("rt ci [--anew]")
 kind, began = os.environ["FAKE_RT"], open(os.environ["FAKE_RT_BEGAN"], "a")
 names = [it.partition(":")[0].split()[0] for it in open("crates.txt", encoding="utf-8")]
 print("rt: " + names[0] + " proved", flush=True)
@@ -118,6 +122,14 @@ class Room:
 
     def place(self, *parts):
         return os.path.join(self.copy, *parts)
+
+    def killed(self):
+        """Kills the processes that are left; gives how many there were."""
+        left = self.processes_left()
+        for pid in left:
+            with contextlib.suppress(ProcessLookupError):
+                os.kill(pid, signal.SIGKILL)
+        return len(left)
 
     def same(self, title, got, wanted):
         """A trial: whether what came out is what is wanted."""
@@ -345,9 +357,8 @@ def killed_build(room):
     wait_for(lambda: "children" in room.builds_begun())
     child.kill()
     child.communicate(timeout=SECONDS)
-    for pid in room.processes_left():
-        os.kill(pid, signal.SIGKILL)
-    wait_for(lambda: not room.processes_left())
+    # (on a busy machine one that is killed may have begun another meanwhile)
+    wait_for(lambda: not room.killed())
     room.certpath("--build", kind="builds")
     room.same("after a killed build and another", room.left(), ([], []))
 

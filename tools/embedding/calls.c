@@ -1,0 +1,346 @@
+/*
+ * Bad input, and items whose octets were changed: each call has to answer a status of the header
+ * and to write nothing beyond the room that it is given. Meant to run under the sanitizers.
+ *
+ *     calls BUNDLE ANCHORS VOUCHERS NUMBER
+ *
+ * VOUCHERS are digests, 64 octets a pair. Prints `N passed, M failed`, after NUMBER changed inputs.
+ */
+#include "certpath.h"
+#include <stdio.h>
+#include <stdlib.h>
+#include <string.h>
+
+enum { ROOM = 1 << 16, MOST = 64, KEPT = 0x5a };
+
+static unsigned char bundle[ROOM], anchors[ROOM], changed[ROOM];
+static certpath_voucher vouchers[ROOM / sizeof(certpath_voucher)];
+static size_t bundle_length, anchors_length, vouchers_count;
+static int passed, failed;
+
+static void tell(int is_right, const char *what)
+{
+    if (is_right) {
+        passed++;
+    } else {
+        failed++;
+        printf("calls: %s\n", what);
+    }
+}
+
+static int is_kept(const void *from, size_t size)
+{
+    const unsigned char *octets = from;
+    size_t k;
+    for (k = 0; k < size; k++)
+        if (octets[k] != KEPT)
+            return 0;
+    return 1;
+}
+
+/* ---- no octets, no room, and numbers at their ends */
+
+static void of_nothing(void)
+{
+    certpath_framed framed;
+    size_t number;
+    uint32_t found;
+    certpath_validity validity;
+    tell(certpath_frame(NULL, 0, CERTPATH_LIMIT, NULL, 0, &framed) == CERTPATH_DONE
+             && framed.count == 0 && framed.end == CERTPATH_CLEAN,
+         "frame of nothing");
+    tell(certpath_class(NULL, 0, &found) == CERTPATH_DONE && found == CERTPATH_OTHER,
+         "class of nothing");
+    tell(certpath_field(NULL, 0, CERTPATH_ISSUER, NULL, 0, &number) == CERTPATH_NO_FIELD,
+         "field of nothing");
+    tell(certpath_times(NULL, 0, &validity) == CERTPATH_NO_FIELD, "times of nothing");
+    tell(certpath_name(NULL, 0, NULL, 0, &number) == CERTPATH_BAD_NAME, "name of nothing");
+    tell(certpath_questions(NULL, 0, NULL, 0, CERTPATH_LIMIT, NULL, 0, &number) == CERTPATH_DONE
+             && number == 0,
+         "questions of nothing");
+    tell(certpath_version() == CERTPATH_VERSION, "version");
+}
+
+static void of_limits(void)
+{
+    certpath_framed framed;
+    certpath_span spans[MOST];
+    memset(spans, KEPT, sizeof spans);
+    tell(certpath_frame(bundle, bundle_length, 0, spans, MOST, &framed) == CERTPATH_DONE
+             && framed.count == 0 && framed.end == CERTPATH_FAULT && is_kept(spans, sizeof spans),
+         "limit 0");
+    tell(certpath_frame(bundle, bundle_length, UINT32_MAX, spans, MOST, &framed) == CERTPATH_DONE
+             && framed.count == 4 && framed.at == bundle_length && framed.end == CERTPATH_CLEAN,
+         "the greatest limit");
+    tell(is_kept(spans + 4, sizeof spans - 4 * sizeof *spans), "spans past the last one");
+}
+
+static void of_small_rooms(const unsigned char *item, size_t length)
+{
+    unsigned char text[ROOM];
+    certpath_framed framed;
+    certpath_question rows[MOST];
+    size_t needed, count;
+    memset(text, KEPT, sizeof text);
+    memset(rows, KEPT, sizeof rows);
+    tell(certpath_frame(bundle, bundle_length, CERTPATH_LIMIT, (certpath_span *)text, 3, &framed)
+                 == CERTPATH_TOO_SMALL
+             && framed.count == 4 && is_kept(text, sizeof text),
+         "room for fewer spans");
+    tell(certpath_field(item, length, CERTPATH_KEY, text, 0, &needed) == CERTPATH_TOO_SMALL
+             && needed > 0,
+         "no room for a field");
+    tell(certpath_field(item, length, CERTPATH_KEY, text, needed - 1, &count) == CERTPATH_TOO_SMALL
+             && count == needed && is_kept(text, sizeof text),
+         "room for all but one octet");
+    tell(certpath_field(item, length, CERTPATH_KEY, text, needed, &count) == CERTPATH_DONE
+             && is_kept(text + needed, sizeof text - needed),
+         "just enough room");
+    tell(certpath_field(item, length, UINT32_MAX, text, ROOM, &count) == CERTPATH_NO_FIELD,
+         "a field that there isn't");
+    tell(certpath_questions(bundle, bundle_length, anchors, anchors_length, CERTPATH_LIMIT, rows, 0,
+                            &needed) == CERTPATH_TOO_SMALL
+             && needed > 0 && is_kept(rows, sizeof rows),
+         "no room for questions");
+    tell(certpath_questions(bundle, bundle_length, anchors, anchors_length, CERTPATH_LIMIT, rows,
+                            MOST, &count) == CERTPATH_DONE
+             && count == needed && is_kept(rows + count, sizeof rows - count * sizeof *rows),
+         "questions");
+}
+
+/* ---- paths, among the certificates before the list that revokes the first of them */
+
+static size_t chain_length;
+
+static const certpath_settings IN_2027 = {0, CERTPATH_LIMIT, 0, {2027, 1, 1, 0, 0, 0}};
+
+static int32_t find(const certpath_settings *settings, size_t *path, size_t room, uint64_t *table,
+                    size_t table_room, certpath_answer *answer)
+{
+    return certpath_find(bundle, chain_length, anchors, anchors_length, vouchers, vouchers_count,
+                         settings, path, room, table, table_room, answer);
+}
+
+/* What the check says of an answer: 1 or 0, or less for a status other than CERTPATH_DONE. */
+static int said(const certpath_settings *settings, const certpath_answer *answer,
+                const size_t *path, size_t length, const uint64_t *table, size_t entries)
+{
+    uint32_t says_yes = 2;
+    int32_t status = certpath_check(bundle, chain_length, anchors, anchors_length, vouchers,
+                                    vouchers_count, settings, answer, path, length, table, entries,
+                                    &says_yes);
+    return status == CERTPATH_DONE ? (int)says_yes : -status;
+}
+
+static int said_of(const certpath_answer *answer, const size_t *path, const uint64_t *table)
+{
+    return said(&IN_2027, answer, path, answer->length, table, answer->entries);
+}
+
+static void of_rooms_for_paths(void)
+{
+    size_t path[MOST];
+    uint64_t table[MOST];
+    certpath_answer answer, again;
+    memset(path, KEPT, sizeof path);
+    memset(table, KEPT, sizeof table);
+    tell(find(&IN_2027, NULL, 0, NULL, 0, &answer) == CERTPATH_TOO_SMALL
+             && answer.outcome == CERTPATH_PATH && answer.length == 2 && answer.entries == 3,
+         "no room for a path");
+    tell(find(&IN_2027, path, 2, table, 2, &again) == CERTPATH_TOO_SMALL
+             && find(&IN_2027, path, 1, table, MOST, &again) == CERTPATH_TOO_SMALL
+             && is_kept(path, sizeof path) && is_kept(table, sizeof table),
+         "room for one of both");
+    tell(find(&IN_2027, path, 2, table, 3, &again) == CERTPATH_DONE && path[0] == 0 && path[1] == 1
+             && again.anchor == 0 && is_kept(path + 2, sizeof path - 2 * sizeof *path)
+             && is_kept(table + 3, sizeof table - 3 * sizeof *table),
+         "just enough room for a path");
+    tell(said_of(&again, path, table) == 1, "a check of what was found");
+}
+
+static void of_wrong_answers(void)
+{
+    size_t path[MOST], other[] = {0, 2};
+    uint64_t table[MOST], low[MOST] = {0};
+    certpath_answer answer, none;
+    if (find(&IN_2027, path, MOST, table, MOST, &answer) != CERTPATH_DONE)
+        exit(7);
+    tell(said_of(&answer, other, table) == 0, "a check of another path");
+    tell(said_of(&answer, path, low) == 0, "a check by another table");
+    none = answer;
+    none.anchor = 1;
+    tell(said_of(&none, path, table) == 0, "a check of another anchor");
+    none.anchor = 0;
+    none.outcome = 3;
+    tell(said_of(&none, path, table) == -CERTPATH_BAD_ANSWER, "a check of another outcome");
+    none.outcome = CERTPATH_NO_PATH;
+    tell(said_of(&none, path, table) == -CERTPATH_BAD_ANSWER, "no path, with positions");
+    none.length = 0;
+    tell(said_of(&none, path, table) == 0, "a check of no path");
+    none.outcome = CERTPATH_NO_TARGET;
+    tell(said_of(&none, path, table) == -CERTPATH_BAD_ANSWER, "no target, with a table");
+    none.entries = 0;
+    tell(said_of(&none, NULL, NULL) == 0, "a check of no target");
+    tell(said(&IN_2027, &answer, path, 2, table, 2) == -CERTPATH_BAD_ANSWER, "a cut table");
+    low[0] = (uint64_t)UINT32_MAX + 2;
+    tell(said_of(&answer, path, low) == -CERTPATH_BAD_ANSWER, "an entry that stands for nothing");
+}
+
+static void of_settings(void)
+{
+    size_t path[MOST];
+    uint64_t table[MOST];
+    certpath_answer answer;
+    certpath_settings settings = IN_2027;
+    settings.target = SIZE_MAX;
+    tell(find(&settings, NULL, 0, NULL, 0, &answer) == CERTPATH_DONE
+             && answer.outcome == CERTPATH_NO_TARGET && answer.length == 0 && answer.entries == 0
+             && said(&settings, &answer, NULL, 0, NULL, 0) == 1,
+         "no target");
+    settings.target = 0;
+    settings.moment.year = 1990;
+    tell(find(&settings, path, MOST, table, MOST, &answer) == CERTPATH_DONE
+             && answer.outcome == CERTPATH_NO_PATH && answer.entries == 3
+             && said(&settings, &answer, NULL, 0, table, 3) == 1,
+         "no path");
+    settings.moment.month = 13;
+    memset(&answer, KEPT, sizeof answer);
+    tell(find(&settings, path, MOST, table, MOST, &answer) == CERTPATH_BAD_MOMENT
+             && is_kept(&answer, sizeof answer)
+             && said(&settings, &answer, NULL, 0, NULL, 0) == -CERTPATH_BAD_MOMENT,
+         "a moment that there isn't");
+}
+
+/* ---- changed octets */
+
+static uint64_t state = 1;
+
+/* A number below a bound, by a generator of Marsaglia's (xorshift). */
+static size_t below(size_t bound)
+{
+    state ^= state << 13;
+    state ^= state >> 7;
+    state ^= state << 17;
+    return (size_t)(state % bound);
+}
+
+/* Changes, drops or doubles octets; gives the new length. */
+static size_t change(const unsigned char *item, size_t length)
+{
+    size_t many = 1 + below(3), at;
+    memcpy(changed, item, length);
+    while (many--) {
+        at = below(length);
+        switch (below(4)) {
+        case 0:
+            changed[at] = (unsigned char)below(256);
+            break;
+        case 1:
+            changed[at] ^= (unsigned char)(1 << below(8));
+            break;
+        case 2:
+            if (length > 1)
+                memmove(changed + at, changed + at + 1, --length - at);
+            break;
+        default:
+            if (length < ROOM - 1)
+                memmove(changed + at + 1, changed + at, length++ - at);
+        }
+    }
+    return length;
+}
+
+static int is_status(int32_t status, int others)
+{
+    return status == CERTPATH_DONE || status == CERTPATH_TOO_SMALL || status == others;
+}
+
+/* Whether something is found of changed octets, and the check says yes of it. */
+static int are_checked(const unsigned char *item, size_t length)
+{
+    size_t path[1];
+    uint64_t table[1];
+    certpath_answer answer;
+    uint32_t says_yes;
+    int32_t status = certpath_find(item, length, anchors, anchors_length, vouchers, vouchers_count,
+                                   &IN_2027, path, 1, table, 1, &answer);
+    if (status != CERTPATH_DONE)
+        return status == CERTPATH_TOO_SMALL && answer.length + answer.entries > 1;
+    status = certpath_check(item, length, anchors, anchors_length, vouchers, vouchers_count,
+                            &IN_2027, &answer, path, answer.length, table, answer.entries,
+                            &says_yes);
+    return status == CERTPATH_DONE && says_yes == 1;
+}
+
+/* All calls on changed octets, in memory of just their size, so that a sanitizer sees each step
+   beyond it. */
+static void of_changed(size_t length)
+{
+    unsigned char *item = malloc(length ? length : 1), text[600];
+    certpath_framed framed;
+    certpath_span spans[MOST];
+    certpath_validity validity;
+    size_t count;
+    uint32_t found, number;
+    int is_right = item != NULL;
+    if (!is_right)
+        exit(6);
+    memcpy(item, changed, length);
+    is_right = is_right && certpath_frame(item, length, 5000, spans, MOST, &framed) >= 0
+               && framed.at <= length;
+    is_right = is_right && certpath_class(item, length, &found) == CERTPATH_DONE && found <= 2;
+    for (number = 0; is_right && number < 8; number++)
+        is_right = is_status(certpath_field(item, length, number, text, sizeof text, &count),
+                             CERTPATH_NO_FIELD);
+    is_right = is_right && is_status(certpath_times(item, length, &validity), CERTPATH_NO_FIELD);
+    is_right = is_right
+               && is_status(certpath_name(item, length, text, sizeof text, &count),
+                            CERTPATH_BAD_NAME);
+    is_right = is_right
+               && is_status(certpath_questions(item, length, anchors, anchors_length, 5000, NULL, 0,
+                                               &count),
+                            CERTPATH_DONE);
+    is_right = is_right && are_checked(item, length);
+    free(item);
+    tell(is_right, "changed octets");
+}
+
+static size_t octets_of(const char *path, unsigned char *to)
+{
+    FILE *file = fopen(path, "rb");
+    size_t length;
+    if (!file)
+        exit(4);
+    length = fread(to, 1, ROOM, file);
+    fclose(file);
+    return length;
+}
+
+int main(int count, char **words)
+{
+    certpath_span spans[MOST];
+    certpath_framed framed;
+    long k, number;
+    if (count != 5)
+        return 2;
+    bundle_length = octets_of(words[1], bundle);
+    anchors_length = octets_of(words[2], anchors);
+    vouchers_count = octets_of(words[3], (unsigned char *)vouchers) / sizeof *vouchers;
+    number = strtol(words[4], NULL, 10);
+    of_nothing();
+    of_limits();
+    if (certpath_frame(bundle, bundle_length, CERTPATH_LIMIT, spans, MOST, &framed)
+        != CERTPATH_DONE)
+        return 1;
+    of_small_rooms(bundle + spans[0].offset, spans[0].length);
+    chain_length = spans[3].offset;
+    of_rooms_for_paths();
+    of_wrong_answers();
+    of_settings();
+    for (k = 0; k < number; k++) {
+        const certpath_span *one = &spans[below(framed.count)];
+        of_changed(change(bundle + one->offset, one->length));
+    }
+    printf("calls: %d passed, %d failed\n", passed, failed);
+    return failed != 0;
+}
