@@ -129,14 +129,16 @@ def waiting_lines(lines):
 
 
 def side_by_side():
-    """How many proofs run at a time: as RT_JOBS says, or else as processors and memory allow."""
+    """About how many proofs run at a time: as RT_JOBS says, or else as processors and memory
+    allow."""
     number = os.environ.get("RT_JOBS", "")
     return int(number) if number.isdigit() and int(number) else lanes.lanes(lanes.FROM_NOTHING)
 
 
-def started(copy, room, at_a_time):
-    """Starts `rt ci` on the copy, in a session of its own: so all that it starts can be ended."""
-    environment = {**os.environ, "RT_JOBS": str(at_a_time), "TMPDIR": room}
+def started(copy, room):
+    """Starts `rt ci` on the copy, in a session of its own: so all that it starts can be ended.
+    Unless RT_JOBS is set, `rt` starts as many proofs as processors and memory allow."""
+    environment = {**os.environ, "TMPDIR": room}
     return subprocess.Popen(["rt", "ci"], cwd=copy, env=environment, start_new_session=True,
                             stdin=subprocess.DEVNULL, stdout=subprocess.PIPE,
                             stderr=subprocess.STDOUT, text=True, errors="replace")
@@ -243,7 +245,7 @@ def made(crate, watch):
     with a_copy(crate) as (copy, room), open_log(log, "w") as out:
         digest, progress = sources.digest(crate, copy), Progress(crate, side_by_side())
         progress.announce(log, keeps_work())
-        status = proved(started(copy, room, progress.at_a_time), progress, out, watch)
+        status = proved(started(copy, room), progress, out, watch)
         program = os.path.join(copy, "crates", crate, "out", crate)
         if not status and os.path.isfile(program):
             path = keep(crate, program, digest)

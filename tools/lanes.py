@@ -1,8 +1,7 @@
 #!/usr/bin/env python3
-"""Prints how many checks go side by side on this machine: one a processor, and fewer where memory is short.
+"""Prints about how many checks go side by side on this machine: one a processor, and fewer where memory is short.
 
-The gate hands the number to `rt`, which then gives each proof one job. Left to itself it gives a proof the processors that no other
-proof waits for just then, and two jobs take twice the work that one takes.
+What a build announces rests on this number, and `./test wrong` starts so many checks. `rt ci` decides for itself, proof by proof.
 """
 import os
 import re
