@@ -2,9 +2,10 @@
  * Refused memory: this program hands out memory in the place of the C library, and refuses the n-th
  * request of a call, for each n until the call makes no such request. Each time the call has to
  * answer CERTPATH_OUT_OF_MEMORY and write nothing, or what it answers with all its memory; and
- * nothing may be left over.
+ * nothing may be left over. Calls on one item are made on each item of the bundle, `find` on its
+ * first one, and `check` on what was found of that.
  *
- *     memory BUNDLE ANCHORS VOUCHERS     prints `N passed, M failed`
+ *     memory BUNDLE ANCHORS VOUCHERS YEAR-MONTH-DAY     prints `N passed, M failed`
  *
  * VOUCHERS are digests, 64 octets a pair.
  */
@@ -70,7 +71,7 @@ typedef struct {
 
 static unsigned char *bundle, *anchors, *vouchers;
 static size_t bundle_length, anchors_length, vouchers_length;
-static certpath_span first;
+static certpath_span one;
 
 typedef int32_t (*call)(written *);
 
@@ -82,34 +83,59 @@ static int32_t frame(written *to)
 
 static int32_t class_of(written *to)
 {
-    return certpath_class(bundle + first.offset, first.length, (uint32_t *)to->result);
+    return certpath_class(bundle + one.offset, one.length, (uint32_t *)to->result);
 }
 
-static int32_t field(written *to)
+static int32_t field(uint32_t number, written *to)
 {
-    return certpath_field(bundle + first.offset, first.length, CERTPATH_KEY,
-                          to->buffer, ROOM, (size_t *)to->result);
+    return certpath_field(bundle + one.offset, one.length, number, to->buffer, ROOM,
+                          (size_t *)to->result);
+}
+
+static int32_t issuer(written *to)
+{
+    return field(CERTPATH_ISSUER, to);
+}
+
+static int32_t subject(written *to)
+{
+    return field(CERTPATH_SUBJECT, to);
+}
+
+static int32_t key(written *to)
+{
+    return field(CERTPATH_KEY, to);
+}
+
+static int32_t serial(written *to)
+{
+    return field(CERTPATH_SERIAL, to);
+}
+
+static int32_t algorithm(written *to)
+{
+    return field(CERTPATH_ALGORITHM, to);
 }
 
 static int32_t times(written *to)
 {
-    return certpath_times(bundle + first.offset, first.length, (certpath_validity *)to->result);
+    return certpath_times(bundle + one.offset, one.length, (certpath_validity *)to->result);
 }
 
+/* The text of the subject's name, which is taken without a refusal. */
 static int32_t name(written *to)
 {
-    unsigned char subject[512];
-    size_t length;
-    size_t until = refused;
+    unsigned char octets[512];
+    size_t length, until = refused;
     int32_t status;
     refused = 0;
-    status = certpath_field(bundle + first.offset, first.length, CERTPATH_SUBJECT, subject,
-                            sizeof subject, &length);
+    status = certpath_field(bundle + one.offset, one.length, CERTPATH_SUBJECT, octets,
+                            sizeof octets, &length);
     requests = 0;
     refused = until;
     if (status != CERTPATH_DONE)
         return status;
-    return certpath_name(subject, length, to->buffer, ROOM, (size_t *)to->result);
+    return certpath_name(octets, length, to->buffer, ROOM, (size_t *)to->result);
 }
 
 static int32_t questions(written *to)
@@ -119,36 +145,44 @@ static int32_t questions(written *to)
                               (size_t *)to->result);
 }
 
-/* A table of two rows for four items, and before it a path of three. */
-enum { PATH = 3, ENTRIES = 8 };
+/* What is found goes into the buffer, a path and behind it a table. */
+enum { PATH = 64, ENTRIES = 1024 };
 
-static const certpath_settings SETTINGS = {0, CERTPATH_LIMIT, 1, {2027, 1, 1, 0, 0, 0}};
+static certpath_settings settings = {0, CERTPATH_LIMIT, 0, {0, 0, 0, 0, 0, 0}};
 
 static int32_t find(written *to)
 {
     return certpath_find(bundle, bundle_length, anchors, anchors_length,
                          (const certpath_voucher *)vouchers,
-                         vouchers_length / sizeof(certpath_voucher), &SETTINGS,
+                         vouchers_length / sizeof(certpath_voucher), &settings,
                          (size_t *)to->buffer, PATH, (uint64_t *)to->buffer + PATH, ENTRIES,
                          (certpath_answer *)to->result);
 }
 
+static written found;
+
 static int32_t check(written *to)
 {
-    static const size_t path[PATH] = {0, 1, 2};
-    static const uint64_t table[ENTRIES] = {0, 1, 2, 0, 3, 0, UINT64_MAX, 0};
-    static const certpath_answer answer = {CERTPATH_PATH, PATH, 0, ENTRIES};
+    const certpath_answer *answer = (const certpath_answer *)found.result;
     return certpath_check(bundle, bundle_length, anchors, anchors_length,
                           (const certpath_voucher *)vouchers,
-                          vouchers_length / sizeof(certpath_voucher), &SETTINGS, &answer, path,
-                          PATH, table, ENTRIES, (uint32_t *)to->result);
+                          vouchers_length / sizeof(certpath_voucher), &settings, answer,
+                          (const size_t *)found.buffer, answer->length,
+                          (const uint64_t *)found.buffer + PATH, answer->entries,
+                          (uint32_t *)to->result);
 }
 
-static const struct {
+typedef struct {
     const char *name;
     call make;
-} CALLS[] = {{"frame", frame}, {"class", class_of},      {"field", field}, {"times", times},
-             {"name", name},   {"questions", questions}, {"find", find},   {"check", check}};
+} named;
+
+static const named OF_AN_ITEM[] = {
+    {"class", class_of}, {"issuer", issuer}, {"subject", subject},     {"key", key},
+    {"serial", serial},  {"times", times},   {"algorithm", algorithm}, {"name", name}};
+
+static const named OF_FILES[] = {
+    {"frame", frame}, {"questions", questions}, {"find", find}, {"check", check}};
 
 /* ---- trying */
 
@@ -173,23 +207,48 @@ static int32_t tried_with(call make, size_t n, written *to)
     return make(to);
 }
 
-static void all_refusals(const char *name, call make, written *whole, written *part, written *blank)
+/* Gives how many requests the call makes with all its memory. */
+static size_t all_refusals(const named *it)
 {
+    static written whole, part, blank;
     size_t n = 1;
-    int32_t status = tried_with(make, 0, whole);
-    tell(name, 0, status == CERTPATH_DONE, "it isn't done with all its memory");
-    tell(name, 0, blocks == 0, "memory is left over");
-    memset(blank, 0x5a, sizeof *blank);
+    int32_t status, done = tried_with(it->make, 0, &whole);
+    tell(it->name, 0, done == CERTPATH_DONE || done == CERTPATH_NO_FIELD,
+         "it isn't done with all its memory");
+    tell(it->name, 0, blocks == 0, "memory is left over");
+    memset(&blank, 0x5a, sizeof blank);
     do {
-        status = tried_with(make, n, part);
+        status = tried_with(it->make, n, &part);
         if (status == CERTPATH_OUT_OF_MEMORY)
-            tell(name, n, memcmp(part, blank, sizeof *part) == 0, "something was written");
+            tell(it->name, n, memcmp(&part, &blank, sizeof part) == 0, "something was written");
         else
-            tell(name, n, status == CERTPATH_DONE && memcmp(part, whole, sizeof *part) == 0,
+            tell(it->name, n, status == done && memcmp(&part, &whole, sizeof part) == 0,
                  "another answer");
-        tell(name, n, blocks == 0, "memory is left over");
+        tell(it->name, n, blocks == 0, "memory is left over");
     } while (requests >= n++);
-    printf("%s: %zu requests\n", name, n - 2);
+    return n - 2;
+}
+
+static void of_items(const certpath_span *spans, size_t count)
+{
+    size_t k, at, sum;
+    for (k = 0; k < sizeof OF_AN_ITEM / sizeof *OF_AN_ITEM; k++) {
+        sum = 0;
+        for (at = 0; at < count; at++) {
+            one = spans[at];
+            sum += all_refusals(&OF_AN_ITEM[k]);
+        }
+        printf("%s %zu, ", OF_AN_ITEM[k].name, sum);
+    }
+}
+
+static void of_files(void)
+{
+    size_t k, sum;
+    for (k = 0; k < sizeof OF_FILES / sizeof *OF_FILES; k++) {
+        sum = all_refusals(&OF_FILES[k]);
+        printf("%s %zu%s", OF_FILES[k].name, sum, k + 1 < 4 ? ", " : " requests\n");
+    }
 }
 
 static unsigned char *octets_of(const char *path, size_t *length)
@@ -207,18 +266,18 @@ static unsigned char *octets_of(const char *path, size_t *length)
 
 int main(int count, char **words)
 {
-    static written whole, part, blank;
-    size_t k;
-    if (count != 4)
+    static written framed;
+    certpath_moment *at = &settings.moment;
+    if (count != 5 || sscanf(words[4], "%hd-%hhd-%hhd", &at->year, &at->month, &at->day) != 3)
         return 2;
     bundle = octets_of(words[1], &bundle_length);
     anchors = octets_of(words[2], &anchors_length);
     vouchers = octets_of(words[3], &vouchers_length);
-    if (frame(&whole) != CERTPATH_DONE)
+    if (frame(&framed) != CERTPATH_DONE || find(&found) != CERTPATH_DONE)
         return 1;
-    memcpy(&first, whole.buffer, sizeof first);
-    for (k = 0; k < sizeof CALLS / sizeof *CALLS; k++)
-        all_refusals(CALLS[k].name, CALLS[k].make, &whole, &part, &blank);
+    of_items((const certpath_span *)framed.buffer,
+             ((const certpath_framed *)framed.result)->count);
+    of_files();
     free(bundle);
     free(anchors);
     free(vouchers);
