@@ -9,6 +9,7 @@ import sys
 import tempfile
 
 import paths
+import pieces
 import repo
 
 SECONDS = 60
@@ -126,6 +127,15 @@ def frame_table(room, made):
     ]
 
 
+def octet_by_octet(rows, room):
+    """The worked cases of `path`, with a bundle that comes octet by octet."""
+    for words, _, *wanted in rows:
+        if words[:1] == ["path"] and words[1].startswith(paths.CASE_BUNDLE):
+            with open(os.path.join(room, words[1]), "rb") as file:
+                octets = file.read()
+            yield ["path", "/dev/stdin", *words[2:]], [octets[it:it + 1] for it in range(len(octets))], *wanted
+
+
 def ran(program, words, room, octets, output):
     """A run's status, what it wrote to standard output where that is piped, and to standard error."""
     it = subprocess.run([program, *words], cwd=room, input=octets, stdout=output, stderr=subprocess.PIPE, timeout=SECONDS)
@@ -148,8 +158,11 @@ def main():
             print(f"certpath {words}: status, output and error are {got}, wanted are {wanted}")
 
     with tempfile.TemporaryDirectory(prefix="commands-") as room:
-        for words, octets, *wanted in table(room):
+        rows = table(room)
+        for words, octets, *wanted in rows:
             count(words, ran(program, words, room, octets, subprocess.PIPE), tuple(wanted))
+        for words, octets, *wanted in octet_by_octet(rows, room):
+            count([*words, "octet by octet"], pieces.ran([program, *words], octets, SECONDS, cwd=room), tuple(wanted))
         # a device that takes no octet
         with open("/dev/full", "wb") as full:
             count(["frame", "three", ">/dev/full"], ran(program, ["frame", "three"], room, b"", full), (7, None, b"cannot write\n"))

@@ -8,6 +8,8 @@ import repo
 CASES = "crates/check_rows/stdin"
 # What is printed, by the command.
 PRINTED = {"path": "tools/paths.txt", "why": "tools/why.txt", "paths": "tools/all_paths.txt", "questions": "tools/questions.txt"}
+# How the files of bundles are named that `path` is asked about.
+CASE_BUNDLE = "path_bundle"
 # Copies of one certificate, each of which an anchor vouches for; the last is asked for.
 EQUALS = 300
 # What is printed of one certificate that is its own anchor, where a key vouches for it and where none does.

@@ -1,0 +1,175 @@
+#!/usr/bin/env python3
+"""Refuses memory to the built programs: each request of a run in turn, until a run meets none.
+
+`certpath` has to print what it prints with all its memory, or `out of memory` alone, with status 6.
+The programs of rows call what no command does: a row has the outcome that it has with all memory,
+or it says that memory is out, or the program fails. tools/embedding/refuse.c does the refusing.
+
+    python3 tools/memory.py     the last line is `memory: N passed, M failed`
+"""
+import os
+import re
+import subprocess
+import sys
+import tempfile
+from concurrent.futures import ThreadPoolExecutor
+from typing import Callable, NamedTuple
+
+sys.dont_write_bytecode = True
+import paths
+import pieces
+import repo
+
+REFUSER = os.path.join("tools", "embedding", "refuse.c")
+COMPILER = ["cc", "-std=c99", "-Wall", "-Wextra", "-Werror", "-O1", "-shared", "-fPIC"]
+SECONDS, RUNS = 60, 4
+OUT_OF_MEMORY = 6, b"", b"out of memory\n"
+# The worked cases of crates/check_rows/stdin that the commands are tried on.
+CASES = ("an anchor vouches for itself, at the last moment", "revoked by a list",
+         "a list that is other revokes nothing", "a later count is taken", "the key that is named")
+# How rows begin, and the octets of crates/check_rows/stdin that they end with.
+ROWS = {
+    "cert_rows": {"": ("A", "V", "M", "M_loose", "T_names_abcd"),
+                  "keys:": ("T_names_abcd", "B_has_abcd")},
+    "x509_rows": {"certificate certificate ": ("A", "V", "V_twice", "T_names_abcd"),
+                  "list list ": ("M", "M_loose"),
+                  "validator written ": ("A", "V_twice"),
+                  "validator structure ": ("A", "V_twice"),
+                  "validator chain ": ("V_twice",)},
+}
+# The stored rows of certificates that have every kind of extension that is parsed.
+ALL_KINDS = re.compile(r"(?m)^walk (certificate 308201ca\w+)$")
+# What a row says where memory is refused to its call, or to the reading before it.
+REFUSED = re.compile(rb"Failure\(OutOfMemory\)|refused|no certificate")
+
+
+class Trial(NamedTuple):
+    """A program, its words, its input as the pieces that it reads one by one, and whether it is
+    right with a request refused, by what it did with all its memory and what it does now."""
+    title: str
+    words: list
+    pieces: tuple
+    is_right: Callable
+
+
+# ---- one run
+
+
+def refuser(room):
+    """The library that refuses, compiled; none where it can't be."""
+    library = os.path.join(room, "refuse.so")
+    words = [*COMPILER, os.path.join(repo.TOP, REFUSER), "-o", library]
+    done = subprocess.run(words, stdin=subprocess.DEVNULL)
+    return library if done.returncode == 0 else None
+
+
+def ran(trial, room, library, number):
+    """Runs with the request of this number refused, none where it is 0. Gives whether there was
+    such a request; and status, output and error."""
+    told, tell = os.pipe()
+    environment = {"LD_PRELOAD": library, "REFUSED": str(number), "REFUSED_TOLD": str(tell)}
+    try:
+        done = pieces.ran(trial.words, trial.pieces, SECONDS, cwd=room, env=environment,
+                          pass_fds=[tell])
+        os.close(tell)
+        return os.read(told, 1) != b"", done
+    finally:
+        os.close(told)
+
+
+def all_refusals(trial, room, library):
+    """How many requests a run makes, and a line for each refusal after which it is wrong."""
+    whole, amiss, number = ran(trial, room, library, 0)[1], [], 0
+    while True:
+        number += 1
+        was_refused, now = ran(trial, room, library, number)
+        if not (trial.is_right(whole, now) if was_refused else now == whole):
+            amiss.append(f"{trial.title}, request {number}: {now}, with all memory {whole}")
+        if not was_refused:
+            return number - 1, amiss
+
+
+# ---- what is run
+
+
+def is_command_right(whole, now):
+    return now in (whole, OUT_OF_MEMORY)
+
+
+def is_row_right(whole, now):
+    """Whether a row has its outcome, or says that memory is out, or the program failed over it."""
+    if now[0]:
+        return whole[1].startswith(now[1])
+    row, _, outcome = now[1].rstrip(b"\n").partition(b" = ")
+    is_refused = REFUSED.fullmatch(outcome) and whole[1].startswith(row + b" = ")
+    return now == whole or bool(is_refused)
+
+
+def command_trials(program, room):
+    """The commands on worked cases, and a certificate that comes in three pieces."""
+    octets, cases = paths.worked()
+
+    def made(name, content):
+        with open(os.path.join(room, name), "wb") as file:
+            file.write(content)
+        return name
+
+    def trial(title, words, parts=()):
+        return Trial(title, [program, *words], parts, is_command_right)
+
+    for place, title in enumerate(CASES):
+        case = cases[title]
+        files = [made(f"{name}{place}", b"".join(octets[it] for it in names))
+                 for name, names in (("bundle", case.items), ("anchors", case.anchors))]
+        pairs = ((octets[key], octets[item]) for key, item in case.vouching)
+        files.append(made(f"vouchers{place}", paths.vouchers(pairs)))
+        for command in paths.PRINTED:
+            words = paths.words_of(command, files, {"target": "0"}, case)
+            yield trial(f"{command}, {title}", words)
+    one, case = octets["A"], cases[CASES[0]]
+    parts = one[:1], one[1:40], one[40:]
+    files = "/dev/stdin", "anchors0", "vouchers0"
+    yield trial("frame, three pieces", ["frame", files[0]], parts)
+    words = paths.words_of("path", files, {"target": "0"}, case)
+    yield trial("path, three pieces", words, parts)
+
+
+def row_trials(crate, program):
+    """The rows of a program, a run each."""
+    octets, _ = paths.worked()
+    rows = {f"{front}{it}": f"{front}{octets[it].hex()}"
+            for front, names in ROWS[crate].items() for it in names}
+    if crate == "x509_rows":
+        stored = ALL_KINDS.findall(repo.read("crates/x509_rows/stdin"))
+        rows |= {f"all kinds, {place}": f"certificate {it}" for place, it in enumerate(stored)}
+    for title, row in rows.items():
+        yield Trial(f"{crate}, {title}", [program], (f"{row}\n".encode(),), is_row_right)
+
+
+def main():
+    passed = failed = 0
+    with tempfile.TemporaryDirectory(prefix="memory-") as room, ThreadPoolExecutor(RUNS) as pool:
+        made = {it: repo.ready(it) for it in ("certpath_cli", *ROWS)}
+        made[REFUSER] = library = refuser(room)
+        lacking = [it for it, path in made.items() if not path]
+        for it in lacking:
+            print(f"memory: {it} wasn't built")
+        if lacking:
+            print(f"memory: 0 passed, {len(lacking)} failed")
+            return 1
+        groups = {"certpath": [*command_trials(made["certpath_cli"], room)]}
+        groups |= {it: [*row_trials(it, made[it])] for it in ROWS}
+        for title, trials in groups.items():
+            found = [*pool.map(lambda it: all_refusals(it, room, library), trials)]
+            requests, amiss = sum(it for it, _ in found), [line for _, it in found for line in it]
+            # a trial for each request, and one with a request more than there are
+            passed += requests + len(trials) - len(amiss)
+            failed += len(amiss)
+            print("".join(f"memory: {it}\n" for it in amiss), end="")
+            print(f"memory: {title}: {len(trials)} runs, {requests} requests refused")
+    print(f"memory: {passed} passed, {failed} failed")
+    return 1 if failed else 0
+
+
+if __name__ == "__main__":
+    sys.exit(main())
