@@ -287,6 +287,11 @@ How to read it: a number is how many lines of a page a call depends on. In `12+3
 of the 42 lines are reached by the clause `exact` alone, which says which error comes: it is written
 in definitions that follow the reader's steps, on pages named `Reading` and `Readers`. Whoever only
 wants to know what a reader accepts, and as which value, needn't read those.
+
+- [How much](#how-much)
+- [Framing, classes, paths, the program](#framing-classes-paths-the-program)
+- [Readers of certificates, lists and requests](#readers-of-certificates-lists-and-requests)
+- [Readers of their parts](#readers-of-their-parts)
 """
 
 

@@ -1,4 +1,4 @@
-"""What ./bundle makes of files that are written out here or stand in samples/: the octets, what is told, and the status."""
+"""What ./bundle makes of files that are written out here or stand in samples/: the octets, what is reported, and the status."""
 import base64
 import os
 import subprocess
@@ -35,12 +35,12 @@ BROKEN = [pem(KEY, "PRIVATE KEY"), pem(KEY), pem(REQUEST, "CERTIFICATE REQUEST")
 
 # Each case: files by their names, the words, the octets wanted, the lines on standard error, the status.
 CASES = (
-    ({}, ["leaf", "intermediate", "root", "list"], sample("bundle"), ["bundle: 4 items (3 certificates, 1 list), 0 told"], 0),
+    ({}, ["leaf", "intermediate", "root", "list"], sample("bundle"), ["bundle: 4 items (3 certificates, 1 list), 0 left out"], 0),
     ({"two.pem": pem(LEAF) + b"subject=someone\n" + pem(LIST, "X509 CRL"), "junk": b"junk\n"}, ["two.pem", "root", "junk"], LEAF + LIST + ROOT,
-     ["junk: neither PEM nor DER; left out", "bundle: 3 items (2 certificates, 1 list), 1 told"], 1),
+     ["junk: neither PEM nor DER; left out", "bundle: 3 items (2 certificates, 1 list), 1 left out"], 1),
     ({"mark": b"\xef\xbb\xbf" + pem(LEAF, end=b"\r\n") + pem(ROOT, "X509 CERTIFICATE", b"\r").rstrip(),
       "trusted": pem(LEAF + b"\x30\x02\x0c\x00", "TRUSTED CERTIFICATE")}, ["mark", "trusted"], LEAF + ROOT + LEAF,
-     ["bundle: 3 items (3 certificates, 0 lists), 0 told"], 0),
+     ["bundle: 3 items (3 certificates, 0 lists), 0 left out"], 0),
     ({"broken": b"".join(BROKEN)}, ["broken"], ROOT,
      ["broken block 1 (PRIVATE KEY): left out",
       "broken block 2 (CERTIFICATE): neither certificate nor revocation list; left out",
@@ -53,13 +53,13 @@ CASES = (
       "broken block 9 (CERTIFICATE): headers stand within; left out",
       "broken block 10 (CERTIFICATE): it ends as X509 CERTIFICATE; left out",
       "broken block 11 (CERTIFICATE): its END is missing; left out",
-      "broken block 12 (CERTIFICATE): 1 octet behind the item; left out",
-      "bundle: 1 item (1 certificate, 0 lists), 12 told"], 1),
+      "broken block 12 (CERTIFICATE): 1 octet after the item; left out",
+      "bundle: 1 item (1 certificate, 0 lists), 12 left out"], 1),
     ({"lines": b"# -----BEGIN CERTIFICATE-----\n-----END CERTIFICATE-----\n" + LIST + b"\n" + pem(LEAF)}, ["lines"], LEAF,
      ["lines line 1: a BEGIN that is no line of its own; left out",
       "lines line 2: an END (CERTIFICATE) without a BEGIN; left out",
       "lines line 3: octets around the blocks that are no text; left out",
-      "bundle: 1 item (1 certificate, 0 lists), 3 told"], 1),
+      "bundle: 1 item (1 certificate, 0 lists), 3 left out"], 1),
     ({"some": REQUEST + LEAF + LONG + LIST + b"\x30\x80\0\0", "tail": ROOT + b"\n", "cut": LEAF[:-1], "none": b""},
      ["some", "tail", "cut", "none"], LEAF + LIST + ROOT,
      ["some octet 0: neither certificate nor revocation list; left out",
@@ -68,12 +68,12 @@ CASES = (
       "tail octet 813: neither certificate nor revocation list, 1 octet to the file's end; left out",
       "cut octet 0: 1 octet of it missing, 883 octets to the file's end; left out",
       "none: empty; left out",
-      "bundle: 3 items (2 certificates, 1 list), 6 told"], 1),
+      "bundle: 3 items (2 certificates, 1 list), 6 left out"], 1),
     ({}, [], b"", ["usage: ./bundle FILE.. > bundle.der"], 2),
     ({}, ["leaf", "missing"], b"", ["cannot read missing"], 4),
     ({}, ["miss\x1b[2Jing\n"], b"", ["cannot read miss\\x1b[2Jing\\n"], 4),
     ({"es\x9bcape": b"junk\n"}, ["es\x9bcape", "leaf"], LEAF,
-     ["es\\x9bcape: neither PEM nor DER; left out", "bundle: 1 item (1 certificate, 0 lists), 1 told"], 1),
+     ["es\\x9bcape: neither PEM nor DER; left out", "bundle: 1 item (1 certificate, 0 lists), 1 left out"], 1),
 )
 
 
@@ -85,7 +85,7 @@ def faults():
                 with open(os.path.join(room, name), "wb") as file:
                     file.write(held)
             ran = subprocess.run([sys.executable, "-IS", os.path.join(repo.TOP, "bundle"), *words], cwd=room, stdin=subprocess.DEVNULL, capture_output=True)
-        told = ran.stderr.decode().splitlines()
-        for what, found, wanted in (("octets", ran.stdout, octets), ("lines", told, lines), ("status", ran.returncode, status)):
+        reported = ran.stderr.decode().splitlines()
+        for what, found, wanted in (("octets", ran.stdout, octets), ("lines", reported, lines), ("status", ran.returncode, status)):
             if found != wanted:
                 yield f"bundle {' '.join(words)}: its {what} are {found!r:.300}, and {wanted!r:.300} are wanted"

@@ -8,14 +8,17 @@ import repo
 
 WIDTH, LONGEST_SENTENCE = 100, 40
 README, README_WORDS, README_LINES = "README.md", 900, 120
-# Pages from before lines had a width, which still have longer ones.
-WIDE_PAGES = ("docs/OTHER.md",)
+# Longer pages begin with their contents.
+MOST_WITHOUT_CONTENTS = 100
+PROMISES, PROVED = "docs/PROMISES.md", "## What is proved"
 # Pages for a reader's first minutes.
 PLAIN_PAGES = (README, "docs/CLI.md")
 WALK = "docs/ARCHITECTURE.md"
 WALK_ROW = re.compile(r"\| [^|]*\| [^|]*\| `([\w/]+\.rt)` \| ([^|]*)\|")
 LINK = re.compile(r"\]\(([^()\s#]*)#([^()\s]+)\)")
 CODE = re.compile(r"`[^`\n]*`")
+# A row of a table that links can name.
+ROW = re.compile(r'(?m)^\| <a id="([\w-]+)"></a>')
 
 
 def found_pages():
@@ -34,7 +37,7 @@ def narrow_pages():
         for number, line in enumerate(repo.read(path).splitlines(), 1):
             if line.startswith("```"):
                 is_quoted = path.endswith("CALLING.md") and not is_quoted
-            if path not in WIDE_PAGES and len(line) > WIDTH and not line.startswith("|") and not is_quoted:
+            if len(line) > WIDTH and not line.startswith("|") and not is_quoted:
                 yield f"{path}:{number}: {len(line)} columns, and at most {WIDTH} are kept"
 
 
@@ -84,8 +87,40 @@ def short_readme():
         yield f"{README}: {lines} lines, and at most {README_LINES} are kept there"
 
 
+def contents_stand():
+    """A page of more than two screens has links to all its sections above the first one."""
+    for path in found_pages():
+        page = repo.read(path)
+        if path == README or len(page.splitlines()) <= MOST_WITHOUT_CONTENTS:
+            continue
+        head = page.partition("\n## ")[0]
+        for line in re.findall(r"(?m)^## .*$", page):
+            name = next(headings(line))
+            if f"](#{name})" not in head:
+                yield f"{path}: above its first section no link leads to #{name}"
+
+
+def claims_named():
+    """Each claim of README.md about proofs names its row of docs/PROMISES.md."""
+    section = repo.read(README).partition(f"{PROVED}\n")[2].partition("\n## ")[0]
+    rows = {*ROW.findall(repo.read(PROMISES))}
+    claims = [it for it in paragraphs(section) if re.match(r"\d+\. ", it)]
+    if not claims:
+        yield f"{README}: it has no claims below {PROVED}"
+    for claim in claims:
+        names = re.findall(rf"\]\({re.escape(PROMISES)}#([\w-]+)\)", claim)
+        if not names or not {*names} <= rows:
+            yield f"{README}: it names no row of {PROMISES}: {claim}"
+
+
 def anchors(page):
-    """The names of a page's headings, as links name them."""
+    """The names of a page's headings and rows, as links name them."""
+    yield from ROW.findall(page)
+    yield from headings(page)
+
+
+def headings(page):
+    """The names of a page's headings."""
     names, is_code = {}, False
     for line in page.splitlines():
         if line.startswith("```"):
@@ -163,5 +198,5 @@ def promises_name():
                 yield f"{pages.PAGE}: {crate} has no definition page {page}"
 
 
-CHECKS = (narrow_pages, short_sentences, short_readme, anchors_lead, walk_stands, promises_name,
-          tables_made, notes_made, calling_made)
+CHECKS = (narrow_pages, short_sentences, short_readme, contents_stand, claims_named, anchors_lead,
+          walk_stands, promises_name, tables_made, notes_made, calling_made)

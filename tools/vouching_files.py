@@ -133,7 +133,7 @@ def refusals(t):
 
 
 def containers(t, chain):
-    """Other containers are told, or unpacked by openssl; no octet of a private key comes out."""
+    """Other containers are reported, or unpacked by openssl; no octet of a private key comes out."""
     shop = t.shop
     with open(os.path.join(shop.room, shop.key("p256")), "rb") as file:
         private = file.read()
@@ -142,7 +142,7 @@ def containers(t, chain):
     shop.openssl("pkcs12", "-export", "-nokeys", "-in", "chain.pem", "-out", "it.p12", "-passout", "pass:")
     shop.openssl("crl2pkcs7", "-nocrl", "-certfile", "chain.pem", "-outform", "DER", "-out", "it.p7b")
     left_out = "octet 0: neither certificate nor revocation list; left out"
-    none = "bundle: 0 items (0 certificates, 0 lists), 1 told"
+    none = "bundle: 0 items (0 certificates, 0 lists), 1 left out"
     for file in ("it.p12", "it.p7b"):
         t.same(f"bundle {file}", t.run("bundle", [file]), (1, b"", [f"{file} {left_out}", none]))
     unpacked = shop.openssl("pkcs7", "-inform", "DER", "-in", "it.p7b", "-print_certs")
@@ -156,19 +156,19 @@ def containers(t, chain):
     t.same("bundle of DER with a BEGIN within", t.run("bundle", ["text_within.der"])[:2], (0, text_within))
     shop.keep("private.pem", private + pem(chain[0]))
     shop.keep("private.der", octets_of_pem(private))
-    told = ["private.pem block 1 (PRIVATE KEY): left out", f"private.der {left_out}", "bundle: 1 item (1 certificate, 0 lists), 2 told"]
-    t.same("bundle with private keys", t.run("bundle", ["private.pem", "private.der"]), (1, chain[0], told))
+    reported = ["private.pem block 1 (PRIVATE KEY): left out", f"private.der {left_out}", "bundle: 1 item (1 certificate, 0 lists), 2 left out"]
+    t.same("bundle with private keys", t.run("bundle", ["private.pem", "private.der"]), (1, chain[0], reported))
 
 
 def bundles(t):
-    """What ./bundle writes is items to its end, as many as it tells."""
+    """What ./bundle writes is items to its end, as many as it says."""
     program = repo.ready("certpath_cli")
     for files, words, *_ in bundling.CASES:
         for file, octets_held in {**{it: held(f"{it}.der") for it in ("leaf", "intermediate", "root", "list")}, **files}.items():
             t.shop.keep(file, octets_held)
-        _, bundled, told = t.run("bundle", words)
+        _, bundled, reported = t.run("bundle", words)
         rows = subprocess.run([program, "frame", "/dev/stdin"], input=bundled, stdout=subprocess.PIPE).stdout.decode().splitlines()
-        count = re.match(r"bundle: (\d+) items? ", told[-1])
+        count = re.match(r"bundle: (\d+) items? ", reported[-1])
         t.same(f"frame of bundle {words}", (len(rows) - 1, rows[-1]), (int(count[1]) if count else 0, "end clean"))
         t.same(f"bundle {words} has no private key", bundling.KEY[-4:] in bundled, False)
 
@@ -191,7 +191,7 @@ def from_pem(t):
     shop.keep("lists.pem", b"".join(lists))
     items = [octets_of_pem(it) for it in (issued[2], issued[1], issued[0], *lists)]
     t.same("bundle of PEM files", t.run("bundle", ["leaf.pem", "intermediates.pem", "lists.pem"]),
-           (0, b"".join(items), ["bundle: 6 items (3 certificates, 3 lists), 0 told"]))
+           (0, b"".join(items), ["bundle: 6 items (3 certificates, 3 lists), 0 left out"]))
     signers = ("ed25519", "p384", "rsa", "rsa", "p384", "ed25519")
     pairs = [(shop.public(kind), it) for kind, it in zip(signers, items)]
     first, wrong = (t.run("bundle", [it])[1] for it in ("first.pem", "wrong.pem"))
