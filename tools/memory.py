@@ -3,7 +3,8 @@
 
 `certpath` has to print what it prints with all its memory, or `out of memory` alone, with status 6.
 The programs of rows call what no command does: a row has the outcome that it has with all memory,
-or it says that memory is out, or the program fails. tools/embedding/refuse.c does the refusing.
+or it says that memory is out, or the program fails. Tests that are made for it pass, or end because
+memory was refused to themselves. tools/embedding/refuse.c does the refusing.
 
     python3 tools/memory.py     the last line is `memory: N passed, M failed`
 """
@@ -39,6 +40,15 @@ ROWS = {
 }
 # The stored rows of certificates that have every kind of extension that is parsed.
 ALL_KINDS = re.compile(r"(?m)^walk (certificate 308201ca\w+)$")
+# Tests that hold whatever is refused, by the crate; the gate leaves their programs.
+TESTS = {
+    "asn1_tests": ("any::cut_or_want_of_memory",),
+    "run_tests": ("framing::answers_failed_once_memory_was_refused",
+                  "runs::a_report_or_want_of_memory"),
+}
+# A test that passed, and one that ended because memory was refused to itself.
+PASSED = re.compile(rb"test result: ok\s*\Z")
+ENDED = re.compile(rb"error: (?:OutOfMemory|AllocError)\s+the test failed: its result gives")
 # What a row says where memory is refused to its call, or to the reading before it.
 REFUSED = re.compile(rb"Failure\(OutOfMemory\)|refused|no certificate")
 
@@ -105,6 +115,11 @@ def is_row_right(whole, now):
     return now == whole or bool(is_refused)
 
 
+def is_test_right(_, now):
+    said = now[1] + now[2]
+    return bool(PASSED.search(said) if now[0] == 0 else ENDED.search(said))
+
+
 def command_trials(program, room):
     """The commands on worked cases, and a certificate that comes in three pieces."""
     octets, cases = paths.worked()
@@ -146,6 +161,16 @@ def row_trials(crate, program):
         yield Trial(f"{crate}, {title}", [program], (f"{row}\n".encode(),), is_row_right)
 
 
+def test_trials(crate):
+    """The tests of a crate, none where the gate left no program of them here."""
+    program = os.path.join(repo.TOP, "crates", crate, "out", f"{crate}_tests")
+    if not os.access(program, os.X_OK):
+        print(f"memory: {crate}: the gate left no program of its tests, so they aren't run")
+        return
+    for it in TESTS[crate]:
+        yield Trial(f"{crate}, {it}", [program, f"tests::{it}"], (), is_test_right)
+
+
 def main():
     passed = failed = 0
     with tempfile.TemporaryDirectory(prefix="memory-") as room, ThreadPoolExecutor(RUNS) as pool:
@@ -159,6 +184,7 @@ def main():
             return 1
         groups = {"certpath": [*command_trials(made["certpath_cli"], room)]}
         groups |= {it: [*row_trials(it, made[it])] for it in ROWS}
+        groups |= {it: [*test_trials(it)] for it in TESTS}
         for title, trials in groups.items():
             found = [*pool.map(lambda it: all_refusals(it, room, library), trials)]
             requests, amiss = sum(it for it, _ in found), [line for _, it in found for line in it]

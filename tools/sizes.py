@@ -118,7 +118,7 @@ def cases(large):
     revoking = large["1,000 entries"]
     found = "path 0 anchor 0"
     yield Case("1,000 items", many, [anchor], many[-1:], f"path {last} anchor 0", last)
-    yield Case("1,000 vouchers", [anchor], [anchor], [*many[1:], anchor], found)
+    yield Case("the last of 1,001 vouchers", [anchor], [anchor], [*many, anchor], found)
     yield Case("1,000 anchors", [anchor], [*many[1:], anchor], [anchor], f"path 0 anchor {last}")
     yield Case("a path of 300", chain, [root], chain, f"path {whole} anchor 0")
     for title, leaf, answer in (("the last of 1,000 entries", many[-1], "none"),
