@@ -24,7 +24,7 @@ sys.path.insert(0, os.path.join(repo.TOP, "python"))
 import certpath
 
 MANY, CHAIN, EXTENSIONS, OCTETS = 1_000, 300, 300, 100_000
-MOMENT, SECONDS = "2025-06-01T00:00:00", 120
+MOMENT, SECONDS = "2025-06-01T00:00:00", 600
 KEY = items.octets("30(30(06(2a03))03(00))")
 VERSION_3 = "a0(02(02))"
 AUTHORITY = "30(06(551d13)01(ff)04(30(01(ff))))"
