@@ -3,13 +3,14 @@
 
 `certpath` has to print what it prints with all its memory, or `out of memory` alone, with status 6.
 The programs of rows call what no command does: a row has the outcome that it has with all memory,
-or it says that memory is out, or the program fails. Tests that are made for it pass, or end because
-memory was refused to themselves. tools/embedding/refuse.c does the refusing.
+or it says that memory is out, or the program ends so. Tests that are made for it pass, or end
+because memory was refused to themselves. tools/embedding/refuse.c does the refusing.
 
     python3 tools/memory.py     the last line is `memory: N passed, M failed`
 """
 import os
 import re
+import shutil
 import subprocess
 import sys
 import tempfile
@@ -25,6 +26,8 @@ REFUSER = os.path.join("tools", "embedding", "refuse.c")
 COMPILER = ["cc", "-std=c99", "-Wall", "-Wextra", "-Werror", "-O1", "-shared", "-fPIC"]
 SECONDS, RUNS = 60, 4
 OUT_OF_MEMORY = 6, b"", b"out of memory\n"
+# How a program of rows ends over a row.
+ROW_LOST = 1, b"Error: Kind(OutOfMemory)\n"
 # The worked cases of crates/check_rows/stdin that the commands are tried on.
 CASES = ("an anchor vouches for itself, at the last moment", "revoked by a list",
          "a list that is other revokes nothing", "a later count is taken", "the key that is named")
@@ -67,6 +70,8 @@ class Trial(NamedTuple):
 
 def refuser(room):
     """The library that refuses, compiled; none where it can't be."""
+    if shutil.which(COMPILER[0]) is None:
+        return None
     library = os.path.join(room, "refuse.so")
     words = [*COMPILER, os.path.join(repo.TOP, REFUSER), "-o", library]
     done = subprocess.run(words, stdin=subprocess.DEVNULL)
@@ -107,9 +112,9 @@ def is_command_right(whole, now):
 
 
 def is_row_right(whole, now):
-    """Whether a row has its outcome, or says that memory is out, or the program failed over it."""
+    """Whether a row has its outcome, or says that memory is out, or the program ended over it."""
     if now[0]:
-        return whole[1].startswith(now[1])
+        return (now[0], now[2]) == ROW_LOST and whole[1].startswith(now[1])
     row, _, outcome = now[1].rstrip(b"\n").partition(b" = ")
     is_refused = REFUSED.fullmatch(outcome) and whole[1].startswith(row + b" = ")
     return now == whole or bool(is_refused)
