@@ -52,8 +52,10 @@ TESTS = {
 # A test that passed, and one that ended because memory was refused to itself.
 PASSED = re.compile(rb"test result: ok\s*\Z")
 ENDED = re.compile(rb"error: (?:OutOfMemory|AllocError)\s+the test failed: its result gives")
-# What a row says where memory is refused to its call, or to the reading before it.
+# What a row says where memory is refused to its call, or to the reading before it; and the line of
+# a row whose fields can't be written back, since memory is refused to what they are written into.
 REFUSED = re.compile(rb"Failure\(OutOfMemory\)|refused|no certificate")
+WRITTEN, UNWRITTEN = re.compile(rb"\n  written .*\n\Z"), b"\n  written nothing\n"
 
 
 class Trial(NamedTuple):
@@ -117,7 +119,7 @@ def is_row_right(whole, now):
         return (now[0], now[2]) == ROW_LOST and whole[1].startswith(now[1])
     row, _, outcome = now[1].rstrip(b"\n").partition(b" = ")
     is_refused = REFUSED.fullmatch(outcome) and whole[1].startswith(row + b" = ")
-    return now == whole or bool(is_refused)
+    return bool(is_refused) or now[1] in (whole[1], WRITTEN.sub(UNWRITTEN, whole[1]))
 
 
 def is_test_right(_, now):
