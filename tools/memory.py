@@ -103,7 +103,7 @@ def all_refusals(trial, room, library):
         if not (trial.is_right(whole, now) if was_refused else now == whole):
             amiss.append(f"{trial.title}, request {number}: {now}, with all memory {whole}")
         if not was_refused:
-            return number - 1, amiss
+            return number - 1, amiss if number > 1 else [f"{trial.title}: nothing is refused"]
 
 
 # ---- what is run
@@ -192,7 +192,7 @@ def main():
         groups = {"certpath": [*command_trials(made["certpath_cli"], room)]}
         groups |= {it: [*row_trials(it, made[it])] for it in ROWS}
         groups |= {it: [*test_trials(it)] for it in TESTS}
-        for title, trials in groups.items():
+        for title, trials in (it for it in groups.items() if it[1]):
             found = [*pool.map(lambda it: all_refusals(it, room, library), trials)]
             requests, amiss = sum(it for it, _ in found), [line for _, it in found for line in it]
             # a trial for each request, and one with a request more than there are
