@@ -46,8 +46,7 @@ ALL_KINDS = re.compile(r"(?m)^walk (certificate 308201ca\w+)$")
 # Tests that hold whatever is refused, by the crate; the gate leaves their programs.
 TESTS = {
     "asn1_tests": ("any::cut_or_want_of_memory",),
-    "run_tests": ("framing::answers_failed_once_memory_was_refused",
-                  "runs::a_report_or_want_of_memory"),
+    "run_tests": ("framing::answers_failed_once_memory_was_refused",),
 }
 # A test that passed, and one that ended because memory was refused to itself.
 PASSED = re.compile(rb"test result: ok\s*\Z")
