@@ -50,3 +50,11 @@ def family(name, title, command="path", **further):
 def of_octets(name, title, command="path", **further):
     """A family whose size is about the octets of its files."""
     return family(name, title, command, **{"unit": "octets", "sizes": OCTETS, "small": SMALL_OCTETS, **further})
+
+
+def also(command, *names, **further):
+    """Adds families of another command over the files of these: the family NAME of `path` as COMMAND-NAME."""
+    for name in names:
+        of = FAMILIES[name]
+        another = {"known": None, **further}
+        FAMILIES[f"{command}-{name}"] = of._replace(name=f"{command}-{name}", command=command, **another)
