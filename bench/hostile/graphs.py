@@ -4,8 +4,8 @@ from math import isqrt
 from family import UNLIMITED, Files, family
 from parts import (certificate, element, entry, integer, key, name, revocation_list, small_certificate, voucher)
 
-# Squares that docs/COST.md states.
-LISTS, ROWS = "a list is sorted for each key that vouches for it", "an answer has a row of all items for each certificate of its path"
+# A square that docs/COST.md states.
+ROWS = "an answer has a row of all items for each certificate of its path"
 X, LEAF, ROOT, NOWHERE = name("x"), name("leaf"), name("root"), name("nowhere")
 ROOT_KEY, COMMON_KEY = key(2**40), key(2**41)
 ANCHOR = certificate(ROOT, ROOT, ROOT_KEY)
@@ -89,24 +89,35 @@ def ids_different(count):
     return with_ids(count, lambda it: it, lambda it: it + 1)
 
 
+def long_list(count):
+    """A list of 10 n entries, none of them of a certificate here."""
+    return revocation_list(X, b"".join(entry(integer(count + it)) for it in range(10 * count)))
+
+
 @family("list-long", "a list of 10 n entries, and n certificates of its issuer", small=(500, 2_000), words=UNLIMITED)
 def list_long(count):
-    leaves = own_keys(count, LEAF, X)
-    entries = b"".join(entry(integer(count + it)) for it in range(10 * count))
-    signed = [*leaves, revocation_list(X, entries)]
+    signed = [*own_keys(count, LEAF, X), long_list(count)]
     issuer = certificate(X, ROOT, COMMON_KEY)
     lines = [voucher(COMMON_KEY, it) for it in signed] + [voucher(ROOT_KEY, issuer)]
     return Files([*signed, issuer], [ANCHOR], lines, f"path 0 {count + 1} anchor 0")
 
 
-@family("list-keys", "a list of 10 n entries, and n keys of its issuer that all vouch for it", small=(250, 1_000), words=UNLIMITED, known=LISTS)
+@family("list-keys", "a list of 10 n entries, and n keys of its issuer that all vouch for it", small=(250, 1_000), words=UNLIMITED)
 def list_keys(count):
-    entries = b"".join(entry(integer(count + it)) for it in range(10 * count))
-    found = revocation_list(X, entries)
+    found = long_list(count)
     issuers = own_keys(count, X, ROOT)
     leaf = certificate(LEAF, X, ROOT_KEY)
     lines = [voucher(key(it), found) for it in range(count)] + [voucher(key(0), leaf)] + [voucher(ROOT_KEY, it) for it in issuers]
     return Files([leaf, found, *issuers], [ANCHOR], lines, "path 0 2 anchor 0")
+
+
+@family("list-leaves", "a list of 10 n entries, n keys of its issuer that all vouch for it, and a leaf below each key",
+        small=(250, 1_000), words=UNLIMITED)
+def list_leaves(count):
+    found = long_list(count)
+    leaves, issuers = own_keys(count, LEAF, X), own_keys(count, X, ROOT)
+    lines = [voucher(key(it), found) for it in range(count)] + vouched(leaves) + [voucher(ROOT_KEY, it) for it in issuers]
+    return Files([*leaves, found, *issuers], [ANCHOR], lines, f"path 0 {count + 1} anchor 0")
 
 
 def lists(count):

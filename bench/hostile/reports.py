@@ -1,13 +1,12 @@
 """Families for `why`, `paths` and ./verify: over files that were made for `path`, and over certificates with signatures in their form."""
 from family import Files, also, family
-from graphs import LISTS
+from graphs import ROWS
 from parts import name, p256_keys
 from signed import KEY, ROOT, X, issuers, signed_by_none
 
 # Squares that docs/COST.md states.
 PAIRS = "a line for each certificate of a name and each issuer of that name"
 LOOKED_UP = "each list is looked up for each key of its issuer's name"
-ROWS = "an answer has a row of all items for each certificate of its path"
 LINKS = "each copy is linked to each key"
 PATHS = "each path is printed whole, and the check keeps each row"
 RISES = "a reach rises at n/2 items in n/4 rounds"
@@ -16,16 +15,14 @@ SQUARE = {"sizes": (250, 500, 1_000, 2_000), "small": (100, 400)}
 
 also("why", "keys-none", "ids-never", "self-serials", **SQUARE, known=PAIRS)
 also("why", "lists-none", "lists-vouched", known=LOOKED_UP)
-also("why", "list-keys", known=LISTS)
 also("why", "chain-path", known=ROWS)
 also("why", "copies-keys", known=LINKS)
-also("why", "chain-none", "no-issuers", "list-long", "names-alike", "extensions", "attributes", "entries")
+also("why", "chain-none", "no-issuers", "list-long", "list-keys", "names-alike", "extensions", "attributes", "entries")
 
 also("paths", "chain-path", "chain-none", "chain-beside", **SQUARE, known=PATHS)
-also("paths", "list-keys", known=LISTS)
 also("paths", "copies-keys", known=LINKS)
 also("paths", "rises", sizes=(1_500, 3_000, 6_000, 12_000), small=(500, 2_000), known=RISES)
-also("paths", "keys-each", "issuers-each", "anchors-equal", "ids-different", "list-long", "self-copies", "no-issuers")
+also("paths", "keys-each", "issuers-each", "anchors-equal", "ids-different", "list-long", "list-keys", "self-copies", "no-issuers")
 
 SIGNED = {"command": "verify", "sizes": (1_250, 2_500, 5_000, 10_000), "small": (100, 400)}
 ANCHOR = signed_by_none(ROOT, ROOT, KEY, 1)

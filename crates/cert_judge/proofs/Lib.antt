@@ -13,6 +13,7 @@ pub mod ExampleLaws
 pub mod ExamplePaths
 pub mod Before
 pub mod StandingFacts
+pub mod SerialFacts
 pub mod RowFacts
 pub mod Vouched
 pub mod NamedFacts

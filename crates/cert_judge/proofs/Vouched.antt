@@ -1,6 +1,6 @@
 -- What is issued among the items that a key vouches for is what is issued among all.
 use Rattle.std.specs.Prelude.{◌↔◌}
-use Rattle.std.proofs.Common.{◌≡◌, ◌∙◌, sym, subst, ap, ℕ, ◌<◌, Bool, true, List, [], length, map, get_or, Bor, Vec, Global}
+use Rattle.std.proofs.Common.{◌≡◌, ◌∙◌, sym, subst, ap, ℕ, ◌<◌, Bool, List, [], length, map, get_or, Bor, Vec, Global}
 use Rattle.std.specs.List.{Any, Contains}
 use Rattle.std.proofs.lemmas.List.{get_or-map, length-map}
 use Rattle.cert_graph.specs.Entries.{IsAt}
@@ -8,7 +8,7 @@ use Rattle.cert_judge.specs.declared.judged.JudgedCertificate.{JudgedCertificate
 use Rattle.cert_judge.specs.declared.judged.JudgedList.{JudgedList}
 use Rattle.cert_judge.specs.declared.judged.JudgedItem.{JudgedItem}
 use Rattle.cert_judge.specs.declared.judged.JudgedItem.TheVariants.{Certificate as certificate_judged, List as list_judged, Other as other_judged}
-use Rattle.cert_judge.specs.Standing.{octets_in, anything, WithCertificate, WithList, IsUsedBy, HasSerial, IsUsedAt, IsUsedAgainstAt, StandsBy, IsIssuedAt}
+use Rattle.cert_judge.specs.Standing.{octets_in, anything, WithCertificate, WithList, IsUsedBy, HasSerial, StandsBy, IsIssuedAt}
 use Rattle.cert_groups.specs.declared.buckets.Bucket.{Bucket}
 use Rattle.cert_judge.specs.Rows.{VouchesAt, IsRow, AreRows}
 use Rattle.cert_judge.proofs.Grouping.{element}

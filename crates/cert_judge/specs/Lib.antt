@@ -10,6 +10,7 @@ pub mod Named
 pub mod Items
 pub mod JudgedItems
 pub mod Standing
+pub mod Serials
 pub mod Rows
 pub mod NamedLinks
 pub mod LawsOfItems

@@ -34,9 +34,11 @@ fn judged_nodes(alloc: Global, items: &[JudgedItem<'_>]) -> Result<Vec<Node>, Al
 /// `vouched_by_each` is called once for each name, with the keys of the anchors and fit issuers
 /// that have it as their subject and the certificates and lists that were issued under it. Where a
 /// type implements `vouches` alone, that asks once for each of these keys and items, and this
-/// product is the caller's to bear. The entries of a list in force are gone over once for each key
-/// that vouches for it. All else takes the time of sorted maps: places are brought together by
-/// name, then by key, and then by key identifier, so no two items are ever compared.
+/// product is the caller's to bear. The entries of a list in force are sorted once. A key that
+/// vouches for it then costs one look-up there for each certificate that it vouches for, or one
+/// step for each entry where these are fewer or at most 16. All else takes the time of sorted maps:
+/// places are brought together by name, then by key, and then by key identifier, so no two items
+/// are ever compared.
 pub fn nodes_by<'a, V: Vouch>(
     alloc: Global,
     items: &[JudgedItem<'a>],

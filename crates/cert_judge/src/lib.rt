@@ -14,6 +14,7 @@ mod moments;
 mod name_groups;
 mod policy;
 mod revoking;
+mod serials;
 mod standing;
 mod usage;
 mod vouch;

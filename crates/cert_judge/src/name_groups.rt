@@ -11,7 +11,7 @@ ghost use Rattle.cert_judge.specs.NamedLinks.{IsNamedLink, IsNamedAnchor, IsSome
 
 use crate::Vouch;
 use crate::judged::JudgedItem;
-use crate::standing::issued_under;
+use crate::standing::{issued_under, long_lists};
 use cert_graph::Group;
 use cert_groups::{Bucket, Part, Place, alike, between, link_places};
 use std::alloc::{AllocError, Global};
@@ -91,8 +91,9 @@ fn link_name<V: Vouch>(
     let buckets = alike(alloc, all, Part::Key, places)?;
     let keys = keys_of(alloc, &buckets)?;
     let rows = vouch.vouched_by_each(alloc, &keys, octets, &issued)?;
+    let long = long_lists(alloc, items, &issued)?;
     for (number, bucket) in buckets.iter().enumerate() {
-        let linked = issued_under(alloc, items, &rows[number], demand_lists)?;
+        let linked = issued_under(alloc, items, &long, &rows[number], demand_lists)?;
         link_places(
             alloc,
             groups,

@@ -1,34 +1,29 @@
 //! Which certificates were issued under a name and key, and stand by the lists there.
 
-ghost use Rattle.std.specs.Prelude.{◌≡◌, ◌↔◌, ◌⊎◌, ℕ, Bool, List, [], Any, true, Contains, IsTrue, IfSome, IsNone, IfOk, OnOk};
+ghost use Rattle.std.specs.Prelude.{◌≡◌, ◌↔◌, ℕ, Bool, List, [], Any, true, Contains, IsTrue, IfSome, IsNone, IfOk};
 ghost use Rattle.cert_graph.specs.Entries.{IsAt};
 ghost use Rattle.cert_judge.specs.declared.judged.JudgedItem.TheVariants.{List as list_judged};
 ghost use Rattle.std.specs.Borrow.{Bor};
 ghost use Rattle.std.specs.BTreeSet as sorted;
 ghost use Rattle.std.specs.List.Sorted.{IsStrictlyIncreasing};
-ghost use Rattle.cert_judge.specs.Standing.{anything, IsUsedBy, IsUsedAt, IsUsedAgainstAt, IsIssuedAt, IsIssuedBeside};
+ghost use Rattle.cert_judge.specs.Serials.{IfCertificate, HasEqual, AreSetsAt, AreAsked};
+ghost use Rattle.cert_judge.specs.Standing.{anything, WithCertificate, IsUsedBy, IsUsedAt, IsUsedAgainstAt, IsIssuedAt, IsIssuedBeside};
 
 use crate::judged::{JudgedItem, JudgedList};
+use crate::serials::{add_list, set_of};
 use std::alloc::{AllocError, Global};
-use std::collections::BTreeSet;
+use std::collections::{BTreeMap, BTreeSet};
+
+/// A list of no more entries is gone over once for each key that vouches for it.
+const FEW_ENTRIES: usize = 16;
 
 /// What lists say.
 #[derive(Drop)]
 struct Standing<'a> {
     /// There is one that is in force.
     listed: bool,
-    /// The serial numbers in those.
+    /// The serial numbers in those: of the ones that are asked about, each.
     revoked: BTreeSet<&'a [u8]>,
-}
-
-fn add_all<'a>(revoked: &mut BTreeSet<&'a [u8]>, serials: &[&'a [u8]]) -> Result<(), AllocError>
-    ensures { OnOk result ((s : Bor (List ℕ)) → IsTrue (sorted.contains ⟦<&'a [u8] as Ord>⟧.cmp revoked.new s)
-        ↔ (IsTrue (sorted.contains ⟦<&'a [u8] as Ord>⟧.cmp revoked.old s) ⊎ Any (λ t. t.now ≡ s.now) serials.now)) }
-{
-    for serial in serials {
-        revoked.insert(*serial)?;
-    }
-    Ok(())
 }
 
 fn used_list<'b, 'a>(items: &'b [JudgedItem<'a>], place: usize) -> Option<&'b JudgedList<'a>>
@@ -41,14 +36,65 @@ fn used_list<'b, 'a>(items: &'b [JudgedItem<'a>], place: usize) -> Option<&'b Ju
     }
 }
 
-/// What the lists among some items say.
-fn standing_of<'a>(
+/// The serial numbers of the longer lists in force among some items, by the lists' places.
+pub(crate) fn long_lists<'a>(
     alloc: Global,
     items: &[JudgedItem<'a>],
     places: &[usize],
+) -> Result<BTreeMap<usize, BTreeSet<&'a [u8]>>, AllocError>
+    ensures { IfOk result (AreSetsAt items.now) }
+{
+    let mut sets = BTreeMap::new(alloc);
+    for place in places {
+        if let Some(list) = used_list(items, *place) {
+            if list.serials.len() > FEW_ENTRIES {
+                let set = set_of(alloc, &list.serials)?;
+                sets.insert(*place, set)?;
+            }
+        }
+    }
+    Ok(sets)
+}
+
+fn serial_at<'a>(items: &[JudgedItem<'a>], place: usize) -> Option<&'a [u8]>
+    ensures found { IfSome result (λ s. IsAt items.now place (WithCertificate (λ c. c.serial ≡ s))) }
+    ensures only { IsNone result → IsAt items.now place (WithCertificate (λ c. Unit {0})) → ⊥ }
+{
+    match items.get(place) {
+        Some(JudgedItem::Certificate(certificate)) => Some(certificate.serial),
+        _ => None,
+    }
+}
+
+/// The serial numbers of the certificates among some items.
+fn asked_of<'a>(
+    alloc: Global,
+    items: &[JudgedItem<'a>],
+    places: &[usize],
+) -> Result<Vec<&'a [u8]>, AllocError>
+    ensures { IfOk result (λ asked. AreAsked items.now places.now asked.items) }
+{
+    let mut asked = Vec::new(alloc);
+    for place in places {
+        if let Some(serial) = serial_at(items, *place) {
+            asked.push(serial)?;
+        }
+    }
+    Ok(asked)
+}
+
+/// What the lists among some items say of the serial numbers that are asked about.
+fn standing_of<'a>(
+    alloc: Global,
+    items: &[JudgedItem<'a>],
+    long: &BTreeMap<usize, BTreeSet<&'a [u8]>>,
+    places: &[usize],
+    asked: &[&'a [u8]],
 ) -> Result<Standing<'a>, AllocError>
-    ensures { IfOk result (λ standing. (IsTrue standing.listed ↔ Any (IsUsedAt anything items.now []) places.now)
-        × ((s : Bor (List ℕ)) → IsTrue (sorted.contains ⟦<&'a [u8] as Ord>⟧.cmp standing.revoked s) ↔ Any (IsUsedAgainstAt anything items.now [] s.now) places.now)) }
+    requires { AreSetsAt items.now long.now }
+    ensures listed { IfOk result (λ standing. IsTrue standing.listed ↔ Any (IsUsedAt anything items.now []) places.now) }
+    ensures revoked { IfOk result (λ standing. (s : Bor (List ℕ)) → HasEqual s.now asked.now
+        → IsTrue (sorted.contains ⟦<&'a [u8] as Ord>⟧.cmp standing.revoked s) ↔ Any (IsUsedAgainstAt anything items.now [] s.now) places.now) }
 {
     let mut standing = Standing {
         listed: false,
@@ -57,7 +103,7 @@ fn standing_of<'a>(
     for place in places {
         if let Some(list) = used_list(items, *place) {
             standing.listed = true;
-            add_all(&mut standing.revoked, &list.serials)?;
+            add_list(&mut standing.revoked, &list.serials, long.get(place), asked)?;
         }
     }
     Ok(standing)
@@ -75,17 +121,20 @@ fn is_issued(items: &[JudgedItem<'_>], place: usize, standing: &Standing<'_>) ->
 }
 
 /// Of items that a key vouches for, the certificates that stand by the lists among them.
-pub(crate) fn issued_under(
+pub(crate) fn issued_under<'a>(
     alloc: Global,
-    items: &[JudgedItem<'_>],
+    items: &[JudgedItem<'a>],
+    long: &BTreeMap<usize, BTreeSet<&'a [u8]>>,
     places: &[usize],
     demand_lists: bool,
 ) -> Result<Vec<usize>, AllocError>
-    requires { IsStrictlyIncreasing places.now }
+    requires ascends { IsStrictlyIncreasing places.now }
+    requires sets { AreSetsAt items.now long.now }
     ensures ascends { IfOk result (λ found. IsStrictlyIncreasing found.items) }
     ensures exact { IfOk result (λ found. (v : ℕ) → Contains found.items v ↔ (Contains places.now v × IsIssuedAt anything demand_lists items.now places.now [] v)) }
 {
-    let standing = standing_of(alloc, items, places)?;
+    let asked = asked_of(alloc, items, places)?;
+    let standing = standing_of(alloc, items, long, places, &asked)?;
     let mut found = Vec::new(alloc);
     if demand_lists && !standing.listed {
         return Ok(found);

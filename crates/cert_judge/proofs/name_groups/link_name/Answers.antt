@@ -1,5 +1,5 @@
-use Rattle.std.proofs.Common.{◌≡◌, ◌∙◌, ◌<◌, ◌≤◌, ℕ, length, arith, sym, subst}
-use Rattle.std.specs.Prelude.{◌↔◌, Contains, All}
+use Rattle.std.proofs.Common.{◌≡◌, ◌∙◌, ◌<◌, ◌≤◌, length, arith, sym, subst}
+use Rattle.std.specs.Prelude.{All}
 use Rattle.std.specs.List.Sorted.{IsStrictlyIncreasing}
 use Rattle.cert_groups.specs.declared.places.Part.TheVariants.{Key}
 use Rattle.cert_groups.specs.Places.{Shows}
@@ -7,13 +7,12 @@ use Rattle.cert_groups.specs.Buckets.{AreBuckets}
 use Rattle.cert_groups.specs.Links.{Adds, IsPlaceLink, IsPlaceAnchor}
 use Rattle.cert_groups.proofs.Adding.{adds_as}
 use Rattle.cert_groups.proofs.Placing.{all_below}
-use Rattle.cert_judge.specs.Standing.{IsIssuedAt}
 use Rattle.cert_judge.proofs.NamedFacts.{under_from, bucket_at, key_more, all_keys, all_anchor_keys, behind}
 use Rattle.cert_judge.proofs.Vouched.{row_of_bucket, linked_from}
 use Rattle.cert_judge.proofs.name_groups.link_name.Goals as goal
 
-pub issued_under-requires : goal.issued_under-requires
-issued_under-requires g c =
+pub issued_under-requires-clause-ascends : goal.issued_under-requires-clause-ascends
+issued_under-requires-clause-ascends g c =
     let V = g.V.Vouch.vouches_for c.args.vouch.now in
     let own = row_of_bucket V c.args.octets.now c.in_ok-issued.issued.items c.deref-3.result.now c.in_ok-keys.keys.items c.deref-2.result.now c.deref-bucket-items.result.now c.deref.result.now c.in_ok-rows.rows.items c.loop-number.number c.bucket-item.result c.index.result.now
     c.deref-2.ensures.value c.in_ok-keys.ensures (c.deref.ensures.value ∙ sym c.deref-bucket-items.ensures.value) c.deref-3.ensures.value c.bucket-item.is c.loop-number-test.true c.index.ensures c.in_ok-rows.ensures in

@@ -4,4 +4,4 @@ use Rattle.cert_judge.proofs.StandingFacts.{IsStanding}
 use Rattle.cert_judge.proofs.standing.standing_of.Given as goal
 
 abbrev pub invariant-loop-place : goal.invariant-loop-place
-invariant-loop-place l = IsStanding anything l.items [] l.places l.place-index l.standing.listed l.standing.revoked
+invariant-loop-place l = IsStanding anything l.items [] l.places l.asked l.place-index l.standing.listed l.standing.revoked

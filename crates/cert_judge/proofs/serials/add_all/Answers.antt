@@ -3,7 +3,7 @@ use Rattle.std.specs.BTreeSet as sorted
 use Rattle.cert_judge.proofs.Sets.{R}
 use Rattle.cert_judge.proofs.Before.{before_all}
 use Rattle.cert_judge.proofs.StandingFacts.{one_serial, default_is}
-use Rattle.cert_judge.proofs.standing.add_all.Goals as goal
+use Rattle.cert_judge.proofs.serials.add_all.Goals as goal
 
 pub loop-serial-preserved : goal.loop-serial-preserved
 loop-serial-preserved c =
