@@ -28,7 +28,8 @@ SIGNED = {"command": "verify", "sizes": (1_250, 2_500, 5_000, 10_000), "small": 
 ANCHOR = signed_by_none(ROOT, ROOT, KEY, 1)
 
 
-@family("verify-keys", "n certificates \"x from x\", a P-256 key each, signed by none", **SIGNED, known=PAIRS)
+@family("verify-keys", "n certificates \"x from x\", a P-256 key each, signed by none", "verify", sizes=(100, 200, 400, 800),
+        small=(50, 200), known=PAIRS)
 def verify_keys(count):
     return Files([signed_by_none(X, X, it, number) for number, it in enumerate(p256_keys(count))], [ANCHOR])
 
