@@ -145,5 +145,5 @@ def sized(call, guess):
         status = call(buffer, room, byref(length))
         if status != TOO_SMALL:
             refuse(status)
-            return bytes(buffer[:length.value])
+            return bytes(memoryview(buffer)[:length.value])
         room = length.value

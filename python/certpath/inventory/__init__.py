@@ -1,0 +1,16 @@
+"""A table of a whole log or of a large inventory, made block by block on many processes by Dask.
+
+    from dask.distributed import Client
+    from certpath import inventory
+
+    with Client() as client:
+        done = inventory.run(["log.json"], "table", inventory.Settings(anchors="roots.der"), client)
+
+Or `python3 -m certpath.inventory FILE.. --anchors FILE --out FOLDER`. docs/SCALE.md describes the
+table. What is said of items is said by the proved library and program; all else only carries.
+Needs Dask (`dask` and `distributed`), and pyarrow for a table in Parquet.
+"""
+from .running import CannotWrite, Done, run
+from .work import Settings
+
+__all__ = ["CannotWrite", "Done", "Settings", "run"]

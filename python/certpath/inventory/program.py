@@ -1,0 +1,66 @@
+"""The proved program: `certpath paths` and `certpath why` on files that are made for the run."""
+import os
+import shutil
+import subprocess
+import tempfile
+from typing import List, NamedTuple
+
+from ..library import FOLDERS
+
+NAME = "certpath"
+PATHS, WHY = "paths", "why"
+# By the command: with these exit statuses a report was printed.
+ANSWERED = {PATHS: (0, 1), WHY: (0, 1, 3)}
+YES = "check yes"
+
+
+class Missing(Exception):
+    """The program isn't there."""
+
+
+class Failed(Exception):
+    """The program gave no report, or its check doesn't accept it."""
+
+
+class Question(NamedTuple):
+    """What a run is asked about: three files, and words."""
+    bundle: bytes
+    anchors: bytes
+    vouchers: str
+    words: List[str]
+
+
+def found(given: str = "") -> str:
+    """The path of the program: the one that is given, the one beside the library, one on the path."""
+    if given:
+        places = [given]
+    else:
+        places = [os.path.join(it, NAME) for it in FOLDERS] + [shutil.which(NAME) or ""]
+    for place in places:
+        if os.path.isfile(place) and os.access(place, os.X_OK):
+            return os.path.abspath(place)
+    raise Missing(f"the program {NAME} isn't there: {', '.join(filter(None, places))}")
+
+
+def put(folder: str, name: str, octets: bytes) -> str:
+    path = os.path.join(folder, name)
+    with open(path, "wb") as file:
+        file.write(octets)
+    return path
+
+
+def report(program: str, command: str, question: Question) -> List[str]:
+    """The lines of a run's report, after its check said yes."""
+    with tempfile.TemporaryDirectory(prefix="inventory-") as folder:
+        files = [put(folder, "bundle.der", question.bundle),
+                 put(folder, "anchors.der", question.anchors),
+                 put(folder, "vouchers.txt", question.vouchers.encode())]
+        ran = subprocess.run([program, command, *files, *question.words], stdin=subprocess.DEVNULL,
+                             stdout=subprocess.PIPE, stderr=subprocess.PIPE, check=False)
+    lines = ran.stdout.decode(errors="replace").splitlines()
+    if ran.returncode not in ANSWERED[command]:
+        said = ran.stderr.decode(errors="replace").strip()
+        raise Failed(f"certpath {command} ended with status {ran.returncode}: {said}")
+    if YES not in lines:
+        raise Failed(f"certpath {command}: its check doesn't say yes")
+    return lines
