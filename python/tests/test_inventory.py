@@ -32,6 +32,7 @@ def vector(length, octets):
 
 
 LEAF, MIDDLE, ROOT = map(sample, ("leaf.der", "intermediate.der", "root.der"))
+ROOT_FILE = os.path.join(TOP, "samples", "root.der")
 X509_LEAF = FRONT + b"\0\0" + vector(3, LEAF) + b"\0\0"
 PRECERT_LEAF = FRONT + b"\0\1" + bytes(32) + vector(3, b"\x30\0") + b"\0\0"
 CHAIN = vector(3, vector(3, MIDDLE) + vector(3, ROOT))
@@ -270,7 +271,7 @@ class Indexed(Room):
     def test_answers(self):
         bundle, words = sample("bundle.der"), ["--at", "2026-12-01T00:00:00"]
         keys = signatures.verified(bundle, ROOT, LIMIT, False, 16)
-        asked = shards.Asked(program.found(), ROOT, [rows.digest(ROOT)], words, keys)
+        asked = shards.Asked(program.found(), ROOT_FILE, [rows.digest(ROOT)], words, keys)
         with index.Index(self.path) as opened:
             target = self.shard(opened, "leaf")
             shard = shards.shard_of(opened, [target])
@@ -282,7 +283,7 @@ class Indexed(Room):
         self.assertIn(f"at target to {middle} not linked: revoked by list {revoking}", said)
 
     def test_other_reports(self):
-        asked = shards.Asked("", b"", ["a"], [], {})
+        asked = shards.Asked("", "", ["a"], [], {})
         shard = shards.Shard(["x", "y", "z"], [])
         self.assertEqual(shards.answer_of("1 path 1 2 anchor 0", 1, shard, asked),
                          ("path", ("z",), "a"))
@@ -298,7 +299,7 @@ class Programs(Room):
             program.found(os.path.join(self.folder, "none"))
 
     def test_refused(self):
-        question = program.Question(LEAF, ROOT, "no vouchers\n", ["--at", "2026-12-01T00:00:00"])
+        question = program.Question(LEAF, ROOT_FILE, "no vouchers\n", ["--at", "2026-12-01T00:00:00"])
         with self.assertRaisesRegex(program.Failed, "vouchers line 1"):
             program.report(program.found(), program.PATHS, question)
 

@@ -7,7 +7,7 @@ from . import logs
 from .entries import CUT, FAULT, ITEM, Entry, Place, unread
 
 # About how many octets a block has.
-BLOCKSIZE = 1 << 24
+BLOCKSIZE = 1 << 22
 CAUSES = {CUT: "the file ends within the item that begins here",
           FAULT: "no item begins here; nothing after it in this file is read"}
 

@@ -2,8 +2,8 @@
 import os
 import shutil
 import subprocess
-import tempfile
-from typing import List, NamedTuple
+from contextlib import contextmanager
+from typing import Iterator, List, NamedTuple
 
 from ..library import FOLDERS
 
@@ -23,9 +23,9 @@ class Failed(Exception):
 
 
 class Question(NamedTuple):
-    """What a run is asked about: three files, and words."""
+    """What a run is asked about: the octets of a bundle, a file of anchors, vouchers, and words."""
     bundle: bytes
-    anchors: bytes
+    anchors: str
     vouchers: str
     words: List[str]
 
@@ -42,21 +42,25 @@ def found(given: str = "") -> str:
     raise Missing(f"the program {NAME} isn't there: {', '.join(filter(None, places))}")
 
 
-def put(folder: str, name: str, octets: bytes) -> str:
-    path = os.path.join(folder, name)
-    with open(path, "wb") as file:
-        file.write(octets)
-    return path
+@contextmanager
+def in_memory(octets: bytes) -> Iterator[int]:
+    """The number of a file that is nowhere but in memory."""
+    number = os.memfd_create(NAME)
+    try:
+        with open(number, "wb", closefd=False) as file:
+            file.write(octets)
+        yield number
+    finally:
+        os.close(number)
 
 
 def report(program: str, command: str, question: Question) -> List[str]:
     """The lines of a run's report, after its check said yes."""
-    with tempfile.TemporaryDirectory(prefix="inventory-") as folder:
-        files = [put(folder, "bundle.der", question.bundle),
-                 put(folder, "anchors.der", question.anchors),
-                 put(folder, "vouchers.txt", question.vouchers.encode())]
+    with in_memory(question.bundle) as bundle, in_memory(question.vouchers.encode()) as vouchers:
+        files = [f"/dev/fd/{bundle}", question.anchors, f"/dev/fd/{vouchers}"]
         ran = subprocess.run([program, command, *files, *question.words], stdin=subprocess.DEVNULL,
-                             stdout=subprocess.PIPE, stderr=subprocess.PIPE, check=False)
+                             stdout=subprocess.PIPE, stderr=subprocess.PIPE, check=False,
+                             pass_fds=(bundle, vouchers))
     lines = ran.stdout.decode(errors="replace").splitlines()
     if ran.returncode not in ANSWERED[command]:
         said = ran.stderr.decode(errors="replace").strip()

@@ -92,9 +92,6 @@ def results(client: 'Client', task: Callable, each: Iterable, *rest) -> Iterator
 
 def spans(client: 'Client', files: List[str], settings: Settings) -> Iterator:
     """The spans of all files; OSError where one can't be read."""
-    for file in files:
-        with open(file, "rb"):
-            pass
     for _, found, error in results(client, spans_of, files, settings.blocksize, settings.limit):
         if error:
             raise error
@@ -111,12 +108,17 @@ def said_of(error: BaseException) -> str:
     return f"{type(error).__name__}: {error}".splitlines()[0]
 
 
-def candidates(client: 'Client', blocks: List[Block], job: Job) -> Iterator[index.Candidate]:
+def candidates(client: 'Client', blocks: List[Block], job: Job, faults: Faults) -> Iterator[index.Candidate]:
     """What may issue or revoke, in the order of everything."""
-    for _, found, error in results(client, work.candidates, blocks, job):
+    for block, found, error in results(client, work.candidates, blocks, job):
         if error:
-            raise error
-        yield from found
+            faults.add(at_front(block, f"its issuers are left out: {said_of(error)}"))
+        yield from found or ()
+
+
+def at_front(block: Block, cause: str) -> Fault:
+    """What is wrong with a whole block."""
+    return Fault(Place(block.spans[0].file, block.spans[0].begin), cause)
 
 
 def finished(client: 'Client', blocks: List[Block], job: Job) -> Iterator[Tuple[Block, Part]]:
@@ -125,12 +127,51 @@ def finished(client: 'Client', blocks: List[Block], job: Job) -> Iterator[Tuple[
         yield block, work.unanswered(block, job, said_of(error)) if error else part
 
 
-def make_index(client: 'Client', blocks: List[Block], names: Iterable[str], job: Job) -> int:
+def make_index(client: 'Client', blocks: List[Block], names: Iterable[str], job: Job,
+               faults: Faults) -> int:
     """Writes the index and the table of issuers, and gives how many there are."""
     index.add_names(job.index, names)
-    found = [*candidates(client, blocks, job)]
-    new = [it.read.row for it in index.add_issuers(job.index, found)]
+    found = candidates(client, blocks, job, faults)
+    new = [it.read.row for it in index.add_issuers(job.index, [*found])]
     return tables.write(job.folder(ISSUERS), 0, new, job.settings.form)
+
+
+def first_pass(client: 'Client', blocks: List[Block], job: Job, faults: Faults) -> Tuple[int, int]:
+    """Reads all blocks and makes the index: how many entries there are, and how many issuers."""
+    entries, names = 0, set()
+    for survey in surveyed(client, blocks, job):
+        entries += survey.entries
+        names |= survey.names
+        for fault in survey.faults:
+            faults.add(fault)
+    return entries, make_index(client, blocks, names, job, faults)
+
+
+def second_pass(client: 'Client', blocks: List[Block], job: Job, faults: Faults) -> Part:
+    """Writes all parts of the table: how many rows are there, and with which outcomes."""
+    rows, outcomes = 0, {}
+    for block, part in finished(client, blocks, job):
+        rows += part.rows
+        for word, count in part.outcomes.items():
+            outcomes[word] = outcomes.get(word, 0) + count
+        if part.trouble:
+            faults.add(at_front(block, f"not answered: {part.trouble}"))
+    return Part(rows, outcomes)
+
+
+def passes(files: List[str], client: 'Client', job: Job, faults: Faults) -> Done:
+    index.create(job.index)
+    if job.settings.vouchers is not None:
+        index.add_vouchers(job.index, signatures.lines_of(job.settings.vouchers))
+    blocks = blocks_of(spans(client, files, job.settings), job.settings.blocksize)
+    entries, issuers = first_pass(client, blocks, job, faults)
+    rows, outcomes, _ = second_pass(client, blocks, job, faults)
+    return Done(entries, rows, issuers, len(blocks), faults.end(), outcomes)
+
+
+def remove(job: Job, *names: str):
+    for name in names:
+        shutil.rmtree(job.folder(name), ignore_errors=True)
 
 
 def run(files: List[str], out: str, settings: Settings, client: 'Client',
@@ -140,27 +181,15 @@ def run(files: List[str], out: str, settings: Settings, client: 'Client',
     `show` is given a line for each fault. OSError where a file can't be read, signatures.BadLine
     of the vouchers, CannotWrite of the folder, program.Missing.
     """
-    with open(settings.anchors, "rb"):
-        pass
+    files = [*map(os.path.abspath, files)]
+    for file in (*files, settings.anchors):
+        with open(file, "rb"):
+            pass
     job = job_of(out, settings)
-    index.create(job.index)
-    if settings.vouchers is not None:
-        index.add_vouchers(job.index, signatures.lines_of(settings.vouchers))
-    blocks = blocks_of(spans(client, [*map(os.fspath, files)], job.settings), settings.blocksize)
-    faults, names, entries = Faults(show), set(), 0
-    for survey in surveyed(client, blocks, job):
-        names |= survey.names
-        entries += survey.entries
-        for fault in survey.faults:
-            faults.add(fault)
-    issuers = make_index(client, blocks, names, job)
-    rows, outcomes = 0, {}
-    for block, part in finished(client, blocks, job):
-        rows += part.rows
-        for word, count in part.outcomes.items():
-            outcomes[word] = outcomes.get(word, 0) + count
-        if part.trouble:
-            first = block.spans[0]
-            faults.add(Fault(Place(first.file, first.begin), f"not answered: {part.trouble}"))
-    shutil.rmtree(job.folder(WORK))
-    return Done(entries, rows, issuers, len(blocks), faults.end(), outcomes)
+    try:
+        return passes(files, client, job, Faults(show))
+    except BaseException:
+        remove(job, ENTRIES, ISSUERS)
+        raise
+    finally:
+        remove(job, WORK)

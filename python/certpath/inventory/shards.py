@@ -58,7 +58,8 @@ def shard_of(index: Index, targets: List[Target]) -> Shard:
 class Asked(NamedTuple):
     """What a shard is asked with."""
     program: str
-    anchors: bytes
+    anchors: str
+    """The file of anchors."""
     anchor_items: List[str]
     """The digests of the anchors, by position."""
     words: List[str]

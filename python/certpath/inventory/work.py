@@ -82,7 +82,7 @@ def work_file(block: Block, job: Job) -> str:
 def save(reads: List[Read], path: str):
     begun = f"{path}.{os.getpid()}.begun"
     with open(begun, "w", encoding="ascii") as file:
-        json.dump(reads, file)
+        file.write(json.dumps(reads))
     os.replace(begun, path)
 
 
@@ -134,7 +134,7 @@ def asked_of(index: Index, targets: List[Target], job: Job) -> Asked:
     words = ["--at", moment(given.at), "--limit", str(given.limit)]
     words += ["--demand-lists"] if given.demand_lists else []
     held = [digest(framed.octets(it)) for it in range(len(framed))]
-    return Asked(given.program, anchors, held, words, keys)
+    return Asked(given.program, given.anchors, held, words, keys)
 
 
 def answered(reads: List[Read], octets: Iterator[bytes], job: Job) -> List[Row]:
