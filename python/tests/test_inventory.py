@@ -366,5 +366,91 @@ class Tasks(Room):
         self.assertEqual((faults.end(), len(told), told[-1]), (7, 6, ".. 2 further: cut at octet N"))
 
 
+class Held:
+    """What a task gave or raised, as a future of Dask shows it."""
+
+    def __init__(self, task, arguments, is_lost):
+        self.error = self.value = None
+        try:
+            if is_lost:
+                raise RuntimeError("no worker is left")
+            self.value = task(*arguments)
+        except Exception as error:  # as Dask does, whatever it is
+            self.error = error
+
+    def exception(self):
+        return self.error
+
+    def result(self):
+        return self.value
+
+
+class Here:
+    """In the place of a client of Dask: it runs tasks at once, and loses those of one name, of the
+    first block."""
+
+    def __init__(self, lost=""):
+        self.lost = lost
+
+    def map(self, task, *columns, pure):
+        assert not pure
+        return [Held(task, arguments, task.__name__ == self.lost and number == 0)
+                for number, arguments in enumerate(zip(*columns))]
+
+
+class Runs(Room):
+    FILES = ["bundle.der", "fullchain.pem", "leaf.der"]
+
+    def run_with(self, client, **more):
+        self.told, self.out = [], os.path.join(self.folder, "table")
+        given = {"anchors": ROOT_FILE, "at": datetime(2026, 12, 1), "form": tables.CSV, "blocksize": 1}
+        files = [os.path.join(TOP, "samples", it) for it in self.FILES]
+        return running.run(files, self.out, work.Settings(**{**given, **more}), client, self.told.append)
+
+    def rows(self):
+        found = []
+        for name in sorted(os.listdir(os.path.join(self.out, "entries"))):
+            with open(os.path.join(self.out, "entries", name), encoding="utf-8") as file:
+                found += csv.DictReader(file)
+        return found
+
+    def test_everything(self):
+        done = self.run_with(Here())
+        self.assertEqual(done, (6, 6, 3, 6, 1, {"none": 2, "path": 2, "list": 1, "fault": 1}))
+        self.assertEqual(sorted(os.listdir(self.out)), ["entries", "issuers"])
+        self.assertEqual([it["outcome"] or it["class"] for it in self.rows()],
+                         ["none", "path", "path", "list", "fault", "none"])
+        self.assertEqual([it.partition(": ")[2] for it in self.told], [blocks.CAUSES["fault"]])
+
+    def test_given_vouchers(self):
+        whole = self.run_with(Here(), blocksize=1 << 20, why=False,
+                              vouchers=os.path.join(TOP, "samples", "vouchers.txt"))
+        self.assertEqual(whole.outcomes, {"none": 2, "path": 2, "list": 1, "fault": 1})
+        self.assertEqual([it["reasons"] for it in self.rows()], [""] * 6)
+
+    def test_lost_in_the_first_pass(self):
+        done = self.run_with(Here("survey"))
+        self.assertEqual((done.entries, done.rows, done.faults), (6, 6, 2))
+        self.assertEqual(self.rows()[0]["cause"], "not read: RuntimeError: no worker is left")
+
+    def test_lost_issuers(self):
+        done = self.run_with(Here("candidates"))
+        self.assertEqual((done.rows, done.issuers, done.faults), (6, 3, 2))
+        self.assertTrue(any("its issuers are left out" in it for it in self.told))
+
+    def test_lost_in_the_second_pass(self):
+        done = self.run_with(Here("finish"))
+        self.assertEqual((done.entries, done.rows, done.outcomes["fault"]), (6, 6, 2))
+        self.assertIn("no worker is left", self.rows()[0]["reasons"])
+
+    def test_refusals(self):
+        for more, error in (({"anchors": os.path.join(self.folder, "none")}, OSError),
+                            ({"vouchers": ROOT_FILE}, signatures.BadLine),
+                            ({"program": self.folder}, program.Missing)):
+            with self.subTest(more=more), self.assertRaises(error):
+                self.run_with(Here(), **more)
+            self.assertFalse(os.path.isdir(self.out) and os.listdir(self.out))
+
+
 if __name__ == "__main__":
     unittest.main()

@@ -11,6 +11,8 @@ from ..items import LIMIT
 from ..library import LibraryMissing, loaded
 from ..openssl import MOST_TRIES
 
+DONE, FAULTY, CANNOT_READ, BAD_VOUCHERS, CANNOT_WRITE, NOT_THERE = 0, 1, 4, 5, 7, 70
+
 try:
     import dask
     from dask.distributed import Client, LocalCluster
@@ -21,11 +23,11 @@ try:
     from .tables import WRITERS
     from .work import Settings
 except ImportError as error:
-    sys.exit(f"inventory: {error}; it comes with `apt-get install python3-distributed`, or "
-             "`pip install 'dask[distributed]'`")
+    print(f"inventory: {error}; it comes with `apt-get install python3-distributed`, or "
+          "`pip install 'dask[distributed]'`", file=sys.stderr)
+    sys.exit(NOT_THERE)
 
 LARGEST = 4294967295
-DONE, FAULTY, CANNOT_READ, BAD_VOUCHERS, CANNOT_WRITE, NOT_THERE = 0, 1, 4, 5, 7, 70
 
 
 def number(text: str) -> int:
