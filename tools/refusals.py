@@ -13,7 +13,7 @@ from typing import NamedTuple
 sys.dont_write_bytecode = True
 import repo
 from chains import AUTHORITY, ISSUER_ID, NO_AUTHORITY, NO_SIGNER, OF_AUTHORITY, OF_LEAF, OF_ROOT, OWN_ID, SIGNER, Chain
-from shapes import counted
+from streams import counted
 from vouching_pki import Workshop
 from vouching_trials import Trials
 

@@ -1,4 +1,4 @@
-"""What ./bundle and ./vouch share: elements of DER and BER with a definite length, and the shapes of certificates and revocation lists."""
+"""What ./bundle tests of octets: elements of DER and BER with a definite length, and the shapes of certificates and revocation lists."""
 from typing import NamedTuple
 
 LIMIT = 16777216
@@ -15,27 +15,6 @@ class Part(NamedTuple):
     tag: int
     content: bytes
     octets: bytes
-
-
-class Item(NamedTuple):
-    """A certificate (RFC 5280, 4.1) or a revocation list (RFC 5280, 5.1) by its shape, each part as the octets that it has there.
-
-    Algorithms, names and the key are whole elements; the signature is its bits, the count of unused ones before them. A list
-    has neither subject nor key.
-    """
-    kind: str
-    octets: bytes
-    signed: bytes
-    inner_algorithm: bytes
-    outer_algorithm: bytes
-    signature: bytes
-    issuer: bytes
-    subject: bytes = None
-    key: bytes = None
-
-
-def counted(number, word):
-    return f"{number} {word}" if number == 1 else f"{number} {word}s"
 
 
 def header_at(octets, at):
@@ -112,8 +91,8 @@ def without(tag, parts):
     return parts[1:] if tags_of(parts[:1]) == [tag] else parts
 
 
-def item_of(octets):
-    """The certificate or list that a whole element is by its shape, none where it is neither."""
+def kind_of(octets):
+    """Whether a whole element has the shape of a certificate (RFC 5280, 4.1) or of a list (RFC 5280, 5.1), none where it has neither."""
     if len(octets) < LEAST_ITEM:
         return None
     whole = first_parts(octets, 1)
@@ -121,14 +100,9 @@ def item_of(octets):
     outer = first_parts(whole[0].content, 4) if whole else None
     if tags_of(outer) != [SEQUENCE, SEQUENCE, BIT_STRING]:
         return None
-    signed, algorithm, signature = outer
-    inner = parts_of(signed.content, MOST_PARTS) or []
-    parts = without(VERSION, inner)
-    if tags_of(parts[:6]) == [INTEGER] + [SEQUENCE] * 5:
-        _, own, issuer, _, subject, key = (it.octets for it in parts[:6])
-        return Item(CERTIFICATE, octets, signed.octets, own, algorithm.octets, signature.content, issuer, subject, key)
+    inner = parts_of(outer[0].content, MOST_PARTS) or []
+    if tags_of(without(VERSION, inner)[:6]) == [INTEGER] + [SEQUENCE] * 5:
+        return CERTIFICATE
     parts = without(INTEGER, inner)
-    if tags_of(parts[:2]) == [SEQUENCE, SEQUENCE] and tags_of(parts[2:3]) in ([UTC_TIME], [GENERALIZED_TIME]):
-        own, issuer = (it.octets for it in parts[:2])
-        return Item(LIST, octets, signed.octets, own, algorithm.octets, signature.content, issuer)
-    return None
+    is_list = tags_of(parts[:2]) == [SEQUENCE, SEQUENCE] and tags_of(parts[2:3]) in ([UTC_TIME], [GENERALIZED_TIME])
+    return LIST if is_list else None

@@ -2,7 +2,7 @@
 from concurrent.futures import ThreadPoolExecutor
 from typing import NamedTuple
 
-from shapes import item_of
+from vouching_pki import spelled
 
 LANES = 2
 CURVES = ("p256", "p384", "p521", "secp256k1", "brainpool", "compressed", "explicit")
@@ -54,7 +54,7 @@ def changed(octets, at):
 
 def mutants(octets):
     """An item with one bit changed, in its signed part and in its signature."""
-    item = item_of(octets)
+    item = spelled(octets)
     begin = octets.index(item.signed) + 4
     for at in range(CHANGED):
         yield changed(octets, begin + (2 * at + 1) * (len(item.signed) - 4) // (2 * CHANGED))
@@ -65,7 +65,7 @@ def mutants(octets):
 
 def second_opinion(shop, row, octets):
     """Whether `openssl pkeyutl` verifies an item of the row, and doesn't with a bit of its signature changed."""
-    return [shop.is_signed(item_of(it), shop.public(row.kind), row.digest, row.options) for it in (octets, changed(octets, len(octets) - 5))]
+    return [shop.is_signed(spelled(it), shop.public(row.kind), row.digest, row.options) for it in (octets, changed(octets, len(octets) - 5))]
 
 
 def told(all_rows, takes_weak):

@@ -5,10 +5,12 @@ import subprocess
 import sys
 
 import bundling
+import package
 import repo
 from bundling import CERTIFICATE, pem
+from certpath import Certificate
 from items import octets
-from shapes import item_of, parts_of
+from shapes import header_at
 from vouching_algorithms import Row
 from vouching_pki import line, name, octets_of_pem
 
@@ -36,9 +38,8 @@ def samples(t):
     for pem_name, names in (("fullchain", ("leaf", "intermediate")), ("root", ("root",)), ("list", ("list",)), ("other_list", ("other_list",))):
         bundled = t.run("bundle", [in_samples(f"{pem_name}.pem")])[1]
         t.same(f"{pem_name}.pem", bundled, b"".join(held(f"{it}.der") for it in names))
-    key = item_of(held("intermediate.der")).key
+    key, root = (Certificate(held(f"{it}.der")).public_key_bytes for it in ("intermediate", "root"))
     chain = [held(f"{it}.der") for it in ("leaf", "intermediate", "other_list")]
-    root = item_of(held("root.der")).key
     t.vouch("the samples with the other list", chain, [held("root.der")], [(key, chain[0]), (root, chain[1]), (key, chain[2])])
 
 
@@ -81,7 +82,8 @@ def ends(t):
         t.same(f"a {word} in the bundle", t.lines(word, [root, end], []), (1, root_line, [f"bundle: {word} at {number}", summary]))
         t.same(f"a {word} in the anchors", t.lines(word, [root], [root, end]), (1, root_line, [f"anchors: {word} at {number}", summary]))
         t.same(f"a {word} alone", t.lines(word, [end], []), (1, "", [f"bundle: {word} at 0", "vouch: 0 items, 0 vouched for, 0 lines, 1 told"]))
-    limit = len(parts_of(root)[0].content)
+    _, begin, end, _ = header_at(root, 0)
+    limit = end - begin
     for words in (["--limit", str(limit)], [f"--limit=00{limit}"], ["--weak", "--limit", "4294967295"]):
         t.same(f"the words {words}", t.lines("a limit", [root], [], *words), (0, root_line, ["vouch: 1 item, 1 vouched for, 1 line, 0 told"]))
     t.same("a limit that is too small", t.lines("a limit", [root], [root], "--limit", str(limit - 1)),
@@ -97,12 +99,13 @@ def patched(t, setting):
 
 
 def absences(t):
-    """Without OpenSSL's library or the program that cuts files nothing is written."""
+    """Without OpenSSL's library, that of certpath or memory nothing is written."""
     t.same("no libcrypto", patched(t, "import package, certpath.libcrypto as it; it.candidates = lambda: ['libnone.so']"),
            (4, b"", "vouch: OpenSSL cannot be called: no libcrypto of OpenSSL 3 is there"))
     t.same("no ctypes", patched(t, "sys.modules['ctypes'] = None"), (4, b"", "vouch: OpenSSL cannot be called: import"))
-    t.same("no certpath", patched(t, "import repo; repo.ready = lambda *_: None"), (4, b"", "vouch: certpath, which cuts the files, could not be built"))
-    t.same("certpath that fails", patched(t, "import repo; repo.ready = lambda *_: '/bin/false'"), (4, b"", "bundle: certpath frame ended with status 1:"))
+    t.same("no library", patched(t, "import package, certpath.library as it; it.FOLDERS = ('/none',)"), (4, b"", "vouch: libcertpath.so is in none of /none"))
+    t.same("a library of another version", patched(t, "import package, certpath.library as it; it.VERSION = 0")[:2], (4, b""))
+    t.same("a library without memory", patched(t, "import package, certpath.library as it; it.loaded().certpath_frame = lambda *_: 1"), (4, b"", "vouch: out of memory"))
 
 
 def refusals(t):

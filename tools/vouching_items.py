@@ -1,18 +1,19 @@
 """Trials of ./vouch: signatures that are not quite ones, algorithms that differ, keys and names by their octets, and several keys under one name."""
 from items import element, octets
-from shapes import item_of, parts_of
-from vouching_pki import PRINTABLE, assembled, name
+from shapes import parts_of
+from vouching_pki import INTEGER, PRINTABLE, assembled, name, spelled
 
-NO_KEY = "no key under its issuer's name"
+NO_KEY, NEITHER = "no key under its issuer's name", "neither certificate nor list"
 NOT_NULL, ODD = octets("30(06(2a864886f70d01010b))"), octets("30(06(2a864886f70d01010b)04(00))")
-# Algorithms that are not known: RSA-PSS with MD5 the third, then without parameters and with none.
+# Algorithms that are not known: RSA-PSS with MD5 the third, then without parameters and with none. With no identifier, or one that
+# doesn't end, an item isn't a certificate or list in its one spelling.
 UNKNOWN = {
     "30(06(2a03))": "algorithm 1.2.3 not known",
-    "30(02(05))": "its algorithm cannot be read",
+    "30(02(05))": NEITHER,
     "30(06(2a864886f70d01010a)30(a0(30(06(2a864886f70d0205)05()))))": "algorithm 1.2.840.113549.1.1.10 not known with its parameters",
     "30(06(2a864886f70d01010a))": "algorithm 1.2.840.113549.1.1.10 not known with its parameters",
     "30(06(2a864886f70d01010a)05())": "algorithm 1.2.840.113549.1.1.10 not known with its parameters",
-    "30(06(2a80))": "algorithm of the octets 2a80 not known",
+    "30(06(2a80))": NEITHER,
 }
 
 
@@ -44,13 +45,13 @@ def full_length(made):
     """A P-256 leaf whose signature has 72 octets, the most."""
     while True:
         leaf = made.leaf("p256")
-        if len(item_of(leaf).signature) == 73:
+        if len(spelled(leaf).signature) == 73:
             return leaf
 
 
 def altered(octets_made, old, new, outer=None):
     """An item with other octets in the place of some in its signed part."""
-    item = item_of(octets_made)
+    item = spelled(octets_made)
     signed = element(b"\x30", parts_of(item.signed)[0].content.replace(old, new, 1))
     return assembled(signed, outer or item.outer_algorithm, item.signature[1:])
 
@@ -68,13 +69,13 @@ def signatures(t, made):
     t.vouch("right signatures", [it for _, it in right], keys, [(t.shop.public(kind), it) for kind, it in right])
     wrong = []
     for kind, octets_made in right:
-        item = item_of(octets_made)
+        item = spelled(octets_made)
         signature = item.signature[1:]
-        spelled = [(signature + b"\0", 0), (signature, 1), (signature[:-1], 0), (b"", 0), (b"\0" + signature, 0)]
-        spelled += [(long_form(signature), 0)] if kind == "p256" else []
-        wrong += [(kind, assembled(item.signed, item.outer_algorithm, *it)) for it in spelled]
+        forms = [(signature + b"\0", 0), (signature, 1), (signature[:-1], 0), (b"", 0), (b"\0" + signature, 0)]
+        forms += [(long_form(signature), 0)] if kind == "p256" else []
+        wrong += [(kind, assembled(item.signed, item.outer_algorithm, *it)) for it in forms]
     t.none("signatures that are not quite ones", [it for _, it in wrong], keys, "--weak")
-    opinions = [t.shop.is_signed(item_of(it), t.shop.public(kind), "sha256", ()) for kind, it in wrong]
+    opinions = [t.shop.is_signed(spelled(it), t.shop.public(kind), "sha256", ()) for kind, it in wrong]
     t.same("pkeyutl of signatures that are not quite ones", opinions, [False] * len(wrong))
 
 
@@ -82,7 +83,7 @@ def algorithms(t, made):
     """An outer algorithm other than the inner one is told, of certificates and lists."""
     wrong = [make("rsa", outer=outer) for make in (made.leaf, made.list) for outer in (NOT_NULL, ODD)]
     t.vouch("two algorithms", wrong, [made.root("rsa")], [], [told(it, "its two algorithms differ") for it in range(4)])
-    made_of = [altered(it, item_of(it).inner_algorithm, octets(other), octets(other)) for it in (made.leaf("rsa"), made.list("rsa")) for other in UNKNOWN]
+    made_of = [altered(it, spelled(it).inner_algorithm, octets(other), octets(other)) for it in (made.leaf("rsa"), made.list("rsa")) for other in UNKNOWN]
     why = [*UNKNOWN.values()] * 2
     t.vouch("unknown algorithms", made_of, [made.root("rsa")], [], [told(*it) for it in enumerate(why)], ["--weak"])
 
@@ -129,9 +130,12 @@ def unreadable(t, made):
     t.vouch("a key that nobody asks for", [good], [t.shop.certificate("rsa", name("x"), name("x"), no_key)], [(t.shop.public("rsa"), good)])
     neither = [altered(leaf, octets("02(07)"), octets("04(07)")), altered(made.list("rsa"), octets("02(01)"), octets("02(01)02(01)")), octets("30()")]
     t.vouch("no certificate nor list", neither, [octets("30()"), good, made.list("rsa")], [],
-            [*(told(it, "neither certificate nor list") for it in range(3)), *(told(it, "no certificate", "anchors") for it in (0, 2))])
-    unread = [altered(leaf, octets("02(07)"), octets("02()")), altered(leaf, octets("a0(02(02))"), octets("a0(05(02))")),
-              altered(made.list("rsa"), octets("02(01)"), octets("02()"))]
+            [*(told(it, NEITHER) for it in range(3)), *(told(it, "no certificate", "anchors") for it in (0, 2))])
+    odd = [altered(leaf, octets("02(07)"), octets("02()")), altered(leaf, octets("a0(02(02))"), octets("a0(05(02))")),
+           altered(made.list("rsa"), octets("02(01)"), octets("02()"))]
+    t.vouch("items in another spelling", odd, [good], [], [told(it, NEITHER) for it in range(3)])
+    number = name("number", INTEGER)
+    unread = [altered(leaf, made.name, number), altered(leaf, name("leaf"), number), altered(made.list("rsa"), made.name, number)]
     t.vouch("items that cannot be read", unread, [good], [], [told(it, "openssl cannot read it") for it in range(3)])
 
 

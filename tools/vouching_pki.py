@@ -4,8 +4,10 @@ import hashlib
 import os
 import subprocess
 import threading
+from typing import NamedTuple
 
 from items import element, octets
+from shapes import SEQUENCE, parts_of
 
 CONFIG = """[req]
 distinguished_name = name
@@ -45,7 +47,7 @@ DSA_PARAMETERS = ("-genparam", "-algorithm", "DSA", "-pkeyopt", "pbits:2048", "-
 RSA_SHA256, ECDSA_SHA256 = octets("30(06(2a864886f70d01010b)05())"), octets("30(06(2a8648ce3d040302))")
 OF_RSA = ("rsa", "other", "rsa1024", "long-exponent", "full-exponent")
 DATES = octets('17("260101000000Z")17("360101000000Z")')
-UTF8, PRINTABLE = b"\x0c", b"\x13"
+INTEGER, UTF8, PRINTABLE = b"\x02", b"\x0c", b"\x13"
 
 
 def name(text, tag=UTF8):
@@ -66,6 +68,21 @@ def assembled(signed, algorithm, signature, unused=0):
 def line(key, item):
     """The line that is wanted for a key element and an item."""
     return f"{hashlib.sha256(key).hexdigest()} {hashlib.sha256(item).hexdigest()}\n"
+
+
+class Spelled(NamedTuple):
+    """The parts of an item that trials change: elements, and the bits of its signature with the count of unused ones before them."""
+    signed: bytes
+    inner_algorithm: bytes
+    outer_algorithm: bytes
+    signature: bytes
+
+
+def spelled(item):
+    """The parts of an item that openssl has made."""
+    signed, algorithm, signature = parts_of(parts_of(item)[0].content)
+    inner = next(it for it in parts_of(signed.content) if it.tag == SEQUENCE)
+    return Spelled(signed.octets, inner.octets, algorithm.octets, signature.content)
 
 
 class Workshop:

@@ -5,7 +5,7 @@ import subprocess
 import sys
 
 import repo
-from shapes import counted
+from streams import counted
 from vouching_pki import line
 
 SECONDS = 60

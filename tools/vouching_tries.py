@@ -1,10 +1,13 @@
 """Trials of ./vouch: which keys are tried first and how many, and how what is told is grouped."""
+from contextlib import contextmanager
 from typing import NamedTuple
 
+import package
+from certpath import frame
+from certpath.openssl import Judge
 from items import element, octets
-from shapes import item_of
 from told import MOST_REASONS, OTHERS, Told
-from vouchers import Vouchers
+from vouchers import Vouching
 from vouching_items import NO_KEY, Made, altered, not_verified, told
 from vouching_pki import DATES, ECDSA_SHA256, RSA_SHA256, name
 
@@ -117,16 +120,33 @@ class Held(NamedTuple):
 
 
 class Counting:
-    """Verifies nothing, and counts what it is asked."""
+    """Verifies nothing, and counts what it is asked: stands for OpenSSL and for each item that it reads."""
 
     def __init__(self):
-        self.asked = []
+        self.asked, self.read = [], None
 
     def key(self, key):
         return Held(key)
 
-    def refusals(self, item, keys):
-        self.asked.append((item.octets, len(keys)))
+    def subject_key_id(self, octets):
+        return None
+
+    @contextmanager
+    def reading(self, kind, octets):
+        self.read = octets
+        yield self
+
+    def has_one_algorithm(self):
+        return True
+
+    def algorithm(self):
+        return "of all", "sha256"
+
+    def authority_key_id(self):
+        return None
+
+    def refusals(self, keys):
+        self.asked.append((self.read, len(keys)))
         return ["wrong signature"] * len(keys)
 
 
@@ -146,11 +166,11 @@ def counts(t, holders):
     def certificate(number):
         key = octets(f"30(30(06(2a03))03(00{number:02x}))")
         signed = element(b"\x30", octets("02(01)") + ECDSA_SHA256 + title + dates + title + key)
-        return item_of(element(b"\x30", signed + ECDSA_SHA256 + octets("03(00)")))
+        return element(b"\x30", signed + ECDSA_SHA256 + octets("03(00)"))
 
-    items, verifier, kept = [certificate(it) for it in range(100)], Counting(), Kept()
-    Vouchers(items * 2, [], verifier, False, DEFAULT, kept)
-    t.same("100 items and 100 keys, twice", verifier.asked, [(it.octets, DEFAULT) for it in items])
+    items, openssl, kept = [certificate(it) for it in range(100)], Counting(), Kept()
+    Vouching(frame(b"".join(items * 2)), frame(b""), Judge(openssl, DEFAULT), False, kept)
+    t.same("100 items and 100 keys, twice", openssl.asked, [(it, DEFAULT) for it in items])
     kept.flush()
     t.same("one line of 200 items", kept.kept, [f"bundle 0, 1, 2, 3, 4, .. (200 items): {left(100 - DEFAULT, 'not verified by 16 keys (wrong signature)')}"])
     kept = Kept()

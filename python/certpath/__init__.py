@@ -21,12 +21,12 @@ from .items import (LIMIT, Certificate, End, Item, Items, Kind, Name, Other, Rev
 from .library import (BadAnswer, BadMoment, BadName, Error, LibraryMissing, NoField, OutOfMemory,
                       version)
 from .paths import Answer, Outcome, check, find
-from .questions import Question, questions
+from .questions import Holder, Question, holders_by_issuer, questions
 from .vouchers import Vouchers
 
 __all__ = [
-    "Answer", "BadAnswer", "BadMoment", "BadName", "Certificate", "End", "Error", "Item", "Items",
-    "Kind", "LIMIT", "LibraryMissing", "Name", "NoField", "Other", "OutOfMemory", "Outcome",
-    "Question", "RevocationList", "Vouchers", "check", "class_of", "find", "frame", "questions",
-    "version",
+    "Answer", "BadAnswer", "BadMoment", "BadName", "Certificate", "End", "Error", "Holder", "Item",
+    "Items", "Kind", "LIMIT", "LibraryMissing", "Name", "NoField", "Other", "OutOfMemory",
+    "Outcome", "Question", "RevocationList", "Vouchers", "check", "class_of", "find", "frame",
+    "holders_by_issuer", "questions", "version",
 ]

@@ -1,16 +1,23 @@
 """Items: the certificates and revocation lists of a file, and what they hold."""
 import enum
+from array import array
 from collections.abc import Sequence
 from ctypes import byref, c_uint32
 from datetime import datetime, timezone
 from functools import cached_property
-from typing import NamedTuple, Optional
+from typing import List, NamedTuple, Optional
 
 from . import library
 
 LIMIT = 16777216
 # How many octets of a field or a name are asked for at first.
 ROOM = 512
+# How many octets are cut in one call, or more where an item is longer.
+WINDOW = 1 << 20
+# How a file ends, by the numbers of certpath.h.
+ENDS = ("clean", "cut", "fault")
+# Stands for the class of an item that isn't known yet.
+UNKNOWN = 255
 
 
 class Kind(enum.Enum):
@@ -172,6 +179,7 @@ class RevocationList(Signed):
         return self._times[1]
 
 
+KINDS = tuple(Kind)
 CLASSES = {Kind.OTHER: Other, Kind.CERTIFICATE: Certificate, Kind.LIST: RevocationList}
 
 
@@ -180,37 +188,113 @@ def moment_of(moment: library.Moment) -> datetime:
                     moment.second, tzinfo=timezone.utc)
 
 
-def class_of(data: bytes) -> Kind:
-    """What the octets of an item are."""
-    octets, length = library.octets_of(data)
+def class_number(octets, length: int) -> int:
+    """The number of what the octets of an item are."""
     found = c_uint32()
     library.refuse(library.loaded().certpath_class(octets, length, byref(found)))
-    return Kind(found.value)
+    return found.value
+
+
+def class_of(data: bytes) -> Kind:
+    """What the octets of an item are."""
+    return KINDS[class_number(*library.octets_of(data))]
 
 
 class Items(Sequence):
     """The items of a file in their order, each classed when it is first asked for."""
 
-    def __init__(self, data: bytes, limit: int, spans: list, end: End):
+    def __init__(self, data: bytes, limit: int, starts: array, end: End):
         self.data, self.limit, self.end = data, limit, end
-        self._spans, self._items = spans, {}
+        # where each item begins, and where the last one ends
+        self._starts, self._address = starts, library.address_of(data)
+        self._kinds, self._items = bytearray([UNKNOWN]) * len(self), {}
 
     def octets(self, position: int) -> bytes:
         """The octets of the item at a position."""
-        offset, length = self._spans[position]
-        return self.data[offset:offset + length]
+        position = range(len(self))[position]
+        return self.data[self._starts[position]:self._starts[position + 1]]
+
+    def kind(self, position: int) -> Kind:
+        """What the item at a position is; its octets aren't copied."""
+        position = range(len(self))[position]
+        if self._kinds[position] == UNKNOWN:
+            offset, end = self._starts[position], self._starts[position + 1]
+            part = library.part_of(self._address, offset, end - offset)
+            self._kinds[position] = class_number(*part)
+        return KINDS[self._kinds[position]]
+
+    def kinds(self) -> List[Kind]:
+        """What each item is, in their order: for all items this costs least."""
+        call, found = library.loaded().certpath_class, c_uint32()
+        kinds, address, where = self._kinds, self._address, byref(found)
+        for position, (offset, end) in enumerate(zip(self._starts, self._starts[1:])):
+            if kinds[position] == UNKNOWN:
+                status = call(library.OCTETS(address + offset), end - offset, where)
+                if status:
+                    library.refuse(status)
+                kinds[position] = found.value
+        return [*map(KINDS.__getitem__, kinds)]
 
     def __len__(self) -> int:
-        return len(self._spans)
+        return len(self._starts) - 1
 
     def __getitem__(self, position):
         if isinstance(position, slice):
             return [self[it] for it in range(*position.indices(len(self)))]
         position = range(len(self))[position]
         if position not in self._items:
-            octets = self.octets(position)
-            self._items[position] = CLASSES[class_of(octets)](octets)
+            kind = self.kind(position)
+            item = CLASSES[kind](self.octets(position))
+            if kind is Kind.OTHER:
+                # (it has nothing that is read but once, and a file may have millions of them)
+                return item
+            self._items[position] = item
         return self._items[position]
+
+
+class Cutter:
+    """Cuts octets into items, a window of them at a time, so that many small items take little
+    memory beside the octets."""
+
+    def __init__(self, octets: bytes, limit: int):
+        self.length, self.limit = len(octets), limit
+        self.address, self.framed = library.address_of(octets), library.Framed()
+        self.starts, self.spans = array("Q"), array("Q")
+
+    def cut(self, at: int, length: int):
+        """Cuts a window: notes where its items begin, and gives how it ends."""
+        window = library.part_of(self.address, at, length)
+        self.make_room(length // 64 + 16)
+        while True:
+            room = len(self.spans) // 2
+            spans = library.spans_at(self.spans.buffer_info()[0])
+            status = library.loaded().certpath_frame(*window, self.limit, spans, room,
+                                                     byref(self.framed))
+            if status != library.TOO_SMALL:
+                break
+            self.make_room(self.framed.count)
+        library.refuse(status)
+        self.starts.extend(map(at.__add__, self.spans[:2 * self.framed.count:2]))
+        return ENDS[self.framed.end], at + self.framed.at
+
+    def make_room(self, count: int):
+        """Makes room for so many spans, each an offset and a length."""
+        if len(self.spans) < 2 * count:
+            self.spans = array("Q", bytes(2 * count * self.spans.itemsize))
+
+    def all(self) -> End:
+        """Cuts all of the octets; gives how they end."""
+        at, size = 0, WINDOW
+        while True:
+            length = min(size, self.length - at)
+            word, end = self.cut(at, length)
+            if word == "fault" or at + length == self.length:
+                self.starts.append(end)
+                return End(word, end)
+            if end == at:
+                # an item is longer than the window
+                size *= 2
+            at = end
 
 
 def frame(data: bytes, limit: int = LIMIT) -> Items:
@@ -218,17 +302,10 @@ def frame(data: bytes, limit: int = LIMIT) -> Items:
     octets. `items.end` says how the octets end after them."""
     if not 0 <= limit < 1 << 32:
         raise ValueError(f"the limit {limit} is not from 0 to 4294967295")
-    octets, length = library.octets_of(data)
-    framed, room = library.Framed(), length // 256 + 16
-    while True:
-        spans = (library.Span * room)()
-        status = library.loaded().certpath_frame(octets, length, limit, spans, room, byref(framed))
-        if status != library.TOO_SMALL:
-            break
-        room = framed.count
-    library.refuse(status)
-    found = [(it.offset, it.length) for it in spans[:framed.count]]
-    return Items(octets, limit, found, End(("clean", "cut", "fault")[framed.end], framed.at))
+    octets = bytes(data)
+    cutter = Cutter(octets, limit)
+    end = cutter.all()
+    return Items(octets, limit, cutter.starts, end)
 
 
 def items_of(data, limit: int = LIMIT) -> Items:

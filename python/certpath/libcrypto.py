@@ -4,7 +4,8 @@ import ctypes
 import re
 import ssl
 from collections import OrderedDict
-from ctypes import POINTER, c_char_p, c_int, c_long, c_ulong, c_void_p
+from contextlib import contextmanager
+from ctypes import POINTER, c_char_p, c_int, c_long, c_size_t, c_ulong, c_void_p
 from typing import NamedTuple
 
 from .algorithms import DIGESTS, PSS, PSS_DIGESTS
@@ -21,8 +22,19 @@ FUNCTIONS = {
     "EVP_PKEY_free": (None, [c_void_p]),
     "X509_get0_signature": (None, [c_void_p, POINTED, c_void_p]),
     "X509_CRL_get0_signature": (None, [c_void_p, c_void_p, POINTED]),
+    "d2i_ASN1_SEQUENCE_ANY": (c_void_p, [c_void_p, POINTED, c_long]),
+    "OPENSSL_sk_num": (c_int, [c_void_p]),
+    "OPENSSL_sk_value": (c_void_p, [c_void_p, c_int]),
+    "OPENSSL_sk_pop_free": (None, [c_void_p, c_void_p]),
+    "ASN1_TYPE_free": (None, [c_void_p]),
+    "X509_get_ext_d2i": (c_void_p, [c_void_p, c_int, c_void_p, c_void_p]),
+    "X509_CRL_get_ext_d2i": (c_void_p, [c_void_p, c_int, c_void_p, c_void_p]),
+    "ASN1_OCTET_STRING_free": (None, [c_void_p]),
+    "AUTHORITY_KEYID_free": (None, [c_void_p]),
     "X509_ALGOR_get0": (None, [POINTED, POINTER(c_int), POINTED, c_void_p]),
     "OBJ_obj2txt": (c_int, [c_char_p, c_int, c_void_p, c_int]),
+    "OBJ_length": (c_size_t, [c_void_p]),
+    "OBJ_get0_data": (c_void_p, [c_void_p]),
     "ASN1_STRING_get0_data": (c_void_p, [c_void_p]),
     "ASN1_STRING_length": (c_int, [c_void_p]),
     "d2i_RSA_PSS_PARAMS": (POINTED, [c_void_p, POINTED, c_long]),
@@ -39,13 +51,14 @@ FUNCTIONS = {
     "ERR_get_error": (c_ulong, []),
     "ERR_reason_error_string": (c_char_p, [c_ulong]),
 }
-# The type of parameters that are a SEQUENCE (V_ASN1_SEQUENCE), and room for an identifier's text.
+# The type of what is a SEQUENCE (V_ASN1_SEQUENCE), and room for an identifier's text.
 SEQUENCE, TEXT_ROOM = 16, 256
-# By an item's kind: what reads it, frees it, and verifies it.
-CALLS = {
-    CERTIFICATE: ("d2i_X509", "X509_free", "X509_verify"),
-    LIST: ("d2i_X509_CRL", "X509_CRL_free", "X509_CRL_verify"),
-}
+# Of a longer identifier its first octets alone are shown: OpenSSL takes long for its text.
+MOST_SHOWN = 32
+# What a kind of item goes by in the names of functions.
+NAMES = {CERTIFICATE: "X509", LIST: "X509_CRL"}
+# The numbers of the extensions that have key identifiers (NID_subject_key_identifier, NID_authority_key_identifier).
+SUBJECT_KEY_ID, AUTHORITY_KEY_ID = 82, 90
 # A key that is worth fewer bits of security is weak: RSA and DSA below 2048 bits, elliptic curves below 224.
 FEWEST_BITS = 112
 # OpenSSL verifies by longer exponents too where the modulus has at most 3,072 bits; that takes it up to 10 ms.
@@ -55,6 +68,11 @@ MOST_KEYS = 1024
 UNREAD, LONG_EXPONENT = "openssl cannot read its key", f"its key has an exponent of more than {MOST_EXPONENT_BITS} bits"
 # What OpenSSL notes where it has nothing to say but that a signature is wrong.
 WRONG, NO_REASONS = "wrong signature", ("EVP lib",)
+
+
+class AnyType(ctypes.Structure):
+    """ASN1_TYPE: of a SEQUENCE the value is an ASN1_STRING with all of its octets."""
+    _fields_ = [("type", c_int), ("value", c_void_p)]
 
 
 class Missing(ImportError):
@@ -155,48 +173,39 @@ class Verifier:
         text = noted.decode(errors="replace") if noted else WRONG
         return WRONG if text in NO_REASONS else text
 
-    def refusals(self, item, keys):
-        """Why each key, by its element's octets, doesn't verify the item, none where it does; or nothing at all where OpenSSL cannot
-        read the item."""
-        reader, free, verify = CALLS[item.kind]
-        handle, is_whole = self.read(reader, item.octets)
+    @contextmanager
+    def reading(self, kind, octets):
+        """An item as OpenSSL reads it, as long as the context lasts; none where OpenSSL cannot read it."""
+        handle, is_whole = self.read(f"d2i_{NAMES[kind]}", octets)
         self.library.ERR_clear_error()
         try:
-            return [self.refusal(getattr(self.library, verify), handle, self.key(it)) for it in keys] if is_whole else None
+            yield Read(self, kind, octets, handle) if is_whole else None
         finally:
             if handle is not None:
-                getattr(self.library, free)(handle)
+                getattr(self.library, f"{NAMES[kind]}_free")(handle)
 
-    def algorithm(self, item):
-        """The identifier of an item's signature algorithm as text, and the digest that it takes: none of one that isn't known; or
-        nothing at all where OpenSSL cannot read the item."""
-        reader, free, _ = CALLS[item.kind]
-        handle, is_whole = self.read(reader, item.octets)
-        self.library.ERR_clear_error()
-        try:
-            return self.algorithm_of(self.signed_by(item.kind, handle)) if is_whole else None
-        finally:
-            if handle is not None:
-                getattr(self.library, free)(handle)
-
-    def signed_by(self, kind, handle):
-        """The X509_ALGOR of an item's signature."""
-        found = c_void_p()
-        if kind == CERTIFICATE:
-            self.library.X509_get0_signature(None, ctypes.byref(found), handle)
-        else:
-            self.library.X509_CRL_get0_signature(handle, None, ctypes.byref(found))
-        return found
+    def subject_key_id(self, octets):
+        """The identifier that a certificate gives its key, none where it has none that can be read."""
+        with self.reading(CERTIFICATE, octets) as read:
+            return read.subject_key_id() if read else None
 
     def parts_of(self, algorithm):
         """An algorithm's identifier as text, and its parameters where they are a SEQUENCE."""
         identifier, kind, parameters = c_void_p(), c_int(), c_void_p()
         self.library.X509_ALGOR_get0(ctypes.byref(identifier), ctypes.byref(kind), ctypes.byref(parameters), algorithm)
+        return self.identifier_of(identifier), parameters if kind.value == SEQUENCE else None
+
+    def identifier_of(self, identifier):
+        """An object identifier as text (X.690, 8.19), by its octets where it is long."""
+        length = self.library.OBJ_length(identifier)
+        if length > MOST_SHOWN:
+            return f"of {length} octets that begin with {ctypes.string_at(self.library.OBJ_get0_data(identifier), MOST_SHOWN).hex()}"
         text = ctypes.create_string_buffer(TEXT_ROOM)
         self.library.OBJ_obj2txt(text, TEXT_ROOM, identifier, 1)
-        return text.value.decode(), parameters if kind.value == SEQUENCE else None
+        return text.value.decode()
 
     def algorithm_of(self, algorithm):
+        """An algorithm's identifier as text, and the digest that it takes: none of one that isn't known."""
         identifier, parameters = self.parts_of(algorithm)
         return identifier, self.pss_digest(parameters) if identifier == PSS else DIGESTS.get(identifier)
 
@@ -216,10 +225,82 @@ class Verifier:
         finally:
             self.library.RSA_PSS_PARAMS_free(read)
 
-    def refusal(self, verify, handle, key):
+    def sequences_in(self, octets):
+        """The parts of a SEQUENCE that are SEQUENCEs, each with all of its octets."""
+        parts, _ = self.read("d2i_ASN1_SEQUENCE_ANY", octets)
+        try:
+            found = [AnyType.from_address(self.library.OPENSSL_sk_value(parts, it)) for it in range(self.library.OPENSSL_sk_num(parts))]
+            return [self.string_of(it.value) for it in found if it.type == SEQUENCE]
+        finally:
+            self.library.OPENSSL_sk_pop_free(parts, ctypes.cast(self.library.ASN1_TYPE_free, c_void_p))
+
+    def string_of(self, pointer):
+        """The octets of an ASN1_STRING, none where there is none."""
+        if not pointer:
+            return None
+        return ctypes.string_at(self.library.ASN1_STRING_get0_data(pointer), self.library.ASN1_STRING_length(pointer))
+
+
+class Read:
+    """An item that OpenSSL has read."""
+
+    def __init__(self, verifier, kind, octets, handle):
+        self.verifier, self.library = verifier, verifier.library
+        self.kind, self.octets, self.handle = kind, octets, handle
+
+    def call(self, name, *further):
+        """Calls a function that there is for both kinds of items."""
+        return getattr(self.library, f"{NAMES[self.kind]}_{name}")(self.handle, *further)
+
+    def signed_by(self):
+        """The X509_ALGOR beside the signature."""
+        found = c_void_p()
+        if self.kind == CERTIFICATE:
+            self.library.X509_get0_signature(None, ctypes.byref(found), self.handle)
+        else:
+            self.library.X509_CRL_get0_signature(self.handle, None, ctypes.byref(found))
+        return found
+
+    def has_one_algorithm(self):
+        """Whether the algorithm within what is signed is the one beside the signature (RFC 5280, 4.1.1.2 and 5.1.1.2)."""
+        signed, beside = self.verifier.sequences_in(self.octets)
+        return self.verifier.sequences_in(signed)[0] == beside
+
+    def algorithm(self):
+        """The identifier of the signature's algorithm as text, and the digest that it takes: none of one that isn't known."""
+        return self.verifier.algorithm_of(self.signed_by())
+
+    def refusals(self, keys):
+        """Why each key, by its element's octets, doesn't verify the signature; none where it does."""
+        return [self.refusal(self.verifier.key(it)) for it in keys]
+
+    def refusal(self, key):
         if key.why:
             return key.why.replace("its key", "the key")
         # 1 alone is yes: 0 is a wrong signature, -1 a key of another type, unused bits, or a signature in another spelling
-        is_verified = verify(handle, key.handle) == 1
-        reason = self.reason()
+        is_verified = self.call("verify", key.handle) == 1
+        reason = self.verifier.reason()
         return None if is_verified else reason
+
+    def extension(self, number):
+        """The value of an extension that stands there once, as OpenSSL reads it; none where there is none."""
+        found = self.call("get_ext_d2i", number, None, None)
+        self.library.ERR_clear_error()
+        return found
+
+    def subject_key_id(self):
+        """The identifier of a certificate's own key (RFC 5280, 4.2.1.2), none where it has none."""
+        found = self.extension(SUBJECT_KEY_ID)
+        try:
+            return self.verifier.string_of(found)
+        finally:
+            self.library.ASN1_OCTET_STRING_free(found)
+
+    def authority_key_id(self):
+        """The identifier of the key that signed the item (RFC 5280, 4.2.1.1 and 5.2.1), none where it has none."""
+        found = self.extension(AUTHORITY_KEY_ID)
+        try:
+            # (the first field of an AUTHORITY_KEYID is the key identifier)
+            return self.verifier.string_of(ctypes.cast(found, POINTED)[0]) if found else None
+        finally:
+            self.library.AUTHORITY_KEYID_free(found)

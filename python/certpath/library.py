@@ -2,7 +2,7 @@
 import ctypes
 import functools
 import os
-from ctypes import POINTER, byref, c_int8, c_int16, c_int32, c_size_t, c_uint8, c_uint32, c_uint64
+from ctypes import POINTER, byref, c_int8, c_int16, c_int32, c_size_t, c_uint32, c_uint64
 
 # The version of the calls that this package makes (CERTPATH_VERSION in certpath.h).
 VERSION = 1
@@ -80,7 +80,7 @@ class AnswerRow(ctypes.Structure):
 # Octets are handed over as they lie in a `bytes`, which is never written.
 OCTETS, SIZE, SIZES = ctypes.c_char_p, c_size_t, POINTER(c_size_t)
 INPUT = [OCTETS, SIZE]
-TEXT = [POINTER(c_uint8), SIZE, SIZES]
+TEXT = [OCTETS, SIZE, SIZES]
 ASKED = [*INPUT, *INPUT, *INPUT, POINTER(Settings)]
 POSITIONS, TABLE = [SIZES, SIZE], [POINTER(c_uint64), SIZE]
 # What each function takes; all but the last answer a status.
@@ -134,6 +134,21 @@ def octets_of(data):
     return octets, len(octets)
 
 
+def address_of(octets):
+    """Where a `bytes` lies, as long as somebody holds it."""
+    return ctypes.cast(octets, ctypes.c_void_p).value
+
+
+def part_of(address, offset, length):
+    """A part of octets as a call takes it, which isn't copied."""
+    return OCTETS(address + offset), length
+
+
+def spans_at(address):
+    """The spans that lie at an address, as a call takes them."""
+    return ctypes.cast(address, POINTER(Span))
+
+
 def sized(call, guess):
     """Makes a call that writes octets, with more room where it asks for it; gives the octets.
 
@@ -141,7 +156,7 @@ def sized(call, guess):
     """
     room, length = guess, c_size_t()
     while True:
-        buffer = (c_uint8 * room)()
+        buffer = ctypes.create_string_buffer(room)
         status = call(buffer, room, byref(length))
         if status != TOO_SMALL:
             refuse(status)

@@ -5,8 +5,9 @@
 
 Of this nothing is proved: what is vouched for is what OpenSSL says.
 """
-from itertools import groupby
-from typing import Iterator, NamedTuple, Optional
+from functools import cached_property
+from itertools import chain, groupby
+from typing import Callable, Iterator, List, NamedTuple, Optional
 
 from . import algorithms, libcrypto
 from .items import Certificate, Items, Kind, items_of
@@ -17,6 +18,7 @@ WORDS = {Kind.CERTIFICATE: libcrypto.CERTIFICATE, Kind.LIST: libcrypto.LIST}
 # How many keys are tried for an item, at most, where no number is given.
 MOST_TRIES = 16
 NOT_TRIED, UNREAD = "not tried", "openssl cannot read it"
+TWO_ALGORITHMS = "its two algorithms differ"
 
 
 class Missing(ImportError):
@@ -45,16 +47,23 @@ class Vouched(NamedTuple):
     """A Verdict for each question, in their order."""
 
 
-class Signed(NamedTuple):
-    """An item as libcrypto's calls take it."""
-    kind: str
-    octets: bytes
+class Tried(NamedTuple):
+    """What OpenSSL says of an item and a key."""
+    holder: int
+    """Which of the holders has the key."""
+    key: bytes
+    weaknesses: tuple
+    """Of a verified signature: in which words it is weak."""
+    why: Optional[str]
+    """Why the key doesn't verify the signature; None where it does."""
 
 
-def order_of(item, holder: Certificate) -> int:
-    """Which keys are tried first: an item's own, where it is under its issuer's name."""
-    is_own = isinstance(item, Certificate) and holder.public_key_bytes == item.public_key_bytes
-    return 0 if is_own else 1
+class Judged(NamedTuple):
+    """What OpenSSL says of an item."""
+    why: Optional[str]
+    """Why no key can be tried; None where keys were, or there is none."""
+    tried: List[Tried]
+    """The keys that were tried, in the order in which they were."""
 
 
 def verifier():
@@ -65,38 +74,111 @@ def verifier():
         raise Missing(str(error)) from error
 
 
-def judged(asked: list, bundle: Items, anchors: Items, openssl, tries: int) -> Iterator[Verdict]:
+def unknown(identifier: str) -> str:
+    """Why an algorithm isn't known."""
+    of_parameters = " with its parameters" if identifier == algorithms.PSS else ""
+    return f"algorithm {identifier} not known{of_parameters}"
+
+
+class KeyHolders:
+    """The certificates whose keys may have signed an item, and which of them are tried first."""
+
+    def __init__(self, certificates: List[Certificate], key_id: Callable):
+        self.certificates, self.key_id = certificates, key_id
+
+    @cached_property
+    def _by_id(self):
+        found = {}
+        for place, it in enumerate(self.certificates):
+            found.setdefault(self.key_id(it), []).append(place)
+        return found
+
+    @cached_property
+    def _by_key(self):
+        return {it.public_key_bytes: place for place, it in enumerate(self.certificates)}
+
+    def chosen(self, item, named: Callable, most: int) -> List[int]:
+        """Which are tried, at most so many: first those of the key identifier that the item names,
+        then its own key where it is self-issued, then the others in their order."""
+        every = range(len(self.certificates))
+        if len(every) < 2:
+            return [*every[:most]]
+        named_id, own = named(), None
+        if isinstance(item, Certificate) and item.subject == item.issuer:
+            own = self._by_key.get(item.public_key_bytes)
+        first = self._by_id.get(named_id, ()) if named_id is not None else ()
+        found = {}
+        for place in chain(first, () if own is None else (own,), every):
+            if len(found) == most:
+                break
+            found[place] = None
+        return [*found]
+
+
+class Judge:
+    """Asks OpenSSL about items, with at most `tries` keys each."""
+
+    def __init__(self, openssl=None, tries: int = MOST_TRIES):
+        self.openssl, self.tries = openssl or verifier(), tries
+        self._ids = {}
+
+    def holders(self, certificates: List[Certificate]) -> KeyHolders:
+        """Certificates whose keys are tried; made once for all items that they may have issued."""
+        return KeyHolders(certificates, self.key_id)
+
+    def judged(self, item, holders: KeyHolders) -> Judged:
+        """What OpenSSL says of an item, by the keys of certificates."""
+        with self.openssl.reading(WORDS[item.kind], item.public_bytes()) as read:
+            if read is None:
+                return Judged(UNREAD, [])
+            if not read.has_one_algorithm():
+                return Judged(TWO_ALGORITHMS, [])
+            identifier, digest = read.algorithm()
+            if digest is None:
+                return Judged(unknown(identifier), [])
+            chosen = holders.chosen(item, read.authority_key_id, self.tries)
+            keys = [holders.certificates[it].public_key_bytes for it in chosen]
+            refusals = read.refusals(keys)
+            return Judged(None, [Tried(it, key, () if why else self.weaknesses(digest, key), why)
+                                 for it, key, why in zip(chosen, keys, refusals)])
+
+    def key_id(self, holder: Certificate) -> Optional[bytes]:
+        """The identifier that a certificate gives its key, read once."""
+        if holder not in self._ids:
+            self._ids[holder] = self.openssl.subject_key_id(holder.public_bytes())
+        return self._ids[holder]
+
+    def weaknesses(self, digest: str, key: bytes) -> tuple:
+        """In which words a signature is weak."""
+        found = digest if digest in algorithms.WEAK else None, self.openssl.key(key).weak
+        return tuple(filter(None, found))
+
+
+def verdicts_on(asked: List[Question], judged: Judged) -> Iterator[Verdict]:
     """The verdicts on the questions of one item, in their order."""
-    item = bundle[asked[0].item]
-    signed = Signed(WORDS[item.kind], item.public_bytes())
-    holders = {it: it.key_holder(bundle, anchors) for it in asked}
-    chosen = sorted(asked, key=lambda it: order_of(item, holders[it]))[:tries]
-    algorithm = openssl.algorithm(signed)
-    if algorithm is None or algorithm[1] is None:
-        why = UNREAD if algorithm is None else f"algorithm {algorithm[0]} not known"
-        yield from (Verdict(it, False, (), why) for it in asked)
-        return
-    keys = [holders[it].public_key_bytes for it in chosen]
-    refusals = openssl.refusals(signed, keys)
-    found = dict(zip(chosen, zip(keys, refusals or [UNREAD] * len(keys))))
-    for question in asked:
-        key, why = found.get(question, (None, NOT_TRIED))
-        digest = algorithm[1] if algorithm[1] in algorithms.WEAK else None
-        weak = (digest, openssl.key(key).weak) if why is None else ()
-        yield Verdict(question, why is None, tuple(filter(None, weak)), why)
+    tried = {it.holder: it for it in judged.tried}
+    for place, question in enumerate(asked):
+        it = tried.get(place)
+        if it is None:
+            yield Verdict(question, False, (), judged.why or NOT_TRIED)
+        else:
+            yield Verdict(question, it.why is None, it.weaknesses, it.why)
 
 
 def answers(bundle, anchors, asked=None, tries: int = MOST_TRIES,
             openssl=None) -> Iterator[Verdict]:
     """What OpenSSL says of each question, by default of all of a bundle and anchors (Items or
-    octets). For each item at most `tries` keys are tried, in the order of the questions. The
-    questions of an item have to stand side by side, as `questions` gives them."""
+    octets). For each item at most `tries` keys are tried: first those of the key identifier that
+    the item names, then its own. The questions of an item have to stand side by side, as
+    `questions` gives them."""
     bundle = items_of(bundle)
     anchors = items_of(anchors, bundle.limit)
-    openssl = openssl or verifier()
+    judge = Judge(openssl, tries)
     asked = questions(bundle, anchors) if asked is None else asked
-    for _, group in groupby(asked, key=lambda it: it.item):
-        yield from judged([*group], bundle, anchors, openssl, tries)
+    for item, group in groupby(asked, key=lambda it: it.item):
+        of_item = [*group]
+        holders = judge.holders([it.key_holder(bundle, anchors) for it in of_item])
+        yield from verdicts_on(of_item, judge.judged(bundle[item], holders))
 
 
 def vouch(bundle, anchors, weak: bool = False, tries: int = MOST_TRIES) -> Vouched:

@@ -8,7 +8,7 @@ from . import library
 from .items import Items, items_of
 from .vouchers import Vouchers
 
-# How many positions of a path are asked for at first.
+# How many positions of a path, and rows of a table, are asked for at first.
 ROOM = 16
 
 
@@ -65,7 +65,7 @@ def find(bundle, anchors, vouchers, target: int, at: datetime,
     bundle = items_of(bundle)
     anchors = items_of(anchors, bundle.limit)
     arguments = asked(bundle, anchors, vouchers, target, at, demand_lists)
-    row, room, table_room = library.AnswerRow(), ROOM, 4 * len(bundle)
+    row, room, table_room = library.AnswerRow(), ROOM, ROOM * len(bundle)
     while True:
         positions, table = (c_size_t * room)(), (c_uint64 * table_room)()
         status = library.loaded().certpath_find(*arguments, positions, room, table, table_room,

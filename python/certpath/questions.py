@@ -1,9 +1,20 @@
 """Questions: which keys may have signed which items."""
 from ctypes import byref, c_size_t
-from typing import NamedTuple
+from typing import Dict, List, NamedTuple
 
 from . import library
-from .items import Items, items_of
+from .items import Certificate, Items, Kind, Name, frame, items_of
+
+
+class Holder(NamedTuple):
+    """A certificate whose key is meant."""
+    is_anchor: bool
+    """Whether the certificate is an anchor."""
+    position: int
+    """Its position in the bundle, or among the anchors."""
+
+    def certificate(self, bundle: Items, anchors: Items) -> Certificate:
+        return (anchors if self.is_anchor else bundle)[self.position]
 
 
 class Question(NamedTuple):
@@ -15,20 +26,21 @@ class Question(NamedTuple):
     is_anchor: bool
     """Whether the certificate is an anchor."""
 
-    def key_holder(self, bundle: Items, anchors: Items):
+    def key_holder(self, bundle: Items, anchors: Items) -> Certificate:
         """The certificate whose key is meant."""
-        return (anchors if self.is_anchor else bundle)[self.holder]
+        return Holder(self.is_anchor, self.holder).certificate(bundle, anchors)
 
 
-def questions(bundle, anchors) -> list:
+def questions(bundle, anchors) -> List[Question]:
     """All questions of a bundle and anchors (Items or octets), each once, by their items' order.
 
-    Of signatures nothing else is ever asked: whoever answers these alike has the same paths.
+    Of signatures nothing else is ever asked: whoever answers these alike has the same paths. Of n
+    items of one name there may be n times n questions; `holders_by_issuer` has each name once.
     """
     bundle = items_of(bundle)
     anchors = items_of(anchors, bundle.limit)
     one, other = library.octets_of(bundle.data), library.octets_of(anchors.data)
-    count, room = c_size_t(), 4 * len(bundle) + 16
+    count, room = c_size_t(), 4 * len(bundle) + len(anchors) + 16
     while True:
         rows = (library.QuestionRow * room)()
         status = library.loaded().certpath_questions(*one, *other, bundle.limit, rows, room,
@@ -38,3 +50,41 @@ def questions(bundle, anchors) -> list:
         room = count.value
     library.refuse(status)
     return [Question(it.item, it.holder, bool(it.is_anchor)) for it in rows[:count.value]]
+
+
+def first_issued(bundle: Items) -> Dict[Name, int]:
+    """The names under which items were issued, and for each the first of its items."""
+    found = {}
+    for position in range(len(bundle)):
+        if bundle.kind(position) is not Kind.OTHER:
+            found.setdefault(bundle[position].issuer, position)
+    return found
+
+
+def certificates_of(items: Items, is_anchor: bool) -> List[Holder]:
+    return [Holder(is_anchor, it) for it in range(len(items))
+            if items.kind(it) is Kind.CERTIFICATE]
+
+
+def holders_by_issuer(bundle, anchors) -> Dict[Name, List[Holder]]:
+    """The questions of a bundle and anchors (Items or octets), each name of an issuer once: whose
+    keys have to be tried on the items that were issued under it, in the order of the files.
+
+    Since an item's questions depend on its issuer's name alone, it asks those of one item a name.
+    """
+    bundle = items_of(bundle)
+    anchors = items_of(anchors, bundle.limit)
+    first = first_issued(bundle)
+    names, asking = [*first], [Holder(False, it) for it in first.values()]
+    holding = certificates_of(bundle, False) + certificates_of(anchors, True)
+    found = {it: [] for it in names}
+    for question in questions(joined(asking, bundle, anchors), joined(holding, bundle, anchors)):
+        side = holding if question.is_anchor else asking
+        found[names[question.item]].append(side[question.holder])
+    return {name: sorted(holders) for name, holders in found.items()}
+
+
+def joined(holders: List[Holder], bundle: Items, anchors: Items) -> Items:
+    """Items by their places, as a file of their own."""
+    octets = ((anchors if it.is_anchor else bundle).octets(it.position) for it in holders)
+    return frame(b"".join(octets), bundle.limit)

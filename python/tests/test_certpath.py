@@ -8,9 +8,12 @@ import sys
 import threading
 import unittest
 from datetime import datetime, timedelta, timezone
+from types import SimpleNamespace
+from unittest import mock
 
 import certpath
 import certpath.openssl
+from certpath import library
 
 TOP = os.path.join(os.path.dirname(os.path.abspath(__file__)), "..", "..")
 VERSION_1 = bytes.fromhex(
@@ -50,6 +53,22 @@ class Framing(unittest.TestCase):
                 certpath.frame(VERSION_1, limit=limit)
 
 
+    def test_windows(self):
+        for octets in (sample("bundle.der"), sample("bundle.der")[:-1], b"\x30\x00" * 9 + b"\x31",
+                       sample("leaf.der") + b"\x30\x00" * 2000 + sample("root.der"), b""):
+            whole = certpath.frame(octets)
+            for window in (1, 2, 3, 64, 884, len(octets) or 1):
+                with mock.patch("certpath.items.WINDOW", window):
+                    items = certpath.frame(octets)
+                self.assertEqual(items.end, whole.end)
+                self.assertEqual([*map(items.octets, range(len(items)))],
+                                 [*map(whole.octets, range(len(whole)))])
+
+    def test_kinds_of_octets(self):
+        for octets in (b"", bytearray(b"\x30\x00"), memoryview(sample("leaf.der"))):
+            self.assertEqual(certpath.frame(octets).data, bytes(octets))
+
+
 class Items(unittest.TestCase):
     def setUp(self):
         self.items = certpath.frame(sample("bundle.der"))
@@ -57,8 +76,18 @@ class Items(unittest.TestCase):
 
     def test_kinds(self):
         self.assertEqual([it.kind.name for it in self.items], ["CERTIFICATE"] * 3 + ["LIST"])
+        self.assertEqual(self.items.kinds(), [it.kind for it in self.items])
+        self.assertEqual([*map(self.items.kind, range(4))], self.items.kinds())
         self.assertIs(certpath.class_of(b"\x30\x00"), certpath.Kind.OTHER)
         self.assertIs(certpath.class_of(b""), certpath.Kind.OTHER)
+        self.assertEqual(certpath.frame(b"").kinds(), [])
+
+    def test_positions(self):
+        self.assertEqual(self.items.octets(-1), self.list.public_bytes())
+        for position in (4, -5):
+            for call in (self.items.octets, self.items.kind, self.items.__getitem__):
+                with self.subTest(call=call, position=position), self.assertRaises(IndexError):
+                    call(position)
 
     def test_slices(self):
         self.assertEqual(self.items[1:3], [self.intermediate, self.root])
@@ -96,8 +125,16 @@ class Items(unittest.TestCase):
             certpath.Certificate(b"\x30\x00").subject
         with self.assertRaises(certpath.NoField):
             certpath.Certificate(b"\x30\x00").not_valid_before_utc
-        with self.assertRaises(certpath.BadName):
-            certpath.Name(b"\x02\x01").text
+        self.assertEqual((other.kind, other.public_bytes()), (certpath.Kind.OTHER, b"\x30\x00"))
+        for octets in (b"", b"\x02\x01", b"\x30\x00\x00"):
+            with self.subTest(octets=octets):
+                with self.assertRaises(certpath.BadName):
+                    certpath.Name(octets).text
+                self.assertEqual(str(certpath.Name(octets)), octets.hex())
+        for call in (lambda: self.list.field(1), lambda: self.list.field(2),
+                     lambda: self.leaf.field(99), lambda: certpath.Certificate(b"").issuer):
+            with self.assertRaises(certpath.NoField):
+                call()
 
     def test_long_names(self):
         value = b"\x0c\x82\x04\x00" + b"a" * 1024
@@ -137,6 +174,30 @@ class Questions(unittest.TestCase):
         asked = certpath.questions(VERSION_1 * 100, VERSION_1)
         self.assertEqual(asked, [(k, 0, False) for k in range(100)])
 
+    def test_limits(self):
+        for limit, count in ((0, 0), (67, 1), (2 ** 32 - 1, 1)):
+            self.assertEqual(len(certpath.questions(certpath.frame(VERSION_1, limit), b"")), count)
+
+    def test_by_issuer(self):
+        bundle, anchors = (certpath.frame(sample(it)) for it in ("bundle.der", "root.der"))
+        for one, other in ((bundle, anchors), (anchors, bundle), (bundle, bundle)):
+            asked = {}
+            for it in certpath.questions(one, other):
+                holder = certpath.Holder(it.is_anchor, it.holder).certificate(one, other)
+                asked.setdefault(one[it.item].issuer, {})[holder.public_key_bytes] = None
+            found = certpath.holders_by_issuer(one, other)
+            keys = {name: [it.certificate(one, other).public_key_bytes for it in holders]
+                    for name, holders in found.items()}
+            self.assertEqual(keys, {name: [*them] for name, them in asked.items()}
+                             | {it.issuer: [] for it in one if it.issuer not in asked})
+
+    def test_by_issuer_of_many(self):
+        found = certpath.holders_by_issuer(VERSION_1 * 2000, VERSION_1 * 2000)
+        self.assertEqual([*found.values()], [[certpath.Holder(False, 0)]])
+        self.assertEqual(certpath.holders_by_issuer(b"\x30\x00" * 3, sample("root.der")), {})
+        alone = certpath.holders_by_issuer(sample("leaf.der"), b"")
+        self.assertEqual([*alone.values()], [[]])
+
 
 class Vouching(unittest.TestCase):
     def test_samples(self):
@@ -153,6 +214,26 @@ class Vouching(unittest.TestCase):
     def test_unknown(self):
         found = certpath.openssl.vouch(VERSION_1, VERSION_1)
         self.assertEqual(found.verdicts[0].why, "algorithm 1.2.3 not known")
+
+    def test_two_algorithms(self):
+        other = VERSION_1[:-9] + bytes.fromhex("300406022a04") + VERSION_1[-3:]
+        found = certpath.openssl.vouch(other, VERSION_1)
+        self.assertIs(certpath.class_of(other), certpath.Kind.CERTIFICATE)
+        self.assertEqual(found.verdicts[0].why, "its two algorithms differ")
+
+    def test_tries(self):
+        bundle = sample("leaf.der") + sample("list.der")
+        for tries in (1, 2):
+            found = certpath.openssl.vouch(bundle, sample("intermediate.der"), tries=tries)
+            self.assertEqual(len(found.vouchers), 2)
+
+    def test_order(self):
+        leaf, intermediate, root, _ = certpath.frame(sample("bundle.der"))
+        for tries, tried in ((0, []), (1, [(1, True)]), (2, [(1, True), (0, False)])):
+            judge = certpath.openssl.Judge(tries=tries)
+            judged = judge.judged(leaf, judge.holders([root, intermediate]))
+            self.assertEqual((judged.why, [(it.holder, it.why is None) for it in judged.tried]),
+                             (None, tried), "the key that the leaf names is the first")
 
     def test_texts(self):
         text = sample("vouchers.txt").decode()
@@ -225,8 +306,41 @@ class Paths(unittest.TestCase):
         for target in (-1, 2 ** 64):
             with self.assertRaises(ValueError):
                 certpath.find(*self.given, target=target, at=self.at)
-        with self.assertRaises(ValueError):
-            certpath.find(*self.given[:2], bytes(63), target=0, at=self.at)
+        for call in (certpath.find, lambda *given, **how: certpath.check(
+                *given, **how, answer=self.answer)):
+            for pairs in (bytes(1), bytes(63), bytes(65)):
+                with self.assertRaises(ValueError):
+                    call(*self.given[:2], pairs, target=0, at=self.at)
+
+    def test_positions(self):
+        for positions in ((0, 3), (2 ** 64 - 1,), (0, 2 ** 64 - 1)):
+            self.assertIs(self.says(positions=positions), False)
+        for anchor in (1, 2 ** 64 - 1):
+            self.assertIs(self.says(anchor=anchor), False)
+
+    def test_limits(self):
+        for limit, outcome in ((0, certpath.Outcome.NO_TARGET), (2 ** 32 - 1, certpath.Outcome.PATH)):
+            chain = certpath.frame(self.given[0], limit)
+            answer = certpath.find(chain, *self.given[1:], target=0, at=self.at)
+            self.assertIs(answer.outcome, outcome)
+            self.assertIs(certpath.check(chain, *self.given[1:], target=0, at=self.at,
+                                         answer=answer), True)
+
+    def test_nothing(self):
+        answer = certpath.find(b"", b"", b"", target=0, at=self.at)
+        self.assertEqual(answer, (certpath.Outcome.NO_TARGET, (), 0, ()))
+        self.assertIs(certpath.check(b"", b"", b"", target=0, at=self.at, answer=answer), True)
+
+    def test_impossible_moments(self):
+        moment = {"year": 2027, "month": 2, "day": 28, "hour": 0, "minute": 0, "second": 0}
+        for changed in ({"month": 13}, {"month": 0}, {"day": 29}, {"day": 0}, {"hour": 24},
+                        {"minute": 60}, {"second": 60}, {"year": 10000}, {"hour": -1}):
+            at = SimpleNamespace(tzinfo=None, **{**moment, **changed})
+            with self.subTest(changed=changed):
+                with self.assertRaises(certpath.BadMoment):
+                    certpath.find(*self.given, target=0, at=at)
+                with self.assertRaises(certpath.BadMoment):
+                    certpath.check(*self.given, target=0, at=at, answer=self.answer)
 
     def test_long_path(self):
         bundle = sample("leaf.der") + sample("intermediate.der") + sample("root.der")
@@ -244,6 +358,34 @@ class Library(unittest.TestCase):
              "try: it.version()\nexcept it.LibraryMissing as error: print(error)"],
             cwd=os.path.join(TOP, "python"), capture_output=True, text=True, check=True)
         self.assertEqual(ran.stdout, "libcertpath.so is in none of /none\n")
+
+    def test_refused_memory(self):
+        items, root = certpath.frame(sample("bundle.der")), sample("root.der")
+        at, answer = datetime(2027, 1, 1), certpath.Answer(certpath.Outcome.NO_TARGET, (), 0, ())
+        calls = {
+            "certpath_frame": [lambda: certpath.frame(root)],
+            "certpath_class": [lambda: certpath.class_of(root), lambda: items.kind(0), items.kinds],
+            "certpath_field": [lambda: certpath.Certificate(root).subject],
+            "certpath_times": [lambda: certpath.Certificate(root).not_valid_after_utc],
+            "certpath_name": [lambda: certpath.Name(b"\x30\x00").text],
+            "certpath_questions": [lambda: certpath.questions(items, items)],
+            "certpath_find": [lambda: certpath.find(items, items, b"", 0, at)],
+            "certpath_check": [lambda: certpath.check(items, items, b"", 0, at, answer)],
+        }
+        self.assertEqual({*calls, "certpath_version"}, {*library.FUNCTIONS})
+        for name, its in calls.items():
+            for call in its:
+                for status, error in ((1, certpath.OutOfMemory), (99, certpath.Error)):
+                    with self.subTest(name=name, status=status), mock.patch.object(
+                            library.loaded(), name, lambda *_: status), self.assertRaises(error):
+                        call()
+
+    def test_another_version(self):
+        with mock.patch.object(library, "VERSION", 0):
+            library.loaded.cache_clear()
+            with self.assertRaises(certpath.LibraryMissing):
+                certpath.version()
+        library.loaded.cache_clear()
 
     def test_threads(self):
         expected, found = self.everything(), [None] * 8
@@ -263,8 +405,12 @@ class Library(unittest.TestCase):
         items = certpath.frame(sample("bundle.der"))
         asked = certpath.questions(items, sample("root.der"))
         vouchers = certpath.Vouchers.from_text(sample("vouchers.txt").decode())
-        answer = certpath.find(items, sample("root.der"), vouchers, 0, datetime(2027, 1, 1))
-        return [(it.issuer.text, it.kind) for it in items], asked, answer
+        given = items, sample("root.der"), vouchers, 0, datetime(2027, 1, 1)
+        answer = certpath.find(*given)
+        shown = [(it.issuer.text, it.kind, it.signature_algorithm) for it in items]
+        leaf, found = items[0], certpath.openssl.vouch(items, given[1]).vouchers.text()
+        return (shown, leaf.serial_number, leaf.not_valid_after_utc, items.kinds(), asked, answer,
+                certpath.check(*given, answer), certpath.holders_by_issuer(items, given[1]), found)
 
 
 if __name__ == "__main__":

@@ -3,7 +3,7 @@ import os
 import tempfile
 
 import streams
-from shapes import counted
+from streams import counted
 from verify import answers, asking, core, faults, files, graph, machine, page, people, signing, words
 from verify.core import Kind
 from verify.faults import Fault
