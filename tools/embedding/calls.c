@@ -61,6 +61,23 @@ static void of_nothing(void)
     tell(certpath_version() == CERTPATH_VERSION, "version");
 }
 
+/* A path within nothing, and the check of it. */
+static void of_no_files(void)
+{
+    certpath_settings settings = {0, CERTPATH_LIMIT, 1, {2027, 1, 1, 0, 0, 0}};
+    certpath_answer answer;
+    uint32_t says_yes = 2;
+    tell(certpath_find(NULL, 0, NULL, 0, NULL, 0, &settings, NULL, 0, NULL, 0, &answer)
+                 == CERTPATH_DONE
+             && answer.outcome == CERTPATH_NO_TARGET && answer.length == 0 && answer.anchor == 0
+             && answer.entries == 0,
+         "a path in nothing");
+    tell(certpath_check(NULL, 0, NULL, 0, NULL, 0, &settings, &answer, NULL, 0, NULL, 0, &says_yes)
+                 == CERTPATH_DONE
+             && says_yes == 1,
+         "a check of nothing");
+}
+
 static void of_limits(void)
 {
     certpath_framed framed;
@@ -170,6 +187,13 @@ static void of_wrong_answers(void)
     none = answer;
     none.anchor = 1;
     tell(said_of(&none, path, table) == 0, "a check of another anchor");
+    none.anchor = SIZE_MAX;
+    tell(said_of(&none, path, table) == 0, "a check of an anchor out of range");
+    for (size_t k = 0; k < 2; k++) {
+        size_t far[] = {0, 1};
+        far[k] = k ? SIZE_MAX : chain_length;
+        tell(said_of(&answer, far, table) == 0, "a check of positions out of range");
+    }
     none.anchor = 0;
     none.outcome = 3;
     tell(said_of(&none, path, table) == -CERTPATH_BAD_ANSWER, "a check of another outcome");
@@ -184,6 +208,29 @@ static void of_wrong_answers(void)
     tell(said(&IN_2027, &answer, path, 2, table, 2) == -CERTPATH_BAD_ANSWER, "a cut table");
     low[0] = (uint64_t)UINT32_MAX + 2;
     tell(said_of(&answer, path, low) == -CERTPATH_BAD_ANSWER, "an entry that stands for nothing");
+}
+
+/* The same limits of questions, and of a path and its check. */
+static void of_limits_of_files(void)
+{
+    static const uint32_t LIMITS[] = {0, UINT32_MAX};
+    static const size_t ASKED[] = {0, 4};
+    certpath_question rows[MOST];
+    size_t path[MOST], count, k;
+    uint64_t table[MOST];
+    certpath_settings settings = IN_2027;
+    certpath_answer answer;
+    for (k = 0; k < 2; k++) {
+        tell(certpath_questions(bundle, bundle_length, anchors, anchors_length, LIMITS[k], rows,
+                                MOST, &count) == CERTPATH_DONE
+                 && count == ASKED[k],
+             "questions with a limit");
+        settings.limit = LIMITS[k];
+        tell(find(&settings, path, MOST, table, MOST, &answer) == CERTPATH_DONE
+                 && answer.outcome == (k ? CERTPATH_PATH : CERTPATH_NO_TARGET)
+                 && said(&settings, &answer, path, answer.length, table, answer.entries) == 1,
+             "a path with a limit");
+    }
 }
 
 static void of_settings(void)
@@ -203,12 +250,32 @@ static void of_settings(void)
              && answer.outcome == CERTPATH_NO_PATH && answer.entries == 3
              && said(&settings, &answer, NULL, 0, table, 3) == 1,
          "no path");
-    settings.moment.month = 13;
+}
+
+static const certpath_moment NO_MOMENTS[] = {
+    {2027, 13, 1, 0, 0, 0},      {2027, 0, 1, 0, 0, 0},   {2027, 2, 29, 0, 0, 0},
+    {2027, 1, 0, 0, 0, 0},       {2027, 1, 32, 0, 0, 0},  {2027, 1, 1, 24, 0, 0},
+    {2027, 1, 1, 0, 60, 0},      {2027, 1, 1, 0, 0, 60},  {2027, 1, 1, -1, 0, 0},
+    {INT16_MAX, 1, 1, 0, 0, 0},  {INT16_MIN, 1, 1, 0, 0, 0},
+};
+
+static void of_moments(void)
+{
+    size_t path[MOST], k;
+    uint64_t table[MOST];
+    certpath_answer answer;
+    certpath_settings settings = IN_2027;
+    memset(path, KEPT, sizeof path);
+    memset(table, KEPT, sizeof table);
     memset(&answer, KEPT, sizeof answer);
-    tell(find(&settings, path, MOST, table, MOST, &answer) == CERTPATH_BAD_MOMENT
-             && is_kept(&answer, sizeof answer)
-             && said(&settings, &answer, NULL, 0, NULL, 0) == -CERTPATH_BAD_MOMENT,
-         "a moment that there isn't");
+    for (k = 0; k < sizeof NO_MOMENTS / sizeof *NO_MOMENTS; k++) {
+        settings.moment = NO_MOMENTS[k];
+        tell(find(&settings, path, MOST, table, MOST, &answer) == CERTPATH_BAD_MOMENT
+                 && is_kept(&answer, sizeof answer) && is_kept(path, sizeof path)
+                 && is_kept(table, sizeof table)
+                 && said(&settings, &answer, NULL, 0, NULL, 0) == -CERTPATH_BAD_MOMENT,
+             "a moment that there isn't");
+    }
 }
 
 /* ---- changed octets */
@@ -328,6 +395,7 @@ int main(int count, char **words)
     vouchers_count = octets_of(words[3], (unsigned char *)vouchers) / sizeof *vouchers;
     number = strtol(words[4], NULL, 10);
     of_nothing();
+    of_no_files();
     of_limits();
     if (certpath_frame(bundle, bundle_length, CERTPATH_LIMIT, spans, MOST, &framed)
         != CERTPATH_DONE)
@@ -336,7 +404,9 @@ int main(int count, char **words)
     chain_length = spans[3].offset;
     of_rooms_for_paths();
     of_wrong_answers();
+    of_limits_of_files();
     of_settings();
+    of_moments();
     for (k = 0; k < number; k++) {
         const certpath_span *one = &spans[below(framed.count)];
         of_changed(change(bundle + one->offset, one->length));
