@@ -12,6 +12,9 @@ class Verdict(NamedTuple):
     why: str = None
 
 
+UNREAD = Verdict(why="neither certificate nor list")
+
+
 class Vouching:
     """The vouchers for a bundle's items, by the keys of its certificates and of the anchors. `told` is told what there is to tell.
 
@@ -23,17 +26,19 @@ class Vouching:
         self.vouchers, self.verdicts, self.vouched = Vouchers(), {}, 0
         self.holders = {name: judge.holders([it.certificate(bundle, anchors) for it in holders])
                         for name, holders in holders_by_issuer(bundle, anchors).items()}
-        for number in range(len(bundle)):
-            self.vouch(number)
-            self.read("bundle", number, bundle)
-        for number in range(len(anchors)):
-            if anchors.kind(number) is not Kind.CERTIFICATE:
+        for number, kind in enumerate(bundle.kinds()):
+            self.vouch(number, kind)
+            if kind is Kind.CERTIFICATE:
+                self.read("bundle", number, bundle[number])
+        for number, kind in enumerate(anchors.kinds()):
+            if kind is Kind.CERTIFICATE:
+                self.read("anchors", number, anchors[number])
+            else:
                 told.add("anchors", number, "no certificate")
-            self.read("anchors", number, anchors)
 
-    def vouch(self, number):
+    def vouch(self, number, kind):
         """Adds an item's vouchers, or tells why there is none."""
-        verdict = self.verdict(number)
+        verdict = UNREAD if kind is Kind.OTHER else self.verdict(number)
         for key in verdict.keys:
             self.vouchers.add(key, self.bundle.octets(number))
         self.vouched += bool(verdict.keys)
@@ -41,9 +46,7 @@ class Vouching:
             self.told.add("bundle", number, verdict.why)
 
     def verdict(self, number):
-        """What is found of an item, once of equal ones."""
-        if self.bundle.kind(number) is Kind.OTHER:
-            return Verdict(why="neither certificate nor list")
+        """What is found of a certificate or a list, once of equal ones."""
         item = self.bundle[number]
         if item not in self.verdicts:
             holders = self.holders[item.issuer]
@@ -66,10 +69,10 @@ class Vouching:
             return Verdict(why=f"weak: {', '.join(verified[0].weaknesses)} (--weak takes it){untried}")
         return Verdict(taken, f"vouched for{untried}" if untried else None)
 
-    def read(self, file, number, items):
+    def read(self, file, number, certificate):
         """Tells of a key that isn't used, where an item of the bundle asks for one under its name."""
-        if items.kind(number) is Kind.CERTIFICATE and items[number].subject in self.holders:
-            why = self.judge.openssl.key(items[number].public_key_bytes).why
+        if certificate.subject in self.holders:
+            why = self.judge.openssl.key(certificate.public_key_bytes).why
             if why:
                 self.told.add(file, number, why)
 

@@ -6,6 +6,8 @@ from parts import (ECDSA_SHA256, FIRST, LAST, VALIDITY, VERSION_3, element, entr
 
 # What OpenSSL holds of one item.
 OF_OPENSSL = "some 250 octets of OpenSSL for each entry or extension of one item"
+# What the proved library holds while it reads one item.
+OF_TREES = "memory for each small part of one item"
 X, LEAF, ROOT = name("x"), name("leaf"), name("root")
 KEY = next(p256_keys(1))
 # Each item costs up to 16 verifications of some 0.1 ms, so that a file of 1 MB takes more than 2 seconds.
@@ -91,7 +93,7 @@ def vouch_extensions(count):
     return Files([item], [signed_by_none(X, X, KEY, 1)])
 
 
-@family("vouch-attributes", "one certificate with n attributes in one set of its subject", "vouch", **MANY)
+@family("vouch-attributes", "one certificate with n attributes in one set of its subject", "vouch", **MANY, known=OF_TREES)
 def vouch_attributes(count):
     subject = element(0x30, element(0x31, *map(attribute, range(count))))
     return Files([signed_by_none(subject, X, KEY, 1)], [signed_by_none(X, X, KEY, 1)])
@@ -108,6 +110,6 @@ def vouch_2(size):
     return Files([b"\x30\x00" * (size // 2)])
 
 
-@of_octets("vouch-parts", "an item of NULLs alone", "vouch", sizes=ONE_ITEM)
+@of_octets("vouch-parts", "an item of NULLs alone", "vouch", sizes=ONE_ITEM, known=OF_TREES)
 def vouch_parts(size):
     return Files([element(0x30, b"\x05\x00" * (size // 2 - 100))])

@@ -5,7 +5,7 @@ from collections.abc import Sequence
 from ctypes import byref, c_uint32
 from datetime import datetime, timezone
 from functools import cached_property
-from typing import List, NamedTuple, Optional
+from typing import Iterator, NamedTuple, Optional
 
 from . import library
 
@@ -223,7 +223,7 @@ class Items(Sequence):
             self._kinds[position] = class_number(*part)
         return KINDS[self._kinds[position]]
 
-    def kinds(self) -> List[Kind]:
+    def kinds(self) -> Iterator[Kind]:
         """What each item is, in their order: for all items this costs least."""
         call, found = library.loaded().certpath_class, c_uint32()
         kinds, address, where = self._kinds, self._address, byref(found)
@@ -233,7 +233,7 @@ class Items(Sequence):
                 if status:
                     library.refuse(status)
                 kinds[position] = found.value
-        return [*map(KINDS.__getitem__, kinds)]
+        return map(KINDS.__getitem__, kinds)
 
     def __len__(self) -> int:
         return len(self._starts) - 1

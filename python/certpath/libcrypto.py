@@ -22,6 +22,8 @@ FUNCTIONS = {
     "EVP_PKEY_free": (None, [c_void_p]),
     "X509_get0_signature": (None, [c_void_p, POINTED, c_void_p]),
     "X509_CRL_get0_signature": (None, [c_void_p, c_void_p, POINTED]),
+    "X509_get0_tbs_sigalg": (c_void_p, [c_void_p]),
+    "X509_ALGOR_cmp": (c_int, [c_void_p, c_void_p]),
     "d2i_ASN1_SEQUENCE_ANY": (c_void_p, [c_void_p, POINTED, c_long]),
     "OPENSSL_sk_num": (c_int, [c_void_p]),
     "OPENSSL_sk_value": (c_void_p, [c_void_p, c_int]),
@@ -263,6 +265,9 @@ class Read:
 
     def has_one_algorithm(self):
         """Whether the algorithm within what is signed is the one beside the signature (RFC 5280, 4.1.1.2 and 5.1.1.2)."""
+        if self.kind == CERTIFICATE:
+            return self.library.X509_ALGOR_cmp(self.signed_by(), self.library.X509_get0_tbs_sigalg(self.handle)) == 0
+        # (of a list OpenSSL 3.0 shows the one beside the signature alone)
         signed, beside = self.verifier.sequences_in(self.octets)
         return self.verifier.sequences_in(signed)[0] == beside
 

@@ -1,6 +1,6 @@
 """Questions: which keys may have signed which items."""
 from ctypes import byref, c_size_t
-from typing import Dict, List, NamedTuple
+from typing import Container, Dict, List, NamedTuple
 
 from . import library
 from .items import Certificate, Items, Kind, Name, frame, items_of
@@ -55,15 +55,16 @@ def questions(bundle, anchors) -> List[Question]:
 def first_issued(bundle: Items) -> Dict[Name, int]:
     """The names under which items were issued, and for each the first of its items."""
     found = {}
-    for position in range(len(bundle)):
-        if bundle.kind(position) is not Kind.OTHER:
+    for position, kind in enumerate(bundle.kinds()):
+        if kind is not Kind.OTHER:
             found.setdefault(bundle[position].issuer, position)
     return found
 
 
-def certificates_of(items: Items, is_anchor: bool) -> List[Holder]:
-    return [Holder(is_anchor, it) for it in range(len(items))
-            if items.kind(it) is Kind.CERTIFICATE]
+def certificates_under(names: Container, items: Items, is_anchor: bool) -> List[Holder]:
+    """The certificates whose subject is one of the names."""
+    return [Holder(is_anchor, it) for it, kind in enumerate(items.kinds())
+            if kind is Kind.CERTIFICATE and items[it].subject in names]
 
 
 def holders_by_issuer(bundle, anchors) -> Dict[Name, List[Holder]]:
@@ -76,7 +77,7 @@ def holders_by_issuer(bundle, anchors) -> Dict[Name, List[Holder]]:
     anchors = items_of(anchors, bundle.limit)
     first = first_issued(bundle)
     names, asking = [*first], [Holder(False, it) for it in first.values()]
-    holding = certificates_of(bundle, False) + certificates_of(anchors, True)
+    holding = certificates_under(first, bundle, False) + certificates_under(first, anchors, True)
     found = {it: [] for it in names}
     for question in questions(joined(asking, bundle, anchors), joined(holding, bundle, anchors)):
         side = holding if question.is_anchor else asking

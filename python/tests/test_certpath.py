@@ -76,11 +76,11 @@ class Items(unittest.TestCase):
 
     def test_kinds(self):
         self.assertEqual([it.kind.name for it in self.items], ["CERTIFICATE"] * 3 + ["LIST"])
-        self.assertEqual(self.items.kinds(), [it.kind for it in self.items])
-        self.assertEqual([*map(self.items.kind, range(4))], self.items.kinds())
+        self.assertEqual([*self.items.kinds()], [it.kind for it in self.items])
+        self.assertEqual([*map(self.items.kind, range(4))], [*self.items.kinds()])
         self.assertIs(certpath.class_of(b"\x30\x00"), certpath.Kind.OTHER)
         self.assertIs(certpath.class_of(b""), certpath.Kind.OTHER)
-        self.assertEqual(certpath.frame(b"").kinds(), [])
+        self.assertEqual([*certpath.frame(b"").kinds()], [])
 
     def test_positions(self):
         self.assertEqual(self.items.octets(-1), self.list.public_bytes())
@@ -409,7 +409,7 @@ class Library(unittest.TestCase):
         answer = certpath.find(*given)
         shown = [(it.issuer.text, it.kind, it.signature_algorithm) for it in items]
         leaf, found = items[0], certpath.openssl.vouch(items, given[1]).vouchers.text()
-        return (shown, leaf.serial_number, leaf.not_valid_after_utc, items.kinds(), asked, answer,
+        return (shown, leaf.serial_number, leaf.not_valid_after_utc, [*items.kinds()], asked, answer,
                 certpath.check(*given, answer), certpath.holders_by_issuer(items, given[1]), found)
 
 
