@@ -4,4 +4,7 @@ mod Numbers
 mod Spreading
 mod Items
 mod Telling
+mod Bounding
+mod Lengths
+mod Worked
 mod Keys

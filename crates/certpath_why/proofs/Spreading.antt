@@ -203,35 +203,35 @@ nothing_reached items target marks none never u = (λ m. absurd (none u m), λ r
 
 -- ---- positions
 
-pub record FurtherUpTo (marks : List Bool) (target k : ℕ) (out : List ℕ) : Type 0 where
+pub record MarkedUpTo (marks : List Bool) (left k : ℕ) (out : List ℕ) : Type 0 where
   pub ascends : IsStrictlyIncreasing out
-  pub exact : (v : ℕ) → Contains out v ↔ ((v < k) × IsMarked marks v × (v ≢ target))
+  pub exact : (v : ℕ) → Contains out v ↔ ((v < k) × IsMarked marks v × (v ≢ left))
 
-pub further_none : (marks : List Bool) (target : ℕ) → FurtherUpTo marks target 0 []
-further_none marks target = record {
+pub marked_none : (marks : List Bool) (left : ℕ) → MarkedUpTo marks left 0 []
+marked_none marks left = record {
   ascends = λ k lt. absurd (omega (arith, lt));
   exact = λ v. (λ c. absurd (omega (arith, c.1)), λ h. absurd (omega (arith, h.0)));
 }
 
-pub further_same : (marks : List Bool) (target k : ℕ) (out : List ℕ) → FurtherUpTo marks target k out → (IsMarked marks k × (k ≢ target) → ⊥) → FurtherUpTo marks target (k + 1) out
-further_same marks target k out h never = record {
+pub marked_same : (marks : List Bool) (left k : ℕ) (out : List ℕ) → MarkedUpTo marks left k out → (IsMarked marks k × (k ≢ left) → ⊥) → MarkedUpTo marks left (k + 1) out
+marked_same marks left k out h never = record {
   ascends = h.ascends;
   exact = λ v. (
     λ c. let x = (h.exact v).0 c in let lt = x.0 in (omega arith, x.1, x.2),
     λ x. elim (cases_lt v k) [
       | inl less ↦ (h.exact v).1 (less, x.1, x.2)
-      | inr past ↦ let lt = x.0 in let here : v ≡ k = omega arith in absurd (never (subst (λ z. IsMarked marks z × (z ≢ target)) here (x.1, x.2)))
+      | inr past ↦ let lt = x.0 in let here : v ≡ k = omega arith in absurd (never (subst (λ z. IsMarked marks z × (z ≢ left)) here (x.1, x.2)))
     ],
   );
 }
 
-pub further_more : (marks : List Bool) (target k : ℕ) (out : List ℕ) → FurtherUpTo marks target k out → IsMarked marks k × (k ≢ target) → FurtherUpTo marks target (k + 1) (out ++ k ∷ [])
-further_more marks target k out h is = record {
+pub marked_more : (marks : List Bool) (left k : ℕ) (out : List ℕ) → MarkedUpTo marks left k out → IsMarked marks k × (k ≢ left) → MarkedUpTo marks left (k + 1) (out ++ k ∷ [])
+marked_more marks left k out h is = record {
   ascends = push_ascends out k h.ascends (λ u c. ((h.exact u).0 c).0);
   exact = λ v. (
     λ c. elim (Contains-push_cases out k v c) [
       | inl old ↦ let x = (h.exact v).0 old in let lt = x.0 in (omega arith, x.1, x.2)
-      | inr e ↦ let moved : IsMarked marks v × (v ≢ target) = subst (λ z. IsMarked marks z × (z ≢ target)) e is in (omega arith, moved.0, moved.1)
+      | inr e ↦ let moved : IsMarked marks v × (v ≢ left) = subst (λ z. IsMarked marks z × (z ≢ left)) e is in (omega arith, moved.0, moved.1)
     ],
     λ x. elim (cases_lt v k) [
       | inl less ↦ Contains-append_left out (k ∷ []) v ((h.exact v).1 (less, x.1, x.2))
@@ -240,14 +240,16 @@ further_more marks target k out h is = record {
   );
 }
 
-pub further_all : (items : List Item) (marks : List Bool) (target k : ℕ) (out : List ℕ) → length marks ≤ k → ((u : ℕ) → IsMarked marks u ↔ IsReached items target u) → FurtherUpTo marks target k out → ArePositions (IsFurther items target) out
-further_all items marks target k out le reached h = record {
+pub marked_all : (marks : List Bool) (left k : ℕ) (out : List ℕ) → length marks ≤ k → MarkedUpTo marks left k out → ArePositions (λ v. IsMarked marks v × (v ≢ left)) out
+marked_all marks left k out le h = record {
   ascends = h.ascends;
   exact = λ v. (
-    λ c. let x = (h.exact v).0 c in ((reached v).0 x.1, x.2),
+    λ c. let x = (h.exact v).0 c in (x.1, x.2),
     λ x.
-        let m = (reached v).1 x.0 in
-        let lt = marked_within marks v m in
-        (h.exact v).1 (omega arith, m, x.1),
+        let lt = marked_within marks v x.0 in
+        (h.exact v).1 (omega arith, x.0, x.1),
   );
 }
+
+pub further_iff : (items : List Item) (marks : List Bool) (target : ℕ) → ((u : ℕ) → IsMarked marks u ↔ IsReached items target u) → (v : ℕ) → (IsMarked marks v × (v ≢ target)) ↔ IsFurther items target v
+further_iff items marks target reached v = (λ x. ((reached v).0 x.0, x.1), λ x. ((reached v).1 x.0, x.1))

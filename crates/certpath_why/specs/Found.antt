@@ -1,5 +1,5 @@
 -- What the code holds beside the items. Contracts of private functions cite it.
-use Rattle.std.specs.Prelude.{◌≡◌, ◌↔◌, ◌<◌, ◌++◌, ℕ, Bool, true, false, List, length, map, slice_index_or, Contains, Some, None}
+use Rattle.std.specs.Prelude.{◌≡◌, ◌↔◌, ◌⊎◌, ◌<◌, ◌++◌, ℕ, Bool, true, false, List, length, map, slice_index_or, Contains, Some, None}
 use Rattle.cert_groups.specs.declared.places.Place.{Place}
 use Rattle.cert_judge.specs.declared.items.ReadItem.{ReadItem}
 use Rattle.cert_judge.specs.declared.items.ReadItem.TheVariants.{Certificate as certificate_read, List as list_read, Other as other_read}
@@ -22,6 +22,11 @@ pub record IsFound (f : Found) : Type 0 where
 -- a position is marked
 abbrev pub IsMarked : List Bool → ℕ → Type 0
 IsMarked marks v = slice_index_or marks v false ≡ true
+
+-- The places with a property were marked besides.
+pub record AreMarked (P : ℕ → Type 0) (marks new_marks : List Bool) : Type 0 where
+  pub count : length new_marks ≡ length marks
+  pub exact : (u : ℕ) → IsMarked new_marks u ↔ (IsMarked marks u ⊎ P u)
 
 -- Some places were marked, and those of them that were not marked before stand at the end of the queue.
 pub record Spreads (places : List ℕ) (marks : List Bool) (queue : List ℕ) (new_marks : List Bool) (new_queue : List ℕ) : Type 0 where

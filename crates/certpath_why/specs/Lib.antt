@@ -1,7 +1,9 @@
 pub mod Texts
 pub mod Lines
 pub mod Reached
+pub mod Bounds
 pub mod Why
+pub mod Laws
 pub mod Appended
 pub mod LinkText
 pub mod Numbered

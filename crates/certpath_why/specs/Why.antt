@@ -4,11 +4,7 @@
 use Rattle.std.specs.Prelude.{◌≡◌, ◌↔◌, ◌⊎◌, ℕ, zero, suc, nat_eq, Bool, if◌then◌else◌, List, [], ◌∷◌, ◌++◌, length, Contains}
 use Rattle.std.specs.List.{flat_map}
 use Rattle.cert_graph.specs.Entries.{IsAt}
-use Rattle.cert_graph.specs.Adequate.{rows_of, row_of, at_row}
 use Rattle.cert_graph.specs.declared.answer.Answer.{Answer}
-use Rattle.cert_graph.specs.declared.answer.Answer.TheVariants.{Path, NoPath, NoTarget}
-use Rattle.cert_graph.specs.declared.reach.Reach.{Reach}
-use Rattle.cert_graph.specs.declared.reach.Reach.TheVariants.{No}
 use Rattle.cert_model.specs.Class.{Class, certificate, list, other}
 use Rattle.cert_model.specs.Fields.{CivilTime, Certificate, RevocationList}
 use Rattle.cert_model.specs.Octets.{name_octets, key_octets}
@@ -23,6 +19,7 @@ use Rattle.cert_reasons.specs.Certificates.{HasReason, order_of}
 use Rattle.cert_reasons.specs.Issuers.{HasIssuerReason, issuer_order}
 use Rattle.cert_reasons.specs.Links.{HasLinkReason, link_order}
 use Rattle.cert_reasons.specs.Lists.{HasReasonAmong, list_order}
+use Rattle.certpath_why.specs.Bounds.{reach_by, IsBound}
 use Rattle.certpath_why.specs.Lines.{reach_lines, subject_line, unusable_line, issuer_line, missing_line, to_item, to_anchor, link_lines, list_lines}
 use Rattle.certpath_why.specs.Reached.{HasSubject, IsCertificateAt, IsFurther, ArePositions}
 
@@ -111,14 +108,8 @@ abbrev pub positions : ℕ → List ℕ
 positions zero = []
 positions (suc k) = positions k ++ k ∷ []
 
--- how far a certificate leads to an anchor, by the row of an answer that there is no path
-abbrev pub reach_by : Answer → ℕ → Reach
-reach_by (NoPath table) v = at_row (row_of (rows_of table) 0) v
-reach_by (Path positions anchor table) v = No
-reach_by NoTarget v = No
-
 -- The lines of the target, where it is a certificate, and then of each further one that is reached from it; then how
--- far each of these leads, where a path length bounds it and there is no path.
+-- far each of those leads whose path length, or that of an issuer above it, stands in the way.
 pub record TellsReached (r : Rules) (items anchors : List Item) (target : ℕ) (answer : Answer) (text : List ℕ) : Type 0 where
   pub further : List ℕ
   pub further_are : ArePositions (IsFurther items target) further
@@ -126,7 +117,9 @@ pub record TellsReached (r : Rules) (items anchors : List Item) (target : ℕ) (
   pub own_is : TellsAt r items anchors target target own ⊎ ((IsCertificateAt items target → ⊥) × (own ≡ []))
   pub rest : List ℕ
   pub rest_is : AreTexts (TellsAt r items anchors target) further rest
-  pub text_is : text ≡ own ++ (rest ++ flat_map (λ v. reach_lines v (reach_by answer v)) further)
+  pub bound : List ℕ
+  pub bound_are : ArePositions (IsBound r items target (reach_by answer)) bound
+  pub text_is : text ≡ own ++ (rest ++ flat_map (λ v. reach_lines v (reach_by answer v)) bound)
 
 -- The whole: what is reached, and the lists that nobody uses.
 pub record IsWhy (r : Rules) (items anchors : List Item) (target : ℕ) (answer : Answer) (text : List ℕ) : Type 0 where

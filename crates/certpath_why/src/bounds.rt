@@ -1,12 +1,22 @@
-//! How far issuers lead, where a path length bounds it (RFC 5280, 6.1.4, l and m).
+//! Issuers whose path length stands in the way (RFC 5280, 6.1.4, l and m).
 
-ghost use Rattle.std.specs.Prelude.{◌≡◌, ◌++◌, OnOk, string_bytes};
+ghost use Rattle.std.specs.Prelude.{◌≡◌, ◌≢◌, ◌↔◌, ◌++◌, ◌<◌, ℕ, [], length, map, Contains, IfOk, IfSome, OnOk, IsTrue, string_bytes};
 ghost use Rattle.std.specs.List.{flat_map};
+ghost use Rattle.cert_graph.specs.Entries.{IsAt};
+ghost use Rattle.cert_graph.specs.declared.reach.Reach.TheVariants.{No, UpTo};
+ghost use Rattle.cert_judge.specs.ItemGraph.{IsLink};
+ghost use Rattle.cert_judge.specs.Items.{item_of, certificate_item, rules_by};
+ghost use Rattle.certpath_why.specs.Bounds.{reach_by, IsHeldBack, IsBound};
+ghost use Rattle.certpath_why.specs.Found.{AreMarked, IsFound, IsMarked};
 ghost use Rattle.certpath_why.specs.Lines.{reach_lines};
-ghost use Rattle.certpath_why.specs.Why.{reach_by};
+ghost use Rattle.certpath_why.specs.Reached.{ArePositions, HasSubject, IsCertificateAt, IsFurther};
 
+use crate::found::{Found, certificate_at};
+use crate::marks::{marked_but, no_marks, put_mark};
 use cert_graph::{Answer, Reach, reach_at};
-use std::alloc::AllocError;
+use cert_judge::{CertificateItem, Policy, Vouch};
+use cert_reasons::{Unlinked, why_unlinked};
+use std::alloc::{AllocError, Global};
 
 /// How far the issuer at a position leads by an answer's row, if there is no path.
 fn reach_in(answer: &Answer, place: usize) -> Reach
@@ -19,6 +29,171 @@ fn reach_in(answer: &Answer, place: usize) -> Reach
         Some(row) => reach_at(row, place),
         None => Reach::No,
     }
+}
+
+fn leads_nowhere(reach: Reach) -> bool
+    ensures { IsTrue result ↔ (reach ≡ No) }
+{
+    match reach {
+        Reach::No => true,
+        Reach::UpTo(_) => false,
+        Reach::Any => false,
+    }
+}
+
+/// Whether an issuer leads to an anchor, but with nothing counted below it.
+fn takes_none_below(reach: Reach) -> bool
+    ensures { IsTrue result ↔ (reach ≡ UpTo 0) }
+{
+    match reach {
+        Reach::No => false,
+        Reach::UpTo(most) => most == 0,
+        Reach::Any => false,
+    }
+}
+
+/// Whether path lengths count a certificate: its subject isn't its issuer.
+fn is_counted(certificate: &CertificateItem<'_>) -> bool
+    ensures { IsTrue result ↔ (certificate.now.subject.now ≢ certificate.now.issuer.now) }
+{
+    certificate.subject != certificate.issuer
+}
+
+fn is_none(reasons: &[Unlinked]) -> bool
+    ensures { IsTrue result ↔ (reasons.now ≡ []) }
+{
+    reasons.is_empty()
+}
+
+/// Whether a certificate is linked to an issuer of its issuer's name, which leads to an anchor, but with nothing
+/// counted below it.
+fn is_held_back<V: Vouch>(
+    alloc: Global,
+    found: &Found<'_, '_>,
+    answer: &Answer,
+    certificate: &CertificateItem<'_>,
+    issuer: usize,
+    vouch: &V,
+    policy: &Policy,
+) -> Result<bool, AllocError>
+    requires { HasSubject (map item_of found.now.items.now) certificate.now.issuer.now issuer }
+    ensures { IfOk result (λ held. IsTrue held ↔ ((reach_by answer.now issuer ≡ UpTo 0)
+        × IsAt (map item_of found.now.items.now) issuer (IsLink (rules_by policy.now.moment policy.now.demand_lists (V.vouches_for vouch.now)) (map item_of found.now.items.now) (certificate_item certificate.now)))) }
+{
+    if !takes_none_below(reach_in(answer, issuer)) {
+        return Ok(false);
+    }
+    let Some(item) = certificate_at(found.items, issuer) else {
+        return Ok(false);
+    };
+    let reasons = why_unlinked(alloc, found.items, certificate, item, vouch, policy)?;
+    Ok(is_none(&reasons))
+}
+
+/// Marks those of the issuers by name from which a path length holds a certificate back.
+fn mark_among<V: Vouch>(
+    marks: &mut Vec<bool>,
+    alloc: Global,
+    found: &Found<'_, '_>,
+    answer: &Answer,
+    certificate: &CertificateItem<'_>,
+    issuers: &[usize],
+    vouch: &V,
+    policy: &Policy,
+) -> Result<(), AllocError>
+    requires issuers { ArePositions (HasSubject (map item_of found.now.items.now) certificate.now.issuer.now) issuers.now }
+    requires count { length marks.now.items ≡ length found.now.items.now }
+    ensures { OnOk result (AreMarked (λ v. Contains issuers.now v × ((reach_by answer.now v ≡ UpTo 0)
+        × IsAt (map item_of found.now.items.now) v (IsLink (rules_by policy.now.moment policy.now.demand_lists (V.vouches_for vouch.now)) (map item_of found.now.items.now) (certificate_item certificate.now)))) marks.old.items marks.new.items) }
+{
+    for issuer in issuers {
+        let held = is_held_back(alloc, found, answer, certificate, *issuer, vouch, policy)?;
+        if !held {
+            continue;
+        }
+        put_mark(marks, *issuer);
+    }
+    Ok(())
+}
+
+/// Marks the issuers from which a path length holds back the certificate at a position.
+fn mark_from<V: Vouch>(
+    marks: &mut Vec<bool>,
+    alloc: Global,
+    found: &Found<'_, '_>,
+    answer: &Answer,
+    place: usize,
+    vouch: &V,
+    policy: &Policy,
+) -> Result<(), AllocError>
+    requires known { IsFound found.now }
+    requires certificate { IsCertificateAt (map item_of found.now.items.now) place }
+    requires count { length marks.now.items ≡ length found.now.items.now }
+    ensures { OnOk result (AreMarked (IsHeldBack (rules_by policy.now.moment policy.now.demand_lists (V.vouches_for vouch.now)) (map item_of found.now.items.now) (reach_by answer.now) place) marks.old.items marks.new.items) }
+{
+    let Some(certificate) = certificate_at(found.items, place) else {
+        return Ok(());
+    };
+    if !leads_nowhere(reach_in(answer, place)) {
+        return Ok(());
+    }
+    if !is_counted(certificate) {
+        return Ok(());
+    }
+    let issuers = found.issuers(certificate.issuer);
+    mark_among(
+        marks,
+        alloc,
+        found,
+        answer,
+        certificate,
+        issuers,
+        vouch,
+        policy,
+    )?;
+    Ok(())
+}
+
+/// Marks of the issuers from which a path length holds one of some certificates back.
+fn bound_marks<V: Vouch>(
+    alloc: Global,
+    found: &Found<'_, '_>,
+    target: usize,
+    answer: &Answer,
+    further: &[usize],
+    vouch: &V,
+    policy: &Policy,
+) -> Result<Vec<bool>, AllocError>
+    requires known { IsFound found.now }
+    requires further { ArePositions (IsFurther (map item_of found.now.items.now) target) further.now }
+    ensures { IfOk result (λ marks. (v : ℕ) → IsMarked marks.items v ↔ ((w : ℕ) × Contains further.now w
+        × IsHeldBack (rules_by policy.now.moment policy.now.demand_lists (V.vouches_for vouch.now)) (map item_of found.now.items.now) (reach_by answer.now) w v)) }
+{
+    let mut marks = no_marks(alloc, found.items.len())?;
+    for place in further {
+        mark_from(&mut marks, alloc, found, answer, *place, vouch, policy)?;
+    }
+    Ok(marks)
+}
+
+/// The positions of the issuers whose path length, or that of an issuer above them, stands in the way of one of
+/// the certificates that are reached.
+pub(crate) fn bound_among<V: Vouch>(
+    alloc: Global,
+    found: &Found<'_, '_>,
+    target: usize,
+    answer: &Answer,
+    further: &[usize],
+    vouch: &V,
+    policy: &Policy,
+) -> Result<Vec<usize>, AllocError>
+    requires known { IsFound found.now }
+    requires further { ArePositions (IsFurther (map item_of found.now.items.now) target) further.now }
+    ensures { IfOk result (λ bound. ArePositions (IsBound (rules_by policy.now.moment policy.now.demand_lists (V.vouches_for vouch.now)) (map item_of found.now.items.now) target (reach_by answer.now)) bound.items) }
+{
+    let marks = bound_marks(alloc, found, target, answer, further, vouch, policy)?;
+    let bound = marked_but(alloc, &marks, target)?;
+    Ok(bound)
 }
 
 /// The line of an issuer that leads to an anchor only with so many certificates below it.

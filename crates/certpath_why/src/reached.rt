@@ -1,40 +1,13 @@
 //! Which certificates are reached from the target by the names of issuers.
 
-ghost use Rattle.std.specs.Prelude.{◌≡◌, ◌≢◌, ◌↔◌, ◌<◌, ◌⊎◌, ℕ, [], ◌∷◌, length, map, Contains, IfOk, OnOk, IsTrue};
+ghost use Rattle.std.specs.Prelude.{◌≡◌, ◌↔◌, ◌<◌, ℕ, [], ◌∷◌, length, map, Contains, IfOk, OnOk};
 ghost use Rattle.cert_judge.specs.Items.{item_of};
 ghost use Rattle.certpath_why.specs.Found.{IsFound, IsMarked, Spreads, SpreadsFrom};
 ghost use Rattle.certpath_why.specs.Reached.{ArePositions, IsReached, IsFurther};
 
 use crate::found::{Found, certificate_at, is_certificate};
+use crate::marks::{is_marked, marked_but, no_marks, put_mark};
 use std::alloc::{AllocError, Global};
-
-fn no_marks(alloc: Global, count: usize) -> Result<Vec<bool>, AllocError>
-    ensures count { IfOk result (λ marks. length marks.items ≡ count) }
-    ensures none { IfOk result (λ marks. (u : ℕ) → IsMarked marks.items u → ⊥) }
-{
-    let mut marks = Vec::with_capacity(alloc, count)?;
-    for _place in 0..count {
-        marks.push(false)?;
-    }
-    Ok(marks)
-}
-
-fn is_marked(marks: &[bool], place: usize) -> bool
-    ensures { IsTrue result ↔ IsMarked marks.now place }
-{
-    match marks.get(place) {
-        Some(mark) => *mark,
-        None => false,
-    }
-}
-
-fn put_mark(marks: &mut Vec<bool>, place: usize)
-    requires { place < length marks.now.items }
-    ensures count { length marks.new.items ≡ length marks.old.items }
-    ensures exact { (u : ℕ) → IsMarked marks.new.items u ↔ (IsMarked marks.old.items u ⊎ (u ≡ place)) }
-{
-    marks[place] = true;
-}
 
 /// Marks a place, and puts it at the end of the queue, where it was not marked.
 fn visit(marks: &mut Vec<bool>, queue: &mut Vec<usize>, place: usize) -> Result<(), AllocError>
@@ -104,12 +77,6 @@ fn reached_marks(
     Ok(marks)
 }
 
-fn is_further(marks: &[bool], target: usize, place: usize) -> bool
-    ensures { IsTrue result ↔ (IsMarked marks.now place × (place ≢ target)) }
-{
-    is_marked(marks, place) && place != target
-}
-
 /// The positions of the certificates that are reached, without the target.
 pub(crate) fn further_than(
     alloc: Global,
@@ -120,13 +87,6 @@ pub(crate) fn further_than(
     ensures { IfOk result (λ further. ArePositions (IsFurther (map item_of found.now.items.now) target) further.items) }
 {
     let reached = reached_marks(alloc, found, target)?;
-    let marks = reached.as_slice();
-    let mut further = Vec::new(alloc);
-    for place in 0..marks.len() {
-        if !is_further(marks, target, place) {
-            continue;
-        }
-        further.push(place)?;
-    }
+    let further = marked_but(alloc, &reached, target)?;
     Ok(further)
 }

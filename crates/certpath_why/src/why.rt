@@ -7,7 +7,7 @@ ghost use Rattle.certpath_why.specs.Why.{AreTexts, TellsAt, TellsReached, Append
 ghost use Rattle.certpath_why.specs.Found.{IsFound};
 ghost use Rattle.certpath_why.specs.Appended.{Appends};
 
-use crate::bounds::push_all_bounds;
+use crate::bounds::{bound_among, push_all_bounds};
 use crate::certificates::tell_at;
 use crate::found::{Found, is_certificate};
 use crate::lists::tell_lists;
@@ -70,15 +70,16 @@ fn tell_reached<V: Vouch>(
     let further = further_than(alloc, found, target)?;
     tell_target(text, alloc, found, target, vouch, policy)?;
     tell_further(text, alloc, found, target, &further, vouch, policy)?;
-    push_all_bounds(text, answer, &further)?;
+    let bound = bound_among(alloc, found, target, answer, &further, vouch, policy)?;
+    push_all_bounds(text, answer, &bound)?;
     Ok(())
 }
 
 /// Appends what stands in the way of a path: the lines of the target, where it is a certificate, and of each
 /// further certificate that is reached from it by the names of issuers, in ascending order. If there is no
-/// path, those whose way to an anchor a path length bounds have a line each. Then come the lines of each list
-/// that nobody uses, also where there is a path. Of items that are neither certificates nor lists there is no
-/// line.
+/// path, each issuer has a line from which a path length holds back a certificate that is reached and linked
+/// to it. Then come the lines of each list that nobody uses, also where there is a path. Of items that are
+/// neither certificates nor lists there is no line.
 ///
 /// Positions count from 0, those of anchors by themselves. Names are printable ASCII: any other octet and
 /// the backslash are escaped, so no name holds a line feed.

@@ -1,5 +1,5 @@
 use Rattle.certpath_why.specs.Lines.{reach_lines}
-use Rattle.certpath_why.specs.Why.{reach_by}
+use Rattle.certpath_why.specs.Bounds.{reach_by}
 use Rattle.certpath_why.proofs.Texts.{lines_none, lines_more, lines_all}
 use Rattle.certpath_why.proofs.bounds.push_all_bounds.Goals as goal
 

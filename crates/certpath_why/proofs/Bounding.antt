@@ -1,0 +1,163 @@
+-- Issuers whose path length stands in the way.
+use Rattle.std.specs.Prelude.{◌↔◌, ◌⊎◌}
+use Rattle.std.proofs.Common.{◌≡◌, ◌≢◌, ◌∙◌, sym, subst, refl, ℕ, ◌+◌, ◌<◌, ◌≤◌, Bool, List, [], ◌∷◌, ◌++◌, length, map, take, get_or, arith, inl, inr}
+use Rattle.std.specs.List.{Contains}
+use Rattle.std.proofs.lemmas.List.{take_more, take_all}
+use Rattle.std.proofs.lemmas.List.Elements.{Contains-append_left, Contains-push, Contains-push_cases}
+use Rattle.cert_graph.specs.Entries.{IsAt}
+use Rattle.cert_graph.specs.declared.reach.Reach.{Reach}
+use Rattle.cert_graph.specs.declared.reach.Reach.TheVariants.{No, UpTo}
+use Rattle.cert_model.specs.Octets.{name_octets, key_octets}
+use Rattle.cert_judge.specs.declared.items.CertificateItem.{CertificateItem}
+use Rattle.cert_judge.specs.declared.items.ReadItem.{ReadItem}
+use Rattle.cert_judge.specs.declared.items.ReadItem.TheVariants.{Certificate as certificate_read}
+use Rattle.cert_judge.specs.Items.{item_of, certificate_of, certificate_item}
+use Rattle.cert_judge.specs.ItemGraph.{IsCertificateWith, IsIssuedUnder, HaveSameKeyId, IsLink}
+use Rattle.cert_judge.specs.Revoking.{Item, Rules}
+use Rattle.cert_judge.proofs.Linking.{with_iff}
+use Rattle.certpath_why.specs.Bounds.{IsCounted, IsHeldBack, IsBound}
+use Rattle.certpath_why.specs.Found.{IsMarked, AreMarked}
+use Rattle.certpath_why.specs.Reached.{HasSubject, ArePositions, IsFurther}
+use Rattle.certpath_why.proofs.Items.{at_read, with_read}
+
+-- ---- marks of the places with a property
+
+pub marks_none : (P : ℕ → Type 0) (marks : List Bool) → ((u : ℕ) → P u → ⊥) → AreMarked P marks marks
+marks_none P marks never = record { count = refl; exact = λ u. (λ m. inl m, λ s. elim s [ inl m ↦ m | inr p ↦ absurd (never u p) ]) }
+
+pub marks_as : (P Q : ℕ → Type 0) (old new : List Bool) → ((u : ℕ) → P u ↔ Q u) → AreMarked P old new → AreMarked Q old new
+marks_as P Q old new iff h = record {
+  count = h.count;
+  exact = λ u. (
+    λ m. elim ((h.exact u).0 m) [ inl was ↦ inl was | inr p ↦ inr ((iff u).0 p) ],
+    λ s. (h.exact u).1 (elim s [ inl was ↦ inl was | inr q ↦ inr ((iff u).1 q) ]),
+  );
+}
+
+-- the first so many, and one more
+first_more : (xs : List ℕ) (k : ℕ) → k < length xs → (u : ℕ) → Contains (take (k + 1) xs) u ↔ (Contains (take k xs) u ⊎ (get_or xs k 0 ≡ u))
+first_more xs k lt u =
+    let longer = take_more xs k 0 lt in (
+      λ c. Contains-push_cases (take k xs) (get_or xs k 0) u (subst (λ l. Contains l u) longer c),
+      λ s. subst (λ l. Contains l u) (sym longer) (elim s [
+        | inl c ↦ Contains-append_left (take k xs) (get_or xs k 0 ∷ []) u c
+        | inr e ↦ subst (Contains (take k xs ++ get_or xs k 0 ∷ [])) e (Contains-push (take k xs) (get_or xs k 0))
+      ]),
+    )
+
+-- those of some places that have a property
+module _ (Q : ℕ → Type 0) (xs : List ℕ) where
+  pub among_none : (marks : List Bool) → AreMarked (λ u. Contains (take 0 xs) u × Q u) marks marks
+  among_none marks = marks_none (λ u. Contains (take 0 xs) u × Q u) marks (λ u p. omega (arith, p.0.1))
+
+  pub among_same : (k : ℕ) (old new : List Bool) → k < length xs → (Q (get_or xs k 0) → ⊥) → AreMarked (λ u. Contains (take k xs) u × Q u) old new → AreMarked (λ u. Contains (take (k + 1) xs) u × Q u) old new
+  among_same k old new lt never h = marks_as (λ u. Contains (take k xs) u × Q u) (λ u. Contains (take (k + 1) xs) u × Q u) old new (λ u.
+      let more = first_more xs k lt u in (
+        λ p. (more.1 (inl p.0), p.1),
+        λ p. elim (more.0 p.0) [ inl c ↦ (c, p.1) | inr e ↦ absurd (never (subst Q (sym e) p.1)) ],
+      )) h
+
+  pub among_more : (k : ℕ) (old new last : List Bool) → k < length xs → Q (get_or xs k 0) → AreMarked (λ u. Contains (take k xs) u × Q u) old new
+      → length last ≡ length new → ((u : ℕ) → IsMarked last u ↔ (IsMarked new u ⊎ (u ≡ get_or xs k 0))) → AreMarked (λ u. Contains (take (k + 1) xs) u × Q u) old last
+  among_more k old new last lt is h count put = record {
+    count = count ∙ h.count;
+    exact = λ u. let more = first_more xs k lt u in (
+      λ m. elim ((put u).0 m) [
+        | inl there ↦ elim ((h.exact u).0 there) [ inl was ↦ inl was | inr p ↦ inr (more.1 (inl p.0), p.1) ]
+        | inr e ↦ inr (more.1 (inr (sym e)), subst Q (sym e) is)
+      ],
+      λ s. (put u).1 (elim s [
+        | inl was ↦ inl ((h.exact u).1 (inl was))
+        | inr p ↦ elim (more.0 p.0) [ inl c ↦ inl ((h.exact u).1 (inr (c, p.1))) | inr e ↦ inr (sym e) ]
+      ]),
+    );
+  }
+
+  pub among_all : (k : ℕ) (old new : List Bool) → length xs ≤ k → AreMarked (λ u. Contains (take k xs) u × Q u) old new → AreMarked (λ u. Contains xs u × Q u) old new
+  among_all k old new le h = subst (λ l. AreMarked (λ u. Contains l u × Q u) old new) (take_all k xs le) h
+
+-- those that are related to one of some places
+module _ (R : ℕ → ℕ → Type 0) (ws : List ℕ) where
+  pub of_none : (marks : List Bool) → AreMarked (λ u. (w : ℕ) × Contains (take 0 ws) w × R w u) marks marks
+  of_none marks = marks_none (λ u. (w : ℕ) × Contains (take 0 ws) w × R w u) marks (λ u p. omega (arith, p.1.1))
+
+  pub of_more : (k : ℕ) (old new last : List Bool) → k < length ws → AreMarked (λ u. (w : ℕ) × Contains (take k ws) w × R w u) old new → AreMarked (R (get_or ws k 0)) new last
+      → AreMarked (λ u. (w : ℕ) × Contains (take (k + 1) ws) w × R w u) old last
+  of_more k old new last lt h one = record {
+    count = one.count ∙ h.count;
+    exact = λ u. (
+      λ m. elim ((one.exact u).0 m) [
+        | inl there ↦ elim ((h.exact u).0 there) [ inl was ↦ inl was | inr p ↦ inr (p.0, (first_more ws k lt p.0).1 (inl p.1), p.2) ]
+        | inr q ↦ inr (get_or ws k 0, (first_more ws k lt (get_or ws k 0)).1 (inr refl), q)
+      ],
+      λ s. (one.exact u).1 (elim s [
+        | inl was ↦ inl ((h.exact u).1 (inl was))
+        | inr p ↦ elim ((first_more ws k lt p.0).0 p.1) [
+          | inl c ↦ inl ((h.exact u).1 (inr (p.0, c, p.2)))
+          | inr e ↦ inr (subst (λ w. R w u) (sym e) p.2)
+        ]
+      ]),
+    );
+  }
+
+  pub of_all : (k : ℕ) (old new : List Bool) → length ws ≤ k → ((u : ℕ) → IsMarked old u → ⊥) → AreMarked (λ u. (w : ℕ) × Contains (take k ws) w × R w u) old new
+      → (v : ℕ) → IsMarked new v ↔ ((w : ℕ) × Contains ws w × R w v)
+  of_all k old new le none h v =
+      let whole = take_all k ws le in (
+        λ m. elim ((h.exact v).0 m) [ inl was ↦ absurd (none v was) | inr p ↦ (p.0, subst (λ l. Contains l p.0) whole p.1, p.2) ],
+        λ p. (h.exact v).1 (inr (p.0, subst (λ l. Contains l p.0) (sym whole) p.1, p.2)),
+      )
+
+-- ---- who is held back
+
+-- an issuer that a certificate is linked to has its issuer's name
+linked_named : (r : Rules) (items : List Item) (x : CertificateItem) (y : Item) → IsLink r items (certificate_item x) y → IsCertificateWith (λ d. name_octets d.subject ≡ x.issuer.now) y
+linked_named r items x y l =
+    let inner = (with_iff (λ c. IsCertificateWith (λ d. IsIssuedUnder r items (certificate_item x) c (name_octets d.subject) (key_octets d.key) × HaveSameKeyId c d) y) (certificate_item x) (certificate_of x) refl).0 l in
+    (inner.0, inner.1, sym inner.2.0.issuer ∙ sym x.issuer_is)
+
+-- the code's names are those of the definitions
+counted_iff : (items : List ReadItem) (w : ℕ) (x : CertificateItem) → IsAt items w (λ y. y ≡ certificate_read x) → (x.subject.now ≢ x.issuer.now) ↔ IsCounted (map item_of items) w
+counted_iff items w x at =
+    let with = with_read (λ c. name_octets c.subject ≢ name_octets c.issuer) items w x at in (
+      λ n. with.0 (λ e. n (x.subject_is ∙ e ∙ sym x.issuer_is)),
+      λ h e. with.1 h (sym x.subject_is ∙ e ∙ x.issuer_is),
+    )
+
+pub not_counted : (r : Rules) (items : List ReadItem) (reach : ℕ → Reach) (w : ℕ) (x : CertificateItem) → IsAt items w (λ y. y ≡ certificate_read x) → ((x.subject.now ≢ x.issuer.now) → ⊥)
+    → (v : ℕ) → IsHeldBack r (map item_of items) reach w v → ⊥
+not_counted r items reach w x at never v h = never ((counted_iff items w x at).1 h.counts)
+
+pub held_iff : (r : Rules) (read : List ReadItem) (reach : ℕ → Reach) (w : ℕ) (x : CertificateItem) (issuers : List ℕ) → IsAt read w (λ y. y ≡ certificate_read x) → reach w ≡ No → (x.subject.now ≢ x.issuer.now)
+    → ArePositions (HasSubject (map item_of read) x.issuer.now) issuers
+    → (v : ℕ) → (Contains issuers v × ((reach v ≡ UpTo 0) × IsAt (map item_of read) v (IsLink r (map item_of read) (certificate_item x)))) ↔ IsHeldBack r (map item_of read) reach w v
+held_iff r read reach w x issuers at nowhere counts named v =
+    let items = map item_of read in
+    let linked = at_read (λ z. IsAt items v (IsLink r items z)) read w x at in (
+      λ p. record {
+        leads_nowhere = nowhere;
+        counts = (counted_iff read w x at).0 counts;
+        linked = linked.0 p.1.1;
+        bounded = p.1.0;
+      },
+      λ h.
+          let l = linked.1 h.linked in
+          ((named.exact v).1 (l.0, λ d. linked_named r items x (get_or items v d) (l.1 d)), (h.bounded, l)),
+    )
+
+-- whether the code finds no reason against a link
+pub link_there : (r : Rules) (read : List ReadItem) (x y : CertificateItem) (v : ℕ) (none : Type 0) → IsAt read v (λ z. z ≡ certificate_read y) → HasSubject (map item_of read) x.issuer.now v
+    → (x.issuer.now ≡ y.subject.now → none ↔ IsLink r (map item_of read) (certificate_item x) (certificate_item y)) → none ↔ IsAt (map item_of read) v (IsLink r (map item_of read) (certificate_item x))
+link_there r read x y v none at named iff =
+    let items = map item_of read in
+    let subject : name_octets (certificate_of y).subject ≡ x.issuer.now = (with_read (λ d. name_octets d.subject ≡ x.issuer.now) read v y at).1 named in
+    let link = iff (sym (y.subject_is ∙ subject)) in
+    let there = at_read (IsLink r items (certificate_item x)) read v y at in
+    (λ n. there.0 (link.0 n), λ l. link.1 (there.1 l))
+
+pub bound_iff : (r : Rules) (items : List Item) (target : ℕ) (reach : ℕ → Reach) (marks : List Bool) (further : List ℕ) → ArePositions (IsFurther items target) further
+    → ((v : ℕ) → IsMarked marks v ↔ ((w : ℕ) × Contains further w × IsHeldBack r items reach w v)) → (v : ℕ) → (IsMarked marks v × (v ≢ target)) ↔ IsBound r items target reach v
+bound_iff r items target reach marks further are marked v = (
+  λ m. let p = (marked v).0 m.0 in ((p.0, (are.exact p.0).0 p.1, p.2), m.1),
+  λ b. ((marked v).1 (b.0.0, (are.exact b.0.0).1 b.0.1, b.0.2), b.1),
+)

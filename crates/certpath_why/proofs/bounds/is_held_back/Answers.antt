@@ -1,0 +1,21 @@
+use Rattle.std.proofs.Common.{◌≡◌, ◌∙◌, sym, [], map, refl}
+use Rattle.cert_judge.specs.Items.{item_of, rules_by}
+use Rattle.cert_judge.proofs.Mapped.{not_both}
+use Rattle.certpath_why.proofs.Items.{none_read, subject_certificate}
+use Rattle.certpath_why.proofs.Bounding.{link_there}
+use Rattle.certpath_why.proofs.bounds.is_held_back.Goals as goal
+
+pub returns-then-not-takes_none_below : goal.returns-then-not-takes_none_below
+returns-then-not-takes_none_below g c =
+    (λ t. absurd (not_both _ t refl), λ h. absurd (not_both _ (c.takes_none_below.ensures.1 (c.reach_in.ensures ∙ h.0)) c.if-not-takes_none_below.true))
+
+pub returns-in_default : goal.returns-in_default
+returns-in_default g c =
+    let items = c.args.found.now.items.now in
+    absurd (none_read items c.args.issuer (c.in_default.ensures.only refl) (subject_certificate (map item_of items) c.args.certificate.now.issuer.now c.args.issuer c.requires))
+
+pub returns : goal.returns
+returns g c =
+    let there = link_there (rules_by c.args.policy.now.moment c.args.policy.now.demand_lists (g.V.Vouch.vouches_for c.args.vouch.now)) c.args.found.now.items.now c.args.certificate.now c.in-Some.item.now c.args.issuer (c.in_ok-reasons.reasons.items ≡ []) c.in-Some.ensures.found c.requires c.in_ok-reasons.ensures.none in
+    let none = rw c.deref.ensures.value at c.is_none.ensures in
+    (λ e. (sym c.reach_in.ensures ∙ c.takes_none_below.ensures.0 c.if-not-takes_none_below.false, there.0 (none.0 e)), λ h. none.1 (there.1 h.1))

@@ -1,0 +1,59 @@
+//! Marks of places.
+
+ghost use Rattle.std.specs.Prelude.{◌≡◌, ◌≢◌, ◌↔◌, ◌<◌, ◌⊎◌, ℕ, length, IfOk, IsTrue};
+ghost use Rattle.certpath_why.specs.Found.{IsMarked};
+ghost use Rattle.certpath_why.specs.Reached.{ArePositions};
+
+use std::alloc::{AllocError, Global};
+
+pub(crate) fn no_marks(alloc: Global, count: usize) -> Result<Vec<bool>, AllocError>
+    ensures count { IfOk result (λ marks. length marks.items ≡ count) }
+    ensures none { IfOk result (λ marks. (u : ℕ) → IsMarked marks.items u → ⊥) }
+{
+    let mut marks = Vec::with_capacity(alloc, count)?;
+    for _place in 0..count {
+        marks.push(false)?;
+    }
+    Ok(marks)
+}
+
+pub(crate) fn is_marked(marks: &[bool], place: usize) -> bool
+    ensures { IsTrue result ↔ IsMarked marks.now place }
+{
+    match marks.get(place) {
+        Some(mark) => *mark,
+        None => false,
+    }
+}
+
+pub(crate) fn put_mark(marks: &mut Vec<bool>, place: usize)
+    requires { place < length marks.now.items }
+    ensures count { length marks.new.items ≡ length marks.old.items }
+    ensures exact { (u : ℕ) → IsMarked marks.new.items u ↔ (IsMarked marks.old.items u ⊎ (u ≡ place)) }
+{
+    marks[place] = true;
+}
+
+fn is_marked_but(marks: &[bool], left: usize, place: usize) -> bool
+    ensures { IsTrue result ↔ (IsMarked marks.now place × (place ≢ left)) }
+{
+    is_marked(marks, place) && place != left
+}
+
+/// The places that are marked, in ascending order, without one that is left out.
+pub(crate) fn marked_but(
+    alloc: Global,
+    marks: &[bool],
+    left: usize,
+) -> Result<Vec<usize>, AllocError>
+    ensures { IfOk result (λ places. ArePositions (λ v. IsMarked marks.now v × (v ≢ left)) places.items) }
+{
+    let mut places = Vec::new(alloc);
+    for place in 0..marks.len() {
+        if !is_marked_but(marks, left, place) {
+            continue;
+        }
+        places.push(place)?;
+    }
+    Ok(places)
+}
