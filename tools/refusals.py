@@ -92,10 +92,27 @@ EXTENDED_USAGE, STAMPING = "extendedKeyUsage=critical,serverAuth", "extendedKeyU
 POLICY, POLICIES = "policyConstraints=requireExplicitPolicy:0", "certificatePolicies=critical,1.3.6.1.4.1.32473.1"
 
 
+def limited(count):
+    """The extensions of an authority with a path length."""
+    return (f"{AUTHORITY},pathlen:{count}", *OF_AUTHORITY[1:])
+
+
 def path_length(made):
-    first = made.authority((f"{AUTHORITY},pathlen:0", *OF_AUTHORITY[1:]))
+    first = made.authority(limited(0))
     second = made.authority(subject="/CN=Second", key="rsa", issuer=first)
     return made.case(made.leaf(second), second, first)
+
+
+def path_length_above(made):
+    first = made.authority(limited(1))
+    second = made.authority(subject="/CN=Second", key="rsa", issuer=first)
+    third = made.authority(subject="/CN=Third", issuer=second)
+    return made.case(made.leaf(third), third, second, first)
+
+
+def revoked_below_a_path_length(made):
+    issuer = made.authority(limited(0))
+    return made.case(made.leaf(issuer), issuer, made.chain.list(issuer, [2]))
 
 
 def revoked_issuer(made):
@@ -126,11 +143,13 @@ CASES = {
     "policies": lambda made: made.of_leaf(extensions=(*OF_LEAF, POLICIES)),
     "policy constraints": lambda made: made.of_authority(extensions=(POLICY, *OF_AUTHORITY)),
     "path length": path_length,
+    "path length of an issuer above": path_length_above,
     "no CA": lambda made: made.of_authority(extensions=(NO_AUTHORITY, SIGNER, OWN_ID, ISSUER_ID)),
     "no basic constraints": lambda made: made.of_authority(extensions=OF_AUTHORITY[1:]),
     "no keyCertSign": lambda made: made.of_authority(extensions=(AUTHORITY, f"{NO_SIGNER},cRLSign", OWN_ID, ISSUER_ID)),
     "revoked": lambda made: made.of_list(),
     "revoked issuer": revoked_issuer,
+    "revoked below a path length": revoked_below_a_path_length,
     "list demanded": lambda made: made.of_leaf()._replace(words=DEMANDED),
     "self-signed": lambda made: made.case(made.chain.certificate("/CN=leaf", "p521", extensions=OF_LEAF[:-1])),
     "missing issuer": lambda made: made.case(made.leaf(made.authority())),
