@@ -11,8 +11,12 @@ MOST_ASKED = 32
 YES, NO, UNKNOWN = "yes", "no", "unknown"
 # What stands against a list no more at another moment and with a voucher.
 MENDED = ("no voucher", "past next update", "not current before", "by another key")
+# What stands against a list that no key of its issuer's name vouches for.
+NO_KEY, TAKES_WEAK = "no voucher by a key of its issuer", "--weak accepts it"
 # What stands against a list that is used, but not for a certificate which another key of the issuer signed.
 OTHER_KEY = "by another key of its issuer"
+# What keeps a list from a certificate whose issuer's name reads like that of the list.
+OTHER_SPELLING = "issuer spelled otherwise"
 
 
 class Obstacle(NamedTuple):
@@ -43,9 +47,9 @@ class Edge(NamedTuple):
 
 
 class Answer(NamedTuple):
-    """The answer for one target."""
+    """The answer for one target, or, where that is no certificate, what stands there instead."""
     target: Shown
-    place: int
+    instead: str
     outcome: str
     is_checked: bool
     path: list
@@ -53,41 +57,69 @@ class Answer(NamedTuple):
     obstacles: list
     edges: list
     unused: list
+    unread: list
     warnings: list
+    is_asked_why: bool
 
     def false_comfort(self):
         """The lists that aren't used and would revoke a certificate of the path, or may."""
         return [it for it in self.unused if it.revokes != NO] if self.path else []
 
+    def is_doubtful(self):
+        """Whether there is a path that a list which isn't used may speak against."""
+        return bool(self.path and (self.unread or self.false_comfort()))
+
+
+def no_target(instead):
+    """The answer where the target is no certificate."""
+    return Answer(None, instead, "no target", True, [], None, [], [], [], [], [], True)
+
+
+def alike(one, other):
+    """Whether two names read alike, though their octets may differ (RFC 5280, 7.1)."""
+    return one == other or name_of(one).casefold().split() == name_of(other).casefold().split()
+
 
 class Judge:
-    """Makes answers of reports."""
+    """Makes answers of reports. `unread` are lines on lists that can't be read."""
 
-    def __init__(self, bundle, anchors, room, signatures):
-        self.bundle, self.anchors, self.room, self.signatures = bundle, anchors, room, signatures
-        self.asked, self.pairs = 0, {*signatures.vouchers.text().splitlines()}
-        self.lists = bundle.positions(Kind.LIST)
+    def __init__(self, given, room, signatures):
+        self.bundle, self.anchors, self.room, self.signatures = given.bundle, given.anchors, room, signatures
+        self.unread, self.is_single, self.asked, self.idle = [*given.unread_lists()], len(given.targets) == 1, 0, {}
+        self.pairs = {*signatures.vouchers.text().splitlines()}
+        # the lists of each issuer, and the questions of each list
+        self.lists, self.questions = {}, {position: [] for position in self.bundle.of_kind[Kind.LIST]}
+        for position in self.questions:
+            self.lists.setdefault(self.bundle.items[position].issuer, []).append(position)
+        for it in given.questions:
+            if it.item in self.questions:
+                self.questions[it.item].append(it)
 
     def answer(self, target, report=None):
-        """The answer for the item at a position; the report is asked for where none is given."""
+        """The answer for the certificate at a position; the report is asked for where none is given."""
+        is_asked = report is None
         report = report or Report(self.room.why(target))
-        shown = self.bundle.certificate(target) if report.outcome != "no target" else None
+        shown = self.bundle.certificate(target)
         path = [self.bundle.certificate(it) for it in report.path or []]
         anchor = self.anchors.certificate(report.anchor) if report.path else None
         words = {**report.unused, **dict(self.of_other_keys(report))}
-        unused = [self.unused(position, words[position], path or [shown]) for position in sorted(words) if shown]
-        against, edges, weak = ([*it] for it in (self.obstacles(report), self.edges(report), self.weak(path)))
-        return Answer(shown, target, report.outcome, report.is_checked, path, anchor, against, edges, unused, weak)
+        unused = [self.unused(position, words[position], path, shown) for position in sorted(words)]
+        against, edges, weak = ([*it] for it in (self.obstacles(report), self.edges(report), self.weak(report)))
+        return Answer(shown, None, report.outcome, report.is_checked, path, anchor, against, edges, unused, self.unread, weak,
+                      is_asked or bool(path))
+
+    def steps(self, report):
+        """The path's steps: the position of each certificate, and its issuer's certificate."""
+        path = report.path or []
+        keys = [self.bundle.items[it] for it in path[1:]] + ([self.anchors.items[report.anchor]] if path else [])
+        return zip(path, keys)
 
     def of_other_keys(self, report):
         """The lists of the path's issuers that another key of the name vouches for than the one that signed the certificate: they are
         used, and not for it."""
-        path = report.path or []
-        keys = [self.bundle.items[it] for it in path[1:]] + ([self.anchors.items[report.anchor]] if path else [])
-        for position, holder in zip(path, keys):
-            for it in self.lists:
-                found = self.bundle.items[it]
-                if it not in report.unused and found.issuer == self.bundle.items[position].issuer and not self.is_vouched(holder, found):
+        for position, holder in self.steps(report):
+            for it in self.lists.get(self.bundle.items[position].issuer, ()):
+                if it not in report.unused and not self.is_vouched(holder, self.bundle.items[it]):
                     yield it, [OTHER_KEY]
 
     def is_vouched(self, holder, it):
@@ -110,54 +142,73 @@ class Judge:
                 yield Obstacle(here, None, words, reasons.sentence(words))
             for link, whys in node.links.items():
                 for words in whys:
-                    yield Obstacle(here, self.end(link), words, self.of_link(node.position, words))
+                    yield Obstacle(here, self.end(link), words, self.of_link(node.position, link, words))
             if node.most is not None and report.is_too_long():
                 words = f"leads to an anchor with at most {node.most} below"
                 yield Obstacle(here, None, words, reasons.sentence(words))
             if node.is_missing:
-                yield Obstacle(here, None, "no issuer here", reasons.sentence("no issuer here"))
+                found = reasons.sentence("no issuer here")
+                yield Obstacle(here, None, "no issuer here", found._replace(text=f"{found.text}, {here.issuer}"))
             elif [*node.links] == [Link(node.position, False)]:
                 yield Obstacle(here, None, "issued by itself", reasons.sentence("issued by itself"))
 
-    def of_link(self, position, words):
-        """A reason against a link; where the signature isn't verified, OpenSSL's own words stand beside it."""
-        found = reasons.sentence(words)
-        weak, refused = self.signatures.weak.get(position), self.signatures.refused.get(position)
-        if words != "no voucher" or not (weak or refused):
+    def of_link(self, position, link, words):
+        """A reason against a link; where the signature isn't verified, OpenSSL's own words stand beside it, and beside a list its file."""
+        found, by_list = reasons.sentence(words), REVOKED.fullmatch(words)
+        if by_list:
+            return found._replace(text=f"{found.text} ({self.bundle.file(int(by_list[1]))})")
+        if words != "no voucher":
             return found
+        key = (self.anchors if link.is_anchor else self.bundle).items[link.to].public_key_bytes
+        weak, refused = (of.get(position, {}).get(key) for of in (self.signatures.weak, self.signatures.refused))
         if weak:
-            return found._replace(text=f"its signature is verified, but weak: {weak}", advice="--weak accepts it")
-        return found._replace(text=f"{found.text} (OpenSSL: {refused})")
+            return found._replace(text=f"its signature is verified, but weak: {weak}", advice=TAKES_WEAK)
+        return found._replace(text=f"{found.text} ({refused})") if refused else found
 
-    def weak(self, path):
+    def weak(self, report):
         """A warning for each certificate of the path whose signature is weak."""
-        for it in path:
-            if it.position in self.signatures.weak:
-                yield f"{it.place} {it.subject}: its signature is weak: {self.signatures.weak[it.position]}"
+        for position, holder in self.steps(report):
+            weak = self.signatures.weak.get(position, {}).get(holder.public_key_bytes)
+            if weak:
+                it = self.bundle.certificate(position)
+                yield f"{it.place} {it.subject}: its signature is weak: {weak}"
 
-    def unused(self, position, words, certificates):
-        """A list that isn't used, and whether it would revoke one of the certificates."""
-        it = self.bundle.items[position]
-        issued = [one for one in certificates if self.bundle.items[one.position].issuer == it.issuer]
-        revokes, of = self.revokes(position, it, words, issued)
-        return Unused(position, self.bundle.file(position), name_of(it.issuer), words, [reasons.sentence(one) for one in words], revokes, of)
+    def unused(self, position, words, path, target):
+        """A list that isn't used, and whether it would revoke a certificate of the path, or, where there is none, the target."""
+        it, certificates = self.bundle.items[position], path or [target]
+        concerned = [one for one in certificates if alike(self.bundle.items[one.position].issuer, it.issuer)]
+        if not concerned and position in self.idle:
+            return self.idle[position]
+        issued = [one for one in concerned if self.bundle.items[one.position].issuer == it.issuer]
+        revokes, of = self.revokes(position, it, words, issued or concerned, bool(issued) and bool(path or self.is_single))
+        words = [*words, OTHER_SPELLING] if concerned and not issued else words
+        sentences = [self.of_list(position, one) for one in words]
+        found = Unused(position, self.bundle.file(position), name_of(it.issuer), words, sentences, revokes, of)
+        if not concerned:
+            self.idle[position] = found
+        return found
 
-    def revokes(self, position, it, words, issued):
-        """Whether a list that isn't used would revoke one of the certificates of its issuer: `certpath why` is asked again, at a moment
-        of the list and with a voucher for it. Nobody knows where a critical extension says how the list is to be read."""
-        if not issued:
+    def of_list(self, position, words):
+        """A reason why a list isn't used."""
+        found, weak = reasons.sentence(words), self.signatures.weak_by_any(position)
+        if words == NO_KEY and weak:
+            return found._replace(text=f"its signature is weak: {weak}", advice=TAKES_WEAK)
+        return found
+
+    def revokes(self, position, it, words, concerned, is_asked):
+        """Whether a list that isn't used would revoke one of the certificates that it concerns, and which: `certpath why` is asked again, at a
+        moment of the list and with a voucher for it. Nobody knows where a critical extension says how the list is to be read."""
+        if not concerned:
             return NO, None
-        self.asked += len(issued)
-        if self.asked > MOST_ASKED or any(not one.startswith(MENDED) for one in words):
-            return UNKNOWN, issued[0]
+        self.asked += len(concerned) if is_asked else 0
+        if not is_asked or self.asked > MOST_ASKED or any(not one.startswith(MENDED) for one in words):
+            return UNKNOWN, concerned[0]
         vouchers = certpath.Vouchers.from_text(self.signatures.vouchers.text())
-        for side in (self.bundle, self.anchors):
-            for holder in side.items:
-                if holder.kind is Kind.CERTIFICATE and holder.subject == it.issuer:
-                    vouchers.add(holder.public_key_bytes, it.public_bytes())
+        for question in self.questions[position]:
+            vouchers.add(question.key_holder(self.bundle.items, self.anchors.items).public_key_bytes, it.public_bytes())
         self.room.vouch(vouchers)
         try:
-            for one in issued:
+            for one in concerned:
                 again = Report(self.room.why(one.position, moment=it.last_update_utc))
                 found = again.nodes[one.position].links.values()
                 if any((its := REVOKED.fullmatch(why)) and int(its[1]) == position for whys in found for why in whys):

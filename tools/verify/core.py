@@ -2,6 +2,7 @@
 import hashlib
 import os
 import sys
+from collections import OrderedDict
 from typing import NamedTuple
 
 import repo
@@ -15,6 +16,8 @@ import certpath
 import certpath.openssl
 
 Kind = certpath.Kind
+# So many certificates are kept as they are shown.
+MOST_SHOWN = 10_000
 
 
 def need():
@@ -65,26 +68,35 @@ class Side:
 
     def __init__(self, items, is_anchors, limit=None):
         self.is_anchors, self.limit = is_anchors, certpath.LIMIT if limit is None else int(limit)
-        self.given = items if self.framed(items).end.is_clean else [it for it in items if self.framed([it]).end.is_clean]
-        self.left_out = [] if self.given is items else [
-            f"{it.file}: an item of {len(it.octets)} octets, above the limit; left out" for it in items if not self.framed([it]).end.is_clean]
-        self.items, self.shown = self.framed(self.given), {}
+        self.given, self.too_large = items, []
+        self.items = self.framed(items)
+        if not self.items.end.is_clean:
+            self.given = [it for it in items if self.framed([it]).end.is_clean]
+            self.too_large = [it for it in items if not self.framed([it]).end.is_clean]
+            self.items = self.framed(self.given)
+        self.of_kind = {kind: [] for kind in Kind}
+        for position, it in enumerate(self.items):
+            self.of_kind[it.kind].append(position)
+        self.shown = OrderedDict()
 
     def framed(self, items):
         return certpath.frame(b"".join(it.octets for it in items), self.limit)
 
-    def positions(self, kind):
-        return [k for k, it in enumerate(self.items) if it.kind is kind]
+    def left_out(self):
+        """What is said of the items that are above the limit."""
+        return [f"{it.file}: an item of {len(it.octets)} octets, above the limit; left out" for it in self.too_large]
 
     def file(self, position):
         return self.given[position].file
 
     def certificate(self, position):
-        """What is shown of a certificate."""
+        """What is shown of a certificate. The last ones are kept."""
         if position not in self.shown:
             it = self.items[position]
             self.shown[position] = Shown(position, self.is_anchors, self.file(position), name_of(it.subject), name_of(it.issuer),
                                          it.not_valid_before_utc, it.not_valid_after_utc, serial_of(it.serial_number), fingerprint(it.public_bytes()))
+            if len(self.shown) > MOST_SHOWN:
+                self.shown.popitem(last=False)
         return self.shown[position]
 
 

@@ -28,11 +28,18 @@ def status_of(answer):
     return faults.PATH if answer.path else faults.NONE
 
 
+def reasons_of(answer):
+    """What stands in the way of a path; nothing is known of a target that wasn't asked about."""
+    if not answer.is_asked_why:
+        return None
+    return [] if answer.path else [of_obstacle(it) for it in answer.obstacles]
+
+
 def text(answer, moment, anchors, notes):
     """The line of one target."""
     return json.dumps({
         "headline": people.headline(answer, moment), "status": status_of(answer), "outcome": answer.outcome, "checked": answer.is_checked,
         "at": times.as_shown(moment), "target": of_certificate(answer.target), "path": [of_certificate(it) for it in answer.path],
-        "anchor": of_certificate(answer.anchor), "reasons": [] if answer.path else [of_obstacle(it) for it in answer.obstacles],
-        "unused_lists": [of_list(it) for it in answer.unused], "warnings": [*people.warnings(answer, notes)],
+        "anchor": of_certificate(answer.anchor), "reasons": reasons_of(answer),
+        "unused_lists": [of_list(it) for it in answer.unused], "doubts": people.doubts(answer), "warnings": [*people.warnings(answer, moment, notes)],
         "anchors": anchors, "not_judged": [*NOT_JUDGED]}, ensure_ascii=True) + "\n"

@@ -46,8 +46,8 @@ def listed(title, lines):
 
 def of_certificate(it):
     """The fields of a certificate of the path."""
-    dates = f"{times.as_shown(it.begin)} to {times.as_shown(it.end)}{' (not judged)' if it.is_anchor else ''}"
-    rows = (("issuer", it.issuer), ("valid", dates), ("serial", it.serial), ("sha256", people.fingerprint(it.sha256)), ("file", it.file))
+    rows = [("issuer", it.issuer), ("valid", f"{times.as_shown(it.begin)} to {times.as_shown(it.end)}"), ("serial", it.serial),
+            ("sha256", people.fingerprint(it.sha256)), ("file", it.file), *([("judged", people.OF_ANCHOR)] if it.is_anchor else [])]
     return f"<h3>{escape(it.place)}: {escape(it.subject)}</h3><dl>{''.join(f'<dt>{name}</dt><dd>{escape(held)}</dd>' for name, held in rows)}</dl>\n"
 
 
@@ -59,7 +59,7 @@ def of_obstacle(it):
 def look(answer):
     if not answer.path:
         return "bad"
-    return "doubt" if answer.false_comfort() else "good"
+    return "doubt" if answer.is_doubtful() else "good"
 
 
 def of_answer(answer, number, moment, anchors, notes):
@@ -70,7 +70,7 @@ def of_answer(answer, number, moment, anchors, notes):
         found.append("<h2>Path</h2>" + "".join(map(of_certificate, [*answer.path, answer.anchor])))
     elif answer.target is not None:
         found.append(listed("Why not", map(of_obstacle, answer.obstacles)))
-    found.append(listed("Warnings", map(escape, people.warnings(answer, notes))))
+    found.append(listed("Warnings", map(escape, people.warnings(answer, moment, notes))))
     found.append(listed("Anchors", [escape(anchors)]))
     found.append(listed("Not judged", map(escape, NOT_JUDGED)))
     return "".join([*found, "</section>\n"])

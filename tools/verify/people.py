@@ -3,10 +3,15 @@ import os
 import sys
 import textwrap
 
+import streams
 from verify import times
 from verify.answers import NOT_JUDGED, UNKNOWN, YES
 
 COLUMNS = 96
+# What counts of an anchor.
+OF_ANCHOR = "its name and key alone (RFC 5280, 6.1.1, d)"
+# So many reasons are printed for a target.
+MOST_OBSTACLES = 100
 GREEN, RED, YELLOW, BOLD, PLAIN = "\x1b[32m", "\x1b[31m", "\x1b[33m", "\x1b[1m", "\x1b[0m"
 
 
@@ -26,19 +31,24 @@ def doubt(unused):
     return f"{what} is revoked by {told}" if unused.revokes == YES else f"whether {what} is revoked isn't known from {told}"
 
 
+def doubts(answer):
+    """What lists that aren't used may say against a path, what is certain first."""
+    if not answer.path:
+        return []
+    found = answer.false_comfort()
+    told = [doubt(it) for it in sorted(found, key=lambda it: it.revokes != YES)]
+    return told + [f"whether a certificate of the path is revoked isn't known, as a list can't be read: {it}" for it in map(streams.shown, answer.unread)]
+
+
 def headline(answer, moment):
     """The first line: the subject and the answer, and what may not be overlooked."""
     at = times.as_shown(moment)
     if answer.target is None:
-        return f"item {answer.place}: no certificate, so no target"
+        return f"{streams.shown(answer.instead)}, so no target"
     if not answer.path:
         return f"{answer.target.subject}: no valid path at {at}"
-    doubts = answer.false_comfort()
-    said = f"{answer.target.subject}: valid path to {answer.anchor.subject} at {at}"
-    if not doubts:
-        return said
-    certain = [it for it in doubts if it.revokes == YES]
-    return f"{said}, BUT {doubt((certain or doubts)[0])}"
+    said, against = f"{answer.target.subject}: valid path to {answer.anchor.subject} at {at}", doubts(answer)
+    return f"{said}, BUT {against[0]}" if against else said
 
 
 def check_fault(answer):
@@ -55,6 +65,11 @@ class Text:
     def add(self, line, colour=None):
         self.lines.append(f"{colour}{line}{PLAIN}" if colour and self.coloured else line)
 
+    def taken(self):
+        """The lines so far, which are given up."""
+        held, self.lines = self.lines, []
+        return [f"{line}\n" for line in held]
+
     def section(self, title, lines):
         """A title and its lines; nothing where there are none."""
         lines = [*lines]
@@ -69,10 +84,12 @@ def of_certificate(it):
     dates = f"{times.as_shown(it.begin)} to {times.as_shown(it.end)}"
     yield f"{it.place}  {it.subject}"
     yield f"    issuer  {it.issuer}"
-    yield f"    valid   {dates}{' (not judged)' if it.is_anchor else ''}"
+    yield f"    valid   {dates}"
     yield f"    serial  {it.serial}"
     yield f"    sha256  {fingerprint(it.sha256)}"
     yield f"    file    {it.file}"
+    if it.is_anchor:
+        yield f"    judged  {OF_ANCHOR}"
 
 
 def of_obstacle(it):
@@ -87,34 +104,61 @@ def of_obstacle(it):
         yield f"    {tail}"
 
 
-def warnings(answer, notes):
+def of_list(it):
+    """The line of a list that isn't used."""
+    if it.revokes in (YES, UNKNOWN):
+        return doubt(it)
+    return f"list {it.position} ({it.file}) of {it.issuer} isn't used: {'; '.join(one.text for one in it.sentences)}"
+
+
+def of_anchor(answer, moment):
+    """A warning where the moment is outside the validity of the path's anchor."""
+    it = answer.anchor
+    if it and not it.begin <= moment <= it.end:
+        when = f"expired at {times.as_shown(it.end)}" if it.end < moment else f"isn't valid before {times.as_shown(it.begin)}"
+        yield f"{it.place} {it.subject} {when}; of an anchor, dates aren't judged (RFC 5280, 6.1.1, d)"
+
+
+def of_answer(answer, moment):
+    """Warnings of one answer alone."""
+    return [*check_fault(answer), *of_anchor(answer, moment), *answer.warnings]
+
+
+def warnings(answer, moment, notes):
     """All that one should know beside the answer."""
-    yield from check_fault(answer)
-    yield from answer.warnings
-    for it in answer.unused:
-        if it.revokes in (YES, UNKNOWN):
-            yield doubt(it)
-        else:
-            yield f"list {it.position} ({it.file}) of {it.issuer} isn't used: {'; '.join(one.text for one in it.sentences)}"
+    yield from of_answer(answer, moment)
+    yield from map(of_list, answer.unused)
     yield from notes
+
+
+def why_not(answer):
+    """The lines of all that stands in the way."""
+    if not answer.is_asked_why:
+        yield "not asked, since many other targets were: ask about it alone, with --target"
+    for it in answer.obstacles[:MOST_OBSTACLES]:
+        yield from of_obstacle(it)
+    if len(answer.obstacles) > MOST_OBSTACLES:
+        yield f"and {len(answer.obstacles) - MOST_OBSTACLES} further reasons; --json has them all"
 
 
 def add_answer(made, answer, moment, is_single):
     """The first line of a target, and the reasons where it has no path; of a single target the path's certificates too."""
-    colour = RED if not answer.path else YELLOW if answer.false_comfort() else GREEN
-    made.add(headline(answer, moment), colour)
+    made.add(headline(answer, moment), RED if not answer.path else YELLOW if answer.is_doubtful() else GREEN)
     if is_single:
         made.section("path", (line for it in [*answer.path, answer.anchor] if it for line in of_certificate(it)))
     if answer.target is not None and not answer.path:
-        made.section("why not", (line for it in answer.obstacles for line in of_obstacle(it)))
+        made.section("why not", why_not(answer))
 
 
-def text(answers, moment, anchors, notes, coloured):
-    """The whole text. Warnings that several targets share stand in it once."""
-    made = Text(coloured)
+def text(answers, moment, anchors, notes, coloured, is_single):
+    """The whole text, line by line. Warnings that several targets share stand in it once, behind all targets."""
+    made, shared, of_lists = Text(coloured), {}, {}
     for it in answers:
-        add_answer(made, it, moment, len(answers) == 1)
-    made.section("warnings", dict.fromkeys(line for it in answers for line in warnings(it, notes)))
+        add_answer(made, it, moment, is_single)
+        shared.update(dict.fromkeys(of_answer(it, moment)))
+        of_lists.update((id(one), one) for one in it.unused)
+        yield from made.taken()
+    made.section("warnings", dict.fromkeys([*shared, *map(of_list, of_lists.values()), *notes]))
     made.section("anchors", [anchors])
     made.section("not judged", textwrap.wrap(", ".join(NOT_JUDGED), COLUMNS))
-    return "".join(f"{line}\n" for line in made.lines)
+    yield from made.taken()

@@ -50,6 +50,7 @@ FORMS = (
     form(r"no list used", "lists are demanded, and no list of that issuer is used", "RFC 5280, 6.1.3, a, 3", "give a current list with --lists"),
     form(r"no voucher by a key of its issuer", "no key of its issuer's name verifies its signature", "RFC 5280, 6.3.3, g"),
     form(r"by another key of its issuer", "another key of its issuer signed it than the one that signed the certificate", "docs/RULES.md, lists"),
+    form(r"issuer spelled otherwise", "its issuer's name has other octets than the certificate has there", "RFC 5280, 6.3.3, a and b"),
     form(r"no next update", "it has no next update", "RFC 5280, 5.1.2.5"),
     form(r"not current before (\S+)", "it isn't current before {0}Z", "RFC 5280, 5.1.2.4"),
     form(r"past next update (\S+)", "its next update was due at {0}Z", "RFC 5280, 5.1.2.5", "get the current list"),

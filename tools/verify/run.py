@@ -1,76 +1,132 @@
 """The run of ./verify, from the words to the status."""
 import os
 import tempfile
+from itertools import islice
 
 import streams
+from shapes import LIST, kind_of
 from streams import counted
 from verify import answers, asking, core, faults, files, graph, machine, page, people, signing, words
 from verify.core import Kind
 from verify.faults import Fault
 from verify.report import Report, answers_of
 
-OTHER = "neither a certificate nor a list in its one spelling, so not used; docs/OTHER.md has the causes"
-# So many targets without a path are asked about, why.
-MOST_WHYS = 100
+OTHER = "neither a certificate nor a list in its one spelling"
+CAUSES = "docs/OTHER.md has the causes"
+# So many targets without a path are asked about, why; fewer where the items have so many octets that it would take minutes.
+MOST_WHYS, MOST_WHY_OCTETS = 100, 200_000_000
+# Where there are no more questions than these, none is left out for one target's sake.
+FEW_QUESTIONS = 200
+# So many targets of the JSON are written at once.
+TOGETHER = 1_000
+# So many lines are said of what was left out.
+MOST_LEFT_OUT = 100
 
 
 class Given:
     """The caller's files: items each once, targets, anchors, and what was left out."""
 
     def __init__(self, asked):
-        first = files.held(asked.files[0])
-        rest = [files.held(it) for it in [*asked.files[1:], *asked.lists]]
-        self.asked, self.named = asked, self.target_file(asked)
-        parts = [first, *rest, *([self.named] if self.named else [])]
-        held = files.once(it for part in parts for it in part.items)
+        self.asked = asked
+        self.first = files.held(asked.files[0])
+        further, lists = ([files.held(it) for it in of] for of in (asked.files[1:], asked.lists))
+        self.named = files.held(asked.target) if self.is_file(asked.target) else None
+        parts = [self.first, *further, *lists, *([self.named] if self.named else [])]
         found = files.anchors_of(asked.anchors)
-        self.bundle, self.anchors = core.Side(held, False, asked.limit), core.Side(found.items, True, asked.limit)
-        self.sources, self.is_system, self.first = found.sources, found.is_system, first
-        self.left_out = [it for part in parts for it in part.left_out] + self.bundle.left_out + found.left_out + self.anchors.left_out
-        if not self.anchors.positions(Kind.CERTIFICATE):
+        self.bundle = core.Side(files.once(it for part in parts for it in part.items), False, asked.limit)
+        self.anchors = core.Side(found.items, True, asked.limit)
+        self.sources, self.is_system = found.sources, found.is_system
+        self.left_out, self.left_out_of_anchors = [it for part in parts for it in part.left_out], found.left_out
+        if not self.anchors.of_kind[Kind.CERTIFICATE]:
             raise Fault(faults.UNREAD, f"{', '.join(self.sources)}: holds no certificate, so no anchor; name a file with --anchors FILE")
+        self.targets = [*self.all_targets()]
+        self.questions = core.certpath.questions(self.bundle.items, self.anchors.items)
 
     @staticmethod
-    def target_file(asked):
-        """What the file of --target holds, none where that isn't a file."""
-        word = asked.target
-        is_file = word is not None and not is_position(word) and (os.path.exists(word) or not is_fingerprint(word))
-        return files.held(word) if is_file else None
+    def is_file(word):
+        """Whether the word of --target is a file: it is neither a position nor a fingerprint."""
+        if word is None or is_position(word) or is_fingerprint(word) and not os.path.exists(word):
+            return False
+        if not os.path.exists(word):
+            raise Fault(faults.UNREAD, f"--target {word}: no such file, and neither a position nor a SHA-256 fingerprint of 64 hex digits")
+        return True
 
-    def targets(self):
-        """The positions of the targets."""
+    def all_targets(self):
+        """The targets: positions of certificates, and texts on what stands there instead."""
+        word = self.asked.target
+        if word is not None and self.named is None:
+            return [self.position_of(word)]
+        part, name = (self.named, word) if self.named else (self.first, self.asked.files[0])
+        lost = [it for it in part.left_out if it.is_certificate()]
         positions = {self.bundle.items.octets(it): it for it in range(len(self.bundle.items))}
-        certificates = {*self.bundle.positions(Kind.CERTIFICATE)}
-        of = self.named or self.first
-        if self.asked.target is not None and self.named is None:
-            return [self.position_of(self.asked.target, certificates)]
-        found = [positions[it.octets] for it in of.items if it.octets in positions]
-        kept = [it for it in found if it in certificates]
-        if not kept:
-            name = self.asked.target or self.asked.files[0]
-            raise Fault(faults.NO_TARGET, f"{name}: holds no certificate that is read here, so no target; docs/OTHER.md has the causes")
-        return kept if self.asked.is_all else kept[:1]
+        found = [self.target(positions[it.octets]) if it.octets in positions else f"{name}: an item above the limit"
+                 for it in part.items if not self.is_list(it.octets)]
+        if not found:
+            raise Fault(faults.NO_TARGET, f"{name}: it holds {self.what_is_there(part)}no certificate, so no target")
+        if self.asked.is_all:
+            return [*found, *(f"{it.where}: {it.why}" for it in lost)]
+        if lost and lost[0].before == 0:
+            raise Fault(faults.UNREAD, f"{lost[0].where}: {lost[0].why}; it would be the target: mend it, or name another one with --target")
+        return found[:1]
 
-    def position_of(self, word, certificates):
-        """The position that a number or a fingerprint means."""
+    @staticmethod
+    def is_list(octets):
+        """Whether an item has a list's shape."""
+        return kind_of(octets) == LIST
+
+    @staticmethod
+    def what_is_there(part):
+        """What a file without a certificate holds."""
+        if part.items:
+            return "revocation lists and "
+        labels = dict.fromkeys(it.label() for it in part.left_out if it.label())
+        return f"{', '.join(labels)} and " if labels else ""
+
+    def target(self, position):
+        """A target by its position; a text where that is none."""
+        if position >= len(self.bundle.items):
+            return f"item {position}: there is none; the files hold {counted(len(self.bundle.items), 'item')}"
+        kind = self.bundle.items[position].kind
+        if kind is Kind.CERTIFICATE:
+            return position
+        what = "a revocation list" if kind is Kind.LIST else f"{OTHER} ({CAUSES})"
+        return f"item {position} ({self.bundle.file(position)}): {what}"
+
+    def position_of(self, word):
+        """The target that a number or a fingerprint means."""
         if is_position(word):
-            return int(word)
+            return self.target(int(word))
         digits = word.replace(":", "").lower()
-        for it in certificates:
+        for it in range(len(self.bundle.items)):
             if core.fingerprint(self.bundle.items.octets(it)) == digits:
-                return it
+                return self.target(it)
         raise Fault(faults.NO_TARGET, f"--target {word}: no certificate has this fingerprint")
+
+    def unread_lists(self):
+        """What is said of revocation lists that can't be read, so that nobody knows whom they revoke."""
+        for it in self.left_out:
+            if it.is_list():
+                yield f"{it.where}: {it.why}"
+        for position in self.bundle.of_kind[Kind.OTHER]:
+            if self.is_list(self.bundle.items.octets(position)):
+                yield f"item {position} ({self.bundle.file(position)}): {OTHER}"
+        for it in self.bundle.too_large:
+            if self.is_list(it.octets):
+                yield f"{it.file}: a list above the limit"
 
     def notes(self):
         """Warnings of the files: what was left out, and items that are neither certificate nor list."""
-        yield from self.left_out
+        lines = [*map(str, self.left_out), *self.bundle.left_out(), *map(str, self.left_out_of_anchors), *self.anchors.left_out()]
+        yield from lines[:MOST_LEFT_OUT]
+        if len(lines) > MOST_LEFT_OUT:
+            yield f"{len(lines) - MOST_LEFT_OUT} more were left out"
         for side, name in ((self.bundle, "item"), (self.anchors, "anchor")):
-            for it in side.positions(Kind.OTHER):
-                yield f"{name} {it} ({side.file(it)}): {OTHER}"
+            for it in side.of_kind[Kind.OTHER][:MOST_LEFT_OUT]:
+                yield f"{name} {it} ({side.file(it)}, SHA-256 {core.fingerprint(side.items.octets(it))}): {OTHER}, so not used; {CAUSES}"
 
     def anchors_line(self):
         """How many anchors there are, and from where."""
-        count = len(self.anchors.positions(Kind.CERTIFICATE))
+        count = len(self.anchors.of_kind[Kind.CERTIFICATE])
         store = " (the system's store)" if self.is_system else ""
         return f"{counted(count, 'certificate')} of {', '.join(self.sources)}{store}"
 
@@ -84,53 +140,79 @@ def is_fingerprint(word):
     return len(digits) == 64 and all(it in "0123456789abcdefABCDEF" for it in digits)
 
 
-def all_answers(targets, judge, room):
+def asked_of_openssl(given, room):
+    """The questions that OpenSSL is asked. Of many only those that one target leads to by names matter, as `certpath why` tells without any
+    voucher, and those of lists."""
+    if len(given.questions) <= FEW_QUESTIONS or len(given.targets) > 1:
+        return given.questions
+    room.vouch(core.certpath.Vouchers())
+    reached = Report(room.why(given.targets[0])).nodes
+    return [it for it in given.questions if it.item in reached or given.bundle.items[it.item].kind is Kind.LIST]
+
+
+def all_answers(given, judge, room):
     """The answer for each target, in their order. For several `certpath paths` says which of them have a path, and lists that aren't
     used are the same for all; why there is none is asked of the first ones alone."""
-    lines = room.paths() if len(targets) > 1 else None
-    if lines is None:
-        return [judge.answer(it) for it in targets]
-    known, unused, asked, found = answers_of(lines), Report(room.why(targets[0])).unused, 0, []
-    for target in targets:
+    certificates = [it for it in given.targets if not isinstance(it, str)]
+    lines = room.paths() if len(certificates) > 1 else None
+    known, asked = answers_of(lines) if lines else {}, 0
+    unused = Report(room.why(certificates[0])).unused if lines else None
+    most = max(1, min(MOST_WHYS, MOST_WHY_OCTETS // max(len(given.bundle.items.data), 1)))
+    for target in given.targets:
         report = known.get(target)
-        asked += report is None or not report.path
-        if report is None or not report.path and asked <= MOST_WHYS:
-            report = None
+        if isinstance(target, str):
+            yield answers.no_target(target)
+        elif report is None or not report.path and asked < most:
+            asked += 1
+            yield judge.answer(target)
         else:
             report.unused = unused
-        found.append(judge.answer(target, report))
-    return found
+            yield judge.answer(target, report)
 
 
 def answered(asked):
     """Answers the words, and gives the status."""
     core.need()
     given = Given(asked)
-    targets = given.targets()
-    signatures = signing.signatures(given.bundle, given.anchors, asked.takes_weak)
     with tempfile.TemporaryDirectory(prefix="verify-") as folder:
+        if given.targets == [it for it in given.targets if isinstance(it, str)]:
+            return written(asked, given, map(answers.no_target, given.targets))
         room = asking.Room(folder, given.bundle, given.anchors, asked)
-        room.vouch(signatures.vouchers)
-        judge = answers.Judge(given.bundle, given.anchors, room, signatures)
-        found = all_answers(targets, judge, room)
-    return written(asked, given, found)
+        found = signing.signatures(given.bundle, given.anchors, asked_of_openssl(given, room), asked.takes_weak)
+        room.vouch(found.vouchers)
+        return written(asked, given, all_answers(given, answers.Judge(given, room, found), room))
+
+
+class Seen:
+    """Answers on their way, and the worst status among those that went by."""
+
+    def __init__(self, found):
+        self.found, self.status = found, faults.PATH
+
+    def __iter__(self):
+        for it in self.found:
+            self.status = max(self.status, machine.status_of(it))
+            yield it
 
 
 def written(asked, given, found):
     """Writes the answers in the form that is asked for; gives the status."""
-    notes, source = [*map(streams.shown, given.notes())], streams.shown(given.anchors_line())
+    notes, source, seen = [*map(streams.shown, given.notes())], streams.shown(given.anchors_line()), Seen(found)
     if asked.page is not None:
-        keep(asked.page, page.text(found, asked.moment, source, notes))
-    if asked.page != "-" and asked.form != "quiet":
-        coloured = people.with_colour()
-        forms = {
-            None: lambda: people.text(found, asked.moment, source, notes, coloured),
-            "json": lambda: "".join(machine.text(it, asked.moment, source, notes) for it in found),
-            "dot": lambda: "".join(graph.text(it, asked.moment) for it in found),
-        }
-        if not streams.wrote(forms[asked.form]().encode(errors="backslashreplace")):
+        seen.found = [*seen.found]
+        keep(asked.page, page.text(seen.found, asked.moment, source, notes))
+    forms = {
+        None: lambda: people.text(seen, asked.moment, source, notes, people.with_colour(), len(given.targets) == 1),
+        "json": lambda: (machine.text(it, asked.moment, source, notes) for it in seen),
+        "dot": lambda: (graph.text(it, asked.moment) for it in seen),
+        "quiet": lambda: ("" for _ in seen),
+    }
+    parts = iter(forms["quiet" if asked.page == "-" else asked.form]())
+    while together := [*islice(parts, TOGETHER)]:
+        text = "".join(together)
+        if text and not streams.wrote(text.encode(errors="backslashreplace")):
             return faults.UNWRITTEN
-    return max(map(machine.status_of, found))
+    return seen.status
 
 
 def keep(file, text):

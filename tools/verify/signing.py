@@ -5,31 +5,38 @@ from verify import waiting
 from verify.core import certpath
 from verify.faults import NO_PROGRAM, Fault
 
+# Where there are no more questions than these, each is answered; else at most so many for an item.
+FEW_QUESTIONS, MOST_TRIES = 20_000, certpath.openssl.MOST_TRIES
+NOT_TRIED = f"not tried: more than {MOST_TRIES} keys have its issuer's name"
+
 
 class Signatures(NamedTuple):
-    """What OpenSSL says: vouchers; in which words a verified signature is weak; and why others aren't verified, by position."""
+    """What OpenSSL says: vouchers; and by an item's position and a key's octets in which words a verified signature is weak, and why others
+    aren't verified."""
     vouchers: object
     weak: dict
     refused: dict
 
+    def weak_by_any(self, item):
+        """In which words an item's signature is weak by the first key that verifies it, none where it isn't."""
+        return next(iter(self.weak.get(item, {}).values()), None)
 
-def signatures(bundle, anchors, takes_weak):
-    """Asks OpenSSL each question of the items."""
-    questions = certpath.questions(bundle.items, anchors.items)
-    found, verified = Signatures(certpath.Vouchers(), {}, {}), set()
+
+def signatures(bundle, anchors, questions, takes_weak):
+    """Asks OpenSSL each of the questions."""
+    found = Signatures(certpath.Vouchers(), {}, {})
+    tries = max(len(questions), 1) if len(questions) <= FEW_QUESTIONS else MOST_TRIES
     try:
-        verdicts = certpath.openssl.answers(bundle.items, anchors.items, questions)
+        verdicts = certpath.openssl.answers(bundle.items, anchors.items, questions, tries)
         for verdict in waiting.counted("verifying signatures", verdicts, len(questions)):
-            item = verdict.question.item
+            item, key = verdict.question.item, verdict.question.key_holder(bundle.items, anchors.items).public_key_bytes
             if verdict.is_taken(takes_weak):
-                found.vouchers.add(verdict.question.key_holder(bundle.items, anchors.items).public_key_bytes, bundle.items.octets(item))
-                verified.add(item)
+                found.vouchers.add(key, bundle.items.octets(item))
             if verdict.is_verified and verdict.weaknesses:
-                found.weak[item] = ", ".join(verdict.weaknesses)
+                found.weak.setdefault(item, {})[key] = ", ".join(verdict.weaknesses)
             elif verdict.why:
-                found.refused.setdefault(item, verdict.why)
+                why = NOT_TRIED if verdict.why == certpath.openssl.NOT_TRIED else f"OpenSSL: {verdict.why}"
+                found.refused.setdefault(item, {})[key] = why
     except certpath.openssl.Missing as error:
         raise Fault(NO_PROGRAM, f"OpenSSL, which verifies signatures, cannot be called: {error}") from error
-    for item in verified:
-        found.refused.pop(item, None)
     return found
