@@ -14,6 +14,9 @@ from html.parser import HTMLParser
 sys.dont_write_bytecode = True
 import refusals
 import repo
+import verifying_faults
+import verifying_large
+import verifying_others
 from chains import ISSUER_ID, NO_AUTHORITY, NO_SIGNER, OF_AUTHORITY, OF_LEAF, OF_ROOT, OWN_ID, Chain
 from vouching_pki import Workshop
 from vouching_trials import Trials
@@ -37,13 +40,16 @@ RULES = {
     "list demanded": "RFC 5280, 6.1.3, a, 3", "list past its next update, demanded": "RFC 5280, 6.1.3, a, 3",
     "list with a critical extension, demanded": "RFC 5280, 6.1.3, a, 3", "list that no key vouches for, demanded": "RFC 5280, 6.1.3, a, 3",
 }
+# What certtool refuses, and OpenSSL doesn't; and what it accepts at other moments, since it judges by the clock.
+STRICTER = {"name constraints", "critical name constraints", "weak signature"}
+OF_DATES = {"not yet valid"}
 # What the first line says of a list that isn't used, by the case.
 DOUBTS = {
     "list past its next update": "BUT item 0 CN=leaf is revoked by list 2 ",
     "list with a critical extension": "BUT whether item 0 CN=leaf is revoked isn't known from list 2 ",
     "list that no key vouches for": "BUT item 0 CN=leaf is revoked by list 2 ",
 }
-FIELDS = {"headline", "status", "outcome", "checked", "at", "target", "path", "anchor", "reasons", "unused_lists", "warnings", "anchors", "not_judged"}
+FIELDS = {"headline", "status", "outcome", "checked", "at", "target", "path", "anchor", "reasons", "unused_lists", "doubts", "warnings", "anchors", "not_judged"}
 # What ./verify concludes where `why` has no line against a certificate or a link.
 CONCLUDED = {"self-signed": {"issued by itself"}}
 TIMES = {
@@ -110,13 +116,10 @@ class Verify:
             words = ["openssl", "verify", "-attime", STAMP, "-no-CAstore", "-no-CApath", "-CAfile", roots.name, *untrusted, leaf.file]
             return subprocess.run(words, cwd=room, stdin=subprocess.DEVNULL, capture_output=True).returncode == 0
 
-    def certtool(self, certificates, root):
-        """Whether `certtool --verify` accepts a chain today; nothing where it isn't installed."""
-        if not shutil.which("certtool"):
-            return None
-        chain = b"".join(self.octets(it.file) for it in certificates)
-        words = ["certtool", "--verify", "--load-ca-certificate", root.file]
-        return subprocess.run(words, cwd=self.shop.room, input=chain, capture_output=True).returncode == 0
+    def certtool(self, certificates, anchors):
+        """Whether `certtool --verify-chain` accepts a chain today, which ends with the anchors."""
+        chain = b"".join(self.octets(it.file) for it in [*certificates, *anchors])
+        return subprocess.run(["certtool", "--verify-chain"], cwd=self.shop.room, input=chain, capture_output=True).returncode == 0
 
     def octets(self, file):
         with open(os.path.join(self.shop.room, file), "rb") as it:
@@ -140,7 +143,8 @@ def kinds(v, title):
     status, found, _ = v.json(*named(items), "--anchors", root.file)
     yield title, (status, [it["place"] for it in found[0]["path"]], found[0]["anchor"]["subject"]), (0, ["item 0", "item 1", "item 2"], "CN=Root")
     yield f"{title}: openssl", v.openssl(items[0], items[1:], [root]), True
-    yield f"{title}: certtool", v.certtool(items, root), True if shutil.which("certtool") else None
+    if verifying_others.CERTTOOL:
+        yield f"{title}: certtool", v.certtool(items, [root]), True
 
 
 def crossed(v):
@@ -170,9 +174,12 @@ def refused(v, title, root):
     true = {re.sub(r"^at \d+ (?:to (?:anchor )?\d+ )?(?:not usable: |no issuer: |not linked: )?", "", it) for it in wanted.why if obstacle(it)}
     true = {"no issuer here" if it.startswith("no issuer here: ") else it for it in true} or CONCLUDED.get(title, set())
     yield f"{title}: its reasons", reasons, true
-    accepts = v.openssl(case.bundle[0], case.bundle[1:], case.anchors)
     rules = {it["rule"] for it in answer["reasons"]}
-    yield f"{title}: openssl", accepts == is_path or title in RULES and RULES[title] in rules, True
+    yield f"{title}: openssl", v.openssl(case.bundle[0], case.bundle[1:], case.anchors), is_path or title in RULES
+    yield f"{title}: its rule", title in RULES and RULES[title] not in rules, False
+    if verifying_others.CERTTOOL and title not in OF_DATES:
+        certificates = [it for it in case.bundle if it.subject]
+        yield f"{title}: certtool", v.certtool(certificates, case.anchors), (is_path or title in RULES) and title not in STRICTER
     yield f"{title}: the first line", (" BUT " in answer["headline"], DOUBTS.get(title, "") in answer["headline"]), (title in DOUBTS, True)
     if title == "names with control characters":
         text = v.run(*words, "--html", "-")[1] + v.run(*words, "--dot")[1] + v.run(*words)[1]
@@ -223,8 +230,8 @@ def forms(v, chain):
     status, text, told = v.run("-", "--anchors", root.file, octets=v.octets("all.pem"))
     yield "standard input", (status, text.split("\n")[0][:24], told), (0, "CN=leaf: valid path to C", [])
     status, text, told = v.run("closed.p12", "--anchors", root.file)
-    remedy = "unpack it: openssl pkcs12 -in FILE -nokeys -out FILE.pem"
-    yield "a password", (status, text, told), (4, "", [f"verify: closed.p12: PKCS #12 with a password; {remedy}"])
+    remedy = "unpack it: openssl pkcs12 -in closed.p12 -nokeys -out closed.p12.pem"
+    yield "a password", (status, text, told), (4, "", [f"verify: closed.p12: PKCS #12 with a password, or damaged; {remedy}"])
 
 
 def words_of(v, chain):
@@ -283,10 +290,17 @@ def of_system(v):
         return
     _, found, told = v.json(STORE, "--all", "--at", AT)
     yield "the system's store", (len(found) > 20, told, f"{STORE} (the system's store)" in found[0]["anchors"]), (True, [], True)
-    silent = [it["headline"] for it in found if not it["path"] and not (it["reasons"] and all(one["rule"] for one in it["reasons"]))]
+    silent = [it["headline"] for it in found if it["outcome"] == "none" and not (it["reasons"] and all(one["rule"] for one in it["reasons"]))]
     yield "the system's store: reasons", silent, []
     # (roots that SHA-1 signed have none without --weak)
     yield "the system's store: most have a path", sum(bool(it["path"]) for it in found) > len(found) / 2, True
+
+
+def large(v):
+    """Many certificates, and the progress on a terminal."""
+    words = verifying_large.made(v.shop, verifying_large.FEW)
+    yield from verifying_large.trials(v.shop, words, verifying_large.FEW)
+    yield from verifying_large.progress(v.shop, words, verifying_large.FEW)
 
 
 def main():
@@ -302,7 +316,8 @@ def main():
         jobs = [lambda it=it: [*kinds(v, it)] for it in KINDS]
         jobs += [lambda it=it: [*refused(v, it, root)] for it in refusals.CASES]
         jobs += [lambda: [*crossed(v)], lambda: [*other_key(v, root)], lambda: [*forms(v, chain)], lambda: [*words_of(v, chain)],
-                 lambda: [*pages(v, chain, root)], lambda: [*of_system(v)]]
+                 lambda: [*pages(v, chain, root)], lambda: [*of_system(v)], lambda: [*large(v)]]
+        jobs += [*verifying_others.jobs(v, root), *verifying_faults.jobs(v, root)]
         for found in runs.map(lambda job: job(), jobs):
             for title, is_so, should_be in found:
                 t.same(title, is_so, should_be)

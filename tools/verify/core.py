@@ -7,6 +7,7 @@ from typing import NamedTuple
 
 import repo
 import streams
+from verify import waiting
 from verify.faults import MEMORY, NO_PROGRAM, Fault
 
 FOLDER = os.path.join(repo.TOP, "python")
@@ -75,7 +76,7 @@ class Side:
             self.too_large = [it for it in items if not self.framed([it]).end.is_clean]
             self.items = self.framed(self.given)
         self.of_kind = {kind: [] for kind in Kind}
-        for position, it in enumerate(self.items):
+        for position, it in enumerate(waiting.counted("reading items", self.items, len(self.items))):
             self.of_kind[it.kind].append(position)
         self.shown = OrderedDict()
 
@@ -101,8 +102,8 @@ class Side:
 
 
 def run_of(call):
-    """What a call gives; the run ends where the library has no memory."""
+    """What a call gives; the run ends where there is no memory."""
     try:
         return call()
-    except certpath.OutOfMemory as error:
+    except (certpath.OutOfMemory, MemoryError) as error:
         raise Fault(MEMORY, "out of memory") from error

@@ -1,6 +1,8 @@
 """How ./verify ends without an answer, and the statuses."""
 
 PATH, NONE, WORDS, NO_TARGET, UNREAD, MEMORY, UNWRITTEN, NO_PROGRAM = 0, 1, 2, 3, 4, 6, 7, 70
+# Where a signal ends the run: this and its number, as shells say it.
+SIGNALLED = 128
 
 
 class Fault(Exception):

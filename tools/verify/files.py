@@ -11,6 +11,8 @@ import tempfile
 from typing import NamedTuple
 
 import repo
+import streams
+from verify import waiting
 from verify.faults import UNREAD, Fault
 
 # Where systems keep their trust anchors, the first that is there.
@@ -32,7 +34,7 @@ BEGIN_OF_SEVEN = re.compile(rb"-----BEGIN (PKCS7|PKCS #7 SIGNED DATA|CMS)-----")
 MOST_BLOCKS = 100
 SECONDS = 60
 # No file has more octets, so that an endless one ends.
-MOST_OCTETS = 1 << 30
+MOST_OCTETS = 1 << 28
 # The label of a PEM block, at the end of the words that say where it stands.
 LABEL = re.compile(r" block \d+ \(([^()]*)\)\Z")
 LIST_LABEL = "X509 CRL"
@@ -97,6 +99,10 @@ class Taken(BUNDLING.Bundle):
 
     def tell(self, where, why=None):
         self.kept.append(LeftOut(where, why, len(self.items)))
+
+    def take(self, octets, where):
+        waiting.LINE.say(f"reading {streams.shown(where)}")
+        super().take(octets, where)
 
 
 def octets_of(file):

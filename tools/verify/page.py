@@ -4,6 +4,8 @@ from html import escape
 from verify import people, picture, times
 from verify.answers import NOT_JUDGED
 
+# So many targets have a part of the page.
+MOST_TARGETS = 500
 STYLE = """
 :root{color-scheme:light dark;--ground:#fff;--text:#1b1f24;--quiet:#57606a;--line:#c6ccd3;--good:#1a7f37;
 --bad:#b42318;--doubt:#8a5a00;--anchor:#3350a8;--card:#f6f8fa}
@@ -18,6 +20,7 @@ h3{font-size:.95rem;margin:.8rem 0 .2rem}
 p,ul{margin:.4rem 0}li{margin:.3rem 0}
 dl{display:grid;grid-template-columns:5.5rem 1fr;gap:.1rem .8rem;margin:0;font-size:.9rem}
 dt{color:var(--quiet)}dd{margin:0;font-family:ui-monospace,monospace;font-size:.85rem}
+dd span{white-space:nowrap}
 section+section{border-top:1px solid var(--line);margin-top:2rem}
 small{color:var(--quiet)}
 svg{display:block;width:100%;max-width:36rem;height:auto;font:13px system-ui,sans-serif;fill:var(--text)}
@@ -44,11 +47,21 @@ def listed(title, lines):
     return f"<h2>{title}</h2><ul>{''.join(f'<li>{it}</li>' for it in lines)}</ul>\n" if lines else ""
 
 
+def fingerprint(digits):
+    """A fingerprint whose lines end between two octets."""
+    return people.fingerprint(digits).replace(":", ":<wbr>")
+
+
+def date(moment):
+    """A moment that stands in one line."""
+    return f"<span>{times.as_shown(moment)}</span>"
+
+
 def of_certificate(it):
     """The fields of a certificate of the path."""
-    rows = [("issuer", it.issuer), ("valid", f"{times.as_shown(it.begin)} to {times.as_shown(it.end)}"), ("serial", it.serial),
-            ("sha256", people.fingerprint(it.sha256)), ("file", it.file), *([("judged", people.OF_ANCHOR)] if it.is_anchor else [])]
-    return f"<h3>{escape(it.place)}: {escape(it.subject)}</h3><dl>{''.join(f'<dt>{name}</dt><dd>{escape(held)}</dd>' for name, held in rows)}</dl>\n"
+    rows = [("issuer", escape(it.issuer)), ("valid", f"{date(it.begin)} to {date(it.end)}"), ("serial", it.serial),
+            ("sha256", fingerprint(it.sha256)), ("file", escape(it.file)), *([("judged", people.OF_ANCHOR)] if it.is_anchor else [])]
+    return f"<h3>{escape(it.place)}: {escape(it.subject)}</h3><dl>{''.join(f'<dt>{name}</dt><dd>{held}</dd>' for name, held in rows)}</dl>\n"
 
 
 def of_obstacle(it):
@@ -62,22 +75,30 @@ def look(answer):
     return "doubt" if answer.is_doubtful() else "good"
 
 
-def of_answer(answer, number, moment, anchors, notes):
+def of_answer(answer, number, moment):
     """The part of one target."""
     found = [f'<section aria-labelledby="h{number}"><h1 id="h{number}" class="{look(answer)}">{escape(people.headline(answer, moment))}</h1>\n',
              picture.svg(answer, moment, number)]
     if answer.path:
         found.append("<h2>Path</h2>" + "".join(map(of_certificate, [*answer.path, answer.anchor])))
     elif answer.target is not None:
-        found.append(listed("Why not", map(of_obstacle, answer.obstacles)))
-    found.append(listed("Warnings", map(escape, people.warnings(answer, moment, notes))))
-    found.append(listed("Anchors", [escape(anchors)]))
-    found.append(listed("Not judged", map(escape, NOT_JUDGED)))
+        lines = [*map(of_obstacle, answer.obstacles[:people.MOST_OBSTACLES])]
+        found.append(listed("Why not", lines if answer.is_asked_why else [escape(people.NOT_ASKED)]))
+    found.append(listed("Warnings", map(escape, people.warnings(answer, moment, ()))))
     return "".join([*found, "</section>\n"])
 
 
+def of_all(count, anchors, notes):
+    """The part that all targets share."""
+    left_out = [f"{count - MOST_TARGETS} further targets; --json has them all"] if count > MOST_TARGETS else []
+    lists = (("Not on this page", left_out), ("Files", map(escape, notes)), ("Anchors", [escape(anchors)]), ("Not judged", map(escape, NOT_JUDGED)))
+    return f'<section aria-label="All">{"".join(listed(*it) for it in lists)}</section>\n'
+
+
 def text(answers, moment, anchors, notes):
-    """The page of all answers."""
-    parts = [of_answer(it, number, moment, anchors, notes) for number, it in enumerate(answers)]
-    title = escape(people.headline(answers[0], moment)) if len(answers) == 1 else f"{len(answers)} certificates at {times.as_shown(moment)}"
-    return "".join([HEAD.format(title=title, style=STYLE), *parts, END])
+    """The page of all answers, those without a path first where there are too many."""
+    count = len(answers)
+    shown = answers if count <= MOST_TARGETS else sorted(answers, key=lambda it: ("bad", "doubt", "good").index(look(it)))[:MOST_TARGETS]
+    parts = [of_answer(it, number, moment) for number, it in enumerate(shown)]
+    title = escape(people.headline(answers[0], moment)) if count == 1 else f"{count} certificates at {times.as_shown(moment)}"
+    return "".join([HEAD.format(title=title, style=STYLE), *parts, of_all(count, anchors, notes), END])

@@ -8,6 +8,7 @@ from verify import times
 from verify.answers import NOT_JUDGED, UNKNOWN, YES
 
 COLUMNS = 96
+NOT_ASKED = "not asked, since many other targets were: ask about it alone, with --target"
 # What counts of an anchor.
 OF_ANCHOR = "its name and key alone (RFC 5280, 6.1.1, d)"
 # So many reasons are printed for a target.
@@ -24,10 +25,15 @@ def fingerprint(digits):
     return ":".join(digits[at:at + 2] for at in range(0, len(digits), 2))
 
 
+def causes(unused):
+    """Why a list isn't used, each with its rule."""
+    return "; ".join(f"{it.text} ({it.rule})" if it.rule else it.text for it in unused.sentences)
+
+
 def doubt(unused):
     """What is said of a list that isn't used, and would or may revoke a certificate."""
     what = f"{unused.of.place} {unused.of.subject}"
-    told = f"list {unused.position} ({unused.file}), which isn't used: {'; '.join(it.text for it in unused.sentences)}"
+    told = f"list {unused.position} ({unused.file}), which isn't used: {causes(unused)}"
     return f"{what} is revoked by {told}" if unused.revokes == YES else f"whether {what} is revoked isn't known from {told}"
 
 
@@ -108,7 +114,7 @@ def of_list(it):
     """The line of a list that isn't used."""
     if it.revokes in (YES, UNKNOWN):
         return doubt(it)
-    return f"list {it.position} ({it.file}) of {it.issuer} isn't used: {'; '.join(one.text for one in it.sentences)}"
+    return f"list {it.position} ({it.file}) of {it.issuer} isn't used: {causes(it)}"
 
 
 def of_anchor(answer, moment):
@@ -134,7 +140,7 @@ def warnings(answer, moment, notes):
 def why_not(answer):
     """The lines of all that stands in the way."""
     if not answer.is_asked_why:
-        yield "not asked, since many other targets were: ask about it alone, with --target"
+        yield NOT_ASKED
     for it in answer.obstacles[:MOST_OBSTACLES]:
         yield from of_obstacle(it)
     if len(answer.obstacles) > MOST_OBSTACLES:

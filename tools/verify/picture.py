@@ -4,7 +4,9 @@ from html import escape
 from verify import times
 
 WIDTH, BOX, GAP, EDGE = 360, 74, 26, 8
-BAR_LEFT, BAR_WIDTH, BAR_TOP, BAR_HEIGHT = 20, 320, 46, 8
+BAR_LEFT, BAR_WIDTH, BAR_TOP, BAR_HEIGHT = 20, 320, 45, 8
+# How far the mark of the moment stands out of a bar.
+MARK = 3
 # So many characters of a name stand in a box; the whole name stands in the box's title.
 MOST_CHARACTERS = 44
 
@@ -66,13 +68,14 @@ def svg(answer, moment, number):
     scale, height = Scale(found, moment), len(found) * (BOX + GAP) + 8
     against = {it.of.place for it in answer.obstacles if it.to is None} if not answer.path else set()
     words, places = {(it.of.place, it.to.place): it.words for it in answer.edges}, [it.place for it in found]
-    parts = [box(it, 18 + k * (BOX + GAP), scale, it.place in against) for k, it in enumerate(found)]
-    parts += [arrow(18 + BOX + k * (BOX + GAP), words.get(step, [])) for k, step in enumerate(zip(places, places[1:]))]
     at = scale.at(moment)
     anchored = "end" if at > WIDTH / 2 else "start"
-    marks = "".join(f"M{at:.1f} {18 + k * (BOX + GAP) + BAR_TOP - 5}v{BAR_HEIGHT + 10}" for k in range(len(found)))
-    parts.append(f'<g class="moment"><path class="all" d="M{at:.1f} 14V{height - GAP}"/><path d="{marks}"/>'
-                 f'<text x="{at:.1f}" y="11" text-anchor="{anchored}">{times.as_shown(moment)}</text></g>')
+    # (the boxes hide the line where names stand)
+    parts = [f'<g class="moment"><path class="all" d="M{at:.1f} 14V{height - GAP}"/></g>']
+    parts += [box(it, 18 + k * (BOX + GAP), scale, it.place in against) for k, it in enumerate(found)]
+    parts += [arrow(18 + BOX + k * (BOX + GAP), words.get(step, [])) for k, step in enumerate(zip(places, places[1:]))]
+    marks = "".join(f"M{at:.1f} {18 + k * (BOX + GAP) + BAR_TOP - MARK}v{BAR_HEIGHT + 2 * MARK}" for k in range(len(found)))
+    parts.append(f'<g class="moment"><path d="{marks}"/><text x="{at:.1f}" y="11" text-anchor="{anchored}">{times.as_shown(moment)}</text></g>')
     said = "; then ".join(f"{it.place} {it.subject}, valid {it.begin:%Y-%m-%d} to {it.end:%Y-%m-%d}" for it in found)
     return (f'<svg viewBox="0 0 {WIDTH} {height}" role="img" aria-labelledby="t{number} d{number}">'
             f'<title id="t{number}">The way from the target up</title>'

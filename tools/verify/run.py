@@ -1,12 +1,13 @@
 """The run of ./verify, from the words to the status."""
 import os
+import signal
 import tempfile
 from itertools import islice
 
 import streams
 from shapes import LIST, kind_of
 from streams import counted
-from verify import answers, asking, core, faults, files, graph, machine, page, people, signing, words
+from verify import answers, asking, core, faults, files, graph, machine, page, people, signing, waiting, words
 from verify.core import Kind
 from verify.faults import Fault
 from verify.report import Report, answers_of
@@ -40,6 +41,7 @@ class Given:
         if not self.anchors.of_kind[Kind.CERTIFICATE]:
             raise Fault(faults.UNREAD, f"{', '.join(self.sources)}: holds no certificate, so no anchor; name a file with --anchors FILE")
         self.targets = [*self.all_targets()]
+        waiting.LINE.begin("looking for the keys of issuers")
         self.questions = core.certpath.questions(self.bundle.items, self.anchors.items)
 
     @staticmethod
@@ -158,7 +160,7 @@ def all_answers(given, judge, room):
     known, asked = answers_of(lines) if lines else {}, 0
     unused = Report(room.why(certificates[0])).unused if lines else None
     most = max(1, min(MOST_WHYS, MOST_WHY_OCTETS // max(len(given.bundle.items.data), 1)))
-    for target in given.targets:
+    for target in waiting.counted("answering", given.targets, len(given.targets)):
         report = known.get(target)
         if isinstance(target, str):
             yield answers.no_target(target)
@@ -210,6 +212,7 @@ def written(asked, given, found):
     parts = iter(forms["quiet" if asked.page == "-" else asked.form]())
     while together := [*islice(parts, TOGETHER)]:
         text = "".join(together)
+        waiting.LINE.clear()
         if text and not streams.wrote(text.encode(errors="backslashreplace")):
             return faults.UNWRITTEN
     return seen.status
@@ -218,6 +221,7 @@ def written(asked, given, found):
 def keep(file, text):
     """Writes the page."""
     octets = text.encode(errors="backslashreplace")
+    waiting.LINE.clear()
     if file == "-":
         if not streams.wrote(octets):
             raise Fault(faults.UNWRITTEN, "standard output fails")
@@ -229,9 +233,21 @@ def keep(file, text):
         raise Fault(faults.UNWRITTEN, f"{file}: cannot write it ({getattr(error, 'strerror', error)})") from error
 
 
+def end(number, _):
+    """Ends the run where a signal wants that; what it keeps in a folder goes away."""
+    raise SystemExit(faults.SIGNALLED + number)
+
+
 def main(given):
+    for number in (signal.SIGTERM, signal.SIGINT):
+        if signal.getsignal(number) is not signal.SIG_IGN:
+            signal.signal(number, end)
     try:
         return core.run_of(lambda: answered(words.read(given)))
     except Fault as fault:
+        waiting.LINE.clear()
         streams.tell(f"verify: {fault}")
         return fault.status
+    except SystemExit:
+        waiting.LINE.clear()
+        raise

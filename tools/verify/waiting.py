@@ -1,4 +1,4 @@
-"""Says on a terminal how far something is that takes longer than a second."""
+"""Says on a terminal how far a run is that takes longer than a second."""
 import subprocess
 import sys
 import time
@@ -9,7 +9,7 @@ CLEAR = "\r\x1b[K"
 
 
 class Line:
-    """A line on a terminal that is written anew, and goes away at the end. Nothing is written where there is no terminal."""
+    """The line of a run on a terminal: it is written anew, and goes away at the end. Nothing is written where there is no terminal."""
 
     def __init__(self):
         self.begun = time.monotonic()
@@ -17,17 +17,23 @@ class Line:
         self.is_terminal = sys.stderr.isatty()
 
     def say(self, text):
+        """Says what the run does, unless something was said a moment ago."""
         now = time.monotonic()
         if self.is_terminal and now >= self.next:
-            self.write(f"{CLEAR}{text}")
+            self.write(f"{CLEAR}{text}, {now - self.begun:.0f} s")
             self.next, self.is_written = now + OFTEN, True
 
-    def seconds(self):
-        return f"{time.monotonic() - self.begun:.0f} s"
+    def begin(self, text):
+        """Says what the run does now, and for how long nobody knows."""
+        if self.is_terminal and time.monotonic() >= self.begun + QUIET:
+            self.next = 0
+            self.say(text)
 
     def clear(self):
+        """Takes the line away, before anything else is written."""
         if self.is_written:
             self.write(CLEAR)
+            self.is_written = False
 
     @staticmethod
     def write(text):
@@ -38,24 +44,21 @@ class Line:
             pass
 
 
+LINE = Line()
+
+
 def counted(title, steps, count):
     """The steps, while a terminal sees how many of them are done."""
-    line = Line()
-    try:
-        for number, step in enumerate(steps):
-            line.say(f"{title}: {number} of {count}, {line.seconds()}")
-            yield step
-    finally:
-        line.clear()
+    for number, step in enumerate(steps):
+        LINE.say(f"{title}: {number} of {count}")
+        yield step
 
 
 def wait(child, title):
     """Waits for a program's end, while a terminal sees for how long."""
-    line = Line()
     while child.poll() is None:
-        line.say(f"{title}: {line.seconds()}")
+        LINE.say(title)
         try:
-            child.wait(OFTEN if line.is_terminal else None)
+            child.wait(OFTEN if LINE.is_terminal else None)
         except subprocess.TimeoutExpired:
             continue
-    line.clear()

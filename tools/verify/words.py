@@ -1,5 +1,6 @@
 """The words of ./verify."""
 import argparse
+import difflib
 from typing import NamedTuple
 
 from verify import times
@@ -41,6 +42,13 @@ class Parser(argparse.ArgumentParser):
     def error(self, message):
         raise Fault(WORDS, f"{message}; see ./verify --help")
 
+    def unknown(self, words):
+        """Says which word is no option, and which one is like it."""
+        word = next((it for it in words if it.startswith("-")), words[0])
+        options = [it for action in self._actions for it in action.option_strings]
+        near = difflib.get_close_matches(word.partition("=")[0], options, 1)
+        self.error(f"there is no option {word}{f', the most similar one is {near[0]}' if near else ''}")
+
 
 def number(word):
     """A number as `certpath` takes it."""
@@ -78,7 +86,10 @@ def read(words):
     """The words of the command line; ends the run with the help where they ask for it."""
     if not words:
         raise Fault(WORDS, "a FILE is missing; see ./verify --help")
-    given = parser().parse_args(words)
+    made = parser()
+    given, unknown = made.parse_known_args(words)
+    if unknown:
+        made.unknown(unknown)
     if [*given.files, *given.lists, *given.anchors].count("-") > 1:
         raise Fault(WORDS, "standard input can be one file only")
     if given.page == "-" and given.form:
