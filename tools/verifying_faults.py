@@ -128,6 +128,7 @@ def words_of(v, root):
     for words, status, said in (
             ([leaf.file, "--anchor", root.file], 2, "there is no option --anchor, the most similar one is --anchors"),
             ([leaf.file, *anchors, "--at", "2026-02-30"], 2, "--at 2026-02-30: no moment; write now"),
+            ([leaf.file, *anchors, "--html", leaf.file], 2, f"--html {leaf.file}: this file is read"),
             (["nothing", *anchors], 4, "nothing: empty"), ([leaf.file, "notes", *anchors], 4, "notes: neither PEM nor DER"),
             (["a folder", *anchors], 4, "a folder: it is a folder"), (["", *anchors], 4, "'': no such file"),
             ([leaf.file, "--anchors", "notes"], 4, "notes: neither PEM nor DER"),

@@ -46,7 +46,7 @@ FORMS = (
     form(r"extension (\d+) (policyConstraints)", "it has policy constraints", "RFC 5280, 6.1.4, i", NOT_JUDGED),
     form(r"no voucher", "its signature isn't verified by that key", "RFC 5280, 6.1.3, a, 1"),
     form(r"key identifiers differ", "its authority key identifier names another key", "RFC 5280, 4.2.1.1"),
-    form(r"revoked by list (\d+)", "it is revoked by list {0}", "RFC 5280, 6.1.3, a, 3"),
+    form(r"revoked by list (\d+)", "revoked by list {0}", "RFC 5280, 6.1.3, a, 3"),
     form(r"no list used", "lists are demanded, and no list of that issuer is used", "RFC 5280, 6.1.3, a, 3", "give a current list with --lists"),
     form(r"no voucher by a key of its issuer", "no key of its issuer's name verifies its signature", "RFC 5280, 6.3.3, g"),
     form(r"by another key of its issuer", "another key of its issuer signed it than the one that signed the certificate", "docs/RULES.md, lists"),

@@ -39,7 +39,8 @@ class Given:
         self.sources, self.is_system = found.sources, found.is_system
         self.left_out, self.left_out_of_anchors = [it for part in parts for it in part.left_out], found.left_out
         if not self.anchors.of_kind[Kind.CERTIFICATE]:
-            raise Fault(faults.UNREAD, f"{', '.join(self.sources)}: holds no certificate, so no anchor; name a file with --anchors FILE")
+            within = f" within --limit {asked.limit}" if self.anchors.too_large else ""
+            raise Fault(faults.UNREAD, f"{', '.join(self.sources)}: holds no certificate{within}, so no anchor; name a file with --anchors FILE")
         self.targets = [*self.all_targets()]
         waiting.LINE.begin("looking for the keys of issuers")
         self.questions = core.certpath.questions(self.bundle.items, self.anchors.items)

@@ -1,6 +1,7 @@
 """The words of ./verify."""
 import argparse
 import difflib
+import os
 from typing import NamedTuple
 
 from verify import times
@@ -82,6 +83,14 @@ def parser():
     return made
 
 
+def is_same(one, other):
+    """Whether two words name one file that is there."""
+    try:
+        return os.path.samefile(one, other)
+    except (OSError, TypeError, ValueError):
+        return False
+
+
 def read(words):
     """The words of the command line; ends the run with the help where they ask for it."""
     if not words:
@@ -94,6 +103,8 @@ def read(words):
         raise Fault(WORDS, "standard input can be one file only")
     if given.page == "-" and given.form:
         raise Fault(WORDS, f"--html - and --{given.form} can't both have standard output")
+    if any(is_same(given.page, it) for it in [*given.files, *given.lists, *given.anchors, given.target]):
+        raise Fault(WORDS, f"--html {given.page}: this file is read; name another one for the page")
     return Words(**{**vars(given), "moment": times.moment_of(given.moment)})
 
 
