@@ -63,7 +63,7 @@ CONTROL = re.compile(r"[\x00-\x09\x0b-\x1f\x7f-\x9f]")
 class Reader(HTMLParser):
     """Reads a page: which elements it has, which are open, and what it loads from elsewhere."""
 
-    EMPTY = {"meta", "br"}
+    EMPTY = {"meta", "br", "wbr"}
 
     def __init__(self, text):
         super().__init__()
