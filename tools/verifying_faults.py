@@ -41,14 +41,17 @@ def case_of(v, title, root, **further):
 
 def targets(v, root):
     """A damaged certificate in the place of the target isn't passed over."""
-    leaf, issuer, _ = case_of(v, "faulty target", root).bundle
+    leaf, issuer, listed = case_of(v, "faulty target", root).bundle
     anchors = ["--anchors", root.file, "--at", AT]
     v.shop.keep("no-base64.pem", damaged(v.octets(leaf.file)) + v.octets(issuer.file))
     v.shop.keep("no-month.pem", pem(wrong_month(leaf.octets)) + v.octets(issuer.file))
+    v.shop.keep("behind-list.pem", v.octets(listed.file) + damaged(v.octets(leaf.file)) + v.octets(issuer.file))
     v.shop.keep("behind.pem", v.octets(leaf.file) + damaged(v.octets(issuer.file)))
     told = "no-base64.pem block 1 (CERTIFICATE): not base64"
     remedy = "it would be the target: mend it, or name another one with --target"
     yield "a damaged target", v.run("no-base64.pem", *anchors), (4, "", [f"verify: {told}; {remedy}"])
+    told_behind = "behind-list.pem block 2 (CERTIFICATE): not base64"
+    yield "a damaged target behind a list", v.run("behind-list.pem", *anchors), (4, "", [f"verify: {told_behind}; {remedy}"])
     status, text, _ = v.run("no-base64.pem", *anchors, "--all")
     yield "a damaged target among all", (status, f"\n{told}, so no target\n" in text), (3, True)
     yield "a damaged target, another one named", v.run("no-base64.pem", *anchors, "--target", issuer.file, "--quiet"), (0, "", [])
@@ -108,6 +111,9 @@ def containers(v, root):
     for words in ([leaf.file, "issuer.p7b"], ["mixed.pem"]):
         _, found, told = v.json(*words, *anchors)
         yield f"a list in PKCS #7, {words[-1]}", ([one["reason"] for one in found[0]["reasons"]], told), (["revoked by list 2"], [])
+    v.shop.keep("anchors-with-list.pem", v.octets(root.file) + v.octets(it.file))
+    _, found, _ = v.json(leaf.file, issuer.file, "--anchors", "anchors-with-list.pem", "--at", AT)
+    yield "a list among anchors", [one["reason"] for one in found[0]["reasons"]], ["revoked by list 2"]
     _, found, _ = v.json(leaf.file, issuer.file, leaf.file, issuer.file, *anchors, *anchors[:2])
     yield "files twice", ([one["place"] for one in found[0]["path"]], found[0]["anchors"]), (["item 0", "item 1"], f"1 certificate of {root.file}")
     _, found, _ = v.json(root.file, *anchors)

@@ -34,8 +34,10 @@ class Given:
         self.named = files.held(asked.target) if self.is_file(asked.target) else None
         parts = [self.first, *further, *lists, *([self.named] if self.named else [])]
         found = files.anchors_of(asked.anchors)
-        self.bundle = core.Side(files.once(it for part in parts for it in part.items), False, asked.limit)
-        self.anchors = core.Side(found.items, True, asked.limit)
+        # (revocation lists in files of anchors are lists like others)
+        items = [it for part in parts for it in part.items] + [it for it in found.items if self.is_list(it.octets)]
+        self.bundle = core.Side(files.once(items), False, asked.limit)
+        self.anchors = core.Side([it for it in found.items if not self.is_list(it.octets)], True, asked.limit)
         self.sources, self.is_system = found.sources, found.is_system
         self.left_out, self.left_out_of_anchors = [it for part in parts for it in part.left_out], found.left_out
         if not self.anchors.of_kind[Kind.CERTIFICATE]:
@@ -68,7 +70,8 @@ class Given:
             raise Fault(faults.NO_TARGET, f"{name}: it holds {self.what_is_there(part)}no certificate, so no target")
         if self.asked.is_all:
             return [*found, *(f"{it.where}: {it.why}" for it in lost)]
-        if lost and lost[0].before == 0:
+        at = next(number for number, it in enumerate(part.items) if not self.is_list(it.octets))
+        if lost and lost[0].before <= at:
             raise Fault(faults.UNREAD, f"{lost[0].where}: {lost[0].why}; it would be the target: mend it, or name another one with --target")
         return found[:1]
 
@@ -107,7 +110,7 @@ class Given:
 
     def unread_lists(self):
         """What is said of revocation lists that can't be read, so that nobody knows whom they revoke."""
-        for it in self.left_out:
+        for it in [*self.left_out, *self.left_out_of_anchors]:
             if it.is_list():
                 yield f"{it.where}: {it.why}"
         for position in self.bundle.of_kind[Kind.OTHER]:
