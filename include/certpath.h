@@ -35,7 +35,8 @@ enum {
     CERTPATH_NO_FIELD = 3,      /* the item has no such field */
     CERTPATH_BAD_NAME = 4,      /* the octets of a name can't be read */
     CERTPATH_BAD_MOMENT = 5,    /* a moment is no date and time */
-    CERTPATH_BAD_ANSWER = 6     /* an answer to be checked isn't one: its numbers don't fit */
+    CERTPATH_BAD_ANSWER = 6,    /* an answer to be checked isn't one: its numbers don't fit */
+    CERTPATH_BAD_LINE = 7       /* a line of a voucher file is neither empty nor two digests */
 };
 
 /* ---- cutting files into items */
@@ -80,6 +81,13 @@ enum {
 
 /* What an item is, by its octets. */
 int32_t certpath_class(const uint8_t *item, size_t item_length, uint32_t *item_class);
+
+/*
+ * Cuts octets into items, as certpath_frame does, and writes what each is into `classes`, in their
+ * order. `count` is set with CERTPATH_DONE and CERTPATH_TOO_SMALL.
+ */
+int32_t certpath_classes(const uint8_t *octets, size_t octets_length, uint32_t limit,
+                         uint32_t *classes, size_t room, size_t *count);
 
 /* Fields of an item, as the octets that it has there. */
 enum {
@@ -207,10 +215,41 @@ int32_t certpath_check(const uint8_t *bundle, size_t bundle_length, const uint8_
                        const certpath_answer *answer, const size_t *path, size_t path_length,
                        const uint64_t *table, size_t table_entries, uint32_t *says_yes);
 
+/* ---- reports, as text */
+
+typedef struct {
+    size_t length;   /* of the text, in octets: with CERTPATH_DONE and CERTPATH_TOO_SMALL */
+    size_t bad_line; /* with CERTPATH_BAD_LINE: the first bad line of the vouchers, from 1 */
+} certpath_report;
+
+/*
+ * Write what `certpath path`, `certpath why` and `certpath paths` print of the files into `text`
+ * (UTF-8, no 0 at the end): the answer for the target, found and checked; what stands in the way of
+ * a path; and the answers for all items at once, for which `settings->target` isn't looked at.
+ *
+ * `vouchers` is a voucher file, as ./vouch writes it: lines of two SHA-256 digests in hex with a
+ * space between them, of a key and of an item. CERTPATH_BAD_LINE where a line is neither that nor
+ * empty. CERTPATH_BAD_MOMENT as above. docs/CLI.md has the lines of the reports.
+ */
+int32_t certpath_path(const uint8_t *bundle, size_t bundle_length, const uint8_t *anchors,
+                      size_t anchors_length, const uint8_t *vouchers, size_t vouchers_length,
+                      const certpath_settings *settings, uint8_t *text, size_t room,
+                      certpath_report *report);
+
+int32_t certpath_why(const uint8_t *bundle, size_t bundle_length, const uint8_t *anchors,
+                     size_t anchors_length, const uint8_t *vouchers, size_t vouchers_length,
+                     const certpath_settings *settings, uint8_t *text, size_t room,
+                     certpath_report *report);
+
+int32_t certpath_paths(const uint8_t *bundle, size_t bundle_length, const uint8_t *anchors,
+                       size_t anchors_length, const uint8_t *vouchers, size_t vouchers_length,
+                       const certpath_settings *settings, uint8_t *text, size_t room,
+                       certpath_report *report);
+
 /* ---- the library */
 
 /* The version of these calls: it grows where one of them changes. */
-#define CERTPATH_VERSION 1
+#define CERTPATH_VERSION 2
 
 uint32_t certpath_version(void);
 

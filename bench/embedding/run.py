@@ -6,8 +6,8 @@ samples/, beside a C program that makes the same calls of dist/libcertpath.a.
 
 Each program runs by turns, five times, and takes the least of five rounds in processor seconds; the medians of these are printed.
 What is measured are the calls: neither the start of Python, 0.05 s, nor the reading of the files. `certpath frame` and
-`certpath path` over the same files, from start to end, stand beside them. To reach: at most 1.1 times the seconds of C; for classes, of
-which each is a call of its own, twice. Exit status 1 where that is missed.
+`certpath path` over the same files, from start to end, stand beside them. To reach: at most 1.1 times the seconds of C. Exit status 1
+where that is missed.
 """
 import os
 import shutil
@@ -21,9 +21,8 @@ sys.dont_write_bytecode = True
 sys.path.insert(0, os.path.dirname(HERE))
 import timing
 
-COUNT, LENGTH, ROUNDS = 10_000, 2, 5
-# How many times the seconds of C each call may take.
-MOST = {"frame": 1.1, "class": 2, "find": 1.1}
+COUNT, LENGTH, ROUNDS, MOST = 10_000, 2, 5, 1.1
+CALLS = ("frame", "class", "find")
 AT = "2026-12-01T00:00:00"
 PROGRAM, SAMPLES = os.path.join(timing.TOP, "dist", "certpath"), os.path.join(timing.TOP, "samples")
 
@@ -90,9 +89,9 @@ def main():
         whole = {"frame": [PROGRAM, "frame", files[0]], "find": [PROGRAM, "path", *files[:2], vouchers, "--target", "0", "--at", AT]}
         programs = {name: statistics.median(seconds_of(its) for _ in range(timing.RUNS)) for name, its in whole.items()}
     missed = False
-    for call, most in MOST.items():
+    for call in CALLS:
         of_c, of_python = (statistics.median(it[call] for it in runs[name]) for name in words)
-        missed |= of_python > most * of_c
+        missed |= of_python > MOST * of_c
         beside = f"; the program {1000 * programs[call]:.1f} ms" if call in programs else ""
         print(f"{call}: C {1000 * of_c:.1f} ms, Python {1000 * of_python:.1f} ms, {of_python / of_c:.2f} times{beside}")
     sys.exit(1 if missed else 0)

@@ -18,15 +18,16 @@ threads may call at once.
 """
 from .items import (LIMIT, Certificate, End, Item, Items, Kind, Name, Other, RevocationList,
                     class_of, frame)
-from .library import (BadAnswer, BadMoment, BadName, Error, LibraryMissing, NoField, OutOfMemory,
-                      version)
+from .library import (BadAnswer, BadLine, BadMoment, BadName, Error, LibraryMissing, NoField,
+                      OutOfMemory, version)
 from .paths import Answer, Outcome, check, find
 from .questions import Holder, Question, holders_by_issuer, questions
+from .reports import path, paths, why
 from .vouchers import Vouchers
 
 __all__ = [
-    "Answer", "BadAnswer", "BadMoment", "BadName", "Certificate", "End", "Error", "Holder", "Item",
-    "Items", "Kind", "LIMIT", "LibraryMissing", "Name", "NoField", "Other", "OutOfMemory",
-    "Outcome", "Question", "RevocationList", "Vouchers", "check", "class_of", "find", "frame",
-    "holders_by_issuer", "questions", "version",
+    "Answer", "BadAnswer", "BadLine", "BadMoment", "BadName", "Certificate", "End", "Error",
+    "Holder", "Item", "Items", "Kind", "LIMIT", "LibraryMissing", "Name", "NoField", "Other",
+    "OutOfMemory", "Outcome", "Question", "RevocationList", "Vouchers", "check", "class_of",
+    "find", "frame", "holders_by_issuer", "path", "paths", "questions", "version", "why",
 ]

@@ -2,7 +2,7 @@
 import enum
 from array import array
 from collections.abc import Sequence
-from ctypes import byref, c_uint32
+from ctypes import byref, c_size_t, c_uint32
 from datetime import datetime, timezone
 from functools import cached_property
 from typing import Iterator, NamedTuple, Optional
@@ -18,6 +18,8 @@ WINDOW = 1 << 20
 ENDS = ("clean", "cut", "fault")
 # Stands for the class of an item that isn't known yet.
 UNKNOWN = 255
+# How many items are classed in one call.
+MANY = 1 << 16
 
 
 class Kind(enum.Enum):
@@ -225,15 +227,19 @@ class Items(Sequence):
 
     def kinds(self) -> Iterator[Kind]:
         """What each item is, in their order: for all items this costs least."""
-        call, found = library.loaded().certpath_class, c_uint32()
-        kinds, address, where = self._kinds, self._address, byref(found)
-        for position, (offset, end) in enumerate(zip(self._starts, self._starts[1:])):
-            if kinds[position] == UNKNOWN:
-                status = call(library.OCTETS(address + offset), end - offset, where)
-                if status:
-                    library.refuse(status)
-                kinds[position] = found.value
-        return map(KINDS.__getitem__, kinds)
+        for first in range(0, len(self), MANY):
+            if UNKNOWN in self._kinds[first:first + MANY]:
+                self._class(first, min(first + MANY, len(self)))
+        return map(KINDS.__getitem__, self._kinds)
+
+    def _class(self, first: int, end: int):
+        """Classes the items from a position up to another one, by one call."""
+        offset, room = self._starts[first], end - first
+        part = library.part_of(self._address, offset, self._starts[end] - offset)
+        found, count = (c_uint32 * room)(), c_size_t()
+        library.refuse(library.loaded().certpath_classes(*part, self.limit, found, room,
+                                                         byref(count)))
+        self._kinds[first:end] = bytes(found[:])
 
     def __len__(self) -> int:
         return len(self._starts) - 1

@@ -5,7 +5,7 @@ import os
 from ctypes import POINTER, byref, c_int8, c_int16, c_int32, c_size_t, c_uint32, c_uint64
 
 # The version of the calls that this package makes (CERTPATH_VERSION in certpath.h).
-VERSION = 1
+VERSION = 2
 NAME = "libcertpath.so"
 # The library stands in the package, or where this is a checkout of the repository in its dist/.
 FOLDERS = (os.path.dirname(os.path.abspath(__file__)),
@@ -40,7 +40,15 @@ class BadAnswer(Error, ValueError):
     """The numbers of an answer that is to be checked can't be an answer's."""
 
 
-DONE, TOO_SMALL = 0, 2
+class BadLine(Error, ValueError):
+    """A line of a voucher file is neither empty nor two digests; `line` is its number, from 1."""
+
+    def __init__(self, line):
+        super().__init__(f"vouchers line {line}")
+        self.line = line
+
+
+DONE, TOO_SMALL, BAD_LINE = 0, 2, 7
 ERRORS = {1: OutOfMemory, 3: NoField, 4: BadName, 5: BadMoment, 6: BadAnswer}
 # The octets of a voucher: two SHA-256 digests.
 PAIR = 64
@@ -77,22 +85,31 @@ class AnswerRow(ctypes.Structure):
                 ("entries", c_size_t)]
 
 
+class Report(ctypes.Structure):
+    _fields_ = [("length", c_size_t), ("bad_line", c_size_t)]
+
+
 # Octets are handed over as they lie in a `bytes`, which is never written.
 OCTETS, SIZE, SIZES = ctypes.c_char_p, c_size_t, POINTER(c_size_t)
 INPUT = [OCTETS, SIZE]
 TEXT = [OCTETS, SIZE, SIZES]
 ASKED = [*INPUT, *INPUT, *INPUT, POINTER(Settings)]
+REPORT = [OCTETS, SIZE, POINTER(Report)]
 POSITIONS, TABLE = [SIZES, SIZE], [POINTER(c_uint64), SIZE]
 # What each function takes; all but the last answer a status.
 FUNCTIONS = {
     "certpath_frame": [*INPUT, c_uint32, POINTER(Span), SIZE, POINTER(Framed)],
     "certpath_class": [*INPUT, POINTER(c_uint32)],
+    "certpath_classes": [*INPUT, c_uint32, POINTER(c_uint32), SIZE, SIZES],
     "certpath_field": [*INPUT, c_uint32, *TEXT],
     "certpath_times": [*INPUT, POINTER(Validity)],
     "certpath_name": [*INPUT, *TEXT],
     "certpath_questions": [*INPUT, *INPUT, c_uint32, POINTER(QuestionRow), SIZE, SIZES],
     "certpath_find": [*ASKED, *POSITIONS, *TABLE, POINTER(AnswerRow)],
     "certpath_check": [*ASKED, POINTER(AnswerRow), *POSITIONS, *TABLE, POINTER(c_uint32)],
+    "certpath_path": [*ASKED, *REPORT],
+    "certpath_why": [*ASKED, *REPORT],
+    "certpath_paths": [*ASKED, *REPORT],
     "certpath_version": [],
 }
 
@@ -147,6 +164,23 @@ def part_of(address, offset, length):
 def spans_at(address):
     """The spans that lie at an address, as a call takes them."""
     return ctypes.cast(address, POINTER(Span))
+
+
+def text_of(call, guess):
+    """Makes a call that writes a report, with more room where it asks for it; gives the text.
+
+    `call` takes a buffer, its room and a place for a Report, and gives the status.
+    """
+    room, report = guess, Report()
+    while True:
+        buffer = ctypes.create_string_buffer(room)
+        status = call(buffer, room, byref(report))
+        if status == BAD_LINE:
+            raise BadLine(report.bad_line)
+        if status != TOO_SMALL:
+            refuse(status)
+            return buffer.raw[:report.length].decode()
+        room = report.length
 
 
 def sized(call, guess):

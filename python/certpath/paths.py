@@ -39,18 +39,22 @@ def moment_of(at: datetime) -> library.Moment:
     return library.Moment(utc.year, utc.month, utc.day, utc.hour, utc.minute, utc.second)
 
 
+def settings_of(bundle: Items, target: int, at: datetime, demand_lists: bool) -> library.Settings:
+    """What is asked, as a call takes it."""
+    if not 0 <= target <= c_size_t(-1).value:
+        raise ValueError(f"the target {target} is no position")
+    return library.Settings(target, bundle.limit, bool(demand_lists), moment_of(at))
+
+
 def asked(bundle: Items, anchors: Items, vouchers: Union[Vouchers, bytes], target: int,
           at: datetime, demand_lists: bool) -> tuple:
     """The arguments that `find` and `check` share."""
-    if not 0 <= target <= c_size_t(-1).value:
-        raise ValueError(f"the target {target} is no position")
     pairs = vouchers.octets() if isinstance(vouchers, Vouchers) else bytes(vouchers)
     count, rest = divmod(len(pairs), library.PAIR)
     if rest:
         raise ValueError(f"vouchers are pairs of {library.PAIR} octets, and {rest} are left over")
-    settings = library.Settings(target, bundle.limit, bool(demand_lists), moment_of(at))
     return (*library.octets_of(bundle.data), *library.octets_of(anchors.data), pairs, count,
-            byref(settings))
+            byref(settings_of(bundle, target, at, demand_lists)))
 
 
 def find(bundle, anchors, vouchers, target: int, at: datetime,

@@ -18,6 +18,15 @@ class Vouchers:
         """The vouchers of a file as ./vouch writes it: two digests in hex a line."""
         return cls(tuple(map(bytes.fromhex, line.split())) for line in text.splitlines() if line)
 
+    @classmethod
+    def from_octets(cls, octets: bytes) -> "Vouchers":
+        """The vouchers of pairs one after another, as `octets` gives them."""
+        if len(octets) % (2 * DIGEST):
+            raise ValueError(f"vouchers are pairs of {2 * DIGEST} octets, and "
+                             f"{len(octets) % (2 * DIGEST)} are left over")
+        return cls((octets[it:it + DIGEST], octets[it + DIGEST:it + 2 * DIGEST])
+                   for it in range(0, len(octets), 2 * DIGEST))
+
     def add(self, key: bytes, item: bytes):
         """A key (DER, SubjectPublicKeyInfo) verifies the signature of an item (DER)."""
         self.add_digests(hashlib.sha256(key).digest(), hashlib.sha256(item).digest())

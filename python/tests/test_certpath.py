@@ -348,9 +348,78 @@ class Paths(unittest.TestCase):
         self.assertEqual((answer.positions, len(answer.table)), ((117, 1), 120))
 
 
+class Reports(unittest.TestCase):
+    """The reports are what the program prints."""
+
+    def setUp(self):
+        self.given = sample("bundle.der"), sample("root.der"), sample("vouchers.txt").decode()
+        self.at = datetime(2027, 1, 1, tzinfo=timezone.utc)
+        self.calls = {"path": {"target": 0}, "why": {"target": 0}, "paths": {}}
+
+    def reports(self, *given, **further):
+        for name, its in self.calls.items():
+            yield name, getattr(certpath, name)(*given, **{"at": self.at, **its, **further})
+
+    def printed(self, name, *further):
+        files = [os.path.join(TOP, "samples", it) for it in ("bundle.der", "root.der",
+                                                             "vouchers.txt")]
+        words = [] if name == "paths" else ["--target", "0"]
+        command = [os.path.join(TOP, "dist", "certpath"), name, *files, *words, "--at",
+                   "2027-01-01T00:00:00", *further]
+        return subprocess.run(command, stdout=subprocess.PIPE, text=True).stdout
+
+    def test_samples(self):
+        for demand, words in ((False, ()), (True, ("--demand-lists",))):
+            for name, text in self.reports(*self.given, demand_lists=demand):
+                self.assertEqual(text, self.printed(name, *words))
+
+    def test_limits(self):
+        for limit in (0, 856, 2 ** 32 - 1):
+            bundle = certpath.frame(self.given[0], limit)
+            for name, text in self.reports(bundle, *self.given[1:]):
+                self.assertEqual(text, self.printed(name, "--limit", str(limit)))
+
+    def test_vouchers(self):
+        vouchers = certpath.Vouchers.from_text(self.given[2])
+        for other in (vouchers, vouchers.octets()):
+            self.assertEqual([*self.reports(*self.given[:2], other)],
+                             [*self.reports(*self.given)])
+        with self.assertRaises(ValueError):
+            [*self.reports(*self.given[:2], bytes(65))]
+
+    def test_bad_lines(self):
+        for text, line in (("x", 1), ("\n\n00 00\n", 3)):
+            with self.subTest(text=text), self.assertRaises(certpath.BadLine) as raised:
+                [*self.reports(*self.given[:2], text)]
+            self.assertEqual((raised.exception.line, str(raised.exception)),
+                             (line, f"vouchers line {line}"))
+
+    def test_arguments(self):
+        moment = SimpleNamespace(tzinfo=None, year=2027, month=2, day=29, hour=0, minute=0,
+                                 second=0)
+        with self.assertRaises(certpath.BadMoment):
+            [*self.reports(*self.given, at=moment)]
+        for target in (-1, 2 ** 64):
+            with self.assertRaises(ValueError):
+                certpath.why(*self.given, target=target, at=self.at)
+        far = certpath.why(*self.given, target=2 ** 64 - 1, at=self.at)
+        self.assertEqual(far, "no target\ncheck yes\n")
+
+    def test_nothing(self):
+        end = "end clean\nanchors 0 of 0, clean\n"
+        self.assertEqual([*self.reports(b"", b"", b"")],
+                         [("path", end + "no target\ncheck yes\n"),
+                          ("why", "no target\ncheck yes\n"), ("paths", end + "check yes\n")])
+
+    def test_long_reports(self):
+        with mock.patch("certpath.reports.ROOM", 0), mock.patch("certpath.reports.ROOM_OF_ITEM", 0):
+            short = [*self.reports(*self.given)]
+        self.assertEqual(short, [*self.reports(*self.given)])
+
+
 class Library(unittest.TestCase):
     def test_version(self):
-        self.assertEqual(certpath.version(), 1)
+        self.assertEqual(certpath.version(), 2)
 
     def test_missing(self):
         ran = subprocess.run(
@@ -364,13 +433,17 @@ class Library(unittest.TestCase):
         at, answer = datetime(2027, 1, 1), certpath.Answer(certpath.Outcome.NO_TARGET, (), 0, ())
         calls = {
             "certpath_frame": [lambda: certpath.frame(root)],
-            "certpath_class": [lambda: certpath.class_of(root), lambda: items.kind(0), items.kinds],
+            "certpath_class": [lambda: certpath.class_of(root), lambda: items.kind(0)],
+            "certpath_classes": [items.kinds],
             "certpath_field": [lambda: certpath.Certificate(root).subject],
             "certpath_times": [lambda: certpath.Certificate(root).not_valid_after_utc],
             "certpath_name": [lambda: certpath.Name(b"\x30\x00").text],
             "certpath_questions": [lambda: certpath.questions(items, items)],
             "certpath_find": [lambda: certpath.find(items, items, b"", 0, at)],
             "certpath_check": [lambda: certpath.check(items, items, b"", 0, at, answer)],
+            "certpath_path": [lambda: certpath.path(items, items, b"", 0, at)],
+            "certpath_why": [lambda: certpath.why(items, items, b"", 0, at)],
+            "certpath_paths": [lambda: certpath.paths(items, items, b"", at)],
         }
         self.assertEqual({*calls, "certpath_version"}, {*library.FUNCTIONS})
         for name, its in calls.items():
@@ -408,9 +481,10 @@ class Library(unittest.TestCase):
         given = items, sample("root.der"), vouchers, 0, datetime(2027, 1, 1)
         answer = certpath.find(*given)
         shown = [(it.issuer.text, it.kind, it.signature_algorithm) for it in items]
+        texts = certpath.path(*given), certpath.why(*given), certpath.paths(*given[:3], given[4])
         leaf, found = items[0], certpath.openssl.vouch(items, given[1]).vouchers.text()
         return (shown, leaf.serial_number, leaf.not_valid_after_utc, [*items.kinds()], asked, answer,
-                certpath.check(*given, answer), certpath.holders_by_issuer(items, given[1]), found)
+                certpath.check(*given, answer), certpath.holders_by_issuer(items, given[1]), found, texts)
 
 
 if __name__ == "__main__":

@@ -13,9 +13,9 @@
 
 enum { ROOM = 1 << 16, MOST = 64, KEPT = 0x5a };
 
-static unsigned char bundle[ROOM], anchors[ROOM], changed[ROOM];
+static unsigned char bundle[ROOM], anchors[ROOM], changed[ROOM], lines[3 * ROOM];
 static certpath_voucher vouchers[ROOM / sizeof(certpath_voucher)];
-static size_t bundle_length, anchors_length, vouchers_count;
+static size_t bundle_length, anchors_length, vouchers_count, lines_length;
 static int passed, failed;
 
 static void tell(int is_right, const char *what)
@@ -51,6 +51,9 @@ static void of_nothing(void)
          "frame of nothing");
     tell(certpath_class(NULL, 0, &found) == CERTPATH_DONE && found == CERTPATH_OTHER,
          "class of nothing");
+    tell(certpath_classes(NULL, 0, CERTPATH_LIMIT, NULL, 0, &number) == CERTPATH_DONE
+             && number == 0,
+         "classes of nothing");
     tell(certpath_field(NULL, 0, CERTPATH_ISSUER, NULL, 0, &number) == CERTPATH_NO_FIELD,
          "field of nothing");
     tell(certpath_times(NULL, 0, &validity) == CERTPATH_NO_FIELD, "times of nothing");
@@ -90,6 +93,26 @@ static void of_limits(void)
              && framed.count == 4 && framed.at == bundle_length && framed.end == CERTPATH_CLEAN,
          "the greatest limit");
     tell(is_kept(spans + 4, sizeof spans - 4 * sizeof *spans), "spans past the last one");
+}
+
+static void of_classes(void)
+{
+    static const uint32_t WANTED[] = {CERTPATH_CERTIFICATE, CERTPATH_CERTIFICATE,
+                                      CERTPATH_CERTIFICATE, CERTPATH_LIST};
+    uint32_t found[MOST];
+    size_t count = 0;
+    memset(found, KEPT, sizeof found);
+    tell(certpath_classes(bundle, bundle_length, CERTPATH_LIMIT, found, 3, &count)
+                 == CERTPATH_TOO_SMALL
+             && count == 4 && is_kept(found, sizeof found),
+         "room for fewer classes");
+    tell(certpath_classes(bundle, bundle_length, 0, found, MOST, &count) == CERTPATH_DONE
+             && count == 0 && is_kept(found, sizeof found),
+         "classes with limit 0");
+    tell(certpath_classes(bundle, bundle_length, UINT32_MAX, found, 4, &count) == CERTPATH_DONE
+             && count == 4 && memcmp(found, WANTED, sizeof WANTED) == 0
+             && is_kept(found + 4, sizeof found - sizeof WANTED),
+         "classes");
 }
 
 static void of_small_rooms(const unsigned char *item, size_t length)
@@ -278,6 +301,83 @@ static void of_moments(void)
     }
 }
 
+/* ---- reports */
+
+typedef int32_t (*reporter)(const uint8_t *, size_t, const uint8_t *, size_t, const uint8_t *,
+                            size_t, const certpath_settings *, uint8_t *, size_t,
+                            certpath_report *);
+
+static const struct {
+    reporter call;
+    const char *of_nothing, *has;
+} REPORTS[] = {
+    {certpath_path, "end clean\nanchors 0 of 0, clean\nno target\ncheck yes\n",
+     "\npath 0 1 anchor 0\n"},
+    {certpath_why, "no target\ncheck yes\n", "path 0 1 anchor 0\n"},
+    {certpath_paths, "end clean\nanchors 0 of 0, clean\ncheck yes\n", "1 path 1 anchor 0\n"},
+};
+
+static int32_t told(reporter call, const certpath_settings *settings, const char *vouched,
+                    size_t length, unsigned char *text, size_t room, certpath_report *report)
+{
+    return call(bundle, chain_length, anchors, anchors_length, (const uint8_t *)vouched, length,
+                settings, text, room, report);
+}
+
+/* A report of nothing, of the chain in rooms of all but one octet and of all, and of a bad line. */
+static void of_report(reporter call, const char *of_nothing, const char *has)
+{
+    static unsigned char text[ROOM];
+    const char *vouched = (const char *)lines;
+    certpath_report whole, again;
+    certpath_settings settings = IN_2027;
+    memset(text, KEPT, sizeof text);
+    memset(&again, KEPT, sizeof again);
+    settings.moment.day = 32;
+    tell(told(call, &settings, vouched, lines_length, text, ROOM, &again) == CERTPATH_BAD_MOMENT
+             && is_kept(text, sizeof text) && is_kept(&again, sizeof again),
+         "a report at no moment");
+    tell(told(call, &IN_2027, "\n\r\nno digest\n", 13, text, ROOM, &again) == CERTPATH_BAD_LINE
+             && again.bad_line == 3 && is_kept(text, sizeof text),
+         "a report with a bad line");
+    tell(told(call, &IN_2027, vouched, lines_length, NULL, 0, &whole) == CERTPATH_TOO_SMALL
+             && whole.length > 0,
+         "no room for a report");
+    tell(told(call, &IN_2027, vouched, lines_length, text, whole.length - 1, &again)
+                 == CERTPATH_TOO_SMALL
+             && again.length == whole.length && is_kept(text, sizeof text),
+         "room for all of a report but one octet");
+    tell(told(call, &IN_2027, vouched, lines_length, text, whole.length, &again) == CERTPATH_DONE
+             && again.length == whole.length
+             && is_kept(text + whole.length, sizeof text - whole.length),
+         "just enough room for a report");
+    text[whole.length] = 0;
+    tell(strstr((const char *)text, has) != NULL, "the path of a report");
+    tell(call(NULL, 0, NULL, 0, NULL, 0, &IN_2027, text, ROOM, &again) == CERTPATH_DONE
+             && again.length == strlen(of_nothing)
+             && memcmp(text, of_nothing, again.length) == 0,
+         "a report of nothing");
+}
+
+static void of_reports(void)
+{
+    size_t k;
+    for (k = 0; k < sizeof REPORTS / sizeof *REPORTS; k++)
+        of_report(REPORTS[k].call, REPORTS[k].of_nothing, REPORTS[k].has);
+}
+
+/* The vouchers as a file: two digests in hex a line. */
+static void write_lines(void)
+{
+    const unsigned char *octets = (const unsigned char *)vouchers;
+    size_t k, all = vouchers_count * sizeof *vouchers;
+    for (k = 0; k < all; k++) {
+        lines_length += (size_t)sprintf((char *)lines + lines_length, "%02x", octets[k]);
+        if (k % 32 == 31)
+            lines[lines_length++] = k % 64 == 63 ? '\n' : ' ';
+    }
+}
+
 /* ---- changed octets */
 
 static uint64_t state = 1;
@@ -347,6 +447,7 @@ static void of_changed(size_t length)
     certpath_framed framed;
     certpath_span spans[MOST];
     certpath_validity validity;
+    certpath_report report;
     size_t count;
     uint32_t found, number;
     int is_right = item != NULL;
@@ -368,6 +469,12 @@ static void of_changed(size_t length)
                                                &count),
                             CERTPATH_DONE);
     is_right = is_right && are_checked(item, length);
+    is_right = is_right
+               && is_status(certpath_classes(item, length, 5000, &found, 1, &count), CERTPATH_DONE);
+    is_right = is_right
+               && is_status(certpath_why(item, length, anchors, anchors_length, lines, lines_length,
+                                         &IN_2027, text, sizeof text, &report),
+                            CERTPATH_DONE);
     free(item);
     tell(is_right, "changed octets");
 }
@@ -394,9 +501,11 @@ int main(int count, char **words)
     anchors_length = octets_of(words[2], anchors);
     vouchers_count = octets_of(words[3], (unsigned char *)vouchers) / sizeof *vouchers;
     number = strtol(words[4], NULL, 10);
+    write_lines();
     of_nothing();
     of_no_files();
     of_limits();
+    of_classes();
     if (certpath_frame(bundle, bundle_length, CERTPATH_LIMIT, spans, MOST, &framed)
         != CERTPATH_DONE)
         return 1;
@@ -407,6 +516,7 @@ int main(int count, char **words)
     of_limits_of_files();
     of_settings();
     of_moments();
+    of_reports();
     for (k = 0; k < number; k++) {
         const certpath_span *one = &spans[below(framed.count)];
         of_changed(change(bundle + one->offset, one->length));

@@ -69,8 +69,8 @@ typedef struct {
     unsigned char buffer[ROOM];
 } written;
 
-static unsigned char *bundle, *anchors, *vouchers;
-static size_t bundle_length, anchors_length, vouchers_length;
+static unsigned char *bundle, *anchors, *vouchers, lines[3 * ROOM];
+static size_t bundle_length, anchors_length, vouchers_length, lines_length;
 static certpath_span one;
 
 typedef int32_t (*call)(written *);
@@ -84,6 +84,12 @@ static int32_t frame(written *to)
 static int32_t class_of(written *to)
 {
     return certpath_class(bundle + one.offset, one.length, (uint32_t *)to->result);
+}
+
+static int32_t classes(written *to)
+{
+    return certpath_classes(bundle, bundle_length, CERTPATH_LIMIT, (uint32_t *)to->buffer,
+                            ROOM / sizeof(uint32_t), (size_t *)to->result);
 }
 
 static int32_t field(uint32_t number, written *to)
@@ -172,6 +178,24 @@ static int32_t check(written *to)
                           (uint32_t *)to->result);
 }
 
+static int32_t path(written *to)
+{
+    return certpath_path(bundle, bundle_length, anchors, anchors_length, lines, lines_length,
+                         &settings, to->buffer, ROOM, (certpath_report *)to->result);
+}
+
+static int32_t why(written *to)
+{
+    return certpath_why(bundle, bundle_length, anchors, anchors_length, lines, lines_length,
+                        &settings, to->buffer, ROOM, (certpath_report *)to->result);
+}
+
+static int32_t paths(written *to)
+{
+    return certpath_paths(bundle, bundle_length, anchors, anchors_length, lines, lines_length,
+                          &settings, to->buffer, ROOM, (certpath_report *)to->result);
+}
+
 typedef struct {
     const char *name;
     call make;
@@ -182,7 +206,19 @@ static const named OF_AN_ITEM[] = {
     {"serial", serial},  {"times", times},   {"algorithm", algorithm}, {"name", name}};
 
 static const named OF_FILES[] = {
-    {"frame", frame}, {"questions", questions}, {"find", find}, {"check", check}};
+    {"frame", frame}, {"classes", classes}, {"questions", questions}, {"find", find},
+    {"check", check}, {"path", path},       {"why", why},             {"paths", paths}};
+
+/* The vouchers as a file: two digests in hex a line. */
+static void write_lines(void)
+{
+    size_t k;
+    for (k = 0; k < vouchers_length; k++) {
+        lines_length += (size_t)sprintf((char *)lines + lines_length, "%02x", vouchers[k]);
+        if (k % 32 == 31)
+            lines[lines_length++] = k % 64 == 63 ? '\n' : ' ';
+    }
+}
 
 /* ---- trying */
 
@@ -247,7 +283,7 @@ static void of_files(void)
     size_t k, sum;
     for (k = 0; k < sizeof OF_FILES / sizeof *OF_FILES; k++) {
         sum = all_refusals(&OF_FILES[k]);
-        printf("%s %zu%s", OF_FILES[k].name, sum, k + 1 < 4 ? ", " : " requests\n");
+        printf("%s %zu%s", OF_FILES[k].name, sum, k + 1 < sizeof OF_FILES / sizeof *OF_FILES ? ", " : " requests\n");
     }
 }
 
@@ -273,6 +309,7 @@ int main(int count, char **words)
     bundle = octets_of(words[1], &bundle_length);
     anchors = octets_of(words[2], &anchors_length);
     vouchers = octets_of(words[3], &vouchers_length);
+    write_lines();
     if (frame(&framed) != CERTPATH_DONE || find(&found) != CERTPATH_DONE)
         return 1;
     of_items((const certpath_span *)framed.buffer,

@@ -13,7 +13,7 @@ pub record Spans (spans : List Span) (items : List (List ℕ)) (k offset : ℕ) 
   pub all : spans ++ spans_of offset (drop k items) ≡ spans_of 0 items
   pub sizes : offset + length (concat (drop k items)) ≡ length (concat items)
 
-drop_from : (items : List (List ℕ)) (k : ℕ) (item : List ℕ) → slice_get items k ≡ Some item → drop k items ≡ item ∷ drop (k + 1) items
+pub drop_from : (items : List (List ℕ)) (k : ℕ) (item : List ℕ) → slice_get items k ≡ Some item → drop k items ≡ item ∷ drop (k + 1) items
 drop_from items k item e =
     let within : k < length items = slice_get_within items k item e in
     let at : get_or items k [] ≡ item = get_or_from_slice_get items k item [] e in

@@ -2,6 +2,7 @@ pub mod Status
 pub mod Writing
 pub mod Framing
 pub mod Classing
+pub mod Classes
 pub mod Fields
 pub mod Times
 pub mod Naming
@@ -10,3 +11,4 @@ pub mod Answers
 pub mod Asked
 pub mod Finding
 pub mod Checking
+pub mod Reports

@@ -21,3 +21,6 @@ bad_moment = pos 5
 
 abbrev pub bad_answer : ℤ
 bad_answer = pos 6
+
+abbrev pub bad_line : ℤ
+bad_line = pos 7

@@ -8,7 +8,7 @@ use crate::status::{DONE, OUT_OF_MEMORY};
 use certcheck::{ItemClass, read_tree};
 use std::alloc::Global;
 
-fn class_number(class: &ItemClass<'_>) -> u32
+pub(crate) fn class_number(class: &ItemClass<'_>) -> u32
     ensures { result ≡ class_number (class_view class.now) }
 {
     match class {

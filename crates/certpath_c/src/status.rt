@@ -20,3 +20,6 @@ pub const BAD_MOMENT: i32 = 5;
 
 /// An answer has a number that stands for nothing, or a table that doesn't have whole rows.
 pub const BAD_ANSWER: i32 = 6;
+
+/// A line of a voucher file is neither empty nor two digests.
+pub const BAD_LINE: i32 = 7;
