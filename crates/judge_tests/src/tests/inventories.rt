@@ -11,8 +11,11 @@ use std::alloc::Global;
 use std::process::Abort;
 use std::test::Fail;
 
-/// How many graphs are tried.
-const GRAPHS: u32 = 12;
+/// How many graphs are searched, each for every item.
+const SEARCHED: u32 = 10_000;
+
+/// On how many graphs inventories are forged, one for each item and up to three further ones.
+const FORGED: u32 = 200;
 
 /// A graph has at most so many items.
 const ITEMS: u32 = 14;
@@ -190,7 +193,7 @@ fn without(alloc: Global, inventory: &Inventory) -> Result<Option<Vec<Change>>, 
 #[test]
 fn verdicts_are_those_of_each_search(rt: HostRuntime) -> Result<(), Fail> {
     let mut chance = Chance { state: 11 };
-    for _ in 0..GRAPHS {
+    for _ in 0..SEARCHED {
         let nodes = some_graph(rt.alloc(), &mut chance)?;
         ask_each(&rt, rt.alloc(), &nodes)?;
     }
@@ -200,7 +203,7 @@ fn verdicts_are_those_of_each_search(rt: HostRuntime) -> Result<(), Fail> {
 #[test]
 fn forged_inventories_are_refused(rt: HostRuntime) -> Result<(), Fail> {
     let mut chance = Chance { state: 29 };
-    for _ in 0..GRAPHS {
+    for _ in 0..FORGED {
         let nodes = some_graph(rt.alloc(), &mut chance)?;
         forge_each(&rt, rt.alloc(), &nodes)?;
         forge_whole(&rt, rt.alloc(), &nodes)?;
