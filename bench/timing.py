@@ -9,7 +9,7 @@ import time
 
 TOP = os.path.dirname(os.path.dirname(os.path.abspath(__file__)))
 sys.path.insert(0, os.path.join(TOP, "tools"))
-import repo
+from program import repo
 
 SAMPLE = os.path.join(TOP, "samples", "leaf.der")
 COPIES = 100_000

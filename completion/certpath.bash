@@ -1,4 +1,4 @@
-# Completion of bash for certpath, verify, vouch and bundle: source this file. Made by tools/manual.py.
+# Completion of bash for certpath, verify, vouch and bundle: source this file. Made by tools/dev/manual.py.
 _certpath() {
   local word=${COMP_WORDS[COMP_CWORD]} words
   if [ "$COMP_CWORD" -eq 1 ]; then

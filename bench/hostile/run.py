@@ -29,10 +29,10 @@ HERE = os.path.dirname(os.path.abspath(__file__))
 TOP = os.path.dirname(os.path.dirname(HERE))
 sys.dont_write_bytecode = True
 sys.path[:0] = [HERE, os.path.join(TOP, "tools")]
+from program import repo
 import graphs
 import one_item
 import reports
-import repo
 import signed
 import texts
 from family import FAMILIES, Files

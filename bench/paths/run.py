@@ -19,7 +19,7 @@ HERE = os.path.dirname(os.path.abspath(__file__))
 TOP = os.path.dirname(os.path.dirname(HERE))
 sys.dont_write_bytecode = True
 sys.path[:0] = [os.path.join(TOP, "bench", "hostile"), os.path.join(TOP, "tools")]
-import repo
+from program import repo
 from family import ITEMS, Files
 from graphs import ANCHOR, COMMON_KEY, LEAF, ROOT, ROOT_KEY, X
 from measure import MEGABYTE, in_child, measured

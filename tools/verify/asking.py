@@ -3,9 +3,7 @@ import os
 import subprocess
 import tempfile
 
-import programs
-import repo
-import usage
+from program import programs, repo, usage
 from verify import faults, times, waiting
 from verify.faults import Fault
 

@@ -5,8 +5,7 @@ import sys
 from collections import OrderedDict
 from typing import NamedTuple
 
-import repo
-import streams
+from program import repo, streams
 from verify import waiting
 from verify.faults import MEMORY, NO_PROGRAM, Fault
 

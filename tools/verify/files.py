@@ -10,8 +10,7 @@ import sys
 import tempfile
 from typing import NamedTuple
 
-import repo
-import streams
+from program import repo, streams
 from verify import waiting
 from verify.faults import UNREAD, Fault
 

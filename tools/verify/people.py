@@ -3,7 +3,7 @@ import os
 import sys
 import textwrap
 
-import streams
+from program import streams
 from verify import times
 from verify.answers import NOT_JUDGED, UNKNOWN, YES
 

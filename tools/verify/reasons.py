@@ -2,7 +2,7 @@
 import re
 from typing import NamedTuple
 
-import streams
+from program import streams
 
 # Extensions by their identifiers (RFC 5280, 4.2 and 5.2; RFC 6962, 3.1).
 EXTENSIONS = {

@@ -4,9 +4,9 @@ import signal
 import tempfile
 from itertools import islice
 
-import streams
-from shapes import LIST, kind_of
-from streams import counted
+from pki.shapes import LIST, kind_of
+from program import streams
+from program.streams import counted
 from verify import answers, asking, core, faults, files, graph, machine, page, people, signing, waiting, words
 from verify.core import Kind
 from verify.faults import Fault

@@ -1,0 +1,102 @@
+"""Edits of one crate that are tried together, by one check of all of them.
+
+A function is proved over the contracts of the functions that it calls, never over their bodies. So where the bodies of several functions
+are changed at once, each that its own goals refuse would be refused alone. Nothing is concluded of an edit whose function isn't told to
+fail by itself: it is tried alone.
+"""
+import re
+
+from program import repo
+
+# The most edits that one check tries.
+MOST = 24
+FUNCTION = re.compile(r"( *)(?:pub(?:\([^)]*\))? |final |const |unsafe )*fn (\w+)")
+TOLD = re.compile(r"^fn (\S+): (not proved|no proof)(.*)$", re.M)
+# What is told of a function that fails, or waits, for another's sake alone.
+OF_OTHERS = re.compile(r"it calls|it passes|a call of|it waits")
+
+
+def bodies(lines):
+    """The functions of a source that is laid out: the first and the last line of the body, from 0, and the name; inner ones behind outer ones."""
+    found = []
+    for number, line in enumerate(lines):
+        head = FUNCTION.match(line)
+        if not head:
+            continue
+        end = next((it for it in range(number, len(lines)) if lines[it] == f"{head[1]}}}"), None)
+        opening = f"{head[1]}{{"
+        begin = next((it for it in range(number, end or number) if lines[it] == opening), None)
+        if begin is None:
+            begin = next((it for it in range(number, end or number) if lines[it].endswith("{")), None)
+        if begin is not None:
+            found.append((begin + 1, end, head[2]))
+    return found
+
+
+def touched(crate, edit):
+    """The functions whose bodies an edit changes, as pairs of module and name, none where it changes anything else."""
+    found, path, old = set(), None, None
+    for line in repo.read(f"crates/{crate}/{edit}").split("\n"):
+        if line.startswith("file: "):
+            path = line[len("file: "):].strip()
+        elif line.startswith("old: "):
+            old = line[len("old: "):]
+        elif line.startswith("new:") and old is not None:
+            if not path.startswith("src/"):
+                return None
+            lines = repo.read(f"crates/{crate}/{path}").splitlines()
+            at = next((number for number, it in enumerate(lines) if old in it), None)
+            inside = [name for begin, end, name in bodies(lines) if at is not None and begin <= at < end]
+            if not inside:
+                return None
+            module = re.sub(r"(^|/)(lib|main|mod)$", "", path[len("src/"):-len(".rt")]).replace("/", "::")
+            found.add((module, inside[-1]))
+            old = None
+    return found or None
+
+
+def groups(crate, folder, edits):
+    """Edits in groups of such as change different functions, and those that have to be tried alone."""
+    found, alone = [], []
+    for edit in edits:
+        places = touched(crate, f"{folder}/{edit}")
+        if not places:
+            alone.append(edit)
+            continue
+        for group, taken in found:
+            if len(group) < MOST and not places & taken:
+                group[edit] = places
+                taken |= places
+                break
+        else:
+            found.append(({edit: places}, set(places)))
+    return [group for group, _ in found], alone
+
+
+def refused(said, group):
+    """The edits of a group whose functions a check told to fail by themselves."""
+    failing = set()
+    for path, _, why in TOLD.findall(said):
+        if OF_OTHERS.search(why) and "did not prove" not in why:
+            continue
+        parts = path.split("::")[1:]
+        # a method stands under its type or impl, a function in its module
+        for depth in (1, 2):
+            failing.add(("::".join(parts[:-depth]), parts[-1]))
+    return [edit for edit, places in group.items() if places & failing]
+
+
+def texts(crate, folder, group):
+    """The sources as the edits of a group leave them, by their paths within the crate."""
+    made = {}
+    for edit in group:
+        path = old = None
+        for line in repo.read(f"crates/{crate}/{folder}/{edit}").split("\n"):
+            if line.startswith("file: "):
+                path = line[len("file: "):].strip()
+            elif line.startswith("old: "):
+                old = line[len("old: "):]
+            elif line.startswith("new:"):
+                text = made.get(path) or repo.read(f"crates/{crate}/{path}")
+                made[path] = text.replace(old, re.sub(r"\A ", "", line[len("new:"):]), 1)
+    return made

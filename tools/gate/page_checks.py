@@ -1,0 +1,201 @@
+"""Checks of the pages, which tools/gate/quick.py runs: each gives a line for each thing amiss."""
+import os
+import re
+
+from dev import calling, pages
+from program import repo
+
+WIDTH, LONGEST_SENTENCE = 100, 40
+README, README_WORDS, README_LINES = "README.md", 900, 120
+# Longer pages begin with their contents.
+MOST_WITHOUT_CONTENTS = 100
+PROMISES, PROVED = "docs/PROMISES.md", "## What is proved"
+# Pages for a reader's first minutes.
+PLAIN_PAGES = (README, "docs/CLI.md")
+WALK = "docs/ARCHITECTURE.md"
+WALK_ROW = re.compile(r"\| [^|]*\| [^|]*\| `([\w/]+\.rt)` \| ([^|]*)\|")
+LINK = re.compile(r"\]\(([^()\s#]*)#([^()\s]+)\)")
+CODE = re.compile(r"`[^`\n]*`")
+# A row of a table that links can name.
+ROW = re.compile(r'(?m)^\| <a id="([\w-]+)"></a>')
+
+
+def found_pages():
+    """Each page of the repository, by its path from the top."""
+    for at, folders, names in os.walk(repo.TOP):
+        folders[:] = sorted(it for it in folders if it not in (".git", "out", "__pycache__"))
+        for name in sorted(names):
+            if name.endswith(".md"):
+                yield os.path.relpath(os.path.join(at, name), repo.TOP)
+
+
+def narrow_pages():
+    """Lines of pages end by a column; rows of tables, and what CALLING.md quotes of sources, may go on."""
+    for path in found_pages():
+        is_quoted = False
+        for number, line in enumerate(repo.read(path).splitlines(), 1):
+            if line.startswith("```"):
+                is_quoted = path.endswith("CALLING.md") and not is_quoted
+            if len(line) > WIDTH and not line.startswith("|") and not is_quoted:
+                yield f"{path}:{number}: {len(line)} columns, and at most {WIDTH} are kept"
+
+
+def paragraphs(page):
+    """The paragraphs, items and cells of a page, each on one line, without code blocks and headings."""
+    blocks, lines = [], []
+    is_code = False
+    for line in [*page.splitlines(), ""]:
+        begins = line.startswith(("|", "#", "<", "```")) or not line.strip() or bool(re.match(r" *([-*]|\d+\.) ", line))
+        if begins and lines:
+            blocks.append(" ".join(lines))
+            lines = []
+        if line.startswith("```"):
+            is_code = not is_code
+        elif line.startswith("|"):
+            blocks += line.strip("| ").split(" | ")
+        elif not is_code and not line.startswith(("#", "<")) and line.strip() and (lines or not line.startswith("    ")):
+            lines.append(line.strip())
+    return blocks
+
+
+def sentences(page):
+    """The sentences of a page; a link counts as its text, and code as one word."""
+    for block in paragraphs(page):
+        words = re.sub(r"!?\[([^][]*)\]\([^()]*\)", r"\1", CODE.sub("code", block))
+        yield from re.split(r"(?<=[.!?])\**\s+(?=[*\"'(]*[A-Z0-9]|code|docs/)", words)
+
+
+def short_sentences():
+    """The pages that are read first have no long sentence."""
+    for path in PLAIN_PAGES:
+        if not os.path.exists(os.path.join(repo.TOP, path)):
+            continue
+        for sentence in sentences(repo.read(path)):
+            count = len(re.findall(r"\S*\w\S*", sentence))
+            if count > LONGEST_SENTENCE:
+                yield f"{path}: {count} words, and a sentence has at most {LONGEST_SENTENCE}: {sentence[:80]}"
+
+
+def short_readme():
+    """README.md is read in five minutes."""
+    text = repo.read(README)
+    words, lines = len(text.split()), len(text.splitlines())
+    if words > README_WORDS:
+        yield f"{README}: {words} words, and at most {README_WORDS} are kept there"
+    if lines > README_LINES:
+        yield f"{README}: {lines} lines, and at most {README_LINES} are kept there"
+
+
+def contents_stand():
+    """A page of more than two screens has links to all its sections above the first one."""
+    for path in found_pages():
+        page = repo.read(path)
+        if path == README or len(page.splitlines()) <= MOST_WITHOUT_CONTENTS:
+            continue
+        head = page.partition("\n## ")[0]
+        for line in re.findall(r"(?m)^## .*$", page):
+            name = next(headings(line))
+            if f"](#{name})" not in head:
+                yield f"{path}: above its first section no link leads to #{name}"
+
+
+def claims_named():
+    """Each claim of README.md about proofs names its row of docs/PROMISES.md."""
+    section = repo.read(README).partition(f"{PROVED}\n")[2].partition("\n## ")[0]
+    rows = {*ROW.findall(repo.read(PROMISES))}
+    claims = [it for it in paragraphs(section) if re.match(r"\d+\. ", it)]
+    if not claims:
+        yield f"{README}: it has no claims below {PROVED}"
+    for claim in claims:
+        names = re.findall(rf"\]\({re.escape(PROMISES)}#([\w-]+)\)", claim)
+        if not names or not {*names} <= rows:
+            yield f"{README}: it names no row of {PROMISES}: {claim}"
+
+
+def anchors(page):
+    """The names of a page's headings and rows, as links name them."""
+    yield from ROW.findall(page)
+    yield from headings(page)
+
+
+def headings(page):
+    """The names of a page's headings."""
+    names, is_code = {}, False
+    for line in page.splitlines():
+        if line.startswith("```"):
+            is_code = not is_code
+        heading = None if is_code else re.match(r"#+ +(.*)", line)
+        if heading:
+            name = re.sub(r"[^\w\- ]", "", heading[1].strip().lower()).replace(" ", "-")
+            count = names.get(name, 0)
+            names[name] = count + 1
+            yield f"{name}-{count}" if count else name
+
+
+def anchors_lead():
+    """Links to a heading lead to one."""
+    for path in found_pages():
+        for number, line in enumerate(repo.read(path).splitlines(), 1):
+            for to, name in LINK.findall(CODE.sub("", line)):
+                target = os.path.normpath(os.path.join(os.path.dirname(path), to)) if to else path
+                is_page = target.endswith(".md") and os.path.exists(os.path.join(repo.TOP, target))
+                if is_page and name not in {*anchors(repo.read(target))}:
+                    yield f"{path}:{number}: {target} has no heading #{name}"
+
+
+def walk_stands():
+    """The functions that the walk of one certificate names stand in the files beside them."""
+    rows = WALK_ROW.findall(repo.read(WALK))
+    if not rows:
+        yield f"{WALK}: the table of the walk is gone"
+    for path, names in rows:
+        source = f"crates/{path}"
+        code = repo.read(source) if os.path.exists(os.path.join(repo.TOP, source)) else ""
+        for name in re.findall(r"`(\w+)`", names):
+            if not re.search(rf"\bfn {name}\b", code):
+                yield f"{WALK}: {source} has no function {name}"
+
+
+def tables_made():
+    """The tables of docs/CRATES.md are what the sources say."""
+    page = repo.read(pages.PAGE)
+    if pages.written(page) != page:
+        yield f"{pages.PAGE}: a table isn't what the sources say: run tools/dev/pages.py"
+
+
+def notes_made():
+    """Each crate has a page of its own, whose lines are what crates.txt says."""
+    for path, page, made in pages.notes():
+        if page != made:
+            yield f"{path}: {'there is none' if page is None else 'its lines are not what crates.txt says'}: run tools/dev/pages.py"
+
+
+def calling_made():
+    """Each CALLING.md quotes contracts and callers as the sources have them."""
+    yield from calling.faults()
+
+
+def bullet(section, name):
+    """The code of a bullet of a crate's section, as it stands between ticks."""
+    found = re.search(rf"(?m)^- \*{name}\*:((?:.|\n  )*)", section)
+    return re.findall(r"`([^`]+)`", " ".join(found[1].split())) if found else []
+
+
+def promises_name():
+    """What docs/CRATES.md names as a contract stands in the crate or in one that it lists, and each definition page in its folder."""
+    listed = repo.crates()
+    for crate, section in pages.crate_sections():
+        words = {it for name in {crate, *listed[crate]} for path in pages.sources(name, "src") for it in re.findall(r"\w+", pages.text(path))}
+        for code in bullet(section, "Contract"):
+            for word in re.findall(r"[A-Za-z_]\w*", code.removesuffix(".rt")):
+                if word not in words:
+                    yield f"{pages.PAGE}: {crate} has no {word}"
+        there = {os.path.basename(path).removesuffix(".antt") for name in repo.below([crate], listed) for path in pages.sources(name, "specs")}
+        for code in bullet(section, "To believe"):
+            page = code.rpartition("/")[2]
+            if page[:1].isupper() and page not in there:
+                yield f"{pages.PAGE}: {crate} has no definition page {page}"
+
+
+CHECKS = (narrow_pages, short_sentences, short_readme, contents_stand, claims_named, anchors_lead,
+          walk_stands, promises_name, tables_made, notes_made, calling_made)

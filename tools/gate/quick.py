@@ -1,0 +1,286 @@
+#!/usr/bin/env python3
+"""A look over the repository that proves nothing and takes seconds: prints a line for each thing amiss, and then how many checks passed and failed.
+
+With the word `laws` it lists the laws that have premises and no example, and fails for none of them."""
+import os
+import re
+import subprocess
+import sys
+
+sys.path.insert(0, os.path.dirname(os.path.dirname(os.path.abspath(__file__))))
+from dev import items, manual
+from gate import dist, laws, library, page_checks, source_checks, words
+from program import repo
+from trials import bundling
+
+# The gate tries the named wrong bodies alone: so many edits, in so many crates.
+MOST_EDITS, MOST_CRATES = 25, 12
+MOST_LINES = 800
+# How many files the gate may read for its sums of what libraries are made from: each takes it some 0.15 ms, one after another.
+MOST_READS = 22_100_000
+OF_FUNCTION = ("Invariants.antt", "Answers.antt", "Proof.antt")
+BESIDE_SRC = ("args", "stdin", "stdout", "status")
+PAGES = ("README.md", "CALLING.md")
+LABEL = re.compile(r"(?:^|[^\w/.-])((?:[DTLW]\d{1,2}|R\d{1,2}(?:\.\d+)?|0[1-4], ?\d|document 0[1-4]))(?:\W|$)")
+# What stands in quotes in code: octets and words of a test, and no label.
+QUOTED = re.compile(r"""b?'[^'\n]{1,4}'|"(?:[^"\\\n]|\\.)*\"""")
+MACHINE = re.compile(r"""(?:^|[\s"'`(=:])(?:/(?:opt|work|farm|home|root|tmp|Users)/\w|\.\./shared)""")
+NAMED_FILE = re.compile(r"`([\w.+-]*(?:/[\w.+-]*)+|[\w.+-]+\.(?:md|py|sh|rt|antt|edit|der|txt|frame))`")
+LINK = re.compile(r"\]\(([^)\s#]+)[^)]*\)")
+
+
+def files():
+    """Each file of the repository but for what checks leave behind, by its path from the top."""
+    found = []
+    for at, folders, names in os.walk(repo.TOP):
+        folders[:] = sorted(it for it in folders if it not in (".git", "out", "__pycache__"))
+        found += [os.path.relpath(os.path.join(at, it), repo.TOP) for it in sorted(names)]
+    return found
+
+
+FILES = files()
+OF_RATTLE = [it for it in FILES if it.endswith((".rt", ".antt"))]
+SCRIPTS = [it for it in FILES if it.endswith((".py", ".sh")) or it in ("test", "certpath", "rows", "bundle", "vouch", "verify", ".ci/run")]
+TEXTS = [it for it in FILES if it.endswith((".md", ".edit")) or it == "crates.txt"]
+DOCS = [it for it in FILES if it.endswith(".md")]
+CRATES = repo.crates()
+
+
+def layout():
+    """Each file is laid out as `rt fmt` does it."""
+    page = subprocess.run(["rt", "doc"], capture_output=True, text=True, stdin=subprocess.DEVNULL).stdout.strip()
+    words = [os.path.join(os.path.dirname(page), "bin", "rattle"), "fmt", "--check", *OF_RATTLE]
+    ran = subprocess.run(words, cwd=repo.TOP, stdin=subprocess.DEVNULL, stdout=subprocess.DEVNULL, stderr=subprocess.PIPE, text=True)
+    lines = ran.stderr.splitlines() or [f"rattle fmt ended with status {ran.returncode}"]
+    return [f"{it}: run rt fmt in the crate's folder" if it.endswith(" is not in the layout") else it for it in lines] if ran.returncode else []
+
+
+def edits_apply():
+    """Each edit can be applied to its crate."""
+    for crate in CRATES:
+        for folder in repo.FOLDERS:
+            for edit in repo.edits(crate, folder):
+                why = repo.amiss(crate, f"{folder}/{edit}")
+                if why:
+                    yield f"crates/{crate}/{folder}/{edit} can't be applied: {why}"
+
+
+def few_edits():
+    """The gate tries few edits in few crates, and none that lies in wrong/ too."""
+    counts = {it: len(repo.edits(it, "must-fail")) for it in CRATES if repo.edits(it, "must-fail")}
+    if sum(counts.values()) > MOST_EDITS or len(counts) > MOST_CRATES:
+        yield f"must-fail/ has {sum(counts.values())} edits in {len(counts)} crates, and at most {MOST_EDITS} in {MOST_CRATES} are kept there: move others to wrong/"
+    for crate in CRATES:
+        for edit in {*repo.edits(crate, "must-fail")} & {*repo.edits(crate, "wrong")}:
+            yield f"crates/{crate}: {edit} stands in must-fail/ and in wrong/"
+
+
+def modules(crate):
+    """The .rt files of a crate that its root reaches by `mod`."""
+    inside = f"crates/{crate}/src/"
+    found = [inside + it for it in ("lib.rt", "main.rt") if inside + it in FILES]
+    for path in found:
+        folder = path[:-len(os.path.basename(path))] if path.endswith(("/lib.rt", "/main.rt", "/mod.rt")) else path[:-len(".rt")] + "/"
+        for name in re.findall(r"(?m)^[^/\n]*\bmod (\w+)\s*;", repo.read(path)):
+            found += [it for it in (f"{folder}{name}.rt", f"{folder}{name}/mod.rt") if it in FILES and it not in found]
+    return found
+
+
+def is_joined(word, words):
+    """Whether a word is one of the words, or several of them one behind the other, as a folder of a trait's impl is named."""
+    return word in words or any(word[:at] in words and is_joined(word[at:], words) for at in range(1, len(word)))
+
+
+def is_read(path, reached, words):
+    """Whether a file below crates/NAME/ is one that the crate's check or its run reads."""
+    _, crate, part, *inner = path.split("/")
+    name = inner[-1] if inner else part
+    if part in repo.FOLDERS:
+        return len(inner) == 1 and name.endswith((".edit", ".md"))
+    if part == "src":
+        return path in reached
+    if part in ("specs", "proofs"):
+        if part == "proofs" and name in OF_FUNCTION:
+            return len(inner) > 1 and all(is_joined(it.lstrip("+"), words) for it in inner[:-1])
+        above = f"crates/{crate}/{'/'.join([part, *inner[:-1]])}"
+        lists = [f"{above}/Lib.antt", f"{above}.antt"]
+        listed = "\n".join(repo.read(it) for it in lists if it in FILES)
+        return path == lists[0] or bool(re.search(rf"(?m)^(?:pub )?mod {re.escape(name[:-len('.antt')])}\s*$", listed))
+    return not inner and part in (*BESIDE_SRC, *PAGES) or part == "data" and not name.endswith((".rt", ".antt"))
+
+
+def all_read():
+    """Each file of a crate is read by its check or its run."""
+    for crate in CRATES:
+        reached = modules(crate)
+        sources = [it for it in FILES if it.startswith(f"crates/{crate}/src/")]
+        words = {*re.findall(r"\w+", "\n".join([*sources, *map(repo.read, reached)]))}
+        for path in FILES:
+            if path.startswith(f"crates/{crate}/") and not is_read(path, reached, words):
+                yield f"{path}: nothing reads it"
+    for path in OF_RATTLE:
+        if not path.startswith("crates/"):
+            yield f"{path}: it stands outside the crates, so nothing reads it"
+
+
+def no_labels():
+    """Rules, laws and wrong bodies have plain names, and no paper's numbers."""
+    for path in [*OF_RATTLE, *TEXTS, *SCRIPTS]:
+        for number, line in enumerate(repo.read(path).split("\n"), 1):
+            found = LABEL.search(line if path.endswith(".md") else QUOTED.sub("", line))
+            if found:
+                yield f"{path}:{number}: {found[1]} looks like the label of a paper: {line.strip()[:100]}"
+    for path in FILES:
+        if re.search(r"(?:^|[/_])[DTLWR]\d{1,2}(?:[_.]|$)", path):
+            yield f"{path}: its name looks like the label of a paper"
+
+
+def no_machine():
+    """No file names a path of one machine."""
+    for path in [*OF_RATTLE, *TEXTS, *SCRIPTS]:
+        for number, line in enumerate(repo.read(path).split("\n"), 1):
+            if MACHINE.search(line):
+                yield f"{path}:{number}: a path of a machine: {line.strip()[:100]}"
+
+
+def docs_name_files():
+    """Links of the docs lead somewhere, and the files that they name are there."""
+    tails = {""}
+    for path in FILES:
+        parts = path.split("/")
+        for end in range(1, len(parts) + 1):
+            for start in range(end):
+                tail = "/".join(parts[start:end])
+                tails |= {tail, os.path.splitext(tail)[0]}
+    for path in DOCS:
+        for number, line in enumerate(repo.read(path).split("\n"), 1):
+            for to in LINK.findall(line):
+                if "://" not in to and not os.path.exists(os.path.join(repo.TOP, os.path.dirname(path), to)):
+                    yield f"{path}:{number}: the link {to} leads nowhere"
+            for name in NAMED_FILE.findall(line):
+                is_pattern = re.search(r"\b(?:NAME|PATH|FILE|WORD)\b", name) or name.startswith(("/", "out/", "../"))
+                if not is_pattern and os.path.normpath(name) not in tails:
+                    yield f"{path}:{number}: there is no file {name}"
+
+
+def crates_listed():
+    """crates.txt and the folders name the same crates, and docs/CRATES.md tells of each."""
+    folders, told = {*os.listdir(os.path.join(repo.TOP, "crates"))}, repo.read("docs/CRATES.md")
+    for name in sorted({*CRATES} - folders):
+        yield f"crates.txt: there is no folder crates/{name}"
+    for name in sorted(folders - {*CRATES}):
+        yield f"crates/{name}: crates.txt has no line for it"
+    for name in CRATES:
+        if f"`{name}`" not in told:
+            yield f"docs/CRATES.md: it tells nothing of the crate {name}"
+
+
+def few_ways():
+    """What the gate reads for its sums stays in bounds: `rt` goes down every way from a library, each time anew, twice a library."""
+    reads = {}
+    for crate in repo.below(CRATES, CRATES):
+        own = sum(it.startswith(tuple(f"crates/{crate}/{part}/" for part in ("src", "specs", "proofs"))) for it in FILES)
+        reads[crate] = own + sum(reads[it] for it in CRATES[crate])
+    total = sum(2 * reads[it] for it in CRATES if f"crates/{it}/src/main.rt" not in FILES)
+    if total > MOST_READS:
+        yield f"crates.txt: sums of what libraries are made from read {total:,} files, and at most {MOST_READS:,} are allowed: let a crate name what it uses through another"
+
+
+def judge_alone():
+    """`certcheck` shares nothing with the search and the typed readers: beside its own crates it stands on parts of `asn1_rs` and `der_parser` alone."""
+    own = {"certcheck", "cert_framing", "cert_graph", "cert_groups", "cert_judge", "cert_model"}
+    for name in sorted({*repo.below(["certcheck"], CRATES)} - own - {*repo.below(["asn1_rs", "der_parser"], CRATES)}):
+        yield f"crates.txt: certcheck stands on {name}"
+
+
+def roads_apart():
+    """The search shares no reading with the check: outside tests no source of a `certpath_` crate names `read_tree`, or the check's
+    calls for key identifiers. `certpath_c` hands calls out, and `certpath_why` reports: neither searches."""
+    for path in FILES:
+        if not re.match(r"crates/certpath_(?!c/|why/)\w+/src/.*\.rt$", path) or re.search(r"/tests?\b", path):
+            continue
+        code = "\n".join(line.split("//")[0] for line in repo.read(path).splitlines())
+        for name in re.findall(r"\b(?:read_tree|authority_key_id|subject_key_id)\b", code):
+            yield f"{path}: it names {name}"
+
+
+def headers_counted():
+    """No counted call comes to a reader that keeps no count of its headers, and such readers stand where they are known."""
+    yield from source_checks.headers_counted()
+
+
+def no_handles():
+    """HANDLES allows none."""
+    if repo.read("HANDLES") != "Handles allowed: none.\n":
+        yield "HANDLES: it is the one line 'Handles allowed: none.'"
+
+
+def short_files():
+    """Sources are short."""
+    for path in OF_RATTLE:
+        count = repo.read(path).count("\n")
+        if count > MOST_LINES:
+            yield f"{path}: {count} lines, and at most {MOST_LINES} are kept in one file"
+
+
+def worked_causes():
+    """Each worked row that docs/OTHER.md names stands in cert_rows, and is other."""
+    lines = repo.read("crates/cert_rows/stdout").splitlines()
+    answers = {title.removeprefix("# ").partition(": ")[0]: answer for title, answer in zip(lines, lines[1:])}
+    causes = [line.strip("| ").split(" | ") for line in repo.read("docs/OTHER.md").splitlines() if line.startswith("| ")]
+    for title in (it.strip() for row in causes if len(row) == 4 for it in row[3].split(";")):
+        if title != "worked row" and not answers.get(title, "").endswith(" = other"):
+            yield f"docs/OTHER.md: {title} is no worked row that is other"
+
+
+def bundles():
+    """./bundle joins what PEM and DER files hold, and tells what it leaves out."""
+    yield from bundling.faults()
+
+
+def items_spelled():
+    """Each item of cert_rows is what the comment above it spells."""
+    text = repo.read(items.STDIN)
+    if items.written(text) != text:
+        yield f"{items.STDIN}: an item isn't what the comment above it spells: run tools/dev/items.py"
+
+
+def manual_is_made():
+    """The manual page and the completion of bash are what the docs and the commands' helps say."""
+    yield from manual.faults()
+
+
+def dist_is_built():
+    """dist/certpath is the program that was built from the sources as they are."""
+    yield from dist.faults()
+
+
+def plain_words():
+    """Doc comments have no word that the glossary avoids, but for those that files had before."""
+    yield from words.faults()
+
+
+def libraries_are_built():
+    """The libraries of dist/ are those that were built from the sources as they are."""
+    yield from library.faults()
+
+
+def main():
+    checks = (layout, edits_apply, few_edits, all_read, no_labels, no_machine, docs_name_files, crates_listed, few_ways, judge_alone, roads_apart, headers_counted, no_handles, short_files, items_spelled, worked_causes, bundles, manual_is_made, dist_is_built, libraries_are_built, plain_words)
+    checks += source_checks.CHECKS
+    checks += page_checks.CHECKS
+    failed = 0
+    for check in checks:
+        found = [*check()]
+        failed += bool(found)
+        for line in found:
+            print(f"quick: {line}")
+    print(f"{len(checks) - failed} passed, {failed} failed")
+    return 1 if failed else 0
+
+
+if __name__ == "__main__":
+    if sys.argv[1:] == ["laws"]:
+        print(*laws.lines(), sep="\n")
+        sys.exit(0)
+    sys.exit(main())

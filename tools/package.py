@@ -1,7 +1,0 @@
-"""Makes the package python/certpath known to the scripts that share its modules."""
-import os
-import sys
-
-import repo
-
-sys.path.insert(0, os.path.join(repo.TOP, "python"))

@@ -1,0 +1,85 @@
+"""Which key vouches for which item of a bundle, and why none does: what ./vouch writes and tells."""
+from typing import NamedTuple
+
+from pki import package
+from program.streams import counted
+from certpath import Kind, Vouchers, holders_by_issuer
+
+
+class Verdict(NamedTuple):
+    """The keys that vouch for an item, and what is to tell of it, none where there is nothing."""
+    keys: tuple = ()
+    why: str = None
+
+
+UNREAD = Verdict(why="neither certificate nor list")
+
+
+class Vouching:
+    """The vouchers for a bundle's items, by the keys of its certificates and of the anchors. `told` is told what there is to tell.
+
+    Equal items are judged once.
+    """
+
+    def __init__(self, bundle, anchors, judge, takes_weak, told):
+        self.bundle, self.anchors, self.judge, self.takes_weak, self.told = bundle, anchors, judge, takes_weak, told
+        self.vouchers, self.verdicts, self.vouched = Vouchers(), {}, 0
+        self.holders = {name: judge.holders([it.certificate(bundle, anchors) for it in holders])
+                        for name, holders in holders_by_issuer(bundle, anchors).items()}
+        for number, kind in enumerate(bundle.kinds()):
+            self.vouch(number, kind)
+            if kind is Kind.CERTIFICATE:
+                self.read("bundle", number, bundle[number])
+        for number, kind in enumerate(anchors.kinds()):
+            if kind is Kind.CERTIFICATE:
+                self.read("anchors", number, anchors[number])
+            else:
+                told.add("anchors", number, "no certificate")
+
+    def vouch(self, number, kind):
+        """Adds an item's vouchers, or tells why there is none."""
+        verdict = UNREAD if kind is Kind.OTHER else self.verdict(number)
+        for key in verdict.keys:
+            self.vouchers.add(key, self.bundle.octets(number))
+        self.vouched += bool(verdict.keys)
+        if verdict.why:
+            self.told.add("bundle", number, verdict.why)
+
+    def verdict(self, number):
+        """What is found of a certificate or a list, once of equal ones."""
+        item = self.bundle[number]
+        if item not in self.verdicts:
+            holders = self.holders[item.issuer]
+            self.verdicts[item] = self.verdict_on(self.judge.judged(item, holders), len(holders.certificates))
+        return self.verdicts[item]
+
+    def verdict_on(self, judged, holders):
+        """What follows from what OpenSSL says."""
+        if judged.why:
+            return Verdict(why=judged.why)
+        if not holders:
+            return Verdict(why="no key under its issuer's name")
+        left = holders - len(judged.tried)
+        untried = f"; {counted(left, 'further key')} not tried (--tries)" if left else ""
+        verified = [it for it in judged.tried if it.why is None]
+        if not verified:
+            return Verdict(why=f"not verified by {counted(len(judged.tried), 'key')} ({judged.tried[0].why}){untried}")
+        taken = tuple(it.key for it in verified if self.takes_weak or not it.weaknesses)
+        if not taken:
+            return Verdict(why=f"weak: {', '.join(verified[0].weaknesses)} (--weak takes it){untried}")
+        return Verdict(taken, f"vouched for{untried}" if untried else None)
+
+    def read(self, file, number, certificate):
+        """Tells of a key that isn't used, where an item of the bundle asks for one under its name."""
+        if certificate.subject in self.holders:
+            why = self.judge.openssl.key(certificate.public_key_bytes).why
+            if why:
+                self.told.add(file, number, why)
+
+    def text(self):
+        """The file: each line once, in ascending order."""
+        return self.vouchers.text().encode()
+
+    def summary(self):
+        return (f"vouch: {counted(len(self.bundle), 'item')}, {self.vouched} vouched for, {counted(len(self.vouchers), 'line')}, "
+                f"{self.told.count} told")

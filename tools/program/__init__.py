@@ -1,0 +1,1 @@
+"""What ./certpath and ./rows run: they find, build and start the programs."""

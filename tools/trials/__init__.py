@@ -1,0 +1,1 @@
+"""Trials of the built programs and of the scripts."""

@@ -1,0 +1,175 @@
+#!/usr/bin/env python3
+"""Runs the built program `certpath` on a table of command lines, and tells of each whether its status and what it wrote are as wanted.
+
+What leads from the words to the files isn't seen by a contract of a library, so it is run: the limit, each status, each message, and what is written where.
+"""
+import os
+import subprocess
+import sys
+import tempfile
+
+sys.path.insert(0, os.path.dirname(os.path.dirname(os.path.abspath(__file__))))
+from program import repo
+from trials import paths, pieces
+
+SECONDS = 60
+BUNDLE = os.path.join(repo.TOP, "samples", "bundle.der")
+LINES = repo.read("samples/bundle.frame").encode()
+LARGEST = 16_777_216
+# More items than one read holds.
+MANY = 20_000
+# An element of 3 content octets, and the same behind it, cut in its content.
+THREE, CUT = bytes.fromhex("3003020105"), bytes.fromhex("30030201")
+# Certificates of version 1, and of version 3 with an empty basicConstraints.
+FIRST = bytes.fromhex("30433038020101300406022a033000301e170d3235303130313030303030305a170d3236303130313030303030305a30003009"
+                      "300406022a03030100300406022a03030100")
+THIRD = bytes.fromhex("3057304ca003020102020101300406022a033000301e170d3235303130313030303030305a170d3236303130313030303030305a"
+                      "30003009300406022a03030100a30d300b30090603551d1304023000300406022a03030100")
+# Streams, the limit that each is framed under, what is printed, a blank between lines, and the status.
+STREAMS = [
+    ("", LARGEST, "end_clean", 0),
+    ("3000", LARGEST, "0_0_2 end_clean", 0),
+    ("30003000", LARGEST, "0_0_2 1_2_2 end_clean", 0),
+    ("30003100", LARGEST, "0_0_2 end_fault_2", 1),
+    ("30030201", LARGEST, "end_cut_0", 1),
+    ("308100", LARGEST, "end_fault_0", 1),
+    ("30800000", LARGEST, "end_fault_0", 1),
+    ("30", 0, "end_cut_0", 1),
+    ("3000", 0, "0_0_2 end_clean", 0),
+    ("3001", 0, "end_fault_0", 1),
+    ("3081", 200, "end_cut_0", 1),
+    ("3081c8", 200, "end_cut_0", 1),
+    ("3081c9", 200, "end_fault_0", 1),
+    ("3082", 200, "end_fault_0", 1),
+    ("3085", 0xFFFFFFFF, "end_fault_0", 1),
+    ("3084ffffffff", 0xFFFFFFFF, "end_cut_0", 1),
+    (FIRST.hex(), 67, "0_0_69 end_clean", 0),
+    (FIRST.hex(), 66, "end_fault_0", 1),
+    ((FIRST + THIRD).hex(), LARGEST, "0_0_69 1_69_89 end_clean", 0),
+]
+
+
+class Some:
+    """Text that begins so and isn't only that: the words of `clap`."""
+
+    def __init__(self, front):
+        self.front = front
+
+    def __eq__(self, text):
+        return text.startswith(self.front) and len(text) > len(self.front) and text.endswith(b"\n")
+
+    def __repr__(self):
+        return f"{self.front!r} and more"
+
+
+def table(room):
+    """Rows of words, standard input, and what is wanted: status, standard output, standard error."""
+    def made(name, octets):
+        with open(os.path.join(room, name), "wb") as file:
+            file.write(octets)
+        return name
+
+    return [*frame_table(room, made), *paths.table(made)]
+
+
+def frame_table(room, made):
+    """Rows of `frame`, and of words that no command takes."""
+    samples = [os.path.join(repo.TOP, "samples", f"{it}.der") for it in ("leaf", "intermediate", "root", "list")]
+    bundled = subprocess.run([os.path.join(repo.TOP, "bundle"), *samples], stdout=subprocess.PIPE, timeout=SECONDS).stdout
+    longest = bytes([0x30, 0x84]) + LARGEST.to_bytes(4, "big") + bytes(LARGEST)
+    above = bytes([0x30, 0x84]) + (LARGEST + 1).to_bytes(4, "big") + bytes(LARGEST + 1)
+    empty, three, cut, fault = made("empty", b""), made("three", THREE), made("cut", THREE + CUT), made("fault", THREE + b"\x00\x00")
+    pem = made("three.pem", b"-----BEGIN CERTIFICATE-----\nMAMCAQU=\n-----END CERTIFICATE-----\n")
+    os.mkdir(os.path.join(room, "folder"))
+    streams = [
+        (["frame", f"--limit={limit:020}", made(f"stream{k}", bytes.fromhex(octets))], b"", status, lines.replace(" ", "\n").replace("_", " ").encode() + b"\n", b"")
+        for k, (octets, limit, lines, status) in enumerate(STREAMS)
+    ]
+    return [
+        *streams,
+        (["frame", BUNDLE], b"", 0, LINES, b""),
+        (["frame", "--limit", "433", three], b"", 0, b"0 0 5\nend clean\n", b""),
+        (["frame", three, "--limit=3"], b"", 0, b"0 0 5\nend clean\n", b""),
+        (["frame", three, "--limit", "2"], b"", 1, b"end fault 0\n", b""),
+        (["frame", three, "--limit", "0003"], b"", 0, b"0 0 5\nend clean\n", b""),
+        (["frame", three, "--limit", "4294967295"], b"", 0, b"0 0 5\nend clean\n", b""),
+        (["frame", made("longest", longest)], b"", 0, b"0 0 %d\nend clean\n" % len(longest), b""),
+        (["frame", made("above", above)], b"", 1, b"end fault 0\n", b""),
+        (["frame", empty], b"", 0, b"end clean\n", b""),
+        (["frame", made("many", THREE * MANY)], b"", 0, b"".join(b"%d %d 5\n" % (k, 5 * k) for k in range(MANY)) + b"end clean\n", b""),
+        (["frame", cut], b"", 1, b"0 0 5\nend cut 5\n", b""),
+        (["frame", fault], b"", 1, b"0 0 5\nend fault 5\n", b""),
+        (["frame", pem], b"", 1, b"end fault 0\n", b""),
+        (["frame", "/dev/stdin"], bundled, 0, LINES, b""),
+        (["frame", "/dev/stdin"], THREE + THREE, 0, b"0 0 5\n1 5 5\nend clean\n", b""),
+        (["frame", "none.der"], b"", 4, b"", b"cannot read none.der\n"),
+        (["frame", "folder"], b"", 4, b"", b"cannot read folder\n"),
+        (["frame", ""], b"", 4, b"", b"cannot read \n"),
+        (["frame", three, "--limit", "4294967296"], b"", 2, b"", b"bad number\n"),
+        (["frame", three, "--limit", "3x"], b"", 2, b"", b"bad number\n"),
+        *((["frame", three, "--limit", it], b"", 2, b"", b"bad number\n") for it in ("", "10000000000", "5_0", " 3", "\u0663")),
+        *((["frame", three, f"--limit={it}"], b"", 2, b"", b"bad number\n") for it in ("", "-1")),
+        (["frame", "none.der", "--limit", "+3"], b"", 2, b"", b"bad number\n"),
+        ([], b"", 2, b"", Some(b"")),
+        (["frame"], b"", 2, b"", Some(b"error: ")),
+        (["frame", three, three], b"", 2, b"", Some(b"error: ")),
+        (["frames", three], b"", 2, b"", Some(b"error: ")),
+        (["frame", three, "--limits", "3"], b"", 2, b"", Some(b"error: ")),
+        (["frame", three, "--limit", "3", "--limit", "3"], b"", 2, b"", Some(b"error: ")),
+        (["frame", three, "--limit"], b"", 2, b"", Some(b"error: ")),
+        (["frame", three, "--limit", "-0"], b"", 2, b"", Some(b"error: ")),
+        (["frame", b"\xff"], b"", 2, b"", b"error: a word is not UTF-8\n"),
+        (["path", three, three, three], b"", 2, b"", Some(b"error: ")),
+        (["path", three, three, three, "--target", "x", "--at", "2026-01-01T00:00:00"], b"", 2, b"", b"bad number\n"),
+        (["path", three, three, three, "--target", "0", "--at", "2026-02-29T00:00:00"], b"", 2, b"", b"bad moment\n"),
+        (["--help"], b"", 2, b"", Some(b"Reads certificates")),
+        (["frame", "--help"], b"", 2, b"", Some(b"Tells where the items of a file lie")),
+    ]
+
+
+def octet_by_octet(rows, room):
+    """The worked cases of `path`, with a bundle that comes octet by octet."""
+    for words, _, *wanted in rows:
+        if words[:1] == ["path"] and words[1].startswith(paths.CASE_BUNDLE):
+            with open(os.path.join(room, words[1]), "rb") as file:
+                octets = file.read()
+            yield ["path", "/dev/stdin", *words[2:]], [octets[it:it + 1] for it in range(len(octets))], *wanted
+
+
+def ran(program, words, room, octets, output):
+    """A run's status, what it wrote to standard output where that is piped, and to standard error."""
+    it = subprocess.run([program, *words], cwd=room, input=octets, stdout=output, stderr=subprocess.PIPE, timeout=SECONDS)
+    return it.returncode, it.stdout, it.stderr
+
+
+def main():
+    program = repo.ready("certpath_cli")
+    if not program:
+        print("certpath: it wasn't built")
+        return 1
+    passed = failed = 0
+
+    def count(words, got, wanted):
+        nonlocal passed, failed
+        if got == wanted:
+            passed += 1
+        else:
+            failed += 1
+            print(f"certpath {words}: status, output and error are {got}, wanted are {wanted}")
+
+    with tempfile.TemporaryDirectory(prefix="commands-") as room:
+        rows = table(room)
+        for words, octets, *wanted in rows:
+            count(words, ran(program, words, room, octets, subprocess.PIPE), tuple(wanted))
+        for words, octets, *wanted in octet_by_octet(rows, room):
+            count([*words, "octet by octet"], pieces.ran([program, *words], octets, SECONDS, cwd=room), tuple(wanted))
+        # a device that takes no octet
+        with open("/dev/full", "wb") as full:
+            count(["frame", "three", ">/dev/full"], ran(program, ["frame", "three"], room, b"", full), (7, None, b"cannot write\n"))
+            count([*paths.FULL, ">/dev/full"], ran(program, paths.FULL, room, b"", full), (7, None, b"cannot write\n"))
+    print(f"certpath: {passed} passed, {failed} failed of {passed + failed} command lines")
+    return 1 if failed else 0
+
+
+if __name__ == "__main__":
+    sys.exit(main())

@@ -1,0 +1,207 @@
+#!/usr/bin/env python3
+"""Refuses memory to the built programs: each request of a run in turn, until a run meets none.
+
+`certpath` has to print what it prints with all its memory, or `out of memory` alone, with status 6.
+The programs of rows call what no command does: a row has the outcome that it has with all memory,
+or it says that memory is out, or the program ends so. Tests that are made for it pass, or end
+because memory was refused to themselves. tools/trials/embedding/refuse.c does the refusing.
+
+    python3 tools/trials/memory.py     the last line is `memory: N passed, M failed`
+"""
+import os
+import re
+import shutil
+import subprocess
+import sys
+import tempfile
+from concurrent.futures import ThreadPoolExecutor
+from typing import Callable, NamedTuple
+
+sys.dont_write_bytecode = True
+sys.path.insert(0, os.path.dirname(os.path.dirname(os.path.abspath(__file__))))
+from program import repo
+from trials import paths, pieces
+
+REFUSER = os.path.join("tools", "trials", "embedding", "refuse.c")
+COMPILER = ["cc", "-std=c99", "-Wall", "-Wextra", "-Werror", "-O1", "-shared", "-fPIC"]
+SECONDS, RUNS = 60, 4
+OUT_OF_MEMORY = 6, b"", b"out of memory\n"
+# How a program of rows ends over a row.
+ROW_LOST = 1, b"Error: Kind(OutOfMemory)\n"
+# The worked cases of crates/check_rows/stdin that the commands are tried on.
+CASES = ("an anchor vouches for itself, at the last moment", "revoked by a list",
+         "a list that is other revokes nothing", "a later count is taken", "the key that is named")
+# How rows begin, and the octets of crates/check_rows/stdin that they end with.
+ROWS = {
+    "cert_rows": {"": ("A", "V", "M", "M_loose", "T_names_abcd"),
+                  "keys:": ("T_names_abcd", "B_has_abcd")},
+    "x509_rows": {"certificate certificate ": ("A", "V", "V_twice", "T_names_abcd"),
+                  "list list ": ("M", "M_loose"),
+                  "validator written ": ("A", "V_twice"),
+                  "validator structure ": ("A", "V_twice"),
+                  "validator chain ": ("V_twice",)},
+}
+# The stored rows of certificates that have every kind of extension that is parsed.
+ALL_KINDS = re.compile(r"(?m)^walk (certificate 308201ca\w+)$")
+# Tests that hold whatever is refused, by the crate; the gate leaves their programs.
+TESTS = {
+    "asn1_tests": ("any::cut_or_want_of_memory",),
+    "run_tests": ("framing::answers_failed_once_memory_was_refused",),
+}
+# A test that passed, and one that ended because memory was refused to itself.
+PASSED = re.compile(rb"test result: ok\s*\Z")
+ENDED = re.compile(rb"error: (?:OutOfMemory|AllocError)\s+the test failed: its result gives")
+# What a row says where memory is refused to its call, or to the reading before it; and the line of
+# a row whose fields can't be written back, since memory is refused to what they are written into.
+REFUSED = re.compile(rb"Failure\(OutOfMemory\)|refused|no certificate")
+WRITTEN, UNWRITTEN = re.compile(rb"\n  written .*\n\Z"), b"\n  written nothing\n"
+
+
+class Trial(NamedTuple):
+    """A program, its words, its input as the pieces that it reads one by one, and whether it is
+    right with a request refused, by what it did with all its memory and what it does now."""
+    title: str
+    words: list
+    pieces: tuple
+    is_right: Callable
+
+
+# ---- one run
+
+
+def refuser(room):
+    """The library that refuses, compiled; none where it can't be."""
+    if shutil.which(COMPILER[0]) is None:
+        return None
+    library = os.path.join(room, "refuse.so")
+    words = [*COMPILER, os.path.join(repo.TOP, REFUSER), "-o", library]
+    done = subprocess.run(words, stdin=subprocess.DEVNULL)
+    return library if done.returncode == 0 else None
+
+
+def ran(trial, room, library, number):
+    """Runs with the request of this number refused, none where it is 0. Gives whether there was
+    such a request; and status, output and error."""
+    told, tell = os.pipe()
+    environment = {"LD_PRELOAD": library, "REFUSED": str(number), "REFUSED_TOLD": str(tell)}
+    try:
+        done = pieces.ran(trial.words, trial.pieces, SECONDS, cwd=room, env=environment,
+                          pass_fds=[tell])
+        os.close(tell)
+        return os.read(told, 1) != b"", done
+    finally:
+        os.close(told)
+
+
+def all_refusals(trial, room, library):
+    """How many requests a run makes, and a line for each refusal after which it is wrong."""
+    whole, amiss, number = ran(trial, room, library, 0)[1], [], 0
+    while True:
+        number += 1
+        was_refused, now = ran(trial, room, library, number)
+        if not (trial.is_right(whole, now) if was_refused else now == whole):
+            amiss.append(f"{trial.title}, request {number}: {now}, with all memory {whole}")
+        if not was_refused:
+            return number - 1, amiss if number > 1 else [f"{trial.title}: nothing is refused"]
+
+
+# ---- what is run
+
+
+def is_command_right(whole, now):
+    return now in (whole, OUT_OF_MEMORY)
+
+
+def is_row_right(whole, now):
+    """Whether a row has its outcome, or says that memory is out, or the program ended over it."""
+    if now[0]:
+        return (now[0], now[2]) == ROW_LOST and whole[1].startswith(now[1])
+    row, _, outcome = now[1].rstrip(b"\n").partition(b" = ")
+    is_refused = REFUSED.fullmatch(outcome) and whole[1].startswith(row + b" = ")
+    return bool(is_refused) or now[1] in (whole[1], WRITTEN.sub(UNWRITTEN, whole[1]))
+
+
+def is_test_right(_, now):
+    said = now[1] + now[2]
+    return bool(PASSED.search(said) if now[0] == 0 else ENDED.search(said))
+
+
+def command_trials(program, room):
+    """The commands on worked cases, and a certificate that comes in three pieces."""
+    octets, cases = paths.worked()
+
+    def made(name, content):
+        with open(os.path.join(room, name), "wb") as file:
+            file.write(content)
+        return name
+
+    def trial(title, words, parts=()):
+        return Trial(title, [program, *words], parts, is_command_right)
+
+    for place, title in enumerate(CASES):
+        case = cases[title]
+        files = [made(f"{name}{place}", b"".join(octets[it] for it in names))
+                 for name, names in (("bundle", case.items), ("anchors", case.anchors))]
+        pairs = ((octets[key], octets[item]) for key, item in case.vouching)
+        files.append(made(f"vouchers{place}", paths.vouchers(pairs)))
+        for command in paths.PRINTED:
+            words = paths.words_of(command, files, {"target": "0"}, case)
+            yield trial(f"{command}, {title}", words)
+    one, case = octets["A"], cases[CASES[0]]
+    parts = one[:1], one[1:40], one[40:]
+    files = "/dev/stdin", "anchors0", "vouchers0"
+    yield trial("frame, three pieces", ["frame", files[0]], parts)
+    words = paths.words_of("path", files, {"target": "0"}, case)
+    yield trial("path, three pieces", words, parts)
+
+
+def row_trials(crate, program):
+    """The rows of a program, a run each."""
+    octets, _ = paths.worked()
+    rows = {f"{front}{it}": f"{front}{octets[it].hex()}"
+            for front, names in ROWS[crate].items() for it in names}
+    if crate == "x509_rows":
+        stored = ALL_KINDS.findall(repo.read("crates/x509_rows/stdin"))
+        rows |= {f"all kinds, {place}": f"certificate {it}" for place, it in enumerate(stored)}
+    for title, row in rows.items():
+        yield Trial(f"{crate}, {title}", [program], (f"{row}\n".encode(),), is_row_right)
+
+
+def test_trials(crate):
+    """The tests of a crate, none where the gate left no program of them here."""
+    program = os.path.join(repo.TOP, "crates", crate, "out", f"{crate}_tests")
+    if not os.access(program, os.X_OK):
+        print(f"memory: {crate}: the gate left no program of its tests, so they aren't run")
+        return
+    for it in TESTS[crate]:
+        yield Trial(f"{crate}, {it}", [program, f"tests::{it}"], (), is_test_right)
+
+
+def main():
+    passed = failed = 0
+    with tempfile.TemporaryDirectory(prefix="memory-") as room, ThreadPoolExecutor(RUNS) as pool:
+        made = {it: repo.ready(it) for it in ("certpath_cli", *ROWS)}
+        made[REFUSER] = library = refuser(room)
+        lacking = [it for it, path in made.items() if not path]
+        for it in lacking:
+            print(f"memory: {it} wasn't built")
+        if lacking:
+            print(f"memory: 0 passed, {len(lacking)} failed")
+            return 1
+        groups = {"certpath": [*command_trials(made["certpath_cli"], room)]}
+        groups |= {it: [*row_trials(it, made[it])] for it in ROWS}
+        groups |= {it: [*test_trials(it)] for it in TESTS}
+        for title, trials in (it for it in groups.items() if it[1]):
+            found = [*pool.map(lambda it: all_refusals(it, room, library), trials)]
+            requests, amiss = sum(it for it, _ in found), [line for _, it in found for line in it]
+            # a trial for each request, and one with a request more than there are
+            passed += requests + len(trials) - len(amiss)
+            failed += len(amiss)
+            print("".join(f"memory: {it}\n" for it in amiss), end="")
+            print(f"memory: {title}: {len(trials)} runs, {requests} requests refused")
+    print(f"memory: {passed} passed, {failed} failed")
+    return 1 if failed else 0
+
+
+if __name__ == "__main__":
+    sys.exit(main())

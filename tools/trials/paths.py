@@ -1,0 +1,183 @@
+"""Command lines of `certpath path`, `why`, `paths` and `questions` on worked cases: the cases stand in crates/check_rows/stdin, what is
+printed of them in a file of tools/ for each command."""
+import hashlib
+import os
+
+from program import repo
+
+CASES = "crates/check_rows/stdin"
+# What is printed, by the command.
+PRINTED = {"path": "tools/trials/paths.txt", "why": "tools/trials/why.txt", "paths": "tools/trials/all_paths.txt", "questions": "tools/trials/questions.txt"}
+# How the files of bundles are named that `path` is asked about.
+CASE_BUNDLE = "path_bundle"
+# Copies of one certificate, each of which an anchor vouches for; the last is asked for.
+EQUALS = 300
+# What is printed of one certificate that is its own anchor, where a key vouches for it and where none does.
+FOUND = b"0 cert\nend clean\nanchors 1 of 1, clean\npath 0 anchor 0\ncheck yes\n"
+ABSENT = b"0 cert\nend clean\nanchors 1 of 1, clean\nnone\ncheck yes\n"
+
+
+class Case:
+    """Items and anchors by name, who vouches for what, the moment, and whether lists are demanded."""
+
+    def __init__(self):
+        self.items, self.anchors, self.vouching, self.moment, self.demand = [], [], [], "", False
+
+    def take(self, word, rest):
+        """Takes a line of the case; questions are passed over."""
+        if word in ("items", "anchors"):
+            getattr(self, word).extend(rest)
+        elif word == "vouch":
+            self.vouching += [(rest[0], item) for item in rest[1:]]
+        elif word == "at":
+            self.moment = "{:04d}-{:02d}-{:02d}T{:02d}:{:02d}:{:02d}".format(*map(int, rest))
+        elif word == "demand":
+            self.demand = True
+
+
+def worked():
+    """The octets by name, and the cases by title."""
+    octets, cases, title, case = {}, {}, "", Case()
+    for line in repo.read(CASES).splitlines():
+        word, *rest = line.split(" ")
+        if word == "octets":
+            octets[rest[0]] = bytes.fromhex(rest[1])
+        elif word == "#":
+            title = " ".join(rest)
+        elif word == "case":
+            case = cases[title] = Case()
+        else:
+            case.take(word, rest)
+    return octets, cases
+
+
+def printed(command):
+    """Of each title: the words `target` and `behind`, the lines that the command prints, and the status."""
+    found = {}
+    for line in repo.read(PRINTED[command]).splitlines():
+        word, _, rest = line.partition(" ")
+        if word == "case":
+            row = found[rest] = {"target": "0", "behind": "", "text": "", "status": ""}
+        elif word == ">":
+            row["text"] += rest + "\n"
+        elif word in ("target", "behind", "status"):
+            row[word] = rest
+    return found
+
+
+def digest(octets):
+    return hashlib.sha256(octets).hexdigest()
+
+
+def vouchers(pairs):
+    """A line for each key and item, as a voucher file has them."""
+    return "".join(f"{digest(key)} {digest(item)}\n" for key, item in pairs).encode()
+
+
+def words_of(command, files, row, case):
+    """The words that ask a command about a case."""
+    if command == "questions":
+        return [command, *files[:2]]
+    target = [] if command == "paths" else ["--target", row["target"]]
+    return [command, *files, *target, "--at", case.moment] + ["--demand-lists"] * case.demand
+
+
+def case_rows(made, command, octets, cases):
+    """Rows of a command on the worked cases that its file names."""
+    rows = []
+    for number, (title, row) in enumerate(printed(command).items()):
+        case = cases[title]
+        bundle = made(f"{command}_bundle{number}", b"".join(octets[it] for it in case.items) + bytes.fromhex(row["behind"]))
+        anchors = made(f"{command}_anchors{number}", b"".join(octets[it] for it in case.anchors))
+        lines = made(f"{command}_vouchers{number}", vouchers((octets[key], octets[item]) for key, item in case.vouching))
+        rows.append((words_of(command, (bundle, anchors, lines), row, case), b"", int(row["status"]), row["text"].encode(), b""))
+    return rows
+
+
+def table(made):
+    """Rows of words, standard input, status, standard output, standard error; `made` makes a file of a name and octets."""
+    octets, cases = worked()
+    rows = [it for command in PRINTED for it in case_rows(made, command, octets, cases)]
+    one, key = octets["A"], octets["K"]
+    many = made("many_equals", one * EQUALS)
+    words = ["path", many, made("equal", one), made("equal_vouchers", vouchers([(key, one)])), "--target", str(EQUALS - 1), "--at", "2025-06-01T00:00:00"]
+    lines = [f"{k} cert\n" for k in range(EQUALS)] + ["end clean\n", "anchors 1 of 1, clean\n", f"path {EQUALS - 1} anchor 0\n", "check yes\n"]
+    rows.append((words, b"", 0, "".join(lines).encode(), b""))
+    return rows + voucher_rows(made, one, key) + file_rows(made, one, key) + word_rows(made, one) + command_rows(made, one, key)
+
+
+def command_rows(made, one, key):
+    """Rows of the other commands: files that can't be opened or read, a bad line of the vouchers, and wrong words."""
+    item, bad, at = made("one", one), made("bad_lines", b"-"), ["--at", "2025-06-01T00:00:00"]
+    three = [("missing.der", item, bad), (item, ".", bad), (item, item, "missing.txt")]
+    told = [b"cannot read missing.der\n", b"cannot read .\n", b"cannot read missing.txt\n"]
+    rows = []
+    for command, target in (("why", ["--target", "0"]), ("paths", [])):
+        rows += [([command, *files, *target, *at], b"", 4, b"", said) for files, said in zip(three, told)]
+        rows += [([command, item, item, bad, *target, *at], b"", 5, b"", b"vouchers line 1\n"),
+                 ([command, item, item, bad, *target, "--at", "2025-06-31T00:00:00"], b"", 2, b"", b"bad moment\n"),
+                 ([command, item, item, bad, *target, *at, "--limit", "x"], b"", 2, b"", b"bad number\n")]
+    rows.append((["why", item, item, bad, "--target", "x", *at], b"", 2, b"", b"bad number\n"))
+    rows += [(["questions", "missing.der", item], b"", 4, b"", b"cannot read missing.der\n"),
+             (["questions", item, "."], b"", 4, b"", b"cannot read .\n"),
+             (["questions", item, item, "--limit", ""], b"", 2, b"", b"bad number\n"),
+             (["questions", item, item, "--limit", "66"], b"", 0, b"", b"")]
+    return rows
+
+
+def asked(bundle, anchors, lines, target="0", moment="2025-06-01T00:00:00"):
+    """The words that ask for the path of an item."""
+    return ["path", bundle, anchors, lines, "--target", target, "--at", moment]
+
+
+# Words that succeed in the folder where the table's files are, to be run with a device as standard output that takes no octet.
+FULL = asked("one", "one", "lines")
+
+
+def voucher_rows(made, one, key):
+    """Rows of voucher files, on one certificate that is its own anchor: what counts as a line, and which line is the first bad one."""
+    good = vouchers([(key, one)])
+    pair = good.rstrip(b"\n")
+    first, second = pair.split(b" ")
+    item = made("one", one)
+    found = {
+        "lf": good, "no_lf": pair, "cr_lf": pair + b"\r\n", "upper": pair.upper() + b"\n", "mixed": first + b" " + second.upper() + b"\n",
+        "empty_lines": b"\n\r\n" + good + b"\n", "twice": good + good, "behind_others": vouchers([(one, key)]) + pair,
+    }
+    absent = {"no_lines": b"", "one_empty_line": b"\n", "exchanged": second + b" " + first + b"\n"}
+    bad = {
+        "digits_63": (good + first[:63] + b" " + second + b"\n", 2), "digits_63_alone": (good + first[:63], 2),
+        "digits_65": (good + pair + b"0", 2), "no_digit": (pair[:-1] + b"g\n", 1), "two_spaces": (first + b"  " + second + b"\n", 1),
+        "tab": (first + b"\t" + second + b"\n", 1), "no_space": (first + second, 1), "space_before": (b" " + good, 1), "space_behind": (good + pair + b" \n", 2),
+        "one_digest": (first + b"\n", 1), "cr_at_the_end": (pair + b"\r", 1), "two_cr": (pair + b"\r\r\n", 1), "cr_between": (pair + b"\r" + good, 1),
+        "behind_empty_lines": (b"\n\n\r\n" + good + b"-\n" + first, 5), "space_alone": (good + b" ", 2),
+    }
+    rows = [(asked(item, item, made(f"vouchers_{name}", text)), b"", 0, FOUND, b"") for name, text in found.items()]
+    rows += [(asked(item, item, made(f"vouchers_{name}", text)), b"", 1, ABSENT, b"") for name, text in absent.items()]
+    return rows + [(asked(item, item, made(f"vouchers_{name}", text)), b"", 5, b"", b"vouchers line %d\n" % number) for name, (text, number) in bad.items()]
+
+
+def file_rows(made, one, key):
+    """Rows of files that can't be opened, or not be read, in each place: all are opened before one is read, and then they are read in order."""
+    item, lines, bad = made("one", one), made("lines", vouchers([(key, one)])), made("bad_lines", b"-")
+    good = (item, item, lines)
+    # What can't be opened, and folders, which can't be read.
+    unopened, folders = ("missing.der", "no_folder/missing.der", "n" * 300), (".", "./", "././")
+    rows = [((*good[:at], word, *good[at + 1:]), word) for at in range(3) for word in (*unopened, folders[0])]
+    rows += [(("missing_1", "missing_2", "missing_3"), "missing_1"), ((item, "missing_2", "missing_3"), "missing_2"), ((".", "./", "missing_3"), "missing_3"),
+             ((".", "missing_2", bad), "missing_2"), (folders, "."), ((item, "./", "././"), "./"), ((item, ".", bad), "."), ((item, item, ""), "")]
+    rows = [(asked(*files), b"", 4, b"", f"cannot read {word}\n".encode()) for files, word in rows]
+    # A bundle that ends with a fault is read, and so the vouchers behind it.
+    fault = made("one_and_a_fault", one + b"1")
+    return rows + [(asked(fault, item, bad), b"", 5, b"", b"vouchers line 1\n"), (asked("/dev/stdin", item, lines), one, 0, FOUND, b"")]
+
+
+def word_rows(made, one):
+    """Rows of two bad words: a number is told before a moment, and words before files."""
+    item, moment = made("one", one), "2025-06-01T00:00:00"
+    number, date = b"bad number\n", b"bad moment\n"
+    rows = [(asked(item, item, item, "x", "x"), number), (asked(item, item, item, "0", "x") + ["--limit", "x"], number),
+            (asked(item, item, item, "x") + ["--limit", "x"], number), (asked("missing.der", item, item, "x"), number),
+            (asked("missing.der", item, item, "0", "2025-06-01"), date), (asked(item, item, item, "4294967296", moment), number),
+            (asked(item, item, item, "0", "2025-02-30T00:00:00"), date), (asked(item, item, item, "0", f"{moment}Z"), date)]
+    return [(words, b"", 2, b"", said) for words, said in rows]

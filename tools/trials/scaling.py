@@ -1,0 +1,328 @@
+#!/usr/bin/env python3
+"""Tries `python3 -m certpath.inventory` on a synthetic log: its table says what one run of
+`certpath paths` over everything says, whatever the number of processes, and also where workers are
+killed.
+
+    python3 tools/trials/scaling.py [N]                      the trial, with N entries, 20000 without N
+    python3 tools/trials/scaling.py make N FOLDER            a log of N entries, to be measured
+    python3 tools/trials/scaling.py measure FOLDER WORKERS.. times and memory, with so many processes
+
+Without Dask nothing is tried. Prints `N passed, M failed` in the end.
+"""
+import csv
+import glob
+import hashlib
+import json
+import os
+import re
+import shutil
+import signal
+import subprocess
+import sys
+import tempfile
+import time
+
+sys.dont_write_bytecode = True
+sys.path.insert(0, os.path.dirname(os.path.dirname(os.path.abspath(__file__))))
+from program import repo
+from trials import synthetic
+
+ENTRIES, FEW = 20_000, 600
+# Blocks for the trial are small, so that there are some for each process.
+BLOCKSIZE = "1000000"
+INTERPRETERS = [sys.executable, "/usr/bin/python3"]
+PROGRAM = os.path.join(repo.TOP, "dist", "certpath")
+SUMMARY = re.compile(r"inventory: (\d+) entries, (\d+) rows \((.*)\)")
+COUNTS = re.compile(r"inventory: (\d+) issuers and lists, (\d+) blocks, (\d+) faults")
+PATH = re.compile(r"\d+ path \d+ ?([\d ]*?) ?anchor (\d+)")
+OBSTACLE = re.compile(r"not usable|no issuer|not linked|not used|leads to an anchor")
+SECONDS, SHORT = 600, 0.01
+# How many certificates without a path are asked about over everything, too.
+WHYS = 5
+
+
+class Count:
+    """How many trials passed and failed."""
+
+    def __init__(self):
+        self.passed = self.failed = 0
+
+    def tell(self, is_right, what):
+        self.passed, self.failed = self.passed + bool(is_right), self.failed + (not is_right)
+        if not is_right:
+            print(f"scaling: {what}")
+
+
+def with_dask():
+    """An interpreter that has Dask; none where there is none."""
+    for interpreter in INTERPRETERS:
+        words = [interpreter, "-c", "import distributed"]
+        try:
+            if subprocess.run(words, stdin=subprocess.DEVNULL, stderr=subprocess.DEVNULL).returncode == 0:
+                return interpreter
+        except OSError:
+            continue
+    return None
+
+
+def digest(octets):
+    return hashlib.sha256(octets).hexdigest()
+
+
+class Whole:
+    """What one run over everything says: all items of a log in their order, and where each entry is."""
+
+    def __init__(self, folder, entries, seed):
+        self.folder, self.octets, self.places = folder, [], {}
+        os.mkdir(folder)
+        self.log = synthetic.Writer(folder, synthetic.Log(entries, seed), self.meet).write()
+        self.bundle = os.path.join(folder, "everything.der")
+        with open(self.bundle, "wb") as to:
+            to.writelines(self.octets)
+        self.digests = [*map(digest, self.octets)]
+        self.anchors = [digest(it.octets) for it in synthetic.Log(entries, seed).authorities.anchors]
+
+    def meet(self, made, place):
+        if place:
+            self.places[place] = len(self.octets)
+        self.octets.append(made.octets)
+
+    def report(self, command, *words):
+        ran = subprocess.run([PROGRAM, command, self.bundle, self.log.anchors, self.log.vouchers,
+                              "--at", synthetic.MOMENT, *words], stdin=subprocess.DEVNULL,
+                             stdout=subprocess.PIPE, text=True, check=False)
+        return ran.stdout.splitlines()
+
+    def answers(self, *words):
+        """For each entry the columns class, outcome, path and anchor of its row."""
+        lines = self.report("paths", *words)
+        return {place: self.columns(lines[position]) for place, position in self.places.items()}
+
+    def columns(self, line):
+        found = PATH.fullmatch(line)
+        if found:
+            path = " ".join(self.digests[int(it)] for it in found[1].split())
+            return "cert", "path", path, self.anchors[int(found[2])]
+        word = line.split()[1]
+        return ("cert", "none", "", "") if word == "none" else (word, "", "", "")
+
+    def obstacles(self, place):
+        """What stands in the way, by digests: as the column `reasons` has it, in any order."""
+        position = self.places[place]
+        lines = self.report("why", "--target", str(position))
+        return {self.by_digests(it, self.digests[position]) for it in lines if OBSTACLE.search(it)}
+
+    def by_digests(self, line, target):
+        def item(position):
+            found = self.digests[int(position)]
+            return "target" if found == target else found
+
+        line = re.sub(r"to anchor (\d+)", lambda it: f"to anchor {self.anchors[int(it[1])]}", line)
+        line = re.sub(r"^at (\d+) to (\d+)", lambda it: f"at {item(it[1])} to {item(it[2])}", line)
+        line = re.sub(r"^(at|list) (\d+) ", lambda it: f"{it[1]} {item(it[2])} ", line)
+        return re.sub(r"revoked by list (\d+)$", lambda it: f"revoked by list {item(it[1])}", line)
+
+
+class Run:
+    """A run of the command line, which may be disturbed."""
+
+    def __init__(self, interpreter, whole_or_log, out, *words):
+        log = getattr(whole_or_log, "log", whole_or_log)
+        self.out = out
+        paths = {**os.environ, "PYTHONPATH": os.path.join(repo.TOP, "python"),
+                 "PYTHONDONTWRITEBYTECODE": "1"}
+        self.process = subprocess.Popen(
+            [interpreter, "-m", "certpath.inventory", *log.files, "--anchors", log.anchors, "--out",
+             out, "--at", synthetic.MOMENT, "--program", PROGRAM, "--format", "csv", *words],
+            env=paths, stdin=subprocess.DEVNULL, stdout=subprocess.PIPE, stderr=subprocess.PIPE,
+            text=True)
+        self.said = self.told = ""
+
+    def wait(self):
+        try:
+            self.said, self.told = self.process.communicate(timeout=SECONDS)
+        except subprocess.TimeoutExpired:
+            self.process.kill()
+            self.said, self.told = self.process.communicate()
+            self.told += f"\nended after {SECONDS} s"
+        return self
+
+    def workers(self):
+        """The numbers of the processes that this run's Dask has started to work."""
+        children = []
+        for path in glob.glob(f"/proc/{self.process.pid}/task/*/children"):
+            children += map(int, octets_at(path).split())
+        return [it for it in children if b"spawn_main" in octets_at(f"/proc/{it}/cmdline")]
+
+    def kill_a_worker(self, pattern):
+        """Kills a worker when a file of this kind is there; whether there was one to kill."""
+        until = time.monotonic() + SECONDS
+        while self.process.poll() is None and time.monotonic() < until:
+            workers = self.workers()
+            if workers and glob.glob(os.path.join(self.out, *pattern)):
+                os.kill(workers[0], signal.SIGKILL)
+                return True
+            time.sleep(SHORT)
+        return False
+
+
+def octets_at(path):
+    """The octets of a file of /proc; none where the process has ended."""
+    try:
+        with open(path, "rb") as file:
+            return file.read()
+    except OSError:
+        return b""
+
+
+def parts(out, table):
+    return sorted(glob.glob(os.path.join(out, table, "*.csv")))
+
+
+def octets_of(out):
+    """All that a run has written, by the names of the files."""
+    found = {}
+    for path in parts(out, "entries") + parts(out, "issuers"):
+        with open(path, "rb") as file:
+            found[os.path.relpath(path, out)] = file.read()
+    return found
+
+
+def rows_of(out, table="entries"):
+    rows = []
+    for path in parts(out, table):
+        with open(path, encoding="utf-8", newline="") as file:
+            rows += csv.DictReader(file)
+    return rows
+
+
+def same_answers(count, whole, rows, answers):
+    """Each row says what one run over everything says."""
+    found = {(it["file"], int(it["offset"])): (it["class"], it["outcome"], it["path"], it["anchor"])
+             for it in rows}
+    wrong = [it for it, columns in answers.items() if found.get(it) != columns]
+    count.tell(not wrong, f"{len(wrong)} rows differ from one run over everything: {wrong[:3]}")
+    for word in ("path", "none"):
+        seen = sum(columns[1] == word for columns in answers.values())
+        count.tell(seen > len(answers) // 20, f"only {seen} of {len(answers)} entries with {word}")
+
+
+def same_reasons(count, whole, rows):
+    """Certificates without a path have reasons; of some these are what `why` says over everything.
+    There it speaks of all lists, and in the table only of those that matter."""
+    pathless = [it for it in rows if it["outcome"] == "none"]
+    count.tell(all(it["reasons"] for it in pathless), "a certificate without a path and a reason")
+    whole_reasons = [it for it in pathless if ".." not in it["reasons"]]
+    for row in whole_reasons[::len(whole_reasons) // WHYS + 1]:
+        expected, found = whole.obstacles((row["file"], int(row["offset"]))), {*row["reasons"].split("; ")}
+        more = [it for it in expected - found if not it.startswith("list ")]
+        count.tell(found <= expected and not more, f"reasons of {row['sha256']}: {found ^ expected}")
+
+
+def counted(count, whole, run, rows):
+    """As many rows as entries, and each fault is shown."""
+    summary, counts = SUMMARY.search(run.said), COUNTS.search(run.said)
+    if not (summary and counts):
+        count.tell(False, f"no summary:\n{run.said}\n{run.told[-3000:]}")
+        return
+    log = whole.log
+    count.tell(run.process.returncode == 1, f"status {run.process.returncode}, and there are faults")
+    count.tell(int(summary[1]) == int(summary[2]) == len(rows) == log.entries,
+               f"{summary[0]}: {len(rows)} rows, where {log.entries} entries were written")
+    count.tell(int(counts[3]) == log.faults == sum(bool(it["cause"]) for it in rows),
+               f"{counts[0]}, where {log.faults} were made")
+    for file, said in (("a.der", "the file ends within the item that begins here"),
+                       ("b.der", "no item begins here"), (".json", "leaf_input: not base64"),
+                       (".json", "leaf_input: cut at octet"), (".json", "leaf_input: not there")):
+        count.tell(re.search(rf"(?m){re.escape(file)} \d+: {said}", run.told), f"not told: {said}")
+
+
+def issuers_are_there(count, out, rows):
+    """Each certificate that a path names has a row in the table of issuers, once."""
+    known = [it["sha256"] for it in rows_of(out, "issuers")]
+    named = {it for row in rows for it in row["path"].split()}
+    count.tell(len({*known}) == len(known) and named <= {*known}, "issuers that have no row, or two")
+
+
+def trial(count, interpreter, room, entries):
+    whole = Whole(os.path.join(room, "log"), entries, 44)
+    given = ["--vouchers", whole.log.vouchers, "--blocksize", BLOCKSIZE]
+    one = Run(interpreter, whole, os.path.join(room, "one"), *given, "--workers", "1").wait()
+    rows = rows_of(one.out)
+    counted(count, whole, one, rows)
+    same_answers(count, whole, rows, whole.answers())
+    same_reasons(count, whole, rows)
+    issuers_are_there(count, one.out, rows)
+    killed = Run(interpreter, whole, os.path.join(room, "two"), *given, "--workers", "2")
+    for pattern in (("work", "*.json"), ("entries", "*.csv")):
+        count.tell(killed.kill_a_worker(pattern), f"no worker to be killed at {pattern[0]}")
+    killed.wait()
+    count.tell(octets_of(one.out) == octets_of(killed.out),
+               f"another table by two processes, of which each was killed once:\n{killed.told[-3000:]}")
+    few = Whole(os.path.join(room, "few"), FEW, 45)
+    asked = Run(interpreter, few, os.path.join(room, "three"), "--demand-lists", "--no-why",
+                "--blocksize", "40000", "--workers", "2").wait()
+    same_answers(count, few, rows_of(asked.out), few.answers("--demand-lists"))
+
+
+def make(number, folder):
+    """Writes a log, and what a run of it needs to know."""
+    os.makedirs(folder)
+    log = synthetic.Writer(folder, synthetic.Log(int(number))).write()
+    with open(os.path.join(folder, "log.json"), "w", encoding="ascii") as to:
+        json.dump(log, to)
+    print(f"scaling: {log.entries} entries, {log.faults} faults in {len(log.files)} files")
+
+
+def most_memory(run):
+    """The most memory that a worker of a run had, in MiB."""
+    most = {}
+    while run.process.poll() is None:
+        for worker in run.workers():
+            found = re.search(rb"VmHWM:\s+(\d+) kB", octets_at(f"/proc/{worker}/status"))
+            if found:
+                most[worker] = max(most.get(worker, 0), int(found[1]) >> 10)
+        time.sleep(0.5)
+    return [*most.values()]
+
+
+def measure(folder, *numbers):
+    interpreter = with_dask()
+    with open(os.path.join(folder, "log.json"), encoding="ascii") as file:
+        log = synthetic.Written(*json.load(file))
+    tables = []
+    for number in numbers:
+        out = os.path.join(folder, f"table-{number}")
+        shutil.rmtree(out, ignore_errors=True)
+        with open(os.devnull, "w", encoding="ascii") as nowhere:
+            begun = time.monotonic()
+            run = Run(interpreter, log, out, "--vouchers", log.vouchers, "--workers", number)
+            memory = most_memory(run)
+            run.wait()
+            took = time.monotonic() - begun
+            print(f"{number} processes: {took:.1f} s, {log.entries / took:.0f} entries a second, "
+                  f"at most {max(memory)} MiB a process", flush=True)
+            print(run.said, end="", file=sys.stdout if run.process.returncode == 1 else nowhere)
+        tables.append(digest(b"".join(sorted(b"".join(octets_of(out).values()).splitlines()))))
+    print(f"scaling: {'one table' if len({*tables}) == 1 else 'different tables'}")
+
+
+def main(words):
+    if words[:1] == ["make"] and len(words) == 3:
+        return make(*words[1:])
+    if words[:1] == ["measure"] and len(words) > 2:
+        return measure(*words[1:])
+    if len(words) > 1 or not all(map(str.isdigit, words)):
+        sys.exit(__doc__)
+    count, interpreter = Count(), with_dask()
+    if interpreter is None:
+        print("scaling: skipped, since Dask isn't installed (python3-distributed)")
+    else:
+        with tempfile.TemporaryDirectory(prefix="scaling-") as room:
+            trial(count, interpreter, room, int(words[0]) if words else ENTRIES)
+    print(f"scaling: {count.passed} passed, {count.failed} failed")
+    return 1 if count.failed else 0
+
+
+if __name__ == "__main__":
+    sys.exit(main(sys.argv[1:]))

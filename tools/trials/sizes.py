@@ -1,0 +1,242 @@
+#!/usr/bin/env python3
+"""Asks about large input, with ample memory: 1,000 items, a path of 300, a list of 1,000 entries,
+300 extensions, items of 100 KB, 1,000 vouchers. A body that gives up beyond a size fails here.
+
+It asks the program, the package python/certpath, whose search and check read items by two readers,
+and the programs of rows, which have every extension and entry printed.
+
+    python3 tools/trials/sizes.py     the last line is `sizes: N passed, M failed`
+"""
+import os
+import re
+import subprocess
+import sys
+import tempfile
+from datetime import datetime
+from typing import NamedTuple
+
+sys.dont_write_bytecode = True
+sys.path.insert(0, os.path.dirname(os.path.dirname(os.path.abspath(__file__))))
+from dev import items
+from program import repo
+from trials import paths
+
+sys.path.insert(0, os.path.join(repo.TOP, "python"))
+import certpath
+
+MANY, CHAIN, EXTENSIONS, OCTETS = 1_000, 300, 300, 100_000
+MOMENT, SECONDS = "2025-06-01T00:00:00", 600
+KEY = items.octets("30(30(06(2a03))03(00))")
+VERSION_3 = "a0(02(02))"
+AUTHORITY = "30(06(551d13)01(ff)04(30(01(ff))))"
+# The classes of items: the words of a report, with those of rows and of the package.
+CERTIFICATE, LIST = "cert", "list"
+WORDS = {CERTIFICATE: "certificate", LIST: "list"}
+KINDS = {CERTIFICATE: certpath.Kind.CERTIFICATE, LIST: certpath.Kind.LIST}
+# An extension or an entry, as the programs of rows print it.
+PART = re.compile(r"(?m)^  (?:extension|entry|revoked) ")
+
+
+class Item(NamedTuple):
+    """An item: its class, its octets, and how many extensions and entries it has."""
+    kind: str
+    octets: bytes
+    parts: int = 0
+
+
+class Case(NamedTuple):
+    """A bundle and anchors, the items that the one key vouches for, the line of the answer, the
+    target, and whether lists are demanded."""
+    title: str
+    bundle: list
+    anchors: list
+    vouched: list
+    answer: str
+    target: int = 0
+    demand: bool = False
+
+    def report(self):
+        """What `certpath path` prints."""
+        count = len(self.anchors)
+        lines = [f"{place} {it.kind}" for place, it in enumerate(self.bundle)]
+        lines += ["end clean", f"anchors {count} of {count}, clean", self.answer, "check yes"]
+        return "".join(f"{it}\n" for it in lines)
+
+
+# ---- what is asked about, in the words of tools/dev/items.py
+
+
+def name(text):
+    """A name of one common name."""
+    return f'30(31(30(06(550403)0c("{text}"))))'
+
+
+def spelled(words, **parts):
+    return items.item(" ".join([words, *(f"{part}={text}" for part, text in parts.items())]))
+
+
+def certificate(extensions=(), **parts):
+    """A certificate with extensions, plain but for its parts."""
+    if extensions:
+        parts |= {"version": VERSION_3, "extensions": f"a3(30({''.join(extensions)}))"}
+    return Item(CERTIFICATE, spelled("certificate", **parts), len(extensions))
+
+
+def authority(subject, issuer, further=()):
+    return certificate((AUTHORITY, *further), issuer=name(issuer), subject=name(subject))
+
+
+def number(place):
+    """A positive INTEGER of two octets."""
+    return f"02({0x1000 + place:04x})"
+
+
+def unknown_extensions():
+    """So many different extensions that nobody knows."""
+    numbers = (0x8100 + it // 128 * 256 + it % 128 for it in range(EXTENSIONS))
+    return [f"30(06(2a{it:04x})04(05()))" for it in numbers]
+
+
+def large_items():
+    """Items by their titles."""
+    entries = "".join(f'30({number(it)}17("250101000000Z"))' for it in range(MANY))
+    attributes = f'30(06(550403)0c("a"))*{OCTETS // 10}'
+    return {
+        "1,000 entries": Item(LIST, spelled("list", entries=f"30({entries})"), MANY),
+        "300 extensions": certificate(unknown_extensions(), issuer=name("b")),
+        "an issuer of 301 extensions": authority("b", "root", unknown_extensions()),
+        "a value of 100 KB": certificate([f"30(06(2a03)04(ab*{OCTETS}))"]),
+        "a name of 100 KB": certificate(subject=f"30(31({attributes}))"),
+    }
+
+
+def cases(large):
+    anchor, root = certificate(), certificate(subject=name("root"))
+    many = [certificate(serial=number(it), subject=name(it)) for it in range(MANY)]
+    names = [*range(CHAIN), "root"]
+    chain = [authority(*names[it:it + 2]) for it in range(CHAIN)]
+    last, whole = MANY - 1, " ".join(map(str, range(CHAIN)))
+    revoking = large["1,000 entries"]
+    found = "path 0 anchor 0"
+    yield Case("1,000 items", many, [anchor], many[-1:], f"path {last} anchor 0", last)
+    yield Case("the last of 1,001 vouchers", [anchor], [anchor], [*many, anchor], found)
+    yield Case("1,000 anchors", [anchor], [*many[1:], anchor], [anchor], f"path 0 anchor {last}")
+    yield Case("a path of 300", chain, [root], chain, f"path {whole} anchor 0")
+    for title, leaf, answer in (("the last of 1,000 entries", many[-1], "none"),
+                                ("none of 1,000 entries", anchor, found)):
+        bundle = [leaf, revoking]
+        yield Case(f"revoked by {title}", bundle, [anchor], bundle, answer, demand=True)
+    bundle = [large["300 extensions"], large["an issuer of 301 extensions"]]
+    yield Case("300 extensions", bundle, [root], bundle, "path 0 1 anchor 0")
+    for title in ("a value of 100 KB", "a name of 100 KB"):
+        yield Case(title, [large[title]], [anchor], [large[title]], found)
+
+
+# ---- asking
+
+
+class Count:
+    """How many trials passed and failed."""
+
+    def __init__(self):
+        self.passed = self.failed = 0
+
+    def tell(self, is_right, what):
+        self.passed, self.failed = self.passed + bool(is_right), self.failed + (not is_right)
+        if not is_right:
+            print(f"sizes: {what}")
+
+
+def octets_of(found):
+    return b"".join(it.octets for it in found)
+
+
+def lines_of(case):
+    """The lines of the voucher file."""
+    return paths.vouchers((KEY, it.octets) for it in case.vouched)
+
+
+def by_program(count, program, room, case):
+    """`path` prints the report, and no other command is out of memory."""
+    files = [os.path.join(room, it) for it in ("bundle", "anchors", "vouchers")]
+    contents = octets_of(case.bundle), octets_of(case.anchors), lines_of(case)
+    for path, octets in zip(files, contents):
+        with open(path, "wb") as file:
+            file.write(octets)
+    asked, row = paths.Case(), {"target": str(case.target)}
+    asked.moment, asked.demand = MOMENT, case.demand
+    commands = [paths.words_of(it, files, row, asked) for it in paths.PRINTED]
+    for words in (["frame", files[0]], *commands):
+        ran = subprocess.run([program, *words], stdin=subprocess.DEVNULL, stdout=subprocess.PIPE,
+                             stderr=subprocess.PIPE, text=True, timeout=SECONDS)
+        is_right = ran.returncode in (0, 1) and not ran.stderr
+        if words[0] == "path":
+            is_right = is_right and ran.stdout == case.report()
+        count.tell(is_right, f"{case.title}: {words[0]} ended with status {ran.returncode}: "
+                             f"{ran.stderr or ran.stdout[-200:]}")
+
+
+def by_package(count, case):
+    """The items have their classes, something is found, and the check says yes to it."""
+    bundle, anchors = (certpath.frame(octets_of(it)) for it in (case.bundle, case.anchors))
+    pairs = bytes.fromhex(lines_of(case).decode())
+    asked = bundle, anchors, pairs, case.target, datetime.fromisoformat(MOMENT)
+    try:
+        kinds = [it.kind for it in bundle]
+        count.tell(kinds == [KINDS[it.kind] for it in case.bundle], f"{case.title}: other classes")
+        count.tell(certpath.questions(bundle, anchors), f"{case.title}: no questions")
+        answer = certpath.find(*asked, demand_lists=case.demand)
+        count.tell(line_of(answer) == case.answer, f"{case.title}: {line_of(answer)[:200]}")
+        says_yes = certpath.check(*asked, answer, demand_lists=case.demand)
+        count.tell(says_yes, f"{case.title}: the check says no")
+    except certpath.Error as error:
+        count.tell(False, f"{case.title}: {error!r}")
+
+
+def line_of(answer):
+    """The line of a report that says this answer."""
+    if answer.outcome is not certpath.Outcome.PATH:
+        return "none"
+    return " ".join(["path", *map(str, answer.positions), "anchor", str(answer.anchor)])
+
+
+def by_rows(count, large):
+    """Two readers of items, and `from_der`, read each extension and each entry."""
+    programs = {it: repo.ready(it) for it in ("cert_rows", "x509_rows")}
+    for title, item in large.items():
+        word, octets = WORDS[item.kind], item.octets.hex()
+        written = f"  written {len(item.octets)}, the item\n"
+        for crate, row, front, end in (
+                ("cert_rows", octets, f" = {word}\n", written),
+                ("x509_rows", f"{word} {word} {octets}", " = 30 ", "; rest none\n")):
+            told = printed(programs[crate], row)
+            is_right = told.startswith(front) and told.endswith(end)
+            count.tell(is_right and len(PART.findall(told)) == item.parts,
+                       f"{title}: {crate} prints {told[:100]} .. {told[-100:]}")
+
+
+def printed(program, row):
+    """What a program of rows prints after the row; nothing where it fails, or there is none."""
+    if not program:
+        return ""
+    ran = subprocess.run([program], input=f"{row}\n", stdout=subprocess.PIPE, text=True,
+                         timeout=SECONDS)
+    return ran.stdout[len(row):] if ran.returncode == 0 else ""
+
+
+def main():
+    count, large, program = Count(), large_items(), repo.ready("certpath_cli")
+    if not program:
+        print("sizes: certpath_cli wasn't built\nsizes: 0 passed, 1 failed")
+        return 1
+    with tempfile.TemporaryDirectory(prefix="sizes-") as room:
+        for case in cases(large):
+            by_program(count, program, room, case)
+            by_package(count, case)
+    by_rows(count, large)
+    print(f"sizes: {count.passed} passed, {count.failed} failed")
+    return 1 if count.failed else 0
+
+
+if __name__ == "__main__":
+    sys.exit(main())

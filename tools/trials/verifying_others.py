@@ -1,0 +1,163 @@
+"""Runs ./verify, `openssl verify` and, where it is installed, `certtool` on what they judge differently. Each case is a row of the
+table of docs/VERIFY.md, under the same title, and the output of ./verify names the row's cause."""
+import os
+import re
+import shutil
+import subprocess
+from typing import NamedTuple
+
+from program import repo
+from trials import refusals
+from trials.chains import AUTHORITY, NO_AUTHORITY, NO_SIGNER, OF_AUTHORITY, OF_LEAF, OF_ROOT, OWN_ID, SIGNER, Chain
+
+PAGE, HEAD = "docs/VERIFY.md", "| case | `openssl verify` | `certtool` | `./verify` | what the output names |"
+STAMP = "1780272000"
+LONG = {"begin": "20200101000000Z", "end": "20490101000000Z"}
+PAST = {"begin": "20200101000000Z", "end": "20251231235959Z"}
+ANSWERS = {True: "path", False: "none"}
+CERTTOOL = shutil.which("certtool")
+
+
+class Case(NamedTuple):
+    """What is tried: certificates, the target first, anchors, lists; further words of ./verify, of openssl, and whether certtool gets the
+    lists."""
+    certificates: list
+    anchors: list
+    lists: list = ()
+    words: tuple = ()
+    openssl: tuple = ()
+    certtool_has_lists: bool = False
+
+
+class Row(NamedTuple):
+    """A row of the table: the answers of the others and of ./verify, and what that names as the cause, mostly a rule."""
+    openssl: str
+    certtool: str
+    verify: str
+    named: str
+
+
+def table():
+    """The rows of the page's table, by their titles."""
+    lines = repo.read(PAGE).split(HEAD)[1].split("\n")[2:]
+    rows = [[it.strip() for it in line.strip("|").split("|")] for line in lines[:lines.index("")]]
+    return {row[0]: Row(*row[1:]) for row in rows}
+
+
+def of_refusal(title, openssl=(), certtool_has_lists=False):
+    """A case of tools/trials/refusals.py."""
+    def made(shop, root):
+        case = refusals.CASES[title](refusals.Maker(shop, f"{title} differs", root))
+        lists = [it for it in case.bundle if not it.subject]
+        return Case([it for it in case.bundle if it.subject], case.anchors, lists, case.words, openssl, certtool_has_lists)
+    return made
+
+
+def dead_end(shop, root):
+    """An issuer has two certificates of one key: the first leads nowhere."""
+    made = Chain(shop, "dead-end")
+    other = made.certificate("/CN=Other", "rsa", extensions=OF_ROOT, **LONG)
+    between = [made.certificate("/CN=Between", "p256", it, (AUTHORITY, SIGNER, OWN_ID), **LONG) for it in (other, root)]
+    leaf = made.certificate("/CN=leaf", "p521", between[0], (NO_AUTHORITY, NO_SIGNER, OWN_ID), **LONG)
+    return Case([leaf, *between], [root])
+
+
+def expired_anchor(shop, _):
+    made = Chain(shop, "expired-anchor")
+    root = made.certificate("/CN=Old root", "rsa", extensions=OF_ROOT, **PAST)
+    return Case([made.certificate("/CN=leaf", "p521", root, OF_LEAF, **LONG)], [root])
+
+
+def middle_anchor(shop, root):
+    made = Chain(shop, "middle-anchor")
+    between = made.certificate("/CN=Between", "p256", root, OF_AUTHORITY, **LONG)
+    return Case([made.certificate("/CN=leaf", "p521", between, OF_LEAF, **LONG)], [between])
+
+
+def anchor_of_leaf(shop, _):
+    made = Chain(shop, "anchor-of-leaf")
+    root = made.certificate("/CN=No authority", "rsa", extensions=(NO_AUTHORITY, NO_SIGNER, OWN_ID), **LONG)
+    return Case([made.certificate("/CN=leaf", "p521", root, OF_LEAF, **LONG)], [root])
+
+
+WITH_LISTS = ("-crl_check",)
+CASES = {
+    "critical extended key usage": of_refusal("critical extended key usage"),
+    "critical extended key usage of a time stamp": of_refusal("time stamping"),
+    "name constraints": of_refusal("name constraints"),
+    "critical name constraints": of_refusal("critical name constraints"),
+    "critical policies": of_refusal("policies"),
+    "policy constraints": of_refusal("policy constraints"),
+    "signed by SHA-1": of_refusal("weak signature"),
+    "issuer's name in another string type": of_refusal("name in another string type"),
+    "revoked": of_refusal("revoked"),
+    "revoked, `-crl_check`, `--load-crl`": of_refusal("revoked", WITH_LISTS, True),
+    "no list, `--demand-lists`": of_refusal("list demanded"),
+    "revoking list past its next update": of_refusal("list past its next update"),
+    "revoking list past its next update, `-crl_check`, `--load-crl`": of_refusal("list past its next update", WITH_LISTS, True),
+    "revoking list for user certificates alone, `-crl_check`, `--load-crl`": of_refusal("list with a critical extension", WITH_LISTS, True),
+    "issuer with two certificates, the first a dead end": dead_end,
+    "anchor that has expired": expired_anchor,
+    "anchor that isn't self-signed": middle_anchor,
+    "anchor that is no CA": anchor_of_leaf,
+}
+
+
+def joined(v, items, file):
+    """A file of several items' files."""
+    return v.shop.keep(file, b"".join(v.octets(it.file) for it in items))
+
+
+def openssl(v, case, name):
+    """What `openssl verify` says."""
+    roots, between = joined(v, case.anchors, f"{name}.roots"), joined(v, case.certificates[1:], f"{name}.between")
+    words = ["openssl", "verify", "-attime", STAMP, "-no-CAstore", "-no-CApath", "-CAfile", roots, *case.openssl]
+    words += ["-untrusted", between] if case.certificates[1:] else []
+    words += ["-CRLfile", joined(v, case.lists, f"{name}.lists")] if case.lists else []
+    ran = subprocess.run([*words, case.certificates[0].file], cwd=v.shop.room, stdin=subprocess.DEVNULL, capture_output=True)
+    return ANSWERS[ran.returncode == 0]
+
+
+def certtool(v, case, name):
+    """What `certtool --verify` says, now."""
+    words = ["certtool", "--verify", "--load-ca-certificate", joined(v, case.anchors, f"{name}.roots")]
+    words += ["--load-crl", joined(v, case.lists, f"{name}.lists")] if case.certtool_has_lists else []
+    chain = b"".join(v.octets(it.file) for it in case.certificates)
+    return ANSWERS[subprocess.run(words, cwd=v.shop.room, input=chain, capture_output=True).returncode == 0]
+
+
+def trials(v, title, row, root):
+    """One row: each verifier says what the page says, and ./verify names the cause."""
+    case, name = CASES[title](v.shop, root), re.sub(r"\W", "-", title)
+    yield f"{title}: openssl", openssl(v, case, f"{name}-openssl"), row.openssl
+    if CERTTOOL:
+        yield f"{title}: certtool", certtool(v, case, f"{name}-certtool"), row.certtool
+    anchors = [word for it in case.anchors for word in ("--anchors", it.file)]
+    files = [it.file for it in [*case.certificates, *case.lists]]
+    status, text, _ = v.run(*files, *anchors, "--at", refusals.AT, *case.words)
+    answer = "path" if status == 0 else "none"
+    but = ", BUT" if " BUT " in text.split("\n")[0] else ""
+    yield f"{title}: ./verify", (f"{answer}{but}", row.named in text), (row.verify, True)
+
+
+def every_reason(v, root):
+    """OpenSSL reports errors of the one chain that it builds, ./verify what stands in the way of each."""
+    made = Chain(v.shop, "every-reason")
+    expired = made.certificate("/CN=Between", "p256", root, (AUTHORITY, SIGNER, OWN_ID), **PAST)
+    no_authority = made.certificate("/CN=Between", "p256", root, (NO_AUTHORITY, SIGNER, OWN_ID), **LONG)
+    leaf = made.certificate("/CN=leaf", "p521", expired, (NO_AUTHORITY, NO_SIGNER, OWN_ID), **LONG)
+    files = [leaf.file, expired.file, no_authority.file]
+    _, found, _ = v.json(*files, "--anchors", root.file, "--at", refusals.AT)
+    yield "every reason", [it["reason"] for it in found[0]["reasons"]], ["expired 2025-12-31T23:59:59", "no authority"]
+    joined(v, [expired, no_authority], "every.between")
+    words = ["openssl", "verify", "-attime", STAMP, "-CAfile", root.file, "-untrusted", "every.between", leaf.file]
+    said = subprocess.run(words, cwd=v.shop.room, stdin=subprocess.DEVNULL, capture_output=True).stderr.decode()
+    yield "every reason: openssl", ("certificate has expired" in said, "invalid CA certificate" in said).count(True), 1
+
+
+def jobs(v, root):
+    """The trials of all rows, to be run side by side."""
+    rows = table()
+    yield lambda: [("the rows of the page", [*rows], [*CASES])]
+    yield from (lambda it=it: [*trials(v, it, rows[it], root)] for it in rows if it in CASES)
+    yield lambda: [*every_reason(v, root)]

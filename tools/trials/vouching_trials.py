@@ -1,0 +1,58 @@
+"""Runs the scripts of this repository, and counts what goes as it should."""
+import os
+import re
+import subprocess
+import sys
+
+from program import repo
+from program.streams import counted
+from trials.vouching_pki import line
+
+SECONDS = 60
+LINES = re.compile(rb"(?:[0-9a-f]{64} [0-9a-f]{64}\n)*")
+# OpenSSL's own words, which may differ from version to version.
+REASON = re.compile(r"(not verified by \d+ keys?) \([^()]+\)")
+
+
+class Trials:
+    """The trials in a workshop's folder."""
+
+    def __init__(self, shop, subject="vouch"):
+        self.shop, self.subject, self.passed, self.failed = shop, subject, 0, 0
+
+    def same(self, title, found, wanted):
+        """A trial: whether what was found is what is wanted."""
+        if found == wanted:
+            self.passed += 1
+        else:
+            self.failed += 1
+            print(f"{self.subject}: {title}: {found!r:.1200}, wanted is {wanted!r:.1200}", flush=True)
+
+    def run(self, script, words, octets=b"", output=subprocess.PIPE):
+        """A script's status, what it wrote to standard output where that is piped, and its lines on standard error."""
+        command = [sys.executable, "-IS", os.path.join(repo.TOP, script), *words]
+        ran = subprocess.run(command, cwd=self.shop.room, input=octets, stdout=output, stderr=subprocess.PIPE, timeout=SECONDS)
+        return ran.returncode, ran.stdout, [REASON.sub(r"\1 (..)", it) for it in ran.stderr.decode().splitlines()]
+
+    def lines(self, title, bundle, anchors, *words, **further):
+        """A run's status, lines and what is told of each item; each line has its form, and they ascend, each once."""
+        self.shop.keep("bundle.der", b"".join(bundle))
+        self.shop.keep("anchors.der", b"".join(anchors))
+        status, text, told = self.run("vouch", ["bundle.der", "anchors.der", "--verbose", *words], **further)
+        found = text.splitlines(keepends=True)
+        self.same(f"{title}: the form of its lines", (bool(LINES.fullmatch(text)), found), (True, sorted({*found})))
+        return status, text.decode(), told
+
+    def vouch(self, title, bundle, anchors, pairs, told=(), words=(), status=0):
+        """A trial of a bundle and anchors, which are items: wanted are lines of pairs of a key's element and an item, what is told,
+        and the status."""
+        wanted = sorted({line(*it) for it in pairs})
+        vouched = sum(item in {it for _, it in pairs} for item in bundle)
+        summary = f"vouch: {counted(len(bundle), 'item')}, {vouched} vouched for, {counted(len(wanted), 'line')}, {len(told)} told"
+        self.same(title, self.lines(title, bundle, anchors, *words), (status, "".join(wanted), [*told, summary]))
+
+    def none(self, title, bundle, anchors, *words):
+        """A trial of a bundle none of whose items gets a line: each is told."""
+        status, text, told = self.lines(title, bundle, anchors, *words)
+        numbers = [re.match(r"bundle (\d+): (?!openssl cannot read its key)", it) for it in told]
+        self.same(title, (status, text, [int(it[1]) for it in numbers if it]), (0, "", [*range(len(bundle))]))
