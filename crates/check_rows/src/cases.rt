@@ -1,6 +1,7 @@
 //! A case: what was named, items, anchors, pairs, moment and demand.
 
 use crate::answers::{path_of, table_of};
+use crate::inventories::{Judging, add_comparison};
 use crate::reports::{add_report, add_table};
 use crate::vouching::{VouchedPair, VouchedPairs};
 use certcheck::{Answer, Bundle, Items, OutOfMemory, Policy, check};
@@ -27,6 +28,7 @@ enum Word {
     Items,
     Anchors,
     Vouch,
+    All,
     Asks(Question),
 }
 
@@ -40,7 +42,7 @@ enum Question {
     Find,
 }
 
-const WORDS: [(&str, Word); 12] = [
+const WORDS: [(&str, Word); 13] = [
     ("octets", Word::Octets),
     ("case", Word::Case),
     ("at", Word::At),
@@ -48,6 +50,7 @@ const WORDS: [(&str, Word); 12] = [
     ("items", Word::Items),
     ("anchors", Word::Anchors),
     ("vouch", Word::Vouch),
+    ("all", Word::All),
     ("path", Word::Asks(Question::Path)),
     ("none", Word::Asks(Question::NoPath)),
     ("other", Word::Asks(Question::Other)),
@@ -137,6 +140,7 @@ impl Case {
         };
         match found(&WORDS, first) {
             Some(Word::Asks(question)) => self.add_answer(text, question, rest),
+            Some(Word::All) => self.add_all(text),
             Some(word) => self.take(alloc, word, rest),
             None => Ok(()),
         }
@@ -221,6 +225,23 @@ impl Case {
                 None => Ok(()),
             },
         }
+    }
+
+    /// Adds whether all items at once are answered as each alone.
+    fn add_all(&self, text: &mut String) -> Added {
+        if self.moment.subsec_nanosecond() != 0 {
+            return Ok(());
+        }
+        let alloc = *text.allocator();
+        let items = framed(alloc, &self.items)?;
+        let anchors = framed(alloc, &self.anchors)?;
+        let judging = Judging {
+            items: &items,
+            anchors: &anchors,
+            vouched: &self.vouched,
+            policy: &Policy::new(self.moment, self.demand_lists),
+        };
+        add_comparison(text, judging)
     }
 
     /// Adds what a run on a target writes and answers.

@@ -4,11 +4,13 @@
 //! its moment, `demand` demands lists, `items NAME..` and `anchors NAME..` add items and anchors, `vouch KEY NAME..` lets a
 //! key vouch for items. The questions are `path TARGET POSITION.. to ANCHOR ROW..`, `none TARGET ROW..` and `other TARGET`; a
 //! row is `No`, `Any` and numbers, with commas between them. Behind `run TARGET` comes what a run writes and answers, behind `find TARGET` the
-//! table of the answer that is found. Other lines are printed as they stand.
+//! table of the answer that is found. `all` is followed by whether the verdicts on all items are what is found for each alone, and what
+//! `check_all` says of them. Other lines are printed as they stand.
 #![tactic(auto)]
 
 mod answers;
 mod cases;
+mod inventories;
 mod reports;
 mod vouching;
 
