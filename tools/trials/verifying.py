@@ -35,6 +35,7 @@ RULES = {
     "weak signature": "RFC 5280, 6.1.3, a, 1", "name in another string type": "RFC 5280, 6.1.3, a, 4",
     # OpenSSL looks at no list that it isn't told to look at
     "revoked": "RFC 5280, 6.1.3, a, 3", "revoked issuer": "RFC 5280, 6.1.3, a, 3", "names with control characters": "RFC 5280, 6.1.3, a, 3",
+    "revoked below a path length": "RFC 5280, 6.1.3, a, 3",
     "list demanded": "RFC 5280, 6.1.3, a, 3", "list past its next update, demanded": "RFC 5280, 6.1.3, a, 3",
     "list with a critical extension, demanded": "RFC 5280, 6.1.3, a, 3", "list that no key vouches for, demanded": "RFC 5280, 6.1.3, a, 3",
 }

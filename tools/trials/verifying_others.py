@@ -47,7 +47,9 @@ def table():
 def of_refusal(title, openssl=(), certtool_has_lists=False):
     """A case of tools/trials/refusals.py."""
     def made(shop, root):
-        case = refusals.CASES[title](refusals.Maker(shop, f"{title} differs", root))
+        # (rows are made side by side, and two rows may be of one case)
+        own = f"{title} differs{' with lists' if certtool_has_lists else ''}"
+        case = refusals.CASES[title](refusals.Maker(shop, own, root))
         lists = [it for it in case.bundle if not it.subject]
         return Case([it for it in case.bundle if it.subject], case.anchors, lists, case.words, openssl, certtool_has_lists)
     return made
