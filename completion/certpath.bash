@@ -2,14 +2,15 @@
 _certpath() {
   local word=${COMP_WORDS[COMP_CWORD]} words
   if [ "$COMP_CWORD" -eq 1 ]; then
-    COMPREPLY=($(compgen -W "frame path paths questions why help --version --build" -- "$word"))
+    COMPREPLY=($(compgen -W "frame path paths questions recheck why help --version --build" -- "$word"))
     return
   fi
   case ${COMP_WORDS[1]} in
-    help) words="frame path paths questions why" ;;
+    help) words="frame path paths questions recheck why" ;;
     path) words="--at --demand-lists --help --limit --target" ;;
     why) words="--at --demand-lists --help --limit --target" ;;
-    paths) words="--at --demand-lists --help --limit" ;;
+    paths) words="--at --demand-lists --evidence --help --limit" ;;
+    recheck) words="--at --demand-lists --evidence --help --limit" ;;
     questions) words="--help --limit" ;;
     frame) words="--help --limit" ;;
   esac

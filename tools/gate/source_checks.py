@@ -6,7 +6,7 @@ from gate import bodies, calls, counting, syntax
 
 
 # The runs of `certpath_run`, and by which call each finds and by which it checks.
-ASKED = [("run", "find_judged", "check"), ("run_why", "find_judged", "check"), ("run_all", "find_all_judged", "check_all")]
+ASKED = [("run", "find_judged", "check"), ("run_why", "find_judged", "check"), ("run_all", "find_all_judged", "check_all"), ("find_evidence", "find_all_judged", "check_all")]
 # What is made of what a check said: lines of a report.
 TOLD = r"\b(?:report_of|report_of_all|push_check)\(([^;]*)\)\?;"
 

@@ -3,7 +3,7 @@ from program import programs, repo, streams
 
 VERSION = "0.1.0"
 INPUT = "/dev/stdin"
-COMMANDS = ("frame", "path", "paths", "questions", "why")
+COMMANDS = ("frame", "path", "paths", "questions", "recheck", "why")
 HELP, VERSIONS, BUILD = ("-h", "--help", "help"), ("-V", "--version", "version"), "--build"
 WELL, REFUSED, UNWRITTEN = 0, 2, 7
 SEE = "see './certpath --help'"
@@ -12,6 +12,8 @@ USAGE = """\
 usage: certpath path BUNDLE ANCHORS VOUCHERS --target N --at MOMENT [--demand-lists] [--limit N]
        certpath why BUNDLE ANCHORS VOUCHERS --target N --at MOMENT [--demand-lists] [--limit N]
        certpath paths BUNDLE ANCHORS VOUCHERS --at MOMENT [--demand-lists] [--limit N]
+                      [--evidence FILE]
+       certpath recheck BUNDLE ANCHORS VOUCHERS EVIDENCE --at MOMENT [--demand-lists] [--limit N]
        certpath questions BUNDLE ANCHORS [--limit N]
        certpath frame FILE [--limit N]
        certpath help [COMMAND] | --version | --build
@@ -26,6 +28,7 @@ Commands:
              anchor
   why        prints the same answer, and each reason why there is no path or a list isn't used
   paths      prints the first of the shortest valid paths of every item of a file at once
+  recheck    checks what paths found elsewhere, by the evidence that it wrote, without a search
   questions  prints which keys may have signed which items
   frame      prints where each item of a file begins and how long it is
   help       prints this help, or that of the command behind it
@@ -80,17 +83,39 @@ Prints a line for each item of BUNDLE: the first of its shortest valid paths to 
 what it is.
 
 usage: certpath paths BUNDLE ANCHORS VOUCHERS --at MOMENT [--demand-lists] [--limit N]
+                      [--evidence FILE]
 
 {FILES}
 Options:
   --at MOMENT     the time of the validation, in UTC: YYYY-MM-DDTHH:MM:SS
   --demand-lists  each certificate of a path needs a revocation list of its issuer
   --limit N       the most content octets of an item [default: 16777216]
+  --evidence FILE writes to FILE what certpath recheck needs to check all lines
   -h, --help      prints this help
 
-Exit status: 0 every certificate has a path; 1 some has none; 2 wrong words; 4 a file can't be read;
-5 a line of VOUCHERS is malformed; 6 out of memory; 7 standard output fails; 70 no program could be
-run.
+Exit status: 0 every certificate has a path; 1 some has none; 2 wrong words; 4 a file can't be read
+or created; 5 a line of VOUCHERS is malformed; 6 out of memory; 7 standard output or FILE can't be
+written; 70 no program could be run.
+"""
+
+RECHECK = f"""\
+Prints check yes where EVIDENCE is right for these files, this time and these options: each path in
+it is the first of the shortest valid ones, and no other certificate has one. Else it prints check
+no. Nothing is searched.
+
+usage: certpath recheck BUNDLE ANCHORS VOUCHERS EVIDENCE --at MOMENT [--demand-lists] [--limit N]
+
+{FILES}  EVIDENCE  what certpath paths --evidence wrote
+
+Options:
+  --at MOMENT     the time of the validation, in UTC: YYYY-MM-DDTHH:MM:SS
+  --demand-lists  each certificate of a path needs a revocation list of its issuer
+  --limit N       the most content octets of an item [default: 16777216]
+  -h, --help      prints this help
+
+Exit status: 0 check yes; 1 check no; 2 wrong words; 4 a file can't be read; 5 a line of VOUCHERS is
+malformed; 6 out of memory; 7 standard output fails; 8 a line of EVIDENCE is malformed; 70 no
+program could be run.
 """
 
 QUESTIONS = """\
@@ -129,7 +154,7 @@ Exit status: 0 the file is items to its end; 1 it ends within an item, or with w
 could be run.
 """
 
-TEXTS = {"path": PATH, "why": WHY, "paths": PATHS, "questions": QUESTIONS, "frame": FRAME}
+TEXTS = {"path": PATH, "why": WHY, "paths": PATHS, "recheck": RECHECK, "questions": QUESTIONS, "frame": FRAME}
 
 
 def main(words):
@@ -168,6 +193,8 @@ def run(words):
     """Becomes the program, with standard input in the place of a file that is called -."""
     if words.count("-") > 1:
         return refused("standard input can be one file only")
+    if ("--evidence", "-") in zip(words, words[1:]):
+        return refused("--evidence needs a file: - is standard input")
     return repo.run(programs.CERTPATH, [INPUT if it == "-" else it for it in words])
 
 

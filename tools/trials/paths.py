@@ -118,11 +118,29 @@ def command_rows(made, one, key):
                  ([command, item, item, bad, *target, "--at", "2025-06-31T00:00:00"], b"", 2, b"", b"bad moment\n"),
                  ([command, item, item, bad, *target, *at, "--limit", "x"], b"", 2, b"", b"bad number\n")]
     rows.append((["why", item, item, bad, "--target", "x", *at], b"", 2, b"", b"bad number\n"))
+    rows += recheck_rows(made, item, vouchers([(key, one)]), at)
     rows += [(["questions", "missing.der", item], b"", 4, b"", b"cannot read missing.der\n"),
              (["questions", item, "."], b"", 4, b"", b"cannot read .\n"),
              (["questions", item, item, "--limit", ""], b"", 2, b"", b"bad number\n"),
              (["questions", item, item, "--limit", "66"], b"", 0, b"", b"")]
     return rows
+
+
+def recheck_rows(made, item, pair, at):
+    """Rows of `paths --evidence` and of `recheck`, on one certificate that is its own anchor; all files are opened before one is read."""
+    lines, text = made("its_vouchers", pair), "certpath evidence 1\npath 0 anchor 0\nrow\n0 any\nrow\n"
+    good, none, bad = made("evidence", text.encode()), made("other_evidence", text.replace("path 0 anchor 0", "none").encode()), made("bad_evidence", b"certpath evidence 2\n")
+    rows = [(["paths", item, item, lines, *at, "--evidence", "found"], b"", 0, b"0 path 0 anchor 0\nend clean\nanchors 1 of 1, clean\ncheck yes\n", b""),
+            (["recheck", item, item, lines, "found", *at], b"", 0, b"check yes\n", b""),
+            (["recheck", item, item, lines, good, *at], b"", 0, b"check yes\n", b""),
+            (["recheck", item, item, lines, none, *at], b"", 1, b"check no\n", b""),
+            (["recheck", item, item, lines, "/dev/stdin", *at], text.encode(), 0, b"check yes\n", b""),
+            (["recheck", item, item, lines, bad, *at], b"", 8, b"", b"evidence line 1\n"),
+            (["recheck", item, item, lines, good, "--at", "2025-06-31T00:00:00"], b"", 2, b"", b"bad moment\n"),
+            (["recheck", item, item, lines, good, *at, "--limit", "x"], b"", 2, b"", b"bad number\n")]
+    files = [("missing.der", item, bad, good), (item, ".", bad, good), (item, item, "missing.txt", good), (item, item, lines, "missing"), (item, item, lines, "."), (".", item, bad, "missing")]
+    told = ["missing.der", ".", "missing.txt", "missing", ".", "missing"]
+    return rows + [(["recheck", *four, *at], b"", 4, b"", f"cannot read {word}\n".encode()) for four, word in zip(files, told)]
 
 
 def asked(bundle, anchors, lines, target="0", moment="2025-06-01T00:00:00"):

@@ -9,10 +9,10 @@ use Rattle.certpath_vouchers.specs.Answers.{AreVouchersOf, HasFirstBad}
 use Rattle.certpath_run.specs.AllReport.{IsAllReportOn}
 use Rattle.certpath_run.specs.Runs.{IsReportOn, IsWhyOn}
 use Rattle.certpath_run.specs.declared.settings.AllOutcome.{AllOutcome}
-use Rattle.certpath_run.specs.declared.settings.AllSettings.{AllSettings}
+use Rattle.certpath_sources.specs.declared.settings.AllSettings.{AllSettings}
 use Rattle.certpath_run.specs.declared.settings.Outcome.{Outcome}
-use Rattle.certpath_run.specs.declared.settings.RunError.{RunError}
-use Rattle.certpath_run.specs.declared.settings.RunError.TheVariants.{Read, TooLong, BadLine, OutOfMemory, Write}
+use Rattle.certpath_sources.specs.declared.settings.RunError.{RunError}
+use Rattle.certpath_sources.specs.declared.settings.RunError.TheVariants.{Read, TooLong, BadLine, OutOfMemory, Write}
 use Rattle.certpath_run.specs.declared.settings.Settings as run
 use Rattle.certpath_c.specs.declared.asked.Settings.{Settings}
 use Rattle.certpath_c.specs.declared.reports.Report.{Report}

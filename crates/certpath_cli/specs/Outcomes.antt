@@ -1,10 +1,15 @@
 -- What the program hands to the engine's table of statuses.
-use Rattle.std.specs.Prelude.{◌≡◌, ◌⊎◌, List, ℕ, Result, Ok, Err}
+use Rattle.std.specs.Prelude.{◌≡◌, ◌⊎◌, List, ℕ, Err}
 use Rattle.certpath_engine.specs.declared.exit.FrameOutcome.{FrameOutcome}
 use Rattle.certpath_engine.specs.declared.exit.FrameOutcome.TheVariants.{Unopened, Framed}
 use Rattle.certpath_engine.specs.declared.path_exit.PathFiles.{PathFiles}
 use Rattle.certpath_engine.specs.declared.path_exit.PathOutcome.{PathOutcome}
 use Rattle.certpath_engine.specs.declared.path_exit.PathOutcome.TheVariants as paths
+use Rattle.certpath_engine.specs.declared.path_exit.PathsOutcome.{PathsOutcome}
+use Rattle.certpath_engine.specs.declared.path_exit.PathsOutcome.TheVariants as searched
+use Rattle.certpath_engine.specs.declared.recheck_exit.RecheckFiles.{RecheckFiles}
+use Rattle.certpath_engine.specs.declared.recheck_exit.RecheckOutcome.{RecheckOutcome}
+use Rattle.certpath_engine.specs.declared.recheck_exit.RecheckOutcome.TheVariants as rechecked
 use Rattle.certpath_engine.specs.PathExits.{word_of}
 use Rattle.certpath_engine.specs.declared.questions_exit.ItemFiles.{ItemFiles}
 use Rattle.certpath_engine.specs.declared.questions_exit.QuestionsOutcome.{QuestionsOutcome}
@@ -13,11 +18,9 @@ use Rattle.certpath_engine.specs.QuestionsExits.{item_word_of}
 use Rattle.certpath_run.specs.declared.asking.ItemInput.{ItemInput}
 use Rattle.certpath_run.specs.declared.asking.ItemInput.TheVariants as items
 use Rattle.certpath_run.specs.declared.asking.QuestionsError.TheVariants as questions
-use Rattle.certpath_run.specs.declared.settings.Input.{Input}
-use Rattle.certpath_run.specs.declared.settings.Input.TheVariants.{Bundle, Anchors, Vouchers}
-use Rattle.certpath_run.specs.declared.settings.Outcome.{Outcome}
-use Rattle.certpath_run.specs.declared.settings.RunError.{RunError}
-use Rattle.certpath_run.specs.declared.settings.RunError.TheVariants.{OutOfMemory}
+use Rattle.certpath_sources.specs.declared.settings.Input.{Input}
+use Rattle.certpath_sources.specs.declared.settings.Input.TheVariants.{Bundle, Anchors, Vouchers}
+use Rattle.certpath_sources.specs.declared.settings.RunError.TheVariants.{OutOfMemory}
 
 -- it tells of the file of this word
 abbrev pub IsOfFile : List ℕ → FrameOutcome → Type 0
@@ -29,10 +32,25 @@ abbrev pub IsUnopened : {T : Type 0} → PathFiles → Input → PathOutcome T �
 IsUnopened files input (paths.Unopened file) = file.now ≡ word_of files input
 IsUnopened files input (paths.Ran of answer) = (of ≡ files) × (answer ≡ Err OutOfMemory)
 
+-- the word names one of these files
+abbrev pub NamesOneOf : PathFiles → List ℕ → Type 0
+NamesOneOf files word = (word ≡ word_of files Bundle) ⊎ (word ≡ word_of files Anchors) ⊎ (word ≡ word_of files Vouchers)
+
 -- it tells of these files: of one that could not be opened, or of a run over them
 abbrev pub IsOfFiles : {T : Type 0} → PathFiles → PathOutcome T → Type 0
-IsOfFiles files (paths.Unopened file) = (file.now ≡ word_of files Bundle) ⊎ (file.now ≡ word_of files Anchors) ⊎ (file.now ≡ word_of files Vouchers)
+IsOfFiles files (paths.Unopened file) = NamesOneOf files file.now
 IsOfFiles files (paths.Ran of answer) = of ≡ files
+
+-- it tells of these files, or of the file of the evidence
+abbrev pub IsOfSearch : PathFiles → List ℕ → PathsOutcome → Type 0
+IsOfSearch files evidence (searched.Found outcome) = IsOfFiles files outcome
+IsOfSearch files evidence (searched.Uncreated file) = file.now ≡ evidence
+IsOfSearch files evidence (searched.Unwritten file) = file.now ≡ evidence
+
+-- it tells of these four files: of one that could not be opened, or of a run over them
+abbrev pub IsOfRecheck : RecheckFiles → RecheckOutcome → Type 0
+IsOfRecheck files (rechecked.Unopened file) = NamesOneOf files.searched file.now ⊎ (file.now ≡ files.evidence.now)
+IsOfRecheck files (rechecked.Ran of answer) = of ≡ files
 
 -- a file of items could not be opened, or memory was refused
 abbrev pub AreItemsUnopened : ItemFiles → ItemInput → QuestionsOutcome → Type 0

@@ -2,18 +2,21 @@
 #![tactic(auto)]
 
 ghost use Rattle.std.specs.Prelude.{◌≡◌, IfErr};
-ghost use Rattle.certpath_cli.specs.Outcomes.{IsOfFile, IsOfFiles, IsUnopened, IsOfItemFiles, AreItemsUnopened};
+ghost use Rattle.certpath_cli.specs.Outcomes.{IsOfFile, IsOfFiles, IsUnopened, IsOfSearch, IsOfItemFiles, AreItemsUnopened, IsOfRecheck};
 
 use asn1_device::{ReadSource, WriteSink};
 use certpath_engine::{
     Command, Exit, FrameError, FrameOutcome, Input, ItemFiles, ItemInput, PathFiles, PathOutcome,
-    Question, QuestionsOutcome, WordFault, frame, frame_status, path_status, paths_status,
-    questions_status, read_words, words_status,
+    PathsOutcome, Question, QuestionsOutcome, RecheckFiles, RecheckOutcome, WordFault, frame,
+    frame_status, path_status, paths_status, questions_status, read_words, recheck_status,
+    words_status,
 };
+use certpath_recheck::{RecheckError, run_recheck};
 use certpath_run::{
-    AllOutcome, AllSettings, Outcome, QuestionsError, RunError, run, run_all, run_questions,
-    run_why,
+    AllOutcome, AllSettings, Findings, Outcome, QuestionsError, RunError, find_evidence, run,
+    run_all, run_questions, run_why,
 };
+use certpath_sources::write_text;
 use std::alloc::Global;
 use std::process::ExitCode;
 use std::rt::{Files, Runtime};
@@ -33,8 +36,21 @@ fn status_of<R: Runtime + AllocGlobal>(rt: &R) -> u8 {
         Ok(Command::Frame { file, limit }) => tell(rt, frame_status(frame_file(rt, file, limit))),
         Ok(Command::Path(question)) => tell(rt, path_status(find_path(rt, &question))),
         Ok(Command::Why(question)) => tell(rt, path_status(tell_why(rt, &question))),
-        Ok(Command::Paths { files, settings }) => {
-            tell(rt, paths_status(find_paths(rt, files, &settings)))
+        Ok(
+            Command::Paths {
+                files,
+                evidence,
+                settings,
+            },
+        ) => {
+            let outcome = match evidence {
+                Some(word) => show_paths(rt, files, word, &settings),
+                None => PathsOutcome::Found(find_paths(rt, files, &settings)),
+            };
+            tell(rt, paths_status(outcome))
+        }
+        Ok(Command::Recheck { files, settings }) => {
+            tell(rt, recheck_status(recheck(rt, files, &settings)))
         }
         Ok(Command::Questions { files, limit }) => {
             tell(rt, questions_status(ask_questions(rt, files, limit)))
@@ -151,6 +167,112 @@ fn find_paths<'a, R: Runtime + AllocGlobal>(
         &mut writer,
     );
     PathOutcome::Ran(files, answer)
+}
+
+/// Finds the paths of all items over three files, writes the evidence to a file, and then the report to standard output.
+fn show_paths<'a, R: Runtime + AllocGlobal>(
+    rt: &R,
+    files: PathFiles<'a>,
+    evidence: &'a str,
+    settings: &AllSettings,
+) -> PathsOutcome<'a>
+    ensures { IsOfSearch files.entry evidence.entry.now result }
+{
+    let mut inputs = match opened_inputs(rt, files) {
+        Ok(inputs) => inputs,
+        Err(outcome) => return PathsOutcome::Found(outcome),
+    };
+    let found = find_evidence(
+        rt.alloc(),
+        &mut inputs.bundle,
+        &mut inputs.anchors,
+        &mut inputs.vouchers,
+        settings,
+    );
+    let findings = match found {
+        Ok(findings) => findings,
+        Err(error) => return PathsOutcome::Found(PathOutcome::Ran(files, Err(error))),
+    };
+    match create(rt, files, evidence) {
+        Ok(file) => write_findings(rt, files, evidence, file, &findings),
+        Err(outcome) => outcome,
+    }
+}
+
+/// Creates the file of the evidence, or empties it, or says how far the run came without it.
+fn create<'a, R: Runtime + AllocGlobal>(
+    rt: &R,
+    files: PathFiles<'a>,
+    evidence: &'a str,
+) -> Result<R::File, PathsOutcome<'a>>
+    ensures { IfErr result (IsOfSearch files.entry evidence.entry.now) }
+{
+    match fs::File::create(rt, evidence) {
+        Ok(file) => Ok(file),
+        Err(error) if error.kind() == io::ErrorKind::OutOfMemory => Err(PathsOutcome::Found(
+            PathOutcome::Ran(files, Err(RunError::OutOfMemory)),
+        )),
+        Err(_) => Err(PathsOutcome::Uncreated(evidence)),
+    }
+}
+
+/// Writes the evidence to its file, and then the report to standard output.
+fn write_findings<'a, R: Runtime + AllocGlobal>(
+    rt: &R,
+    files: PathFiles<'a>,
+    evidence: &'a str,
+    file: R::File,
+    findings: &Findings,
+) -> PathsOutcome<'a>
+    ensures { IsOfSearch files.entry evidence.entry.now result }
+{
+    let mut file = WriteSink::new(file);
+    if write_text(&mut file, findings.evidence.as_bytes()).is_err() {
+        return PathsOutcome::Unwritten(evidence);
+    }
+    let mut writer = WriteSink::new(io::writer(rt));
+    match write_text(&mut writer, findings.report.as_bytes()) {
+        Ok(()) => PathsOutcome::Found(PathOutcome::Ran(files, Ok(findings.outcome))),
+        Err(error) => PathsOutcome::Found(PathOutcome::Ran(files, Err(error))),
+    }
+}
+
+/// Checks evidence over four files, to standard output. All are opened before one is read.
+fn recheck<'a, R: Runtime + AllocGlobal>(
+    rt: &R,
+    files: RecheckFiles<'a>,
+    settings: &AllSettings,
+) -> RecheckOutcome<'a>
+    ensures { IsOfRecheck files.entry result }
+{
+    let mut inputs = match opened_inputs::<R, bool>(rt, files.searched) {
+        Ok(inputs) => inputs,
+        Err(PathOutcome::Unopened(file)) => return RecheckOutcome::Unopened(file),
+        Err(PathOutcome::Ran(_, _)) => return out_of_memory(files),
+    };
+    let mut evidence = match fs::open(rt, files.evidence) {
+        Ok(opened) => ReadSource::new(opened),
+        Err(error) if error.kind() == io::ErrorKind::OutOfMemory => return out_of_memory(files),
+        Err(_) => return RecheckOutcome::Unopened(files.evidence),
+    };
+    let mut writer = WriteSink::new(io::writer(rt));
+    let answer = run_recheck(
+        rt.alloc(),
+        &mut inputs.bundle,
+        &mut inputs.anchors,
+        &mut inputs.vouchers,
+        &mut evidence,
+        settings,
+        &mut writer,
+    );
+    RecheckOutcome::Ran(files, answer)
+}
+
+/// Memory was refused before a file was read.
+fn out_of_memory<'a>(files: RecheckFiles<'a>) -> RecheckOutcome<'a>
+    ensures { IsOfRecheck files.entry result }
+{
+    RecheckOutcome::Ran(files, Err(RecheckError::Run(RunError::OutOfMemory)))
 }
 
 /// Asks over two files which keys may have signed which items, to standard output. Both are opened before one is read.

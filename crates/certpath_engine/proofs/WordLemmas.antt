@@ -11,11 +11,13 @@ use Rattle.clap.specs.declared.error.kind.ErrorKind.TheVariants.{OutOfMemory as 
 use Rattle.clap.proofs.WalkLemmas.{first_value-rows}
 use Rattle.clap.specs.declared.parser.matches.ArgMatches.{ArgMatches}
 use Rattle.certpath_engine.specs.Words.{certpath_app}
-use Rattle.certpath_engine.specs.Asking.{AreFrameTexts, ArePathTexts, AreQuestionsTexts, AreAllTexts, LacksOneOf, TellsTexts, TellsQuestion, TellsAll, all_arguments, path_arguments, RefusesQuestion, RefusesSettings, AnswersTexts, IsRefusal}
+use Rattle.certpath_engine.specs.Asking.{AreFrameTexts, ArePathTexts, AreQuestionsTexts, AreAllTexts, ArePathsTexts, AreRecheckTexts, LacksOneOf, TellsTexts, TellsQuestion, TellsAll, all_arguments, path_arguments, recheck_arguments, RefusesQuestion, RefusesSettings, AnswersTexts, IsRefusal}
 use Rattle.certpath_engine.specs.declared.texts.FrameTexts.{FrameTexts}
 use Rattle.certpath_engine.specs.declared.texts.PathTexts.{PathTexts}
 use Rattle.certpath_engine.specs.declared.questions_texts.QuestionsTexts.{QuestionsTexts}
 use Rattle.certpath_engine.specs.declared.texts.AllTexts.{AllTexts}
+use Rattle.certpath_engine.specs.declared.texts.PathsTexts.{PathsTexts}
+use Rattle.certpath_engine.specs.declared.texts.RecheckTexts.{RecheckTexts}
 use Rattle.certpath_engine.specs.declared.texts.Asked.{Asked}
 use Rattle.certpath_engine.specs.declared.words.WordFault.{WordFault}
 use Rattle.certpath_engine.specs.declared.words.WordFault.TheVariants as faults
@@ -80,6 +82,12 @@ frame_values found t file limit = record { file = value found (codes "FILE") t.f
 pub path_values : (found : ArgMatches) (t : PathTexts) → Some t.target.now ≡ first_value (found_of found) (codes "target") → AreAllTexts (rows_of (found_of found)) t.all → ArePathTexts (rows_of (found_of found)) t
 path_values found t target all = record { target = value found (codes "target") t.target.now target; all = all }
 
+pub paths_values : (found : ArgMatches) (t : PathsTexts) → option_map (λ s. s.now) t.evidence ≡ first_value (found_of found) (codes "evidence") → AreAllTexts (rows_of (found_of found)) t.all → ArePathsTexts (rows_of (found_of found)) t
+paths_values found t evidence all = record { all = all; evidence = sym (first_value-rows (found_of found) (codes "evidence")) ∙ sym evidence }
+
+pub recheck_values : (found : ArgMatches) (t : RecheckTexts) → Some t.evidence.now ≡ first_value (found_of found) (codes "EVIDENCE") → AreAllTexts (rows_of (found_of found)) t.all → AreRecheckTexts (rows_of (found_of found)) t
+recheck_values found t evidence all = record { all = all; evidence = value found (codes "EVIDENCE") t.evidence.now evidence }
+
 -- one of the further arguments has no value
 pub lacks_further : (id : Text) (arguments : List Text) (rows : List Row) → LacksOneOf arguments rows → LacksOneOf (id ∷ arguments) rows
 lacks_further id arguments rows l = record { argument = l.argument; listed = (suc l.listed.0, omega (arith, l.listed.1), l.listed.2); lacks = l.lacks }
@@ -124,6 +132,12 @@ target_fault rows (faults.Refused said) t = t
 target_fault rows faults.Number t = t
 target_fault rows faults.Moment t = t
 target_fault rows faults.OutOfMemory t = lacks_further (codes "target") all_arguments rows t
+
+pub evidence_fault : (name : Text) (rows : List Row) (fault : WordFault) → TellsAll rows (Err fault) → TellsTexts name recheck_arguments rows (Err fault)
+evidence_fault name rows (faults.Refused said) t = t
+evidence_fault name rows faults.Number t = t
+evidence_fault name rows faults.Moment t = t
+evidence_fault name rows faults.OutOfMemory t = lacks_further (codes "EVIDENCE") all_arguments rows t
 
 pub settings_fault : (t : PathTexts) (fault : WordFault) → RefusesSettings t.all fault → RefusesQuestion t fault
 settings_fault t (faults.Refused said) r = r

@@ -1,6 +1,7 @@
 -- What the words of the command line ask for. Which values clap gives to which words is said in the terms of the crate `clap`: `takes`
 -- (it accepts the words) and `subcommand_of` (the subcommand's name, and a row of values for each argument).
 use Rattle.std.specs.Prelude.{◌≡◌, ◌≢◌, ◌↔◌, ◌⊎◌, ℕ, ◌^◌, ◌<◌, true, List, [], ◌∷◌, Contains, None, Some, Result, Ok, Err, IsTrue, codes}
+use Rattle.std.specs.Option.{option_map}
 use Rattle.clap.specs.Walk.{Row, Text, first_of}
 use Rattle.clap.specs.Simple.{subcommand_of}
 use Rattle.clap.specs.Takes.{takes}
@@ -17,11 +18,13 @@ use Rattle.certpath_engine.specs.declared.texts.FrameTexts.{FrameTexts}
 use Rattle.certpath_engine.specs.declared.texts.PathTexts.{PathTexts}
 use Rattle.certpath_engine.specs.declared.questions_texts.QuestionsTexts.{QuestionsTexts}
 use Rattle.certpath_engine.specs.declared.texts.AllTexts.{AllTexts}
-use Rattle.certpath_run.specs.declared.settings.AllSettings.{AllSettings}
+use Rattle.certpath_engine.specs.declared.texts.PathsTexts.{PathsTexts}
+use Rattle.certpath_engine.specs.declared.texts.RecheckTexts.{RecheckTexts}
+use Rattle.certpath_sources.specs.declared.settings.AllSettings.{AllSettings}
 use Rattle.certpath_run.specs.declared.settings.Settings.{Settings}
 use Rattle.certpath_engine.specs.declared.path_exit.PathFiles.{PathFiles}
 use Rattle.certpath_engine.specs.declared.words.Command.{Command}
-use Rattle.certpath_engine.specs.declared.words.Command.TheVariants.{Frame, Path, Why, Questions, Paths}
+use Rattle.certpath_engine.specs.declared.words.Command.TheVariants.{Frame, Path, Why, Questions, Paths, Recheck}
 use Rattle.certpath_engine.specs.declared.words.WordFault.{WordFault}
 use Rattle.certpath_engine.specs.declared.words.WordFault.TheVariants.{Refused, Number, Moment, OutOfMemory}
 
@@ -47,12 +50,21 @@ pub record ArePathTexts (rows : List Row) (t : PathTexts) : Type 0 where
   pub target : first_of (codes "target") rows ≡ Some t.target.now
   pub all : AreAllTexts rows t.all
 
+pub record ArePathsTexts (rows : List Row) (t : PathsTexts) : Type 0 where
+  pub all : AreAllTexts rows t.all
+  pub evidence : first_of (codes "evidence") rows ≡ option_map (λ s. s.now) t.evidence
+
+pub record AreRecheckTexts (rows : List Row) (t : RecheckTexts) : Type 0 where
+  pub all : AreAllTexts rows t.all
+  pub evidence : first_of (codes "EVIDENCE") rows ≡ Some t.evidence.now
+
 abbrev pub AsksOf : List Row → Asked → Type 0
 AsksOf rows (asks.Frame t) = AreFrameTexts rows t
 AsksOf rows (asks.Path t) = ArePathTexts rows t
 AsksOf rows (asks.Why t) = ArePathTexts rows t
 AsksOf rows (asks.Questions t) = AreQuestionsTexts rows t
-AsksOf rows (asks.Paths t) = AreAllTexts rows t
+AsksOf rows (asks.Paths t) = ArePathsTexts rows t
+AsksOf rows (asks.Recheck t) = AreRecheckTexts rows t
 
 abbrev pub name_of : Asked → Text
 name_of (asks.Frame t) = codes "frame"
@@ -60,8 +72,9 @@ name_of (asks.Path t) = codes "path"
 name_of (asks.Why t) = codes "why"
 name_of (asks.Questions t) = codes "questions"
 name_of (asks.Paths t) = codes "paths"
+name_of (asks.Recheck t) = codes "recheck"
 
--- the words of a command's arguments, those of `why` are those of `path`
+-- the words of the arguments that each command has a value of; those of `why` are those of `path`
 abbrev pub frame_arguments : List Text
 frame_arguments = codes "FILE" ∷ codes "limit" ∷ []
 
@@ -70,6 +83,9 @@ all_arguments = codes "BUNDLE" ∷ codes "ANCHORS" ∷ codes "VOUCHERS" ∷ code
 
 abbrev pub path_arguments : List Text
 path_arguments = codes "target" ∷ all_arguments
+
+abbrev pub recheck_arguments : List Text
+recheck_arguments = codes "EVIDENCE" ∷ all_arguments
 
 abbrev pub questions_arguments : List Text
 questions_arguments = codes "BUNDLE" ∷ codes "ANCHORS" ∷ codes "limit" ∷ []
@@ -175,10 +191,16 @@ ReadsQuestions t (Err Moment) = ⊥
 ReadsQuestions t (Err OutOfMemory) = ⊥
 
 -- and behind `paths`
-abbrev pub ReadsPaths : AllTexts → Result Command WordFault → Type 0
-ReadsPaths t (Ok (Paths files settings)) = NamesFiles t files × WritesSettings t settings
+abbrev pub ReadsPaths : PathsTexts → Result Command WordFault → Type 0
+ReadsPaths t (Ok (Paths files evidence settings)) = NamesFiles t.all files × (option_map (λ s. s.now) evidence ≡ option_map (λ s. s.now) t.evidence) × WritesSettings t.all settings
 ReadsPaths t (Ok _) = ⊥
-ReadsPaths t (Err fault) = RefusesSettings t fault
+ReadsPaths t (Err fault) = RefusesSettings t.all fault
+
+-- and behind `recheck`
+abbrev pub ReadsRecheck : RecheckTexts → Result Command WordFault → Type 0
+ReadsRecheck t (Ok (Recheck files settings)) = NamesFiles t.all files.searched × (files.evidence.now ≡ t.evidence.now) × WritesSettings t.all settings
+ReadsRecheck t (Ok _) = ⊥
+ReadsRecheck t (Err fault) = RefusesSettings t.all fault
 
 -- what is answered to a command's words
 abbrev pub Reads : Asked → Result Command WordFault → Type 0
@@ -187,6 +209,7 @@ Reads (asks.Path t) r = ReadsPath t r
 Reads (asks.Why t) r = ReadsWhy t r
 Reads (asks.Questions t) r = ReadsQuestions t r
 Reads (asks.Paths t) r = ReadsPaths t r
+Reads (asks.Recheck t) r = ReadsRecheck t r
 
 -- What is answered to the words: what their command's values write. They are refused only where clap does not take them.
 abbrev pub AnswersWords : List Text → Result Command WordFault → Type 0

@@ -6,7 +6,7 @@ use Rattle.cert_framing.specs.declared.ending.End.TheVariants.{Clean, Cut, Fault
 use Rattle.certpath_engine.specs.declared.exit.FrameOutcome.{FrameOutcome}
 use Rattle.certpath_engine.specs.declared.exit.FrameOutcome.TheVariants.{Unopened, Framed}
 use Rattle.certpath_engine.specs.declared.exit.Message.{Message}
-use Rattle.certpath_engine.specs.declared.exit.Message.TheVariants.{Usage, BadNumber, BadMoment, CannotRead, VouchersLine, OutOfMemory as NoMemory, CannotWrite}
+use Rattle.certpath_engine.specs.declared.exit.Message.TheVariants.{Usage, BadNumber, BadMoment, CannotRead, CannotCreate, VouchersLine, EvidenceLine, OutOfMemory as NoMemory, CannotWrite, CannotWriteTo}
 use Rattle.certpath_engine.specs.declared.framing.FrameError.{FrameError}
 use Rattle.certpath_engine.specs.declared.framing.FrameError.TheVariants.{Read, TooLong, OutOfMemory, Write}
 use Rattle.certpath_engine.specs.declared.words.WordFault.{WordFault}
@@ -19,8 +19,17 @@ line text = text ++ 10 ∷ []
 abbrev pub cannot_read : List ℕ → List ℕ
 cannot_read word = line (codes "cannot read " ++ word)
 
+abbrev pub cannot_create : List ℕ → List ℕ
+cannot_create word = line (codes "cannot create " ++ word)
+
+abbrev pub cannot_write_to : List ℕ → List ℕ
+cannot_write_to word = line (codes "cannot write " ++ word)
+
 abbrev pub vouchers_line : ℕ → List ℕ
 vouchers_line number = line (codes "vouchers line " ++ decimal number)
+
+abbrev pub evidence_line : ℕ → List ℕ
+evidence_line number = line (codes "evidence line " ++ decimal number)
 
 -- status and text where the words are refused or ask for help
 abbrev pub words_exit_of : WordFault → ℕ × List ℕ
@@ -50,9 +59,12 @@ message_text (Usage text) = string_bytes text
 message_text BadNumber = line (codes "bad number")
 message_text BadMoment = line (codes "bad moment")
 message_text (CannotRead word) = cannot_read word.now
+message_text (CannotCreate word) = cannot_create word.now
 message_text (VouchersLine number) = vouchers_line number
+message_text (EvidenceLine number) = evidence_line number
 message_text NoMemory = line (codes "out of memory")
 message_text CannotWrite = line (codes "cannot write")
+message_text (CannotWriteTo word) = cannot_write_to word.now
 
 -- what is said, if anything is
 abbrev pub words_of : Option Message → List ℕ

@@ -1,6 +1,7 @@
 pub mod Exits
 pub mod PathExits
 pub mod QuestionsExits
+pub mod RecheckExits
 pub mod Numbers
 pub mod Runs
 pub mod Text

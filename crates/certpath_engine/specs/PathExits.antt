@@ -1,17 +1,19 @@
 -- What the program ends with after `path`, `why` and `paths`: its exit status, and what it says on standard error.
 use Rattle.std.specs.Prelude.{ℕ, List, [], Result, Ok, Err, codes}
-use Rattle.certpath_run.specs.declared.settings.Input.{Input}
-use Rattle.certpath_run.specs.declared.settings.Input.TheVariants.{Bundle, Anchors, Vouchers}
+use Rattle.certpath_sources.specs.declared.settings.Input.{Input}
+use Rattle.certpath_sources.specs.declared.settings.Input.TheVariants.{Bundle, Anchors, Vouchers}
 use Rattle.certpath_run.specs.declared.settings.Outcome.{Outcome}
 use Rattle.certpath_run.specs.declared.settings.Outcome.TheVariants.{Path, NoPath, NoTarget}
 use Rattle.certpath_run.specs.declared.settings.AllOutcome.{AllOutcome}
 use Rattle.certpath_run.specs.declared.settings.AllOutcome.TheVariants.{Each, NotEach}
-use Rattle.certpath_run.specs.declared.settings.RunError.{RunError}
-use Rattle.certpath_run.specs.declared.settings.RunError.TheVariants.{Read, TooLong, BadLine, OutOfMemory, Write}
+use Rattle.certpath_sources.specs.declared.settings.RunError.{RunError}
+use Rattle.certpath_sources.specs.declared.settings.RunError.TheVariants.{Read, TooLong, BadLine, OutOfMemory, Write}
 use Rattle.certpath_engine.specs.declared.path_exit.PathFiles.{PathFiles}
 use Rattle.certpath_engine.specs.declared.path_exit.PathOutcome.{PathOutcome}
 use Rattle.certpath_engine.specs.declared.path_exit.PathOutcome.TheVariants.{Unopened, Ran}
-use Rattle.certpath_engine.specs.Exits.{line, cannot_read, vouchers_line}
+use Rattle.certpath_engine.specs.declared.path_exit.PathsOutcome.{PathsOutcome}
+use Rattle.certpath_engine.specs.declared.path_exit.PathsOutcome.TheVariants.{Found, Uncreated, Unwritten}
+use Rattle.certpath_engine.specs.Exits.{line, cannot_read, cannot_create, cannot_write_to, vouchers_line}
 
 -- the word of an input's file
 abbrev pub word_of : PathFiles → Input → List ℕ
@@ -50,7 +52,13 @@ abbrev pub path_exit : PathOutcome Outcome → ℕ × List ℕ
 path_exit (Unopened word) = (4, cannot_read word.now)
 path_exit (Ran files answer) = ran_exit_of files answer
 
+-- and of a run over all items
+abbrev pub found_exit : PathOutcome AllOutcome → ℕ × List ℕ
+found_exit (Unopened word) = (4, cannot_read word.now)
+found_exit (Ran files answer) = all_exit_of files answer
+
 -- and of the command `paths`
-abbrev pub paths_exit : PathOutcome AllOutcome → ℕ × List ℕ
-paths_exit (Unopened word) = (4, cannot_read word.now)
-paths_exit (Ran files answer) = all_exit_of files answer
+abbrev pub paths_exit : PathsOutcome → ℕ × List ℕ
+paths_exit (Found outcome) = found_exit outcome
+paths_exit (Uncreated word) = (4, cannot_create word.now)
+paths_exit (Unwritten word) = (7, cannot_write_to word.now)

@@ -1,5 +1,5 @@
 -- The program's commands and their words, as clap is told of them.
-use Rattle.std.specs.Prelude.{ℕ, true, List, [], ◌∷◌, Some, codes}
+use Rattle.std.specs.Prelude.{true, [], ◌∷◌, Some, codes}
 use Rattle.clap.specs.Walk.{Rule, Text}
 use Rattle.clap.specs.Simple.{App, new_app, new_rule, on_top, with_rule, with_subcommand}
 use Rattle.clap.specs.declared.builder.action.ArgAction.TheVariants.{SetTrue}
@@ -51,14 +51,26 @@ why_app = with_question (new_app (codes "why"))
 abbrev pub questions_app : App
 questions_app = with_rule (with_rule (with_rule (new_app (codes "questions")) (file_rule (codes "BUNDLE"))) (file_rule (codes "ANCHORS"))) limit_rule
 
--- `paths BUNDLE ANCHORS VOUCHERS --at YYYY-MM-DDTHH:MM:SS [--demand-lists] [--limit N]`
+-- `--evidence FILE`
+abbrev pub evidence_rule : Rule
+evidence_rule = record (new_rule (codes "evidence")) { long = Some (codes "evidence"); value_names = 1 }
+
+-- `paths BUNDLE ANCHORS VOUCHERS --at YYYY-MM-DDTHH:MM:SS [--demand-lists] [--limit N] [--evidence FILE]`
 abbrev pub paths_app : App
-paths_app = with_policy (with_files (new_app (codes "paths")))
+paths_app = with_rule (with_policy (with_files (new_app (codes "paths")))) evidence_rule
+
+-- `recheck BUNDLE ANCHORS VOUCHERS EVIDENCE --at YYYY-MM-DDTHH:MM:SS [--demand-lists] [--limit N]`
+abbrev pub recheck_app : App
+recheck_app = with_policy (with_rule (with_files (new_app (codes "recheck"))) (file_rule (codes "EVIDENCE")))
 
 -- the program with the commands over items
 abbrev pub items_app : App
 items_app = with_subcommand (with_subcommand (on_top (λ s. record s { subcommand_required = true }) (new_app (codes "certpath"))) frame_app.top) questions_app.top
 
+-- and with the commands on one target
+abbrev pub targets_app : App
+targets_app = with_subcommand (with_subcommand items_app path_app.top) why_app.top
+
 -- the program, which has these subcommands too, and must be given one
 abbrev pub certpath_app : App
-certpath_app = with_subcommand (with_subcommand (with_subcommand items_app path_app.top) why_app.top) paths_app.top
+certpath_app = with_subcommand (with_subcommand targets_app paths_app.top) recheck_app.top

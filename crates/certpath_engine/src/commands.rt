@@ -2,7 +2,7 @@
 ghost use Rattle.std.specs.Prelude.{◌≡◌, false, IfOk};
 ghost use Rattle.clap.specs.Words.{app_of, rule_of};
 ghost use Rattle.clap.specs.declared.builder.command.Command.TheViews.{out-Command};
-ghost use Rattle.certpath_engine.specs.Words.{certpath_app, items_app, frame_app, path_app, why_app, questions_app, paths_app, with_question, with_files, with_policy, file_rule, target_rule, moment_rule, demand_rule, limit_rule};
+ghost use Rattle.certpath_engine.specs.Words.{certpath_app, targets_app, items_app, frame_app, path_app, why_app, questions_app, paths_app, recheck_app, with_question, with_files, with_policy, file_rule, target_rule, moment_rule, demand_rule, limit_rule, evidence_rule};
 
 use clap::{Arg, ArgAction, Command};
 use std::alloc::{AllocError, Global};
@@ -11,10 +11,19 @@ use std::alloc::{AllocError, Global};
 pub(crate) fn program<'a>(alloc: Global) -> Result<Command<'a>, AllocError>
     ensures { IfOk result (λ c. app_of c ≡ certpath_app) }
 {
+    target_commands(alloc)?
+        .subcommand(paths_command(alloc)?)?
+        .subcommand(recheck_command(alloc)?)
+}
+
+/// The commands over items, and those on one target.
+fn target_commands<'a>(alloc: Global) -> Result<Command<'a>, AllocError>
+    ensures app { IfOk result (λ c. app_of c ≡ targets_app) }
+    ensures local { IfOk result (λ c. (out-Command c).has_globals ≡ false) }
+{
     item_commands(alloc)?
         .subcommand(path_command(alloc)?)?
-        .subcommand(why_command(alloc)?)?
-        .subcommand(paths_command(alloc)?)
+        .subcommand(why_command(alloc)?)
 }
 
 /// The commands over items.
@@ -84,7 +93,23 @@ fn paths_command<'a>(alloc: Global) -> Result<Command<'a>, AllocError>
         "Finds the first of the shortest valid paths of every item, and checks them",
     );
     let paths = with_files(alloc, paths)?;
-    with_policy(alloc, paths)
+    with_policy(alloc, paths)?.arg(evidence_argument(alloc))
+}
+
+/// The command `recheck`.
+fn recheck_command<'a>(alloc: Global) -> Result<Command<'a>, AllocError>
+    ensures app { IfOk result (λ c. app_of c ≡ recheck_app) }
+    ensures local { IfOk result (λ c. (out-Command c).has_globals ≡ false) }
+{
+    let recheck = Command::new(alloc, "recheck").about(
+        "Checks what paths found, by the evidence that it wrote",
+    );
+    let recheck = with_files(alloc, recheck)?.arg(file_argument(
+        alloc,
+        "EVIDENCE",
+        "What paths --evidence wrote",
+    ))?;
+    with_policy(alloc, recheck)
 }
 
 /// A command with the words of a question on one target: the files, the target, the moment, whether lists are demanded, the limit.
@@ -178,4 +203,15 @@ fn limit_argument<'a>(alloc: Global) -> Arg<'a>
         .value_name("N")
         .help("The most content octets of an item")
         .default_value("16777216")
+}
+
+/// `--evidence FILE`.
+fn evidence_argument<'a>(alloc: Global) -> Arg<'a>
+    ensures rule { rule_of result ≡ evidence_rule }
+    ensures local { result.global ≡ false }
+{
+    Arg::new(alloc, "evidence")
+        .long("evidence")
+        .value_name("FILE")
+        .help("Writes to FILE what recheck needs to check all paths")
 }

@@ -27,12 +27,18 @@ pub enum Message<'a> {
     BadMoment,
     /// This file can't be opened or read, or it is too long.
     CannotRead(&'a str),
+    /// This file can't be created.
+    CannotCreate(&'a str),
     /// This line of the vouchers is bad.
     VouchersLine(usize),
+    /// This line of the evidence is bad.
+    EvidenceLine(usize),
     /// Memory was refused.
     OutOfMemory,
     /// Standard output failed.
     CannotWrite,
+    /// This file can't be written.
+    CannotWriteTo(&'a str),
 }
 
 /// How the program ends.
@@ -53,9 +59,12 @@ impl fmt::Display for Message<'_> {
             Message::BadNumber => f.write_str("bad number\n"),
             Message::BadMoment => f.write_str("bad moment\n"),
             Message::CannotRead(word) => write!(f, "cannot read {word}\n"),
+            Message::CannotCreate(word) => write!(f, "cannot create {word}\n"),
             Message::VouchersLine(number) => write!(f, "vouchers line {number}\n"),
+            Message::EvidenceLine(number) => write!(f, "evidence line {number}\n"),
             Message::OutOfMemory => f.write_str("out of memory\n"),
             Message::CannotWrite => f.write_str("cannot write\n"),
+            Message::CannotWriteTo(word) => write!(f, "cannot write {word}\n"),
         }
     }
 }

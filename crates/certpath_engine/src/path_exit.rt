@@ -1,7 +1,7 @@
 //! What the program ends with after `path`, `why` and `paths`.
 ghost use Rattle.std.specs.Prelude.{◌≡◌};
 ghost use Rattle.certpath_engine.specs.Exits.{words_of};
-ghost use Rattle.certpath_engine.specs.PathExits.{path_exit, paths_exit, ran_exit_of, all_exit_of, refused_exit_of, status_of, all_status_of, word_of};
+ghost use Rattle.certpath_engine.specs.PathExits.{path_exit, paths_exit, found_exit, ran_exit_of, all_exit_of, refused_exit_of, status_of, all_status_of, word_of};
 
 use crate::exit::{Exit, Message, ended, silent};
 use certpath_run::{AllOutcome, Input, Outcome, RunError};
@@ -36,6 +36,17 @@ pub enum PathOutcome<'a, T> {
     Ran(PathFiles<'a>, Result<T, RunError>),
 }
 
+/// How far `paths` came.
+#[derive(Debug, Drop)]
+pub enum PathsOutcome<'a> {
+    /// The file of the evidence was written, or none was asked for, or the run came not so far.
+    Found(PathOutcome<'a, AllOutcome>),
+    /// This file of the evidence can't be created.
+    Uncreated(&'a str),
+    /// This file of the evidence was created, and isn't written whole.
+    Unwritten(&'a str),
+}
+
 /// The status that `path` and `why` end with, and what they say on standard error.
 pub fn path_status<'a>(outcome: PathOutcome<'a, Outcome>) -> Exit<'a>
     ensures status { result.status ≡ (path_exit outcome.entry).0 }
@@ -48,9 +59,21 @@ pub fn path_status<'a>(outcome: PathOutcome<'a, Outcome>) -> Exit<'a>
 }
 
 /// The status that `paths` ends with, and what it says on standard error.
-pub fn paths_status<'a>(outcome: PathOutcome<'a, AllOutcome>) -> Exit<'a>
+pub fn paths_status<'a>(outcome: PathsOutcome<'a>) -> Exit<'a>
     ensures status { result.status ≡ (paths_exit outcome.entry).0 }
     ensures words { words_of result.message ≡ (paths_exit outcome.entry).1 }
+{
+    match outcome {
+        PathsOutcome::Found(outcome) => found_exit(outcome),
+        PathsOutcome::Uncreated(file) => ended(4, Message::CannotCreate(file)),
+        PathsOutcome::Unwritten(file) => ended(7, Message::CannotWriteTo(file)),
+    }
+}
+
+/// How the program ends where all items are asked about.
+fn found_exit<'a>(outcome: PathOutcome<'a, AllOutcome>) -> Exit<'a>
+    ensures status { result.status ≡ (found_exit outcome.entry).0 }
+    ensures words { words_of result.message ≡ (found_exit outcome.entry).1 }
 {
     match outcome {
         PathOutcome::Unopened(file) => ended(4, Message::CannotRead(file)),
@@ -102,7 +125,7 @@ fn all_status(outcome: AllOutcome) -> u8
 }
 
 /// How the program ends where it has none.
-fn refused_exit<'a>(files: PathFiles<'a>, error: RunError) -> Exit<'a>
+pub(crate) fn refused_exit<'a>(files: PathFiles<'a>, error: RunError) -> Exit<'a>
     ensures status { result.status ≡ (refused_exit_of files.entry error).0 }
     ensures words { words_of result.message ≡ (refused_exit_of files.entry error).1 }
 {

@@ -2,7 +2,7 @@
 ghost use Rattle.std.specs.Prelude.{map, string_bytes, codes, IfOk, IfErr};
 ghost use Rattle.clap.specs.Matches.{found_of};
 ghost use Rattle.clap.specs.Words.{kind_of, rows_of};
-ghost use Rattle.certpath_engine.specs.Asking.{TellsTexts, TellsQuestion, TellsAll, frame_arguments, path_arguments, all_arguments, AnswersTexts, IsRefusal};
+ghost use Rattle.certpath_engine.specs.Asking.{TellsTexts, TellsQuestion, TellsAll, frame_arguments, path_arguments, all_arguments, recheck_arguments, AnswersTexts, IsRefusal};
 
 use crate::commands::program;
 use crate::questions_texts::{QuestionsTexts, questions_texts};
@@ -17,7 +17,8 @@ pub(crate) enum Asked<'a> {
     Path(PathTexts<'a>),
     Why(PathTexts<'a>),
     Questions(QuestionsTexts<'a>),
-    Paths(AllTexts<'a>),
+    Paths(PathsTexts<'a>),
+    Recheck(RecheckTexts<'a>),
 }
 
 /// The words after `frame`.
@@ -34,7 +35,21 @@ pub(crate) struct PathTexts<'a> {
     pub(crate) all: AllTexts<'a>,
 }
 
-/// The words after `paths`: the files, and how all items are judged.
+/// The words after `paths`.
+#[derive(Clone, Copy)]
+pub(crate) struct PathsTexts<'a> {
+    pub(crate) all: AllTexts<'a>,
+    pub(crate) evidence: Option<&'a str>,
+}
+
+/// The words after `recheck`.
+#[derive(Clone, Copy)]
+pub(crate) struct RecheckTexts<'a> {
+    pub(crate) all: AllTexts<'a>,
+    pub(crate) evidence: &'a str,
+}
+
+/// The files, and how all items are judged.
 #[derive(Clone, Copy)]
 pub(crate) struct AllTexts<'a> {
     pub(crate) bundle: &'a str,
@@ -62,6 +77,7 @@ pub(crate) fn read_texts<'a>(alloc: Global, words: &'a [String]) -> Result<Asked
         Some(("why", found)) => why_texts(found),
         Some(("questions", found)) => questions_texts(found),
         Some(("paths", found)) => paths_texts(found),
+        Some(("recheck", found)) => recheck_texts(found),
         _ => Err(WordFault::OutOfMemory),
     }
 }
@@ -115,12 +131,26 @@ fn why_texts<'a>(found: &ArgMatches<'a>) -> Result<Asked<'a>, WordFault>
 }
 
 /// The words after `paths`.
-#[tactic(auto, using(crate::proofs::WordLemmas::all_fault))]
+#[tactic(auto, using(crate::proofs::WordLemmas::all_fault, crate::proofs::WordLemmas::paths_values))]
 fn paths_texts<'a>(found: &ArgMatches<'a>) -> Result<Asked<'a>, WordFault>
     ensures { TellsTexts (codes "paths") all_arguments (rows_of (found_of found.now)) result }
 {
+    let evidence = found.get_str("evidence");
     match all_texts(found) {
-        Ok(texts) => Ok(Asked::Paths(texts)),
+        Ok(all) => Ok(Asked::Paths(PathsTexts { all, evidence })),
+        Err(fault) => Err(fault),
+    }
+}
+
+/// The words after `recheck`.
+fn recheck_texts<'a>(found: &ArgMatches<'a>) -> Result<Asked<'a>, WordFault>
+    ensures { TellsTexts (codes "recheck") recheck_arguments (rows_of (found_of found.now)) result }
+{
+    let Some(evidence) = found.get_str("EVIDENCE") else {
+        return Err(WordFault::OutOfMemory);
+    };
+    match all_texts(found) {
+        Ok(all) => Ok(Asked::Recheck(RecheckTexts { all, evidence })),
         Err(fault) => Err(fault),
     }
 }

@@ -1,12 +1,13 @@
 //! What the words of the command line ask for.
 ghost use Rattle.std.specs.Prelude.{map, string_bytes, IfOk, IfErr};
-ghost use Rattle.certpath_engine.specs.Asking.{ReadsFrame, ReadsPath, ReadsWhy, ReadsQuestions, ReadsPaths, WritesQuestion, RefusesQuestion, NamesFiles, WritesSettings, RefusesSettings, AnswersWords};
+ghost use Rattle.certpath_engine.specs.Asking.{ReadsFrame, ReadsPath, ReadsWhy, ReadsQuestions, ReadsPaths, ReadsRecheck, WritesQuestion, RefusesQuestion, NamesFiles, WritesSettings, RefusesSettings, AnswersWords};
 
 use crate::number::read_number;
 use crate::path_exit::PathFiles;
 use crate::questions_exit::ItemFiles;
 use crate::questions_texts::QuestionsTexts;
-use crate::texts::{AllTexts, Asked, FrameTexts, PathTexts, read_texts};
+use crate::recheck_exit::RecheckFiles;
+use crate::texts::{AllTexts, Asked, FrameTexts, PathTexts, PathsTexts, RecheckTexts, read_texts};
 use cert_judge::Policy;
 use certpath_moment::read_moment;
 use certpath_run::{AllSettings, Settings};
@@ -30,6 +31,15 @@ pub enum Command<'a> {
     Paths {
         /// The files' names.
         files: PathFiles<'a>,
+        /// The name of the file for the evidence.
+        evidence: Option<&'a str>,
+        /// The moment, whether lists are demanded, and the most content octets that an item has.
+        settings: AllSettings,
+    },
+    /// Check evidence.
+    Recheck {
+        /// The files' names.
+        files: RecheckFiles<'a>,
         /// The moment, whether lists are demanded, and the most content octets that an item has.
         settings: AllSettings,
     },
@@ -77,6 +87,7 @@ pub fn read_words<'a>(alloc: Global, words: &'a [String]) -> Result<Command<'a>,
         Ok(Asked::Why(texts)) => why_of(texts),
         Ok(Asked::Questions(texts)) => questions_of(texts),
         Ok(Asked::Paths(texts)) => paths_of(texts),
+        Ok(Asked::Recheck(texts)) => recheck_of(texts),
         Err(fault) => Err(fault),
     }
 }
@@ -129,12 +140,29 @@ fn questions_of<'a>(texts: QuestionsTexts<'a>) -> Result<Command<'a>, WordFault>
 }
 
 /// The command `paths` of these words.
-fn paths_of<'a>(texts: AllTexts<'a>) -> Result<Command<'a>, WordFault>
+fn paths_of<'a>(texts: PathsTexts<'a>) -> Result<Command<'a>, WordFault>
     ensures { ReadsPaths texts.entry result }
 {
-    match settings_of(texts) {
+    match settings_of(texts.all) {
         Ok(settings) => Ok(Command::Paths {
-            files: files_of(texts),
+            files: files_of(texts.all),
+            evidence: texts.evidence,
+            settings,
+        }),
+        Err(fault) => Err(fault),
+    }
+}
+
+/// The command `recheck` of these words.
+fn recheck_of<'a>(texts: RecheckTexts<'a>) -> Result<Command<'a>, WordFault>
+    ensures { ReadsRecheck texts.entry result }
+{
+    match settings_of(texts.all) {
+        Ok(settings) => Ok(Command::Recheck {
+            files: RecheckFiles {
+                searched: files_of(texts.all),
+                evidence: texts.evidence,
+            },
             settings,
         }),
         Err(fault) => Err(fault),

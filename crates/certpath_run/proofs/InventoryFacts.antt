@@ -4,6 +4,7 @@ use Rattle.std.specs.Prelude.{IsTrue, ◌↔◌}
 use Rattle.std.specs.Fmt.{decimal}
 use Rattle.std.proofs.lemmas.List.{append-nil, drop_all}
 use Rattle.cert_framing.specs.declared.ending.End.{End}
+use Rattle.cert_framing.specs.Held.{Framed}
 use Rattle.cert_graph.specs.declared.inventory.Inventory.{Inventory}
 use Rattle.cert_graph.specs.declared.inventory.Verdict.{Verdict}
 use Rattle.cert_graph.specs.declared.inventory.Verdict.TheVariants.{FirstPath, Pathless, NoCertificate}
@@ -14,10 +15,15 @@ use Rattle.cert_judge.specs.ItemGraph.{graph_of_items}
 use Rattle.cert_judge.specs.JudgedItems.{AreJudged}
 use Rattle.cert_judge.specs.Revoking.{Item, Rules}
 use Rattle.cert_judge.specs.declared.judged.JudgedItem.{JudgedItem}
+use Rattle.certcheck.specs.declared.vouchers.Vouchers.{Vouchers}
+use Rattle.certpath_evidence.specs.Evidence.{evidence, told_by}
 use Rattle.certpath_find.proofs.Answering.{one_classing}
+use Rattle.certpath_sources.specs.declared.settings.AllSettings.{AllSettings}
+use Rattle.certpath_run.specs.declared.settings.AllOutcome.{AllOutcome}
 use Rattle.certpath_run.specs.declared.settings.AllOutcome.TheVariants.{Each, NotEach}
-use Rattle.certpath_run.specs.Report.{class_word, end_line, certificates_among, check_line}
-use Rattle.certpath_run.specs.AllReport.{verdict_end, verdict_lines, all_report, is_pathless, has_pathless, outcome_of_all}
+use Rattle.certpath_run.specs.Report.{class_word, end_line, certificates_among}
+use Rattle.certpath_sources.specs.Check.{check_line}
+use Rattle.certpath_run.specs.AllReport.{verdict_end, verdict_lines, all_report, is_pathless, has_pathless, outcome_of_all, IsAllReportOf, AreFindingsOn}
 use Rattle.certpath_run.specs.JudgedReport.{judged_word, counts_line, certificates_of, judged_verdict_line, judged_verdict_lines, judged_all_report}
 use Rattle.certpath_run.proofs.ReportFacts.{drop_next, judged_first, same_word, same_certificates}
 
@@ -85,3 +91,8 @@ all_said_yes r items anchors xs ys cs ds inventory said p q p' q' exact adequate
     let a = one_classing items xs cs p p' in
     let b = one_classing anchors ys ds q q' in
     exact.1 (subst (λ l. IsAdequateInventory (graph_of_items r l ds) inventory) a (subst (λ l. IsAdequateInventory (graph_of_items r xs l) inventory) b adequate))
+
+-- the report of an inventory, beside its evidence
+pub findings_of : (settings : AllSettings) (outcome : AllOutcome) (inventory : Inventory) (items anchors : Framed) (pairs : Vouchers) (text shown : List ℕ) → IsAllReportOf settings outcome inventory items anchors pairs text → shown ≡ evidence (told_by inventory)
+    → AreFindingsOn settings outcome shown items anchors pairs text
+findings_of settings outcome inventory items anchors pairs text shown report is = (report.0, is ∙ ap (λ i. evidence (told_by i)) (sym report.1))

@@ -1,3 +1,2 @@
-mod InputFacts
 mod InventoryFacts
 mod ReportFacts

@@ -6,18 +6,20 @@ use Rattle.cert_framing.specs.Held.{Framed}
 use Rattle.cert_graph.specs.declared.inventory.Inventory.{Inventory}
 use Rattle.cert_graph.specs.declared.inventory.Verdict.{Verdict}
 use Rattle.cert_graph.specs.declared.inventory.Verdict.TheVariants.{FirstPath, Pathless, NoCertificate}
-use Rattle.cert_graph.specs.Inventory.{IsTrueInventory}
+use Rattle.cert_graph.specs.Inventory.{IsAdequateInventory, IsTrueInventory}
 use Rattle.cert_judge.specs.Classed.{AreClassed}
 use Rattle.cert_judge.specs.ItemGraph.{graph_of_items}
 use Rattle.cert_judge.specs.Items.{rules_by}
 use Rattle.cert_judge.specs.Revoking.{Item, Rules}
 use Rattle.cert_model.specs.Class.{Class}
 use Rattle.certcheck.specs.declared.vouchers.Vouchers.{Vouchers}
-use Rattle.certpath_run.specs.declared.settings.AllSettings.{AllSettings}
+use Rattle.certpath_evidence.specs.Evidence.{evidence, told_by}
+use Rattle.certpath_sources.specs.declared.settings.AllSettings.{AllSettings}
 use Rattle.certpath_run.specs.declared.settings.AllOutcome.{AllOutcome}
 use Rattle.certpath_run.specs.declared.settings.AllOutcome.TheVariants.{Each, NotEach}
-use Rattle.certpath_run.specs.Report.{class_word, end_line, anchors_line, position_words, check_line}
-use Rattle.certpath_run.specs.Runs.{VouchesBy}
+use Rattle.certpath_run.specs.Report.{class_word, end_line, anchors_line, position_words}
+use Rattle.certpath_sources.specs.Check.{check_line}
+use Rattle.certpath_sources.specs.Inputs.{VouchesBy}
 
 -- what is said of an item as a target: its path and the anchor, that it has none, or the class of what is no certificate
 abbrev pub verdict_end : Class → Verdict → List ℕ
@@ -48,13 +50,14 @@ has_pathless (verdict ∷ verdicts) = is_pathless verdict || has_pathless verdic
 abbrev pub outcome_of_all : List Verdict → AllOutcome
 outcome_of_all verdicts = if has_pathless verdicts then NotEach else Each
 
--- the report of true verdicts, by the classes of items and anchors, with what the check says of them: yes
+-- the report of true verdicts that one table shows, by the classes of items and anchors, with what the check says of them: yes
 pub record IsAllReport (r : Rules) (items anchors : Framed) (text : List ℕ) (outcome : AllOutcome) : Type 0 where
   pub classed : List Item
   pub classed_anchors : List Item
   pub inventory : Inventory
   pub are_classed : AreClassed items.items classed
   pub anchors_are_classed : AreClassed anchors.items classed_anchors
+  pub adequate : IsAdequateInventory (graph_of_items r classed classed_anchors) inventory
   pub holds : IsTrueInventory (graph_of_items r classed classed_anchors) inventory
   pub text_is : text ≡ all_report classed items.end classed_anchors anchors.end inventory.verdicts.items true
   pub outcome_is : outcome ≡ outcome_of_all inventory.verdicts.items
@@ -62,3 +65,11 @@ pub record IsAllReport (r : Rules) (items anchors : Framed) (text : List ℕ) (o
 -- the text is the report on all items by these settings, and the outcome is its own
 abbrev pub IsAllReportOn : AllSettings → AllOutcome → Framed → Framed → Vouchers → List ℕ → Type 0
 IsAllReportOn settings outcome items anchors pairs text = IsAllReport (rules_by settings.policy.moment settings.policy.demand_lists (VouchesBy pairs)) items anchors text outcome
+
+-- and it is the report of this inventory
+abbrev pub IsAllReportOf : AllSettings → AllOutcome → Inventory → Framed → Framed → Vouchers → List ℕ → Type 0
+IsAllReportOf settings outcome inventory items anchors pairs text = (report : IsAllReportOn settings outcome items anchors pairs text) × (report.inventory ≡ inventory)
+
+-- and this is the evidence of that inventory
+abbrev pub AreFindingsOn : AllSettings → AllOutcome → List ℕ → Framed → Framed → Vouchers → List ℕ → Type 0
+AreFindingsOn settings outcome shown items anchors pairs text = (report : IsAllReportOn settings outcome items anchors pairs text) × (shown ≡ evidence (told_by report.inventory))

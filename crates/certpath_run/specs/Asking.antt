@@ -13,7 +13,7 @@ use Rattle.certpath_run.specs.declared.asking.ItemInput.{ItemInput}
 use Rattle.certpath_run.specs.declared.asking.ItemInput.TheVariants.{Bundle, Anchors}
 use Rattle.certpath_run.specs.declared.asking.QuestionsError.{QuestionsError}
 use Rattle.certpath_run.specs.declared.asking.QuestionsError.TheVariants.{Read, TooLong, OutOfMemory, Write}
-use Rattle.certpath_run.specs.Uses.{Use, Counts, Used, unread, whole, failed, too_long, stopped}
+use Rattle.certpath_sources.specs.Uses.{Use, Counts, Used, unread, whole, failed, too_long, stopped}
 
 -- the text has a line for each question of these items and anchors, and no other line
 pub record AreQuestionsOf (items anchors : Framed) (text : List ℕ) : Type 0 where

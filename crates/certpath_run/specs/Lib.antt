@@ -3,4 +3,3 @@ pub mod Asking
 pub mod JudgedReport
 pub mod Report
 pub mod Runs
-pub mod Uses

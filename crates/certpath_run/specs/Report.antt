@@ -7,6 +7,7 @@ use Rattle.cert_graph.specs.declared.answer.Answer.{Answer}
 use Rattle.cert_graph.specs.declared.answer.Answer.TheVariants.{Path, NoPath, NoTarget}
 use Rattle.cert_model.specs.Class.{Class, certificate, list, other}
 use Rattle.cert_judge.specs.Revoking.{Item}
+use Rattle.certpath_sources.specs.Check.{check_line}
 
 abbrev pub class_word : Class → List ℕ
 class_word (certificate c) = codes "cert"
@@ -51,10 +52,6 @@ abbrev pub answer_line : Answer → List ℕ
 answer_line (Path positions anchor table) = codes "path" ++ (position_words positions.items ++ (codes " anchor " ++ (decimal anchor ++ 10 ∷ [])))
 answer_line (NoPath table) = codes "none\n"
 answer_line NoTarget = codes "no target\n"
-
--- what the check says of the answer
-abbrev pub check_line : Bool → List ℕ
-check_line said = if said then codes "check yes\n" else codes "check no\n"
 
 abbrev pub report : List Item → End → List Item → End → Answer → Bool → List ℕ
 report items end anchors anchors_end answer said =

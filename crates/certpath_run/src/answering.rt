@@ -8,15 +8,16 @@ ghost use Rattle.cert_judge.specs.Items.{rules_by};
 ghost use Rattle.cert_judge.specs.JudgedItems.{AreJudged};
 ghost use Rattle.cert_judge.specs.Revoking.{Item};
 ghost use Rattle.cert_model.specs.View.{time_view};
-ghost use Rattle.certpath_run.specs.Runs.{VouchesBy, kind_of};
+ghost use Rattle.certpath_run.specs.Runs.{kind_of};
+ghost use Rattle.certpath_sources.specs.Inputs.{VouchesBy};
 
-use crate::inputs::Inputs;
 use crate::settings::{Outcome, Settings};
 use asn1_core::OutOfMemory;
 use cert_graph::Answer;
 use cert_judge::JudgedItem;
 use certcheck::{RememberedVouchers, check};
 use certpath_find::find_judged;
+use certpath_sources::Inputs;
 use std::alloc::Global;
 
 /// An answer, and what the check says of it.

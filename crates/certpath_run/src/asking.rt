@@ -3,14 +3,14 @@
 ghost use Rattle.std.specs.Prelude.{◌≡◌, ◌≢◌, ◌+◌, ◌≤◌, IfOk, IfErr, OnOk, IsErrOf, string_bytes};
 ghost use Rattle.certpath_input.specs.Inputs.{ReadsItems};
 ghost use Rattle.certpath_run.specs.Asking.{AreQuestionsOf, WritesQuestions, WritesQuestionsInPart, IsOfItems, item_use_of, UseItemReaders, failed_question_writes};
-ghost use Rattle.certpath_run.specs.Uses.{Used};
+ghost use Rattle.certpath_sources.specs.Uses.{Used};
 
-use crate::writing::write_text;
 use asn1_core::OutOfMemory;
 use asn1_device::{Sink, Source};
 use cert_framing::Items;
 use cert_questions::{questions, text_of};
 use certpath_input::{InputError, read_items};
+use certpath_sources::write_text;
 use std::alloc::Global;
 use thiserror::Error;
 

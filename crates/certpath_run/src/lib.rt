@@ -1,11 +1,11 @@
 //! Reads items, anchors and vouchers, finds the answer, checks it, and writes the report, or what stands in the way of a path; or
-//! asks which keys may have signed which items.
+//! writes the evidence for all items; or asks which keys may have signed which items.
 #![tactic(auto)]
 
 mod answering;
 mod asking;
 mod explaining;
-mod inputs;
+mod finding;
 mod remembering;
 mod report;
 mod report_all;
@@ -14,10 +14,11 @@ mod reporting_all;
 mod running;
 mod running_all;
 mod settings;
-mod writing;
 
 pub use crate::asking::{ItemInput, QuestionsError, run_questions};
 pub use crate::explaining::run_why;
+pub use crate::finding::{Findings, find_evidence};
 pub use crate::running::run;
 pub use crate::running_all::run_all;
-pub use crate::settings::{AllOutcome, AllSettings, Input, Outcome, RunError, Settings};
+pub use crate::settings::{AllOutcome, Outcome, Settings};
+pub use certpath_sources::{AllSettings, Input, RunError};

@@ -2,12 +2,13 @@
 
 ghost use Rattle.std.specs.Prelude.{◌≡◌, ◌≤◌, ℕ, [], ◌∷◌, ◌++◌, codes, length, string_bytes, OnOk, IfOk};
 ghost use Rattle.std.specs.Fmt.{decimal};
-ghost use Rattle.certpath_run.specs.Report.{end_line, position_words, answer_line, check_line};
+ghost use Rattle.certpath_run.specs.Report.{end_line, position_words, answer_line};
 ghost use Rattle.certpath_run.specs.JudgedReport.{judged_line, judged_lines, one_certificate, certificates_of, counts_line, judged_report};
 
 use cert_framing::End;
 use cert_graph::Answer;
 use cert_judge::JudgedItem;
+use certpath_sources::push_check;
 use std::alloc::{AllocError, Global};
 
 /// The line of item `k`.
@@ -118,17 +119,6 @@ pub(crate) fn push_answer(text: &mut String, answer: &Answer) -> Result<(), Allo
         } => push_path(text, positions, *anchor),
         Answer::NoPath { .. } => writeln!(text, "none"),
         Answer::NoTarget => writeln!(text, "no target"),
-    }
-}
-
-/// What the check says.
-pub(crate) fn push_check(text: &mut String, said: bool) -> Result<(), AllocError>
-    ensures { OnOk result (string_bytes text.new ≡ string_bytes text.old ++ check_line said) }
-{
-    if said {
-        writeln!(text, "check yes")
-    } else {
-        writeln!(text, "check no")
     }
 }
 

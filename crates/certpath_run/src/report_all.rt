@@ -4,11 +4,12 @@ ghost use Rattle.std.specs.Prelude.{◌≡◌, ◌++◌, length, string_bytes, O
 ghost use Rattle.certpath_run.specs.AllReport.{is_pathless, outcome_of_all};
 ghost use Rattle.certpath_run.specs.JudgedReport.{judged_verdict_line, judged_verdict_lines, judged_all_report};
 
-use crate::report::{count_certificates, push_anchors, push_check, push_end, push_item, push_path};
+use crate::report::{count_certificates, push_anchors, push_end, push_item, push_path};
 use crate::settings::AllOutcome;
 use cert_framing::End;
 use cert_graph::Verdict;
 use cert_judge::JudgedItem;
+use certpath_sources::push_check;
 use std::alloc::{AllocError, Global};
 
 /// The line of item `k`.

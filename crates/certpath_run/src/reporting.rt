@@ -1,16 +1,17 @@
 //! What is reported of inputs that were read.
 
 ghost use Rattle.std.specs.Prelude.{◌≡◌, ◌++◌, IfOk, string_bytes};
-ghost use Rattle.certpath_run.specs.Report.{answer_line, check_line};
+ghost use Rattle.certpath_run.specs.Report.{answer_line};
+ghost use Rattle.certpath_sources.specs.Check.{check_line};
 ghost use Rattle.certpath_run.specs.Runs.{IsReportOn, IsWhyOn};
 
 use crate::answering::{Answered, answer_on};
-use crate::inputs::Inputs;
 use crate::remembering::remembered_for;
-use crate::report::{push_answer, push_check, report_of};
+use crate::report::{push_answer, report_of};
 use crate::settings::{Outcome, Settings};
 use asn1_core::OutOfMemory;
 use certpath_find::judged_items;
+use certpath_sources::{Inputs, push_check};
 use certpath_why::{push_why, read_items};
 use std::alloc::{AllocError, Global};
 

@@ -1,22 +1,24 @@
 //! What is reported of all items of inputs that were read.
 
 ghost use Rattle.std.specs.Prelude.{IfOk, string_bytes};
-ghost use Rattle.certpath_run.specs.AllReport.{IsAllReportOn};
+ghost use Rattle.certpath_run.specs.AllReport.{IsAllReportOn, IsAllReportOf};
 
-use crate::inputs::Inputs;
 use crate::remembering::remembered_for;
 use crate::report_all::{outcome_of_all, report_of_all};
-use crate::settings::{AllOutcome, AllSettings};
+use crate::settings::AllOutcome;
 use asn1_core::OutOfMemory;
+use cert_graph::Inventory;
 use certcheck::check_all;
 use certpath_find::{find_all_judged, judged_items};
+use certpath_sources::{AllSettings, Inputs};
 use std::alloc::Global;
 
-/// A report on all items, and whether each certificate has a path.
+/// A report on all items, whether each certificate has a path, and the inventory that it reports.
 #[derive(Drop)]
 pub(crate) struct ReportedAll {
     pub(crate) text: String,
     pub(crate) outcome: AllOutcome,
+    pub(crate) inventory: Inventory,
 }
 
 /// Finds the paths of all items, checks them, and builds the report.
@@ -25,7 +27,8 @@ pub(crate) fn report_on_all(
     inputs: &Inputs,
     settings: &AllSettings,
 ) -> Result<ReportedAll, OutOfMemory>
-    ensures { IfOk result (λ r. IsAllReportOn settings.now r.outcome inputs.now.items inputs.now.anchors inputs.now.vouchers (string_bytes r.text)) }
+    ensures report { IfOk result (λ r. IsAllReportOn settings.now r.outcome inputs.now.items inputs.now.anchors inputs.now.vouchers (string_bytes r.text)) }
+    ensures inventory { IfOk result (λ r. IsAllReportOf settings.now r.outcome r.inventory inputs.now.items inputs.now.anchors inputs.now.vouchers (string_bytes r.text)) }
 {
     let policy = settings.policy;
     let moment = policy.moment();
@@ -51,5 +54,9 @@ pub(crate) fn report_on_all(
         said,
     )?;
     let outcome = outcome_of_all(&inventory.verdicts);
-    Ok(ReportedAll { text, outcome })
+    Ok(ReportedAll {
+        text,
+        outcome,
+        inventory,
+    })
 }

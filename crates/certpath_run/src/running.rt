@@ -1,14 +1,14 @@
 //! A run: from readers to a writer.
 
 ghost use Rattle.std.specs.Prelude.{◌≡◌, ◌≢◌, ◌+◌, ◌≤◌, IfOk, IfErr, OnOk, IsErrOf};
-ghost use Rattle.certpath_run.specs.Runs.{IsReportOn, Writes, WritesInPart, MeetsRefusal};
-ghost use Rattle.certpath_run.specs.Uses.{UseReaders, failed_writes};
+ghost use Rattle.certpath_run.specs.Runs.{IsReportOn, Writes, WritesInPart};
+ghost use Rattle.certpath_sources.specs.Inputs.{MeetsRefusal};
+ghost use Rattle.certpath_sources.specs.Uses.{UseReaders, failed_writes};
 
-use crate::inputs::read_inputs;
 use crate::reporting::report_on;
-use crate::settings::{Outcome, RunError, Settings};
-use crate::writing::write_text;
+use crate::settings::{Outcome, Settings};
 use asn1_device::{Sink, Source};
+use certpath_sources::{RunError, read_inputs, write_text};
 use std::alloc::Global;
 
 /// Reads bundle, anchors and vouchers, in this order and each to its end, finds the answer on the target and checks it, and writes the

@@ -2,14 +2,14 @@
 
 ghost use Rattle.std.specs.Prelude.{◌≡◌, ◌≢◌, ◌+◌, ◌≤◌, IfOk, IfErr, OnOk, IsErrOf};
 ghost use Rattle.certpath_run.specs.AllReport.{IsAllReportOn};
-ghost use Rattle.certpath_run.specs.Runs.{Writes, WritesInPart, MeetsRefusal};
-ghost use Rattle.certpath_run.specs.Uses.{UseReaders, failed_writes};
+ghost use Rattle.certpath_run.specs.Runs.{Writes, WritesInPart};
+ghost use Rattle.certpath_sources.specs.Inputs.{MeetsRefusal};
+ghost use Rattle.certpath_sources.specs.Uses.{UseReaders, failed_writes};
 
-use crate::inputs::read_inputs;
 use crate::reporting_all::report_on_all;
-use crate::settings::{AllOutcome, AllSettings, RunError};
-use crate::writing::write_text;
+use crate::settings::AllOutcome;
 use asn1_device::{Sink, Source};
+use certpath_sources::{AllSettings, RunError, read_inputs, write_text};
 use std::alloc::Global;
 
 /// Reads bundle, anchors and vouchers, in this order and each to its end, finds the first of the shortest valid paths of every item at

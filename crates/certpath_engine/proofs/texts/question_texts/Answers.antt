@@ -1,6 +1,6 @@
 use Rattle.std.proofs.Common.{arith, codes, refl}
-use Rattle.certpath_engine.specs.Asking.{all_arguments, path_arguments}
-use Rattle.certpath_engine.proofs.WordLemmas.{lacks_one, lacks_further, path_values}
+use Rattle.certpath_engine.specs.Asking.{path_arguments}
+use Rattle.certpath_engine.proofs.WordLemmas.{lacks_one, path_values}
 use Rattle.certpath_engine.proofs.texts.question_texts.Goals as goal
 
 pub returns-in_default : goal.returns-in_default

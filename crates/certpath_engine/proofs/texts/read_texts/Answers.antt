@@ -34,3 +34,9 @@ returns-in-Some-paths-default c =
     let entered = c.in-Some-paths-default in
     answers_texts _ _ _ _ _ (codes "paths") _ _ c.in-Ok.ensures c.in-Ok-try_get_matches_from.ensures.matches entered.ensures.name entered.ensures.rows entered.is-paths
     c.paths_texts.ensures
+
+pub returns-in-Some-recheck-default : goal.returns-in-Some-recheck-default
+returns-in-Some-recheck-default c =
+    let entered = c.in-Some-recheck-default in
+    answers_texts _ _ _ _ _ (codes "recheck") _ _ c.in-Ok.ensures c.in-Ok-try_get_matches_from.ensures.matches entered.ensures.name entered.ensures.rows entered.is-recheck
+    c.recheck_texts.ensures

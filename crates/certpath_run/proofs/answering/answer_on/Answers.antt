@@ -4,7 +4,7 @@ use Rattle.cert_judge.specs.Items.{rules_by, rules_at}
 use Rattle.cert_judge.specs.ItemGraph.{graph_of_items}
 use Rattle.certpath_find.specs.Answered.{IsFound}
 use Rattle.certpath_find.proofs.Answering.{check_says_yes}
-use Rattle.certpath_run.specs.Runs.{VouchesBy}
+use Rattle.certpath_sources.specs.Inputs.{VouchesBy}
 use Rattle.certpath_run.proofs.answering.answer_on.Goals as goal
 
 pub returns : goal.returns

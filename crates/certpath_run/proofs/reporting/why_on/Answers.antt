@@ -12,8 +12,10 @@ use Rattle.certpath_why.specs.Why.{IsWhy}
 use Rattle.cert_framing.specs.Held.{Framed}
 use Rattle.certpath_run.specs.declared.settings.Outcome.{Outcome}
 use Rattle.certpath_run.specs.declared.settings.Settings.{Settings}
-use Rattle.certpath_run.specs.Report.{answer_line, check_line}
-use Rattle.certpath_run.specs.Runs.{IsWhyOn, VouchesBy}
+use Rattle.certpath_run.specs.Report.{answer_line}
+use Rattle.certpath_sources.specs.Check.{check_line}
+use Rattle.certpath_run.specs.Runs.{IsWhyOn}
+use Rattle.certpath_sources.specs.Inputs.{VouchesBy}
 use Rattle.certpath_run.proofs.reporting.why_on.Goals as goal
 
 -- what is reported by pairs is reported by those that are equal to them

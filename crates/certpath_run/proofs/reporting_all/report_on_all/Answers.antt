@@ -1,4 +1,4 @@
-use Rattle.std.proofs.Common.{◌≡◌, ◌∙◌, ap, sym, subst, length, arith, true, string_bytes}
+use Rattle.std.proofs.Common.{◌≡◌, ◌∙◌, ap, sym, subst, refl, length, arith, true, string_bytes}
 use Rattle.cert_model.specs.View.{time_view}
 use Rattle.cert_judge.specs.Items.{rules_by, rules_at}
 use Rattle.cert_judge.specs.ItemGraph.{graph_of_items}
@@ -6,14 +6,14 @@ use Rattle.cert_judge.specs.JudgedItems.{AreJudged}
 use Rattle.cert_graph.specs.Inventory.{IsAdequateInventory}
 use Rattle.certcheck.specs.declared.vouchers.Vouchers.{Vouchers}
 use Rattle.certpath_find.specs.AnsweredAll.{IsFoundOfAll}
-use Rattle.certpath_run.specs.AllReport.{all_report, outcome_of_all, IsAllReportOn}
+use Rattle.certpath_run.specs.AllReport.{all_report, outcome_of_all, IsAllReportOf}
 use Rattle.certpath_run.specs.JudgedReport.{judged_all_report}
-use Rattle.certpath_run.specs.Runs.{VouchesBy}
+use Rattle.certpath_sources.specs.Inputs.{VouchesBy}
 use Rattle.certpath_run.proofs.InventoryFacts.{same_all_report, all_said_yes}
 use Rattle.certpath_run.proofs.reporting_all.report_on_all.Goals as goal
 
-pub returns : goal.returns
-returns c =
+pub returns-clause-inventory : goal.returns-clause-inventory
+returns-clause-inventory c =
     let pairs = c.remembered_for-remembered.result.vouchers.now in
     let V = VouchesBy pairs in
     let settings = c.args.settings.now in
@@ -40,19 +40,26 @@ returns c =
     let written : string_bytes c.in_ok-text.text ≡ all_report xs c.end.result ys c.end-2.result vs c.in_ok-said.said =
     c.in_ok-text.ensures ∙ ap (λ l. judged_all_report js c.end.result hs c.end-2.result l c.in_ok-said.said) c.deref-7.ensures.value
     ∙ same_all_report m xs ys js hs c.end.result c.end-2.result vs c.in_ok-said.said (subst (AreJudged m xs) (sym c.deref-5.ensures.value) judged) (subst (AreJudged m ys) (sym c.deref-6.ensures.value) anchors_judged) in
-    let is : Vouchers → Type 0 = λ v. IsAllReportOn settings c.outcome_of_all-outcome.result inputs.items inputs.anchors v (string_bytes c.in_ok-text.text) in
-    let by_memory : is pairs = record {
-      classed = xs;
-      classed_anchors = ys;
-      inventory = inventory;
-      are_classed = items.1;
-      anchors_are_classed = anchors.1;
-      holds = found.holds;
-      text_is = written ∙ ap (λ e. all_report xs e ys c.end-2.result vs c.in_ok-said.said) c.end.ensures ∙ ap (λ e. all_report xs inputs.items.end ys e vs c.in_ok-said.said) c.end-2.ensures
-          ∙ ap (λ s. all_report xs inputs.items.end ys inputs.anchors.end vs s) said;
-      outcome_is = c.outcome_of_all-outcome.ensures ∙ ap outcome_of_all c.deref-8.ensures.value;
-    } in
+    let is : Vouchers → Type 0 = λ v. IsAllReportOf settings c.outcome_of_all-outcome.result inventory inputs.items inputs.anchors v (string_bytes c.in_ok-text.text) in
+    let by_memory : is pairs = (
+      record {
+        classed = xs;
+        classed_anchors = ys;
+        inventory = inventory;
+        are_classed = items.1;
+        anchors_are_classed = anchors.1;
+        adequate = found.adequate;
+        holds = found.holds;
+        text_is = written ∙ ap (λ e. all_report xs e ys c.end-2.result vs c.in_ok-said.said) c.end.ensures ∙ ap (λ e. all_report xs inputs.items.end ys e vs c.in_ok-said.said) c.end-2.ensures
+            ∙ ap (λ s. all_report xs inputs.items.end ys inputs.anchors.end vs s) said;
+        outcome_is = c.outcome_of_all-outcome.ensures ∙ ap outcome_of_all c.deref-8.ensures.value;
+      },
+      refl,
+    ) in
     subst is c.remembered_for-remembered.ensures by_memory
+
+pub returns-clause-report : goal.returns-clause-report
+returns-clause-report c = (returns-clause-inventory c).0
 
 pub report_of_all-requires : goal.report_of_all-requires
 report_of_all-requires c =

@@ -1,10 +1,10 @@
-//! The three inputs of a run, read one after the other.
+//! Bundle, anchors and vouchers, read one after the other.
 
 ghost use Rattle.std.specs.Prelude.{◌≡◌, ◌≢◌, IfOk, IfErr};
 ghost use Rattle.certpath_input.specs.Inputs.{ReadsAll, ReadsItems};
 ghost use Rattle.certpath_vouchers.specs.Answers.{AreVouchersOf};
-ghost use Rattle.certpath_run.specs.Runs.{AreInputs, MeetsRefusal, RefusesText};
-ghost use Rattle.certpath_run.specs.Uses.{Used, UseReaders, use_of, error_of, IsOfInput};
+ghost use Rattle.certpath_sources.specs.Inputs.{AreInputs, MeetsRefusal, RefusesText};
+ghost use Rattle.certpath_sources.specs.Uses.{Used, UseReaders, use_of, error_of, IsOfInput};
 
 use crate::settings::{Input, RunError};
 use asn1_device::Source;
@@ -16,10 +16,13 @@ use std::alloc::Global;
 
 /// What was read.
 #[derive(Drop)]
-pub(crate) struct Inputs {
-    pub(crate) items: Items,
-    pub(crate) anchors: Items,
-    pub(crate) vouchers: Vouchers,
+pub struct Inputs {
+    /// The items of the bundle.
+    pub items: Items,
+    /// The items of the anchors.
+    pub anchors: Items,
+    /// Which key vouches for which item.
+    pub vouchers: Vouchers,
 }
 
 /// Why a run ends that could not read this input.
@@ -73,8 +76,11 @@ fn pairs_of(alloc: Global, text: &[u8]) -> Result<Vouchers, RunError>
     }
 }
 
-/// Reads bundle, anchors and vouchers, in this order, each to its end.
-pub(crate) fn read_inputs<B: Source, A: Source, V: Source>(
+/// Reads bundle, anchors and vouchers, in this order, each to its end; the items have at most `limit` content octets.
+///
+/// `Read` and `TooLong` name the input; where one is refused, those after it are not read. `BadLine` has the number of the first bad
+/// line of the vouchers, from 1. Items are framed and not read: that costs one pass over the octets, and keeps them.
+pub fn read_inputs<B: Source, A: Source, V: Source>(
     alloc: Global,
     bundle: &mut B,
     anchors: &mut A,

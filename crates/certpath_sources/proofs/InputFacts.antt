@@ -2,9 +2,9 @@
 use Rattle.std.proofs.Common.{◌≡◌, sym, subst, ℕ, List, Option, Result, Ok, Err, IsErrAnd, IfErr}
 use Rattle.cert_framing.specs.Held.{Framed}
 use Rattle.certpath_input.specs.Inputs.{ReadsAll, ReadsItems}
-use Rattle.certpath_run.specs.declared.settings.RunError.{RunError}
-use Rattle.certpath_run.specs.declared.settings.RunError.TheVariants.{Read, TooLong, BadLine, OutOfMemory, Write}
-use Rattle.certpath_run.specs.Runs.{MeetsRefusal, RefusesText}
+use Rattle.certpath_sources.specs.declared.settings.RunError.{RunError}
+use Rattle.certpath_sources.specs.declared.settings.RunError.TheVariants.{Read, TooLong, BadLine, OutOfMemory, Write}
+use Rattle.certpath_sources.specs.Inputs.{MeetsRefusal, RefusesText}
 
 pub text_refused : (b b' a a' v v' : Option (List ℕ)) (limit : ℕ) (items anchors : Framed) (text : List ℕ) (e : RunError) → ReadsItems b b' limit items.items items.end → ReadsItems a a' limit anchors.items anchors.end
     → ReadsAll v v' text → RefusesText text e → MeetsRefusal b b' a a' v v' limit e

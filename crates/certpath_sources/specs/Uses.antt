@@ -2,10 +2,10 @@
 use Rattle.std.specs.Prelude.{◌≡◌, ◌⊎◌, ℕ, ◌+◌, ◌≤◌, max, Result, Ok, Err}
 use Rattle.certpath_input.specs.declared.reading.InputError.{InputError}
 use Rattle.certpath_input.specs.declared.reading.InputError.TheVariants as inputs
-use Rattle.certpath_run.specs.declared.settings.Input.{Input}
-use Rattle.certpath_run.specs.declared.settings.Input.TheVariants.{Bundle, Anchors, Vouchers}
-use Rattle.certpath_run.specs.declared.settings.RunError.{RunError}
-use Rattle.certpath_run.specs.declared.settings.RunError.TheVariants.{Read, TooLong, BadLine, OutOfMemory, Write}
+use Rattle.certpath_sources.specs.declared.settings.Input.{Input}
+use Rattle.certpath_sources.specs.declared.settings.Input.TheVariants.{Bundle, Anchors, Vouchers}
+use Rattle.certpath_sources.specs.declared.settings.RunError.{RunError}
+use Rattle.certpath_sources.specs.declared.settings.RunError.TheVariants.{Read, TooLong, BadLine, OutOfMemory, Write}
 
 -- not at all; to its end; up to a read that failed; as many reads as are asked for at most, none at the end; up to a refusal of memory
 pub data Use : Type 0 where

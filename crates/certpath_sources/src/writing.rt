@@ -3,13 +3,13 @@
 ghost use Rattle.std.specs.Prelude.{◌≡◌, ◌+◌, ◌≤◌, IfErr, OnOk, OnErr};
 ghost use Rattle.std.specs.Io.KnownBytes.{Appends};
 ghost use Rattle.asn1_device.specs.Counts.{AppendsFront};
-ghost use Rattle.certpath_run.specs.Uses.{failed_writes};
+ghost use Rattle.certpath_sources.specs.Uses.{failed_writes};
 
 use crate::settings::RunError;
 use asn1_device::{Sink, write_octets};
 
-/// Writes the text, and flushes once.
-pub(crate) fn write_text<W: Sink>(writer: &mut W, text: &[u8]) -> Result<(), RunError>
+/// Writes the text, and flushes once. The only error is `Write`: then a front of the text was written.
+pub fn write_text<W: Sink>(writer: &mut W, text: &[u8]) -> Result<(), RunError>
     ensures ok { OnOk result (Appends (W.contents writer.old) (W.contents writer.new) text.now) }
     ensures part { OnErr result (AppendsFront (W.contents writer.old) (W.contents writer.new) text.now) }
     ensures only { IfErr result (λ e. e ≡ RunError.Write) }

@@ -1,7 +1,7 @@
 use Rattle.std.proofs.Common.{subst}
-use Rattle.certpath_run.specs.Runs.{MeetsRefusal, RefusesText}
-use Rattle.certpath_run.proofs.InputFacts.{text_refused, if_handed_on}
-use Rattle.certpath_run.proofs.inputs.read_inputs.Goals as goal
+use Rattle.certpath_sources.specs.Inputs.{MeetsRefusal, RefusesText}
+use Rattle.certpath_sources.proofs.InputFacts.{text_refused, if_handed_on}
+use Rattle.certpath_sources.proofs.inputs.read_inputs.Goals as goal
 
 pub returns-in_err-vouchers-clause-refused : goal.returns-in_err-vouchers-clause-refused
 returns-in_err-vouchers-clause-refused g c =

@@ -1,0 +1,2 @@
+pub mod Recheck
+pub mod Uses

@@ -1,0 +1,125 @@
+//! A run that checks evidence.
+
+ghost use Rattle.std.specs.Prelude.{◌≡◌, ◌≢◌, ◌+◌, ◌≤◌, Bool, IfOk, IfErr, OnOk, IsErrOf};
+ghost use Rattle.certpath_recheck.specs.Recheck.{HasSaid, WritesRecheck, WritesRecheckInPart, MeetsRecheckRefusal};
+ghost use Rattle.certpath_recheck.specs.Uses.{UseRecheckReaders, failed_recheck_writes};
+
+use crate::evidence::{inventory_of, text_of};
+use crate::saying::{line_of, said_of};
+use asn1_device::{Sink, Source};
+use certpath_sources::{AllSettings, RunError, read_inputs, write_text};
+use std::alloc::Global;
+use thiserror::Error;
+
+/// Why nothing is said of evidence, or the line of it isn't written whole.
+#[derive(Clone, Copy, Debug, PartialEq, Eq, Hash, Error)]
+pub enum RecheckError {
+    /// An error that isn't of the evidence: of bundle, anchors, vouchers, memory or the writer.
+    #[error("Run")]
+    Run(RunError),
+    /// A read of the evidence failed.
+    #[error("Read")]
+    Read,
+    /// The evidence gave octets at each of 16,777,216 reads.
+    #[error("TooLong")]
+    TooLong,
+    /// This line of the evidence, counted from 1, is the first bad one.
+    #[error("BadLine")]
+    BadLine(usize),
+}
+
+/// Reads all four inputs, and returns what the check says of the evidence.
+#[tactic(auto, using(crate::proofs::RecheckFacts::evidence_uses, crate::proofs::RecheckFacts::said_uses, crate::proofs::RecheckFacts::unsaid_uses, crate::proofs::RecheckFacts::text_refused, crate::proofs::RecheckFacts::evidence_refused, crate::proofs::RecheckFacts::text_not_write, crate::proofs::RecheckFacts::evidence_not_write))]
+fn said_of_all<B: Source, A: Source, V: Source, E: Source>(
+    alloc: Global,
+    bundle: &mut B,
+    anchors: &mut A,
+    vouchers: &mut V,
+    evidence: &mut E,
+    settings: &AllSettings,
+) -> Result<bool, RecheckError>
+    ensures ok { IfOk result (HasSaid settings.now (B.remaining bundle.old) (B.remaining bundle.new) (A.remaining anchors.old) (A.remaining anchors.new)
+        (V.remaining vouchers.old) (V.remaining vouchers.new) (E.remaining evidence.old) (E.remaining evidence.new)) }
+    ensures refused { IfErr result (MeetsRecheckRefusal (B.remaining bundle.old) (B.remaining bundle.new) (A.remaining anchors.old) (A.remaining anchors.new)
+        (V.remaining vouchers.old) (V.remaining vouchers.new) (E.remaining evidence.old) (E.remaining evidence.new) settings.now.limit) }
+    ensures not_write { IfErr result (λ e. e ≢ RecheckError.Run RunError.Write) }
+    ensures uses { UseRecheckReaders result
+        (record { reads = B.reads bundle.old; failures = B.failures bundle.old; ends = B.ends bundle.old; widest = B.widest bundle.old })
+        (record { reads = B.reads bundle.new; failures = B.failures bundle.new; ends = B.ends bundle.new; widest = B.widest bundle.new })
+        (record { reads = A.reads anchors.old; failures = A.failures anchors.old; ends = A.ends anchors.old; widest = A.widest anchors.old })
+        (record { reads = A.reads anchors.new; failures = A.failures anchors.new; ends = A.ends anchors.new; widest = A.widest anchors.new })
+        (record { reads = V.reads vouchers.old; failures = V.failures vouchers.old; ends = V.ends vouchers.old; widest = V.widest vouchers.old })
+        (record { reads = V.reads vouchers.new; failures = V.failures vouchers.new; ends = V.ends vouchers.new; widest = V.widest vouchers.new })
+        (record { reads = E.reads evidence.old; failures = E.failures evidence.old; ends = E.ends evidence.old; widest = E.widest evidence.old })
+        (record { reads = E.reads evidence.new; failures = E.failures evidence.new; ends = E.ends evidence.new; widest = E.widest evidence.new }) }
+{
+    let inputs = match read_inputs(alloc, bundle, anchors, vouchers, settings.limit) {
+        Ok(inputs) => inputs,
+        Err(error) => return Err(RecheckError::Run(error)),
+    };
+    let text = match text_of(alloc, evidence) {
+        Ok(text) => text,
+        Err(error) => return Err(error),
+    };
+    let inventory = match inventory_of(alloc, &text) {
+        Ok(inventory) => inventory,
+        Err(error) => return Err(error),
+    };
+    match said_of(alloc, &inputs, settings, &inventory) {
+        Ok(said) => Ok(said),
+        Err(_) => Err(RecheckError::Run(RunError::OutOfMemory)),
+    }
+}
+
+/// Reads bundle, anchors, vouchers and evidence, in this order and each to its end, and writes to `writer` what `certcheck::check_all`
+/// says of the inventory that the evidence was written of: `check yes` or `check no`. It returns which.
+///
+/// Nothing is searched. Nothing is written before all is read and checked; the writer is then flushed once. After `Run(Write)` what was
+/// written is a front of the line, after any other error nothing was written. Where a reader is refused, those after it are not read.
+/// It costs the reading of the four inputs and what `check_all` says.
+#[tactic(auto, using(crate::proofs::RecheckFacts::no_failed_write, crate::proofs::RecheckFacts::unwritten_uses, crate::proofs::RecheckFacts::refused_uses))]
+pub fn run_recheck<B: Source, A: Source, V: Source, E: Source, W: Sink>(
+    alloc: Global,
+    bundle: &mut B,
+    anchors: &mut A,
+    vouchers: &mut V,
+    evidence: &mut E,
+    settings: &AllSettings,
+    writer: &mut W,
+) -> Result<bool, RecheckError>
+    // What was read and written.
+    ensures ok { IfOk result (WritesRecheck settings.now (B.remaining bundle.old) (B.remaining bundle.new) (A.remaining anchors.old) (A.remaining anchors.new)
+        (V.remaining vouchers.old) (V.remaining vouchers.new) (E.remaining evidence.old) (E.remaining evidence.new) (W.contents writer.old) (W.contents writer.new)) }
+    ensures part { IsErrOf result (RecheckError.Run RunError.Write) → (said : Bool) × WritesRecheckInPart settings.now (B.remaining bundle.old) (B.remaining bundle.new)
+        (A.remaining anchors.old) (A.remaining anchors.new) (V.remaining vouchers.old) (V.remaining vouchers.new) (E.remaining evidence.old) (E.remaining evidence.new)
+        (W.contents writer.old) (W.contents writer.new) said }
+    ensures nothing { IfErr result (λ e. e ≢ RecheckError.Run RunError.Write → writer.new ≡ writer.old) }
+    ensures flushed { OnOk result (W.flushes writer.new ≡ W.flushes writer.old + 1) }
+    ensures once { W.flushes writer.new ≤ W.flushes writer.old + 1 }
+
+    // When each error comes.
+    ensures refused { IfErr result (MeetsRecheckRefusal (B.remaining bundle.old) (B.remaining bundle.new) (A.remaining anchors.old) (A.remaining anchors.new)
+        (V.remaining vouchers.old) (V.remaining vouchers.new) (E.remaining evidence.old) (E.remaining evidence.new) settings.now.limit) }
+    ensures write { W.failures writer.new ≡ W.failures writer.old + failed_recheck_writes result }
+    ensures uses { UseRecheckReaders result
+        (record { reads = B.reads bundle.old; failures = B.failures bundle.old; ends = B.ends bundle.old; widest = B.widest bundle.old })
+        (record { reads = B.reads bundle.new; failures = B.failures bundle.new; ends = B.ends bundle.new; widest = B.widest bundle.new })
+        (record { reads = A.reads anchors.old; failures = A.failures anchors.old; ends = A.ends anchors.old; widest = A.widest anchors.old })
+        (record { reads = A.reads anchors.new; failures = A.failures anchors.new; ends = A.ends anchors.new; widest = A.widest anchors.new })
+        (record { reads = V.reads vouchers.old; failures = V.failures vouchers.old; ends = V.ends vouchers.old; widest = V.widest vouchers.old })
+        (record { reads = V.reads vouchers.new; failures = V.failures vouchers.new; ends = V.ends vouchers.new; widest = V.widest vouchers.new })
+        (record { reads = E.reads evidence.old; failures = E.failures evidence.old; ends = E.ends evidence.old; widest = E.widest evidence.old })
+        (record { reads = E.reads evidence.new; failures = E.failures evidence.new; ends = E.ends evidence.new; widest = E.widest evidence.new }) }
+{
+    let said = match said_of_all(alloc, bundle, anchors, vouchers, evidence, settings) {
+        Ok(said) => said,
+        Err(error) => return Err(error),
+    };
+    let Ok(line) = line_of(alloc, said) else {
+        return Err(RecheckError::Run(RunError::OutOfMemory));
+    };
+    if write_text(writer, line.as_bytes()).is_err() {
+        return Err(RecheckError::Run(RunError::Write));
+    }
+    Ok(said)
+}
