@@ -171,16 +171,12 @@ def text_of(call, guess):
 
     `call` takes a buffer, its room and a place for a Report, and gives the status.
     """
-    room, report = guess, Report()
-    while True:
-        buffer = ctypes.create_string_buffer(room)
-        status = call(buffer, room, byref(report))
-        if status == BAD_LINE:
-            raise BadLine(report.bad_line)
-        if status != TOO_SMALL:
-            refuse(status)
-            return buffer.raw[:report.length].decode()
-        room = report.length
+    report = Report()
+    buffer, status = filled(call, guess, report, lambda: report.length)
+    if status == BAD_LINE:
+        raise BadLine(report.bad_line)
+    refuse(status)
+    return buffer.raw[:report.length].decode()
 
 
 def sized(call, guess):
@@ -188,11 +184,18 @@ def sized(call, guess):
 
     `call` takes a buffer, its room and a place for the length, and gives the status.
     """
-    room, length = guess, c_size_t()
+    length = c_size_t()
+    buffer, status = filled(call, guess, length, lambda: length.value)
+    refuse(status)
+    return bytes(memoryview(buffer)[:length.value])
+
+
+def filled(call, room, result, needed):
+    """Makes a call, again with the room that its result needs where there was too little; gives the
+    buffer and the status."""
     while True:
         buffer = ctypes.create_string_buffer(room)
-        status = call(buffer, room, byref(length))
+        status = call(buffer, room, byref(result))
         if status != TOO_SMALL:
-            refuse(status)
-            return bytes(memoryview(buffer)[:length.value])
-        room = length.value
+            return buffer, status
+        room = needed()

@@ -26,6 +26,7 @@ sys.dont_write_bytecode = True
 sys.path.insert(0, os.path.dirname(os.path.dirname(os.path.abspath(__file__))))
 from program import repo
 from trials import synthetic
+from trials.count import Count
 
 ENTRIES, FEW = 20_000, 600
 # Blocks for the trial are small, so that there are some for each process.
@@ -39,18 +40,6 @@ OBSTACLE = re.compile(r"not usable|no issuer|not linked|not used|leads to an anc
 SECONDS, SHORT = 600, 0.01
 # How many certificates without a path are asked about over everything, too.
 WHYS = 5
-
-
-class Count:
-    """How many trials passed and failed."""
-
-    def __init__(self):
-        self.passed = self.failed = 0
-
-    def tell(self, is_right, what):
-        self.passed, self.failed = self.passed + bool(is_right), self.failed + (not is_right)
-        if not is_right:
-            print(f"scaling: {what}")
 
 
 def with_dask():
@@ -314,7 +303,7 @@ def main(words):
         return measure(*words[1:])
     if len(words) > 1 or not all(map(str.isdigit, words)):
         sys.exit(__doc__)
-    count, interpreter = Count(), with_dask()
+    count, interpreter = Count("scaling"), with_dask()
     if interpreter is None:
         print("scaling: skipped, since Dask isn't installed (python3-distributed)")
     else:

@@ -20,6 +20,7 @@ sys.path.insert(0, os.path.dirname(os.path.dirname(os.path.abspath(__file__))))
 from dev import items
 from program import repo
 from trials import paths
+from trials.count import Count
 
 sys.path.insert(0, os.path.join(repo.TOP, "python"))
 import certpath
@@ -135,18 +136,6 @@ def cases(large):
 # ---- asking
 
 
-class Count:
-    """How many trials passed and failed."""
-
-    def __init__(self):
-        self.passed = self.failed = 0
-
-    def tell(self, is_right, what):
-        self.passed, self.failed = self.passed + bool(is_right), self.failed + (not is_right)
-        if not is_right:
-            print(f"sizes: {what}")
-
-
 def octets_of(found):
     return b"".join(it.octets for it in found)
 
@@ -225,7 +214,7 @@ def printed(program, row):
 
 
 def main():
-    count, large, program = Count(), large_items(), repo.ready("certpath_cli")
+    count, large, program = Count("sizes"), large_items(), repo.ready("certpath_cli")
     if not program:
         print("sizes: certpath_cli wasn't built\nsizes: 0 passed, 1 failed")
         return 1
