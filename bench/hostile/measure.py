@@ -18,6 +18,16 @@ class Run(NamedTuple):
     errors: str
 
 
+def write_pieces(room, names, files):
+    """Writes files, each given as its pieces, into a folder under these names; gives how many octets they have."""
+    octets = 0
+    for name, pieces in zip(names, files):
+        with open(os.path.join(room, name), "wb") as out:
+            out.writelines(pieces)
+            octets += out.tell()
+    return octets
+
+
 def limited(seconds):
     """Bounds the process that calls it, and what it becomes."""
     resource.setrlimit(resource.RLIMIT_CPU, (seconds, seconds + 1))

@@ -36,7 +36,7 @@ import reports
 import signed
 import texts
 from family import FAMILIES, Files
-from measure import MEGABYTE, MOST_SECONDS, in_child, measured
+from measure import MEGABYTE, MOST_SECONDS, in_child, measured, write_pieces
 from parts import MOMENT
 
 MOST_GROWTH, MOST_TIMES, MOST_OF_MEGABYTE = 2.4, 16, 2.0
@@ -89,11 +89,7 @@ def write_files(family, size, room):
     """Writes the files of a size into a folder; gives how many octets they have. The answer that is wanted goes to a file beside them."""
     made = family.make(size)
     files = made if isinstance(made, Files) else Files(made, answer=None)
-    octets = 0
-    for name, pieces in zip(FILES, files):
-        with open(os.path.join(room, name), "wb") as out:
-            out.writelines(pieces)
-            octets += out.tell()
+    octets = write_pieces(room, FILES, files)
     with open(os.path.join(room, "answer"), "w", encoding="ascii") as out:
         out.write(files.answer or "")
     return octets

@@ -22,7 +22,7 @@ sys.path[:0] = [os.path.join(TOP, "bench", "hostile"), os.path.join(TOP, "tools"
 from program import repo
 from family import ITEMS, Files
 from graphs import ANCHOR, COMMON_KEY, LEAF, ROOT, ROOT_KEY, X
-from measure import MEGABYTE, in_child, measured
+from measure import MEGABYTE, in_child, measured, write_pieces
 from parts import MOMENT, certificate, key, name, voucher
 
 MOST_GROWTH, MOST_OF_PATH, MOST_TIMES = 2.4, 1.5, 12
@@ -113,11 +113,7 @@ class Point(NamedTuple):
 def write_files(family, size, room):
     """Writes the files of a size into a folder, and beside them how many paths are wanted; gives how many octets they have."""
     files, wanted = family.make(size)
-    octets = 0
-    for title, pieces in zip(NAMES, files):
-        with open(os.path.join(room, title), "wb") as out:
-            out.writelines(pieces)
-            octets += out.tell()
+    octets = write_pieces(room, NAMES, files)
     with open(os.path.join(room, "wanted"), "w", encoding="ascii") as out:
         out.write("" if wanted is None else str(wanted))
     return octets
