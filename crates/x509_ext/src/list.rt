@@ -19,7 +19,8 @@ use x509_core::{Parts, X509Error, cut_all, front_header, parts_of, push_in_room,
 /// For how many extensions memory is taken at once, at most.
 const MOST_ROOM: usize = 16;
 
-/// As many extensions as begin there, their values parsed too where `deep` says so.
+/// As many extensions as begin there, their values parsed too where `deep` says so. Where an element is none, the room
+/// that was taken for the elements behind it is given back.
 pub fn each_extension<'a>(
     alloc: Global,
     parts: &mut Parts<'a>,
@@ -43,7 +44,10 @@ pub fn each_extension<'a>(
             }
             Err(refusal) => match refusal {
                 Refusal::Failure(e) => return Err(Refusal::Failure(e)),
-                _ => return Ok(extensions),
+                _ => {
+                    extensions.shrink_to_fit();
+                    return Ok(extensions);
+                }
             },
         }
     }

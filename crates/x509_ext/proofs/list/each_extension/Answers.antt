@@ -36,9 +36,10 @@ returns-in_default-refusal c =
     let grows = c.in-Err.ensures.grows in
     let content = c.in-Some.ensures.content in
     let shorter = c.in-Some.ensures.shorter in
+    let kept = c.shrink_to_fit.ensures.items in
     record {
-      read = sym c.loop-element.invariant.read ∙ stop;
-      memory = c.loop-element.invariant.memory;
+      read = rw kept (sym c.loop-element.invariant.read ∙ stop);
+      memory = subst (All WantsNoMemory) (sym kept) c.loop-element.invariant.memory;
       grows = omega (arith, grows, c.loop-element.invariant.grows);
       shorter = omega (arith, c.loop-element.invariant.shorter);
       most = omega (arith, most, content, shorter, c.loop-element.invariant.most);
