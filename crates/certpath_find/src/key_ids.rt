@@ -10,7 +10,6 @@ ghost use Rattle.cert_model.specs.View.{ext_view, certificate_view};
 ghost use Rattle.certpath_find.specs.Contents.{HasContent};
 
 use asn1_any::Any;
-use asn1_core::OutOfMemory;
 use asn1_traits::FromDer;
 use cert_model::fields::{CertFields, ExtField};
 use cert_model::identifiers::{AUTHORITY_KEY_IDENTIFIER, SUBJECT_KEY_IDENTIFIER, is_ce};
@@ -75,40 +74,34 @@ fn octets_at<'a>(alloc: Global, octets: &'a [u8]) -> Option<&'a [u8]>
 
 /// The key identifier that a certificate names for its issuer (RFC 5280, 4.2.1.1): the content of the first element of the first
 /// authorityKeyIdentifier value, where that value is a DER object and the element is a [0] without parts.
-pub(crate) fn named_key_id<'a>(
-    _alloc: Global,
-    fields: &CertFields<'a>,
-) -> Result<Option<&'a [u8]>, OutOfMemory>
-    ensures found { IfOk result (λ r. IfSome r (λ id. IsAuthorityKeyId (certificate_view fields.now) id.now)) }
-    ensures only { IfOk result (λ r. (id : List ℕ) → IsAuthorityKeyId (certificate_view fields.now) id → IsSomeAnd r (λ s. s.now ≡ id)) }
+pub(crate) fn named_key_id<'a>(fields: &CertFields<'a>) -> Option<&'a [u8]>
+    ensures found { IfSome result (λ id. IsAuthorityKeyId (certificate_view fields.now) id.now) }
+    ensures only { (id : List ℕ) → IsAuthorityKeyId (certificate_view fields.now) id → IsSomeAnd result (λ s. s.now ≡ id) }
 {
     let Some(value) = first_value(&fields.extensions, AUTHORITY_KEY_IDENTIFIER) else {
-        return Ok(None);
+        return None;
     };
     if !is_object(value) {
-        return Ok(None);
+        return None;
     }
     let Some(parts) = content_under(SEQUENCE, value) else {
-        return Ok(None);
+        return None;
     };
-    Ok(content_under(KEY_IDENTIFIER, parts))
+    content_under(KEY_IDENTIFIER, parts)
 }
 
 /// The key identifier of a certificate's own key (RFC 5280, 4.2.1.2): the content of the OCTET STRING that the first
 /// subjectKeyIdentifier value is.
-pub(crate) fn own_key_id<'a>(
-    alloc: Global,
-    fields: &CertFields<'a>,
-) -> Result<Option<&'a [u8]>, OutOfMemory>
+pub(crate) fn own_key_id<'a>(alloc: Global, fields: &CertFields<'a>) -> Option<&'a [u8]>
     requires small { All (λ (e : Extension). length e.value ≤ 4_294_967_295) (certificate_view fields.now).extensions }
-    ensures found { IfOk result (λ r. IfSome r (λ id. IsSubjectKeyId (certificate_view fields.now) id.now)) }
-    ensures only { IfOk result (λ r. (id : List ℕ) → IsSubjectKeyId (certificate_view fields.now) id → IsSomeAnd r (λ s. s.now ≡ id)) }
+    ensures found { IfSome result (λ id. IsSubjectKeyId (certificate_view fields.now) id.now) }
+    ensures only { (id : List ℕ) → IsSubjectKeyId (certificate_view fields.now) id → IsSomeAnd result (λ s. s.now ≡ id) }
 {
     let Some(value) = first_value(&fields.extensions, SUBJECT_KEY_IDENTIFIER) else {
-        return Ok(None);
+        return None;
     };
     if !is_object(value) {
-        return Ok(None);
+        return None;
     }
-    Ok(octets_at(alloc, value))
+    octets_at(alloc, value)
 }

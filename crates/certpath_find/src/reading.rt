@@ -18,17 +18,14 @@ use certcheck::ItemClass;
 use jiff::civil::DateTime;
 use std::alloc::Global;
 
-fn certificate_item<'a>(
-    alloc: Global,
-    octets: &'a [u8],
-    fields: CertFields<'a>,
-) -> Result<ReadItem<'a>, OutOfMemory>
+fn certificate_item<'a>(alloc: Global, octets: &'a [u8], fields: CertFields<'a>) -> ReadItem<'a>
     requires { IsCertificateItem octets.now (certificate_view fields) }
-    ensures { IfOk result (λ item. ((item_of item).octets ≡ octets.now) × IsClassOf octets.now (item_of item).class) }
+    ensures octets { (item_of result).octets ≡ octets.now }
+    ensures class { IsClassOf octets.now (item_of result).class }
 {
-    let named = named_key_id(alloc, &fields)?;
-    let own = own_key_id(alloc, &fields)?;
-    Ok(ReadItem::Certificate(CertificateItem::new(octets, fields, named, own)))
+    let named = named_key_id(&fields);
+    let own = own_key_id(alloc, &fields);
+    ReadItem::Certificate(CertificateItem::new(octets, fields, named, own))
 }
 
 fn list_item<'a>(octets: &'a [u8], fields: ListFields<'a>) -> ReadItem<'a>
@@ -44,7 +41,7 @@ fn read_item<'a>(alloc: Global, octets: &'a [u8]) -> Result<ReadItem<'a>, OutOfM
     ensures { IfOk result (λ item. ((item_of item).octets ≡ octets.now) × IsClassOf octets.now (item_of item).class) }
 {
     match class_of(alloc, octets)? {
-        ItemClass::Certificate(fields) => certificate_item(alloc, octets, fields),
+        ItemClass::Certificate(fields) => Ok(certificate_item(alloc, octets, fields)),
         ItemClass::List(fields) => Ok(list_item(octets, fields)),
         ItemClass::Other => Ok(ReadItem::Other(octets)),
     }

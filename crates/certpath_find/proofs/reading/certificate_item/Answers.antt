@@ -10,13 +10,16 @@ own_key_id-requires c = record { small = values_small c.args.octets.now (certifi
 
 pub new-requires-clause-named : goal.new-requires-clause-named
 new-requires-clause-named c =
-    let e = c.in_ok-named.ensures in
-    names_from (certificate_view c.args.fields) c.in_ok-named.named e.found e.only
+    let e = c.named_key_id.ensures in
+    names_from (certificate_view c.args.fields) c.named_key_id.result e.found e.only
 
 pub new-requires-clause-own : goal.new-requires-clause-own
 new-requires-clause-own c =
-    let e = c.in_ok-own.ensures in
-    owns_from (certificate_view c.args.fields) c.in_ok-own.own e.found e.only
+    let e = c.own_key_id.ensures in
+    owns_from (certificate_view c.args.fields) c.own_key_id.result e.found e.only
 
-pub returns : goal.returns
-returns c = (c.new.ensures.octets, subst (IsCertificateItem c.args.octets.now) (sym c.new.ensures.fields) c.requires)
+pub returns-clause-octets : goal.returns-clause-octets
+returns-clause-octets c = c.new.ensures.octets
+
+pub returns-clause-class : goal.returns-clause-class
+returns-clause-class c = subst (IsCertificateItem c.args.octets.now) (sym c.new.ensures.fields) c.requires
