@@ -1,6 +1,6 @@
 //! A digest of results.
 
-/// FNV-1a over 64 bits (Fowler, Noll and Vo), octet by octet.
+/// FNV-1a over 64 bits (Fowler, Noll and Vo), in words of eight octets, each followed by a shift.
 #[derive(Clone, Copy)]
 pub(crate) struct Digest {
     value: u64,
@@ -14,13 +14,21 @@ impl Digest {
         }
     }
 
-    /// So many octets more.
+    /// So many octets more, and their number: eight at a step, so that the digest takes little of a job's time.
     pub(crate) fn octets(&mut self, octets: &[u8]) {
-        let mut value = self.value;
-        for octet in octets {
-            value = (value ^ u64::from(*octet)).wrapping_mul(0x0000_0100_0000_01b3);
+        for eight in octets.chunks(8) {
+            let mut word: u64 = 0;
+            for octet in eight {
+                word = word.wrapping_mul(256) ^ u64::from(*octet);
+            }
+            self.number(word);
         }
-        self.value = value;
+        self.number(octets.len() as u64);
+    }
+
+    /// A truth value more.
+    pub(crate) fn flag(&mut self, flag: bool) {
+        self.number(u64::from(flag));
     }
 
     /// A number more.

@@ -2,6 +2,7 @@
 
 use crate::digest::Digest;
 use crate::failure::Failure;
+use crate::parts::{note_extensions, note_time};
 use crate::random::Random;
 use crate::shapes::{Numbers, Shapes};
 use std::alloc::{AllocError, Global};
@@ -76,13 +77,18 @@ pub(crate) fn write_list(
     push_sequence(out, &whole)
 }
 
-/// What an entry says: whose serial number, since when, and why.
+/// What an entry says: whose serial number, since when, and why; and its extensions.
 fn note_entry(digest: &mut Digest, entry: &RevokedCertificate<'_>) {
     digest.octets(entry.raw_serial());
-    digest.number(entry.revocation_date.timestamp().unsigned_abs());
-    if let Some((_, reason)) = entry.reason_code() {
-        digest.number(u64::from(reason.0));
+    note_time(digest, entry.revocation_date);
+    match entry.reason_code() {
+        Some((critical, reason)) => {
+            digest.flag(critical);
+            digest.number(u64::from(reason.0));
+        }
+        None => digest.number(10),
     }
+    note_extensions(digest, entry.extensions());
 }
 
 /// What a list says.
@@ -91,15 +97,28 @@ fn note_list(
     digest: &mut Digest,
     list: &CertificateRevocationList<'_>,
 ) -> Result<(), AllocError> {
+    match list.version() {
+        Some(version) => digest.number(u64::from(version.0)),
+        None => digest.number(10),
+    }
     let issuer = format!(in alloc; "{}", list.issuer())?;
     digest.octets(issuer.as_bytes());
-    digest.number(list.last_update().timestamp().unsigned_abs());
-    if let Some(number) = list.crl_number() {
-        digest.octets(number.as_bytes());
+    note_time(digest, list.last_update());
+    match list.next_update() {
+        Some(time) => note_time(digest, time),
+        None => digest.number(10),
+    }
+    match list.crl_number() {
+        Some(number) => digest.octets(number.as_bytes()),
+        None => digest.number(10),
     }
     for entry in list.iter_revoked_certificates() {
         note_entry(digest, entry);
     }
+    note_extensions(digest, list.extensions());
+    digest.octets(list.signature_algorithm.algorithm.as_bytes());
+    digest.number(u64::from(list.signature_value.unused_bits));
+    digest.octets(list.signature_value.content);
     Ok(())
 }
 
@@ -120,7 +139,7 @@ pub(crate) fn read_all(
         write_list(alloc, &mut octets, shapes, random, issuer, count)?;
         match CertificateRevocationList::from_der(alloc, octets.as_slice()) {
             Ok((rest, list)) => {
-                digest.number(rest.len() as u64);
+                digest.octets(rest);
                 note_list(alloc, &mut digest, &list)?;
             }
             Err(_) => return Err(Failure::Unread),

@@ -17,6 +17,7 @@ mod inventory;
 mod lists;
 mod log;
 mod names;
+mod parts;
 mod random;
 mod runs;
 mod shapes;

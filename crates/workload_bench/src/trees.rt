@@ -25,17 +25,20 @@ fn parts_of<'o, 'a>(object: &'o BerObject<'a>) -> Option<&'o [BerObject<'a>]> {
     }
 }
 
-/// An object's octets in short, and those of the objects within it, so many levels deep.
+/// An object: the number of its octets, and the objects within it, so many levels deep, or else all its octets.
 fn note_object(digest: &mut Digest, object: &BerObject<'_>, levels: usize) {
-    digest.number(object.as_raw().len() as u64);
-    if levels == 0 {
-        return;
-    }
-    if let Some(parts) = parts_of(object) {
-        for part in parts {
-            note_object(digest, part, levels - 1);
+    let raw = object.as_raw();
+    match parts_of(object) {
+        Some(parts) if levels > 0 => {
+            digest.number(raw.len() as u64);
+            digest.number(parts.len() as u64);
+            for part in parts {
+                note_object(digest, part, levels - 1);
+            }
         }
-    } else if let Ok(identifier) = object.as_oid() {
+        _ => digest.octets(raw),
+    }
+    if let Ok(identifier) = object.as_oid() {
         digest.octets(identifier.as_bytes());
     }
 }
@@ -60,7 +63,10 @@ pub(crate) fn read_all(
         };
         shapes.write_leaf(&mut octets, turn, &numbers)?;
         match parse_der(alloc, octets.as_slice()) {
-            Ok((_, object)) => note_object(&mut digest, &object, LEVELS),
+            Ok((rest, object)) => {
+                digest.octets(rest);
+                note_object(&mut digest, &object, LEVELS);
+            }
             Err(_) => return Err(Failure::Unread),
         }
     }
