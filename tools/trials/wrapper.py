@@ -1,6 +1,7 @@
 #!/usr/bin/env python3
 """Tries ./certpath, its builds and dist/ on copies of the repository: what is printed, the status,
-and which processes and files are left.
+and which processes and files are left; and that ./test quick refuses scripts that reach behind the
+toolchain's commands.
 
 Nothing is proved. In the place of the toolchain stands a script that prints what `rt ci` prints and
 writes a program that prints its words. The first trial alone has dist/certpath itself, and runs the
@@ -18,7 +19,7 @@ import time
 
 sys.dont_write_bytecode = True
 sys.path.insert(0, os.path.dirname(os.path.dirname(os.path.abspath(__file__))))
-from gate import dist
+from gate import dist, source_checks
 from program import programs, repo, sources, usage
 
 SECONDS = 120
@@ -438,9 +439,21 @@ def dist_made_and_checked(room):
     ran("check of changed sources", ["check", program], 1, "sources have changed")
 
 
+def planted_script(room):
+    """./test quick refuses a script that reaches behind the toolchain's commands."""
+    room.same("scripts as they are", [*source_checks.toolchain_by_commands(room.copy)], [])
+    for name, head in (("planted.py", ""), ("planted", "#!/bin/sh\n")):
+        for line in source_checks.PLANTED:
+            write(room.place("tools", name), f"{head}{line}\n".encode(), 0o755)
+            place = f"{os.path.join('tools', name)}:{2 if head else 1}:"
+            found = [*source_checks.toolchain_by_commands(room.copy)]
+            room.same(f"{name} with {line}", [it.startswith(place) for it in found], [True])
+        os.remove(room.place("tools", name))
+
+
 WHOLE = (first_commands, options_named)
 SMALL = (helps, wrong_words, handed_on, bad_programs, changed_sources, stopped_builds, killed_build,
-         two_builds, dist_made_and_checked, the_gates_program)
+         two_builds, dist_made_and_checked, the_gates_program, planted_script)
 
 
 def tried(is_whole, trials):
