@@ -12,8 +12,9 @@ import shutil
 import subprocess
 import sys
 import tempfile
+from concurrent.futures import FIRST_COMPLETED, ThreadPoolExecutor, wait
 
-from program import programs, repo, sources
+from program import lanes, programs, progress, repo, sources
 
 CRATE = "certpath_c"
 SHARED, STATIC = os.path.join("dist", "libcertpath.so"), os.path.join("dist", "libcertpath.a")
@@ -79,8 +80,52 @@ def faults():
 
 def proved():
     """Whether `rt` proves the crate in this checkout, over what it kept, and compiles it."""
-    folder = os.path.join(repo.TOP, "crates", CRATE)
-    return subprocess.run(["rt", "lib"], cwd=folder, stdin=subprocess.DEVNULL).returncode == 0
+    if not os.path.isfile(os.path.join(repo.TOP, BUILT)) and not are_built_below():
+        return False
+    return rt_lib(CRATE)
+
+
+def rt_lib(crate, *words):
+    """Whether `rt` proves a crate and builds its library; what it prints is shown where not."""
+    ran = subprocess.run(["rt", "lib", *words], cwd=os.path.join(repo.TOP, "crates", crate),
+                         stdin=subprocess.DEVNULL, stdout=subprocess.PIPE,
+                         stderr=subprocess.STDOUT, text=True, errors="replace")
+    if ran.returncode:
+        print(ran.stdout, f"dist: rt doesn't prove {crate}", sep="", flush=True)
+    return ran.returncode == 0
+
+
+def chains(crates, listed):
+    """About how many seconds each of the crates takes, lowest first, with the dearest chain of
+    those above it."""
+    costs, found = progress.costs(crates), {}
+    for it in reversed(crates):
+        above = (found[other] for other in crates if it in listed[other])
+        found[it] = costs[it] + max(above, default=0)
+    return found
+
+
+def are_built_below():
+    """Has `rt` prove the crates below, lowest first and several at a time, since by itself it goes
+    from one to the next; gives whether all are proved."""
+    listed = repo.crates()
+    crates, done, running = repo.below(listed[CRATE], listed), set(), {}
+    chain = chains(crates, listed)
+    left, count, side_by_side = sorted(crates, key=lambda it: -chain[it]), len(crates), lanes.lanes()
+    print(f"dist: rt proves {count} crates below {CRATE}, {side_by_side} at a time", flush=True)
+    with ThreadPoolExecutor(side_by_side) as pool:
+        while left or running:
+            ready = [it for it in left if done.issuperset(listed[it])]
+            for it in ready[:side_by_side - len(running)]:
+                left.remove(it)
+                running[pool.submit(rt_lib, it, "--jobs", "1")] = it
+            for it in wait(running, return_when=FIRST_COMPLETED).done:
+                crate = running.pop(it)
+                if not it.result():
+                    return False
+                done.add(crate)
+                print(f"dist: {crate}: {len(done)} of {count} proved", flush=True)
+    return True
 
 
 def run(room, *words):
@@ -133,11 +178,9 @@ def made():
 def make():
     """Puts the libraries and their record into dist/; gives the status."""
     found = made()
-    if found is None:
-        print(f"dist: rt doesn't prove {CRATE}")
-        return 1
-    put(*found)
-    return 0
+    if found:
+        put(*found)
+    return 0 if found else 1
 
 
 def put(shared, static, record):
