@@ -22,13 +22,13 @@ from concurrent.futures import ThreadPoolExecutor
 
 sys.path.insert(0, os.path.dirname(os.path.dirname(os.path.abspath(__file__))))
 from dev import together
-from program import repo
+from program import progress, repo
 from program.lanes import lanes
 
 # What isn't copied of a crate: what `rt` made, and the edits.
 LEFT_OUT = ("out", *repo.FOLDERS)
-# A run tries so many edits together at least: fewer are cheaper alone, over one check of the crate.
-LEAST = 4
+# So many edits together, tried by one check of the crate, are cheaper than each alone, if that needs a check of the crate anyway.
+LEAST = 6
 TRIED = re.compile(r"^rt: must-fail (\w+)/(\S+\.edit): (.*)$", re.M)
 REFUSED = "refused, as it must be"
 BY_NAME = "only because a proof file names"
@@ -38,6 +38,9 @@ SHOWN = 1500
 BEGAN = time.monotonic()
 PRINTING = threading.Lock()
 RUNNING = set()
+# So many runs at a time.
+LANES = lanes()
+SIDE_BY_SIDE = threading.Semaphore(LANES)
 STOPPED = threading.Event()
 
 
@@ -89,7 +92,7 @@ def ran(words, folder, shown=None):
 
 def checked(above, crate, group):
     """What `rt ci` prints of a copy that has all edits of a group, none where the copy can't be checked."""
-    with tempfile.TemporaryDirectory(prefix=f"{crate}-", dir=above) as room:
+    with SIDE_BY_SIDE, tempfile.TemporaryDirectory(prefix=f"{crate}-", dir=above) as room:
         copy = copied(os.path.join(room, "copy"), [crate])
         folder = os.path.join(copy, "crates", crate)
         for path, text in together.texts(crate, "wrong", group).items():
@@ -103,40 +106,48 @@ def checked(above, crate, group):
     if amiss:
         say(f"{crate}: {', '.join(sorted(amiss))} below it isn't proved, so nothing was tried: {said.strip()[-SHOWN:]}")
         return ""
-    return said if re.search(r"(?m)^logic=(not-)?proved", said) else None
+    if re.search(r"(?m)^logic=(not-)?proved", said):
+        return said
+    if not STOPPED.is_set():
+        why = [it for it in said.splitlines() if "error" in it] or said.splitlines()
+        say(f"{crate}: {len(group)} edits can't be checked together: {' | '.join(why[:3])[:SHOWN]}")
+    return None
+
+
+def worthwhile(crate, edits):
+    """The groups of edits that are cheaper tried together: large ones, and one that leaves none to be tried alone."""
+    groups, alone = together.groups(crate, "wrong", edits)
+    large, small = ([it for it in groups if (len(it) >= LEAST) == is_large] for is_large in (True, False))
+    return large + (small if len(small) == 1 and not alone else [])
 
 
 def at_once(above, crate, group):
     """The edits of a group that a run with all of them refuses; where they can't be checked together, of its halves."""
-    if len(group) < LEAST or STOPPED.is_set():
+    if not group or STOPPED.is_set():
         return []
     said = checked(above, crate, group)
     if said is not None:
         found = together.refused(said, group)
         say(f"{crate}: {len(found)} of {len(group)} refused together")
         return found
-    say(f"{crate}: {len(group)} edits can't be checked together")
+    if len(group) < LEAST:
+        return []
     edits = [*group]
     halves = edits[:len(edits) // 2], edits[len(edits) // 2:]
     return [it for half in halves for it in at_once(above, crate, {edit: group[edit] for edit in half})]
 
 
-def refused_together(above, pool, crates):
-    """The edits of each crate that are refused together with others."""
-    found, left = {it: [] for it in crates}, {it: repo.edits(it, "wrong") for it in crates}
-    again = crates
-    while again and not STOPPED.is_set():
-        # (what one edit hides of another shows where the others that were refused are left out)
-        runs = [(it, group) for it in again for group in together.groups(it, "wrong", left[it])[0] if len(group) >= LEAST]
-        runs.sort(key=lambda it: -len(it[1]))
-        several = pool.map(lambda it: (it[0], at_once(above, *it)), runs)
-        again = []
-        for crate, edits in several:
-            if edits:
-                found[crate] += edits
-                left[crate] = [it for it in left[crate] if it not in edits]
-                again = [*dict.fromkeys([*again, crate])]
-    return found
+def refused_together(above, crate):
+    """The edits of a crate that are refused together with others."""
+    found, left = [], repo.edits(crate, "wrong")
+    while True:
+        groups = worthwhile(crate, left)
+        with ThreadPoolExecutor(max(1, len(groups))) as pool:
+            more = [it for edits in pool.map(lambda it: at_once(above, crate, it), groups) for it in edits]
+        if not more or STOPPED.is_set():
+            return found
+        # (what one edit hid of another shows where those that were refused are left out)
+        found, left = found + more, [it for it in left if it not in more]
 
 
 def end_of(said):
@@ -193,11 +204,13 @@ def main(names):
         print(f"0 passed, {len(unknown)} failed")
         return 1
     crates = [it for it in dict.fromkeys(names or listed) if repo.edits(it, "wrong")]
-    side_by_side, ends = lanes(), {it: collections.Counter() for it in crates}
-    say(f"{sum(len(repo.edits(it, 'wrong')) for it in crates)} edits of {len(crates)} crates, {side_by_side} runs at a time")
-    with tempfile.TemporaryDirectory(prefix="wrong-") as above, ThreadPoolExecutor(side_by_side) as pool:
+    ends, costs = {it: collections.Counter() for it in crates}, progress.costs(crates)
+    say(f"{sum(len(repo.edits(it, 'wrong')) for it in crates)} edits of {len(crates)} crates, {LANES} runs at a time")
+    with tempfile.TemporaryDirectory(prefix="wrong-") as above, ThreadPoolExecutor(max(1, len(crates))) as pool:
         os.chmod(above, 0o755)
-        found = refused_together(above, pool, crates)
+        # (the dearest first, so that the lanes end together)
+        crates.sort(key=lambda it: -costs[it])
+        found = dict(zip(crates, pool.map(lambda it: refused_together(above, it), crates)))
         left = {it: [edit for edit in repo.edits(it, "wrong") if edit not in found[it]] for it in crates}
         alone = refused_alone(above, left)
     for crate in crates:
