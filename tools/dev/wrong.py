@@ -3,10 +3,10 @@
 
     ./test wrong [NAME..]
 
-It works on copies of the sources, without out/, and each is given to `rt ci`, which takes from earlier runs on this machine what they
-proved of the crates below: so run `rt ci` first. (`rt check` in a copy would prove the crates below anew.) Edits of different functions are
-tried together, by one run on a copy that has all of them; a copy without them then has the rest in must-fail/, where `rt ci` tries
-each alone. Change no source until it ends. Each edit counts as passed or failed; one that is bad, or wasn't tried, has failed.
+Each crate is tried on a copy of the sources, without out/. There `rt check` begins with what checks of the same crates kept, in this or in
+another copy of the repository, and proves the rest first, the crates below too. Edits of different functions are tried together, by one
+`rt check --jobs 1`, and what isn't refused there alone, by `rt must-fail`. Change no source until it ends. Each edit counts as passed or
+failed; one that is bad, or wasn't tried, has failed.
 """
 import collections
 import os
@@ -23,13 +23,11 @@ from concurrent.futures import ThreadPoolExecutor
 sys.path.insert(0, os.path.dirname(os.path.dirname(os.path.abspath(__file__))))
 from dev import together
 from program import progress, repo
-from program.lanes import lanes
+from program.lanes import OVER_KEPT, lanes
 
 # What isn't copied of a crate: what `rt` made, and the edits.
 LEFT_OUT = ("out", *repo.FOLDERS)
-# So many edits together, tried by one check of the crate, are cheaper than each alone, if that needs a check of the crate anyway.
-LEAST = 6
-TRIED = re.compile(r"^rt: must-fail (\w+)/(\S+\.edit): (.*)$", re.M)
+TRIED = re.compile(r"^rt: must-fail \w+/(\S+\.edit): (.*)$", re.M)
 REFUSED = "refused, as it must be"
 BY_NAME = "only because a proof file names"
 # How each edit ends, by what `rt` says of it.
@@ -37,10 +35,9 @@ ENDS = ("refused", "not refused", "bad", "not tried")
 SHOWN = 1500
 BEGAN = time.monotonic()
 PRINTING = threading.Lock()
+# `rt must-fail` decides itself how many checks go side by side: one of them runs at a time.
+ALONE = threading.Lock()
 RUNNING = set()
-# So many runs at a time.
-LANES = lanes()
-SIDE_BY_SIDE = threading.Semaphore(LANES)
 STOPPED = threading.Event()
 
 
@@ -49,21 +46,6 @@ def say(text):
     with PRINTING:
         minutes, seconds = divmod(round(time.monotonic() - BEGAN), 60)
         print(f"wrong: {minutes}:{seconds:02} {text}", flush=True)
-
-
-def copied(room, crates):
-    """Copies what `rt ci` reads of the crates and of those below them; gives the folder."""
-    lines = repo.lines()
-    # (`rt ci` runs at the top of a repository; as root it runs programs as nobody, who has to reach them)
-    os.makedirs(os.path.join(room, ".git"))
-    os.chmod(os.path.dirname(room), 0o755)
-    shutil.copyfile(os.path.join(repo.TOP, "HANDLES"), os.path.join(room, "HANDLES"))
-    taken = repo.below(crates, repo.crates())
-    with open(os.path.join(room, "crates.txt"), "w", encoding="utf-8") as to:
-        to.write("".join(f"{lines[it]}\n" for it in taken))
-    for it in taken:
-        shutil.copytree(os.path.join(repo.TOP, "crates", it), os.path.join(room, "crates", it), ignore=shutil.ignore_patterns(*LEFT_OUT))
-    return room
 
 
 def stop(number, _):
@@ -90,64 +72,97 @@ def ran(words, folder, shown=None):
     return status, "".join(printed)
 
 
-def checked(above, crate, group):
-    """What `rt ci` prints of a copy that has all edits of a group, none where the copy can't be checked."""
-    with SIDE_BY_SIDE, tempfile.TemporaryDirectory(prefix=f"{crate}-", dir=above) as room:
-        copy = copied(os.path.join(room, "copy"), [crate])
-        folder = os.path.join(copy, "crates", crate)
-        for path, text in together.texts(crate, "wrong", group).items():
+def copied(room, crate):
+    """Copies what a check of the crate reads, with the crates below it; gives the crate's folder."""
+    lines, taken = repo.lines(), repo.below([crate], repo.crates())
+    # (the search for a repository's top ends at a .git)
+    os.makedirs(os.path.join(room, ".git"))
+    shutil.copyfile(os.path.join(repo.TOP, "HANDLES"), os.path.join(room, "HANDLES"))
+    with open(os.path.join(room, "crates.txt"), "w", encoding="utf-8") as to:
+        to.write("".join(f"{lines[it]}\n" for it in taken))
+    for it in taken:
+        shutil.copytree(os.path.join(repo.TOP, "crates", it), os.path.join(room, "crates", it), ignore=shutil.ignore_patterns(*LEFT_OUT))
+    return os.path.join(room, "crates", crate)
+
+
+def check(folder):
+    return ran(["rt", "check", "--jobs", "1"], folder)
+
+
+class Tried:
+    """A crate whose edits are tried: how many ended in which way."""
+
+    def __init__(self, crate):
+        self.crate, self.left = crate, repo.edits(crate, "wrong")
+        self.ends, self.together = collections.Counter(), 0
+
+    def say(self, text):
+        say(f"{self.crate}: {text}")
+
+    def run(self, above):
+        """Tries the edits on a copy below the folder `above`."""
+        with tempfile.TemporaryDirectory(prefix=f"{self.crate}-", dir=above) as room:
+            folder = copied(os.path.join(room, "copy"), self.crate)
+            status, said = check(folder)
+            if status and not STOPPED.is_set():
+                self.say(f"it isn't proved as it stands, so no edit was tried: {said.strip()[-SHOWN:]}")
+            if not status:
+                self.try_together(folder)
+                self.try_alone(folder)
+        self.ends["not tried"] += len(self.left)
+        told = ", ".join(f"{self.ends[it]} {it}" for it in ENDS if self.ends[it])
+        self.say(f"{told}; {self.together} of them together with others")
+        return self
+
+    def take(self, edit, end):
+        self.left.remove(edit)
+        self.ends[end] += 1
+
+    def try_together(self, folder):
+        """Tries edits of different functions by one check, while any is refused so. (What one hides of another shows where those that were refused are left out.)"""
+        while True:
+            groups = [it for it in together.groups(self.crate, "wrong", self.left)[0] if len(it) > 1]
+            found = [edit for group in groups for edit in self.at_once(folder, group)]
+            for it in found:
+                self.take(it, "refused")
+            self.together += len(found)
+            if not found or STOPPED.is_set():
+                return
+
+    def at_once(self, folder, group):
+        """The edits of a group that a check of all of them refuses; where they can't be checked together, of its halves."""
+        if len(group) < 2 or STOPPED.is_set():
+            return []
+        changed = together.texts(self.crate, "wrong", group)
+        for path, text in changed.items():
             with open(os.path.join(folder, path), "w", encoding="utf-8") as to:
                 to.write(text)
-        # (`rt ci` looks at no file that is out of layout)
-        status, said = ran(["rt", "fmt"], folder)
-        if not status:
-            status, said = ran(["rt", "ci"], copy)
-    amiss = set(re.findall(r"(?m)^rt: (\w+) NOT PROVED$", said)) - {crate}
-    if amiss:
-        say(f"{crate}: {', '.join(sorted(amiss))} below it isn't proved, so nothing was tried: {said.strip()[-SHOWN:]}")
-        return ""
-    if re.search(r"(?m)^logic=(not-)?proved", said):
-        return said
-    if not STOPPED.is_set():
-        why = [it for it in said.splitlines() if "error" in it] or said.splitlines()
-        say(f"{crate}: {len(group)} edits can't be checked together: {' | '.join(why[:3])[:SHOWN]}")
-    return None
-
-
-def worthwhile(crate, edits):
-    """The groups of edits that are cheaper tried together: large ones, and one that leaves none to be tried alone."""
-    groups, alone = together.groups(crate, "wrong", edits)
-    large, small = ([it for it in groups if (len(it) >= LEAST) == is_large] for is_large in (True, False))
-    return large + (small if len(small) == 1 and not alone else [])
-
-
-def at_once(above, crate, group):
-    """The edits of a group that a run with all of them refuses; where they can't be checked together, of its halves."""
-    if not group or STOPPED.is_set():
-        return []
-    said = checked(above, crate, group)
-    if said is not None:
-        found = together.refused(said, group)
-        say(f"{crate}: {len(found)} of {len(group)} refused together")
-        return found
-    if len(group) < LEAST:
-        return []
-    edits = [*group]
-    halves = edits[:len(edits) // 2], edits[len(edits) // 2:]
-    return [it for half in halves for it in at_once(above, crate, {edit: group[edit] for edit in half})]
-
-
-def refused_together(above, crate):
-    """The edits of a crate that are refused together with others."""
-    found, left = [], repo.edits(crate, "wrong")
-    while True:
-        groups = worthwhile(crate, left)
-        with ThreadPoolExecutor(max(1, len(groups))) as pool:
-            more = [it for edits in pool.map(lambda it: at_once(above, crate, it), groups) for it in edits]
-        if not more or STOPPED.is_set():
+        status, said = check(folder)
+        for path in changed:
+            shutil.copy(os.path.join(repo.TOP, "crates", self.crate, path), os.path.join(folder, path))
+        if status == 1 and re.search(r"(?m)^logic=not-proved", said):
+            found = together.refused(said, group)
+            self.say(f"{len(found)} of {len(group)} refused by one check")
             return found
-        # (what one edit hid of another shows where those that were refused are left out)
-        found, left = found + more, [it for it in left if it not in more]
+        edits = [*group]
+        halves = edits[:len(edits) // 2], edits[len(edits) // 2:]
+        return [it for half in halves for it in self.at_once(folder, {edit: group[edit] for edit in half})]
+
+    def try_alone(self, folder):
+        """Tries each edit that is left alone, by `rt must-fail`."""
+        if not self.left or STOPPED.is_set():
+            return
+        os.makedirs(os.path.join(folder, "must-fail"))
+        for it in self.left:
+            shutil.copy(os.path.join(repo.TOP, "crates", self.crate, "wrong", it), os.path.join(folder, "must-fail", it))
+        top = os.path.dirname(os.path.dirname(folder))
+        with ALONE:
+            self.say(f"{len(self.left)} edits are tried alone")
+            status, said = ran(["rt", "must-fail", self.crate], top, Teller(self))
+        for edit, why in TRIED.findall(said):
+            self.take(edit, end_of(why))
+        if self.left and not STOPPED.is_set():
+            self.say(f"rt must-fail ended with status {status}: {said.strip()[-SHOWN:]}")
 
 
 def end_of(said):
@@ -158,42 +173,25 @@ def end_of(said):
 
 
 class Teller:
-    """Reports the edits that were tried alone, as `rt ci` prints them line by line."""
+    """Reports the edits that are tried alone, line by line: of one that isn't refused all that `rt` says."""
 
-    def __init__(self):
-        self.is_told = False
+    def __init__(self, tried):
+        self.tried, self.is_told = tried, False
 
     def __call__(self, line):
         found = TRIED.match(line)
         if not found:
-            # (why an edit wasn't refused may take more lines, up to what is said of the next)
+            # (why an edit isn't refused may take more lines, up to what is said of the next)
             self.is_told = self.is_told and not line.startswith("rt: ")
             if self.is_told:
-                say(f"    {line.rstrip()[:SHOWN]}")
+                self.tried.say(f"    {line.rstrip()[:SHOWN]}")
             return
-        crate, edit, said = found.groups()
+        edit, said = found.groups()
         self.is_told = end_of(said) != "refused"
-        by_name = ": only since a proof names what it takes away, which says little" if BY_NAME in said else ""
-        say(f"{crate}/{edit}: {said if self.is_told else 'refused' + by_name}")
-
-
-def refused_alone(above, edits):
-    """How each of the crates' edits ends that is tried alone, all by one run."""
-    crates = [it for it in edits if edits[it]]
-    if not crates or STOPPED.is_set():
-        return {}
-    say(f"{sum(map(len, edits.values()))} edits of {len(crates)} crates are tried alone")
-    with tempfile.TemporaryDirectory(prefix="alone-", dir=above) as room:
-        copy = copied(os.path.join(room, "copy"), crates)
-        for crate in crates:
-            os.makedirs(os.path.join(copy, "crates", crate, "must-fail"))
-            for it in edits[crate]:
-                shutil.copy(os.path.join(repo.TOP, "crates", crate, "wrong", it), os.path.join(copy, "crates", crate, "must-fail", it))
-        status, said = ran(["rt", "ci"], copy, Teller())
-    found = {(crate, edit): end_of(why) for crate, edit, why in TRIED.findall(said)}
-    if len(found) < sum(map(len, edits.values())):
-        say(f"rt ci ended with status {status}: {said.strip()[-SHOWN:]}")
-    return found
+        if self.is_told:
+            self.tried.say(f"{edit}: {said}")
+        elif BY_NAME in said:
+            self.tried.say(f"{edit}: refused only since a proof names what it takes away, which says little")
 
 
 def main(names):
@@ -204,21 +202,12 @@ def main(names):
         print(f"0 passed, {len(unknown)} failed")
         return 1
     crates = [it for it in dict.fromkeys(names or listed) if repo.edits(it, "wrong")]
-    ends, costs = {it: collections.Counter() for it in crates}, progress.costs(crates)
-    say(f"{sum(len(repo.edits(it, 'wrong')) for it in crates)} edits of {len(crates)} crates, {LANES} runs at a time")
-    with tempfile.TemporaryDirectory(prefix="wrong-") as above, ThreadPoolExecutor(max(1, len(crates))) as pool:
-        os.chmod(above, 0o755)
-        # (the dearest first, so that the lanes end together)
-        crates.sort(key=lambda it: -costs[it])
-        found = dict(zip(crates, pool.map(lambda it: refused_together(above, it), crates)))
-        left = {it: [edit for edit in repo.edits(it, "wrong") if edit not in found[it]] for it in crates}
-        alone = refused_alone(above, left)
-    for crate in crates:
-        ends[crate].update(["refused"] * len(found[crate]))
-        ends[crate].update(alone.get((crate, it), "not tried") for it in left[crate])
-        told = ", ".join(f"{ends[crate][it]} {it}" for it in ENDS if ends[crate][it])
-        say(f"{crate}: {told}; {len(found[crate])} of them together with others")
-    total = sum(ends.values(), collections.Counter())
+    costs, side_by_side = progress.costs(crates), lanes(OVER_KEPT)
+    say(f"{sum(len(repo.edits(it, 'wrong')) for it in crates)} edits of {len(crates)} crates, {side_by_side} crates at a time")
+    # (the dearest first, so that the lanes end together)
+    crates.sort(key=lambda it: -costs[it] * len(repo.edits(it, "wrong")))
+    with tempfile.TemporaryDirectory(prefix="wrong-") as above, ThreadPoolExecutor(side_by_side) as pool:
+        total = sum((it.ends for it in pool.map(lambda it: Tried(it).run(above), crates)), collections.Counter())
     say("all: " + ", ".join(f"{total[it]} {it}" for it in ENDS))
     failed = sum(total.values()) - total["refused"]
     print(f"{total['refused']} passed, {failed} failed")

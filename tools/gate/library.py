@@ -111,7 +111,8 @@ def are_built_below():
     listed = repo.crates()
     crates, done, running = repo.below(listed[CRATE], listed), set(), {}
     chain = chains(crates, listed)
-    left, count, side_by_side = sorted(crates, key=lambda it: -chain[it]), len(crates), lanes.lanes()
+    left, count = sorted(crates, key=lambda it: -chain[it]), len(crates)
+    side_by_side = lanes.lanes(lanes.FROM_NOTHING)
     print(f"dist: rt proves {count} crates below {CRATE}, {side_by_side} at a time", flush=True)
     with ThreadPoolExecutor(side_by_side) as pool:
         while left or running:

@@ -220,7 +220,7 @@ def made(crate, watch):
     """Proves and builds a crate's program; gives its path, or reports why there is none."""
     log = os.path.join("out", f"{crate}.log")
     with a_copy(crate) as (copy, room), open_log(log, "w") as out:
-        digest, progress = sources.digest(crate, copy), Progress(crate, lanes.lanes())
+        digest, progress = sources.digest(crate, copy), Progress(crate, lanes.lanes(lanes.FROM_NOTHING))
         progress.announce(log, keeps_work())
         status = proved(started(copy, room), progress, out, watch)
         program = os.path.join(copy, "crates", crate, "out", crate)

@@ -9,7 +9,7 @@ from program import lanes, programs, repo, sources
 # of source, contract or proof, for a crate that isn't in the table.
 TABLE, ROW, A_LINE = "docs/GATE.md", re.compile(r"(?m)^\| `(\w+)` \| (\d+) \|"), 0.05
 # What a build from nothing takes: gigabytes of disk for a crate, and of memory for a proof.
-DISK, MEMORY = 0.07, lanes.A_PROOF >> 30
+DISK, MEMORY = 0.07, lanes.FROM_NOTHING >> 30
 # The pace of the machine is measured over so many seconds at least, and kept within bounds.
 MEASURED, SLOWEST, FASTEST = 60, 4.0, 0.25
 
