@@ -144,6 +144,9 @@ class Tried:
             found = together.refused(said, group)
             self.say(f"{len(found)} of {len(group)} refused by one check")
             return found
+        if not STOPPED.is_set():
+            why = [it for it in said.splitlines() if "error" in it] or said.strip().splitlines()[-1:]
+            self.say(f"{len(group)} edits can't be checked together: {' | '.join(why[:2])[:SHOWN]}")
         edits = [*group]
         halves = edits[:len(edits) // 2], edits[len(edits) // 2:]
         return [it for half in halves for it in self.at_once(folder, {edit: group[edit] for edit in half})]
