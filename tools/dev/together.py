@@ -2,7 +2,7 @@
 
 A function is proved over the contracts of the functions that it calls, never over their bodies. So where the bodies of several functions
 are changed at once, each that its own goals refuse would be refused alone. Nothing is concluded of an edit whose function isn't told to
-fail by itself: it is tried alone.
+fail by itself, or whose proof only misses a name: it is tried alone.
 """
 import re
 
@@ -14,6 +14,10 @@ FUNCTION = re.compile(r"( *)(?:pub(?:\([^)]*\))? |final |const |unsafe )*fn (\w+
 TOLD = re.compile(r"^fn (\S+): (not proved|no proof)(.*)$", re.M)
 # What is told of a function that fails, or waits, for another's sake alone.
 OF_OTHERS = re.compile(r"it calls|it passes|a call of|it waits")
+# An error in the answers that a function's own goals have: its goals are made of its own body and of contracts.
+OWN_PROOF = re.compile(r"^\./proofs/(\S+)/(?:Answers|Proof|Invariants)\.antt:\d+:\d+: error: (.*)$", re.M)
+# What such an error says where the answers name what an edit took away. That says nothing of the contract.
+OF_NAMES = re.compile(r"in scope|no field|no such|unknown")
 
 
 def bodies(lines):
@@ -73,17 +77,20 @@ def groups(crate, folder, edits):
     return [group for group, _ in found], alone
 
 
+def failing(said):
+    """The functions that a check told to fail by themselves, as pairs of module and name."""
+    paths = [path.split("::")[1:] for path, _, why in TOLD.findall(said) if "did not prove" in why or not OF_OTHERS.search(why)]
+    broken = [(folder.replace("+", "").split("/"), why) for folder, why in OWN_PROOF.findall(said)]
+    named = [path for path, why in broken if OF_NAMES.search(why)]
+    # a method stands under its type or impl, a function in its module
+    found = {("::".join(it[:-depth]), it[-1]) for it in [*paths, *(path for path, _ in broken)] for depth in (1, 2)}
+    return found - {("::".join(it[:-depth]), it[-1]) for it in named for depth in (1, 2)}
+
+
 def refused(said, group):
     """The edits of a group whose functions a check told to fail by themselves."""
-    failing = set()
-    for path, _, why in TOLD.findall(said):
-        if OF_OTHERS.search(why) and "did not prove" not in why:
-            continue
-        parts = path.split("::")[1:]
-        # a method stands under its type or impl, a function in its module
-        for depth in (1, 2):
-            failing.add(("::".join(parts[:-depth]), parts[-1]))
-    return [edit for edit, places in group.items() if places & failing]
+    found = failing(said)
+    return [edit for edit, places in group.items() if places & found]
 
 
 def texts(crate, folder, group):

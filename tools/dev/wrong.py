@@ -1,9 +1,14 @@
 #!/usr/bin/env python3
 """Tries the edits of crates/NAME/wrong, of the named crates or of all: the prover must refuse each.
 
-It works on copies of the repository, and one crate is tried on each processor: edits of different functions together, by one check, and
-what isn't refused there alone, by `rt must-fail`. Each edit counts as passed or failed; one that was not tried has failed.
+    ./test wrong [NAME..]
+
+Each crate is tried on a copy of the sources, without out/. There `rt check` begins with what checks of the same crates kept, in this or in
+another copy of the repository, and proves the rest first, the crates below too. Edits of different functions are tried together, by one
+`rt check --jobs 1`, and what isn't refused there alone, by `rt must-fail`. Change no source until it ends. Each edit counts as passed or
+failed; one that is bad, or wasn't tried, has failed.
 """
+import collections
 import os
 import re
 import shutil
@@ -12,16 +17,26 @@ import subprocess
 import sys
 import tempfile
 import threading
+import time
 from concurrent.futures import ThreadPoolExecutor
 
 sys.path.insert(0, os.path.dirname(os.path.dirname(os.path.abspath(__file__))))
 from dev import together
-from program import repo
+from program import progress, repo
 from program.lanes import OVER_KEPT, lanes
 
+# What isn't copied of a crate: what `rt` made, and the edits.
+LEFT_OUT = ("out", *repo.FOLDERS)
 TRIED = re.compile(r"^rt: must-fail \w+/(\S+\.edit): (.*)$", re.M)
 REFUSED = "refused, as it must be"
+BY_NAME = "only because a proof file names"
+# How each edit ends, by what `rt` says of it.
+ENDS = ("refused", "not refused", "bad", "not tried")
+SHOWN = 1500
+BEGAN = time.monotonic()
 PRINTING = threading.Lock()
+# `rt must-fail` decides itself how many checks go side by side: one of them runs at a time.
+ALONE = threading.Lock()
 RUNNING = set()
 STOPPED = threading.Event()
 
@@ -29,137 +44,157 @@ STOPPED = threading.Event()
 def say(text):
     """Prints lines whole, whichever thread prints them."""
     with PRINTING:
-        print(f"wrong: {text}", flush=True)
-
-
-def copy_of(room, libraries):
-    """Copies what a check reads, and the libraries as they are built, so that they aren't proved again."""
-    for name in ("crates.txt", "HANDLES"):
-        shutil.copy(os.path.join(repo.TOP, name), room)
-    for crate in repo.crates():
-        to = os.path.join(room, "crates", crate)
-        os.makedirs(to)
-        for part in ("src", "specs", "proofs", *(["out/rlib"] if crate in libraries else [])):
-            source = os.path.join(repo.TOP, "crates", crate, part)
-            if os.path.isdir(source):
-                os.makedirs(os.path.dirname(os.path.join(to, part)), exist_ok=True)
-                subprocess.run(["cp", "-r", "-p", "--reflink=auto", source, os.path.join(to, part)], check=True)
-
-
-def room_of(room, crate):
-    """A room of the crate's own, since its sources change while the crates above it are tried: all of the copy by links, but for these sources."""
-    own = f"{room}-{crate}"
-    subprocess.run(["cp", "-r", "-l", room, own], check=True)
-    for part in ("src", "specs", "proofs"):
-        linked_to = os.path.join(own, "crates", crate, part)
-        if os.path.isdir(linked_to):
-            shutil.rmtree(linked_to)
-            shutil.copytree(os.path.join(repo.TOP, "crates", crate, part), linked_to)
-    return own
+        minutes, seconds = divmod(round(time.monotonic() - BEGAN), 60)
+        print(f"wrong: {minutes}:{seconds:02} {text}", flush=True)
 
 
 def stop(number, _):
-    """Ends what runs, so that the copy is removed."""
+    """Ends what runs, so that the copies are removed."""
     STOPPED.set()
     for it in [*RUNNING]:
         it.terminate()
     sys.exit(128 + number)
 
 
-def ran(words, folder, scratch=None):
-    """A command's status, and what it says."""
-    # a crate has one processor, whatever rt would take
-    environment = {**os.environ, "TMPDIR": scratch, "RT_JOBS": "1"} if scratch else None
-    it = subprocess.Popen(words, cwd=folder, env=environment, stdin=subprocess.DEVNULL, stdout=subprocess.PIPE, stderr=subprocess.STDOUT, text=True, errors="replace")
-    RUNNING.add(it)
-    text = it.communicate()[0]
-    RUNNING.discard(it)
-    return it.returncode, text
+def ran(words, folder, shown=None):
+    """A command's status and what it printed; `shown` is called with each line as it comes."""
+    if STOPPED.is_set():
+        return 130, ""
+    child = subprocess.Popen(words, cwd=folder, stdin=subprocess.DEVNULL, stdout=subprocess.PIPE, stderr=subprocess.STDOUT, text=True, errors="replace")
+    RUNNING.add(child)
+    printed = []
+    for line in child.stdout:
+        printed.append(line)
+        if shown:
+            shown(line)
+    status = child.wait()
+    RUNNING.discard(child)
+    return status, "".join(printed)
 
 
-def unproved(top, libraries):
-    """Has the libraries built, lowest first; gives what was said of the first that isn't proved, or none."""
-    for library in libraries:
-        status, text = ran(["rt", "lib"], os.path.join(top, "crates", library))
-        if status:
-            return f"the library {library} isn't proved, so no edit was tried: {text.strip()[-600:]}"
-    return None
+def copied(room, crate):
+    """Copies what a check of the crate reads, with the crates below it; gives the crate's folder."""
+    lines, taken = repo.lines(), repo.below([crate], repo.crates())
+    # (the search for a repository's top ends at a .git)
+    os.makedirs(os.path.join(room, ".git"))
+    shutil.copyfile(os.path.join(repo.TOP, "HANDLES"), os.path.join(room, "HANDLES"))
+    with open(os.path.join(room, "crates.txt"), "w", encoding="utf-8") as to:
+        to.write("".join(f"{lines[it]}\n" for it in taken))
+    for it in taken:
+        shutil.copytree(os.path.join(repo.TOP, "crates", it), os.path.join(room, "crates", it), ignore=shutil.ignore_patterns(*LEFT_OUT))
+    return os.path.join(room, "crates", crate)
 
 
-def linked(folder, to):
-    """Puts a copy of what a check kept in a place, what was proved by links: a check replaces such a file, and never writes into it."""
-    shutil.rmtree(to, ignore_errors=True)
-
-    def copy(one, other):
-        return os.link(one, other) if one.endswith(".oantt") else shutil.copy2(one, other)
-
-    shutil.copytree(folder, to, symlinks=True, copy_function=copy)
+def check(folder):
+    return ran(["rt", "check", "--jobs", "1"], folder)
 
 
-def at_once(folder, crate, group):
-    """The edits of a group that a check of all of them refuses; where they can't be checked together, of its halves."""
-    if len(group) < 2 or STOPPED.is_set():
-        return []
-    linked(f"{folder}/out/seed", f"{folder}/out/incremental")
-    for path, text in together.texts(crate, "wrong", group).items():
-        with open(os.path.join(folder, path), "w", encoding="utf-8") as it:
-            it.write(text)
-    status, said = ran(["rt", "check", "--jobs", "1"], folder)
-    for path in together.texts(crate, "wrong", group):
-        shutil.copy(os.path.join(repo.TOP, "crates", crate, path), os.path.join(folder, path))
-    if status == 1 and re.search(r"(?m)^logic=not-proved", said):
-        found = together.refused(said, group)
-        say(f"{crate}: {len(found)} of {len(group)} refused by one check")
-        return found
-    edits = [*group]
-    halves = edits[:len(edits) // 2], edits[len(edits) // 2:]
-    return [it for half in halves for it in at_once(folder, crate, {edit: group[edit] for edit in half})]
+class Tried:
+    """A crate whose edits are tried: how many ended in which way."""
+
+    def __init__(self, crate):
+        self.crate, self.left = crate, repo.edits(crate, "wrong")
+        self.ends, self.together = collections.Counter(), 0
+
+    def say(self, text):
+        say(f"{self.crate}: {text}")
+
+    def run(self, above):
+        """Tries the edits on a copy below the folder `above`."""
+        with tempfile.TemporaryDirectory(prefix=f"{self.crate}-", dir=above) as room:
+            folder = copied(os.path.join(room, "copy"), self.crate)
+            status, said = check(folder)
+            if status and not STOPPED.is_set():
+                self.say(f"it isn't proved as it stands, so no edit was tried: {said.strip()[-SHOWN:]}")
+            if not status:
+                self.try_together(folder)
+                self.try_alone(folder)
+        self.ends["not tried"] += len(self.left)
+        told = ", ".join(f"{self.ends[it]} {it}" for it in ENDS if self.ends[it])
+        self.say(f"{told}; {self.together} of them together with others")
+        return self
+
+    def take(self, edit, end):
+        self.left.remove(edit)
+        self.ends[end] += 1
+
+    def try_together(self, folder):
+        """Tries edits of different functions by one check, while any is refused so. (What one hides of another shows where those that were refused are left out.)"""
+        while True:
+            groups = [it for it in together.groups(self.crate, "wrong", self.left)[0] if len(it) > 1]
+            found = [edit for group in groups for edit in self.at_once(folder, group)]
+            for it in found:
+                self.take(it, "refused")
+            self.together += len(found)
+            if not found or STOPPED.is_set():
+                return
+
+    def at_once(self, folder, group):
+        """The edits of a group that a check of all of them refuses; where they can't be checked together, of its halves."""
+        if len(group) < 2 or STOPPED.is_set():
+            return []
+        changed = together.texts(self.crate, "wrong", group)
+        for path, text in changed.items():
+            with open(os.path.join(folder, path), "w", encoding="utf-8") as to:
+                to.write(text)
+        status, said = check(folder)
+        for path in changed:
+            shutil.copy(os.path.join(repo.TOP, "crates", self.crate, path), os.path.join(folder, path))
+        if status == 1 and re.search(r"(?m)^logic=not-proved", said):
+            found = together.refused(said, group)
+            self.say(f"{len(found)} of {len(group)} refused by one check")
+            return found
+        if not STOPPED.is_set():
+            why = [it for it in said.splitlines() if "error" in it] or said.strip().splitlines()[-1:]
+            self.say(f"{len(group)} edits can't be checked together: {' | '.join(why[:2])[:SHOWN]}")
+        edits = [*group]
+        halves = edits[:len(edits) // 2], edits[len(edits) // 2:]
+        return [it for half in halves for it in self.at_once(folder, {edit: group[edit] for edit in half})]
+
+    def try_alone(self, folder):
+        """Tries each edit that is left alone, by `rt must-fail`."""
+        if not self.left or STOPPED.is_set():
+            return
+        os.makedirs(os.path.join(folder, "must-fail"))
+        for it in self.left:
+            shutil.copy(os.path.join(repo.TOP, "crates", self.crate, "wrong", it), os.path.join(folder, "must-fail", it))
+        top = os.path.dirname(os.path.dirname(folder))
+        with ALONE:
+            self.say(f"{len(self.left)} edits are tried alone")
+            status, said = ran(["rt", "must-fail", self.crate], top, Teller(self))
+        for edit, why in TRIED.findall(said):
+            self.take(edit, end_of(why))
+        if self.left and not STOPPED.is_set():
+            self.say(f"rt must-fail ended with status {status}: {said.strip()[-SHOWN:]}")
 
 
-def refused_together(folder, crate, edits):
-    """The edits that are refused where those of different functions are checked together, over what a check of the crate as it stands proved; none where it isn't proved."""
-    groups, _ = together.groups(crate, "wrong", edits)
-    if not any(len(it) > 1 for it in groups):
-        return []
-    status, said = ran(["rt", "check", "--jobs", "1"], folder)
-    if status:
-        say(f"{crate}: it isn't proved as it stands: {said.strip()[-600:]}")
-        return None
-    os.rename(f"{folder}/out/incremental", f"{folder}/out/seed")
-    found = [it for group in groups for it in at_once(folder, crate, group)]
-    shutil.rmtree(f"{folder}/out/incremental", ignore_errors=True)
-    os.rename(f"{folder}/out/seed", f"{folder}/out/incremental")
-    return found
+def end_of(said):
+    """How an edit ended, by what `rt` says of it."""
+    if said.startswith(REFUSED):
+        return "refused"
+    return next((it for it, word in (("bad", "BAD EDIT"), ("not refused", "NOT REFUSED")) if word in said), "not tried")
 
 
-def tried(copy, scratch, crate):
-    """Tries a crate's edits, and gives how many passed and failed."""
-    room = room_of(copy, crate)
-    edits, folder = repo.edits(crate, "wrong"), os.path.join(room, "crates", crate)
-    passed = refused_together(folder, crate, edits)
-    if passed is None:
-        return 0, len(edits)
-    alone = [it for it in edits if it not in passed]
-    at_first = len(passed)
-    os.makedirs(f"{folder}/must-fail")
-    for it in alone:
-        shutil.copy(os.path.join(repo.TOP, "crates", crate, "wrong", it), f"{folder}/must-fail")
-    status, text = (130, "stopped") if STOPPED.is_set() else ran(["rt", "must-fail", crate], room, scratch) if alone else (0, "")
-    found = dict(TRIED.findall(text))
-    for it in alone:
-        if not found.get(it, "").startswith(REFUSED):
-            say(f"{crate}/{it}: {found.get(it, 'NOT TRIED')}")
-            continue
-        passed.append(it)
-        if "only because a proof file names" in found[it]:
-            say(f"{crate}/{it}: refused only since a proof names what it takes away, which says little")
-    failed = len(edits) - len(passed)
-    if status and not failed or len(found) < len(alone):
-        say(f"{crate}: rt must-fail ended with status {status}: {text.strip()[-600:]}")
-        failed = max(failed, 1)
-    say(f"{crate}: {len(passed)} of {len(edits)} refused, {at_first} of them together with others")
-    shutil.rmtree(room, ignore_errors=True)
-    return len(passed), failed
+class Teller:
+    """Reports the edits that are tried alone, line by line: of one that isn't refused all that `rt` says."""
+
+    def __init__(self, tried):
+        self.tried, self.is_told = tried, False
+
+    def __call__(self, line):
+        found = TRIED.match(line)
+        if not found:
+            # (why an edit isn't refused may take more lines, up to what is said of the next)
+            self.is_told = self.is_told and not line.startswith("rt: ")
+            if self.is_told:
+                self.tried.say(f"    {line.rstrip()[:SHOWN]}")
+            return
+        edit, said = found.groups()
+        self.is_told = end_of(said) != "refused"
+        if self.is_told:
+            self.tried.say(f"{edit}: {said}")
+        elif BY_NAME in said:
+            self.tried.say(f"{edit}: refused only since a proof names what it takes away, which says little")
 
 
 def main(names):
@@ -169,31 +204,16 @@ def main(names):
         say(f"crates.txt has no crate {' '.join(unknown)}")
         print(f"0 passed, {len(unknown)} failed")
         return 1
-    crates = [it for it in names or listed if repo.edits(it, "wrong")]
-    libraries = repo.below([low for it in crates for low in listed[it]], listed)
-    count = sum(len(repo.edits(it, "wrong")) for it in crates)
-    passed = failed = 0
-    with tempfile.TemporaryDirectory(prefix="wrong-") as above:
-        room, scratch = os.path.join(above, "copy"), os.path.join(above, "scratch")
-        os.mkdir(room)
-        os.mkdir(scratch)
-        why = unproved(repo.TOP, libraries)
-        if not why:
-            copy_of(room, libraries)
-            # they are built already, unless a source has changed meanwhile: what is tried side by side must not build them
-            why = unproved(room, libraries)
-        if why:
-            say(why)
-            print(f"0 passed, {count} failed")
-            return 1
-        # those with most edits first, so that the lanes end together
-        crates.sort(key=lambda it: -len(repo.edits(it, "wrong")))
-        side_by_side = lanes(OVER_KEPT)
-        say(f"{count} edits of {len(crates)} crates, {side_by_side} crates at a time")
-        with ThreadPoolExecutor(side_by_side) as pool:
-            for well, badly in pool.map(lambda it: tried(room, scratch, it), crates):
-                passed, failed = passed + well, failed + badly
-    print(f"{passed} passed, {failed} failed")
+    crates = [it for it in dict.fromkeys(names or listed) if repo.edits(it, "wrong")]
+    costs, side_by_side = progress.costs(crates), lanes(OVER_KEPT)
+    say(f"{sum(len(repo.edits(it, 'wrong')) for it in crates)} edits of {len(crates)} crates, {side_by_side} crates at a time")
+    # (the dearest first, so that the lanes end together)
+    crates.sort(key=lambda it: -costs[it] * len(repo.edits(it, "wrong")))
+    with tempfile.TemporaryDirectory(prefix="wrong-") as above, ThreadPoolExecutor(side_by_side) as pool:
+        total = sum((it.ends for it in pool.map(lambda it: Tried(it).run(above), crates)), collections.Counter())
+    say("all: " + ", ".join(f"{total[it]} {it}" for it in ENDS))
+    failed = sum(total.values()) - total["refused"]
+    print(f"{total['refused']} passed, {failed} failed")
     return 1 if failed else 0
 
 

@@ -1,26 +1,37 @@
 """dist/libcertpath.so and dist/libcertpath.a: the calls of include/certpath.h, made from the crate
 certpath_c and compared with it.
 
-`rt` proves the crate and compiles it; the linker of its kit makes the shared library, so that the
-same kit gives the same octets. Beside them stands a record, as beside dist/certpath.
+`rt lib` proves the crate and leaves crates/certpath_c/out/libcertpath_c.a. The C compiler and the
+binutils of the machine make both libraries of it and of tools/gate/allocator.c. Beside them stands
+a record, as beside dist/certpath, which names these tools too: the same toolchain and the same
+tools give the same octets. Of both libraries nothing is seen but the calls of the header.
 """
 import os
+import re
 import shutil
 import subprocess
+import sys
 import tempfile
+from concurrent.futures import FIRST_COMPLETED, ThreadPoolExecutor, wait
 
-from program import programs, repo, sources
+from program import lanes, programs, progress, repo, sources
 
 CRATE = "certpath_c"
 SHARED, STATIC = os.path.join("dist", "libcertpath.so"), os.path.join("dist", "libcertpath.a")
 # The Python package has a copy of its own, since it is installed without dist/.
 PACKAGED = os.path.join("python", "certpath", "libcertpath.so")
 RECORD = os.path.join("dist", "BUILT-library")
-WORDS = ("kit", "sources", "shared", "static", "needs")
+WORDS = ("kit", "sources", "allocator", "compiler", "binutils", "shared", "static", "needs")
+# What the octets depend on beside the sources.
+TOOLS = ("kit", "compiler", "binutils")
 BUILT = os.path.join("crates", CRATE, "out", f"lib{CRATE}.a")
-# Of the shared library nothing is seen but the calls of the header.
-SEEN = "{ global: certpath_*; local: *; };\n"
-MAKE = "run python3 tools/gate/dist.py make"
+HEADER, ALLOCATOR = os.path.join("include", "certpath.h"), os.path.join("tools", "gate", "allocator.c")
+ANSWERS = os.path.join("tools", "gate", "answers.py")
+PUBLIC, NEEDED = "certpath_*", ("cc", "ld", "objcopy", "ar")
+COMPILED = ("-std=c11", "-Wall", "-Wextra", "-Werror", "-O2", "-fPIC")
+LINKED = ("-shared", "-nostdlib", "-Wl,--build-id=none", "-Wl,--gc-sections", "-Wl,-z,relro",
+          "-Wl,-z,now", "-Wl,-z,noexecstack", "-Wl,-z,defs")
+MAKE = "run python3 tools/gate/dist.py make library"
 
 
 def is_there():
@@ -38,6 +49,18 @@ def read_record():
     return said if sorted(said) == sorted(WORDS) else None
 
 
+def soname():
+    """The name by which programs that were linked with the shared library ask for it: with the
+    version of the calls, from the header."""
+    version = re.search(r"(?m)^#define CERTPATH_VERSION (\d+)", repo.read(HEADER))[1]
+    return f"{os.path.basename(SHARED)}.{version}"
+
+
+def link():
+    """The symbolic link in dist/ of that name."""
+    return os.path.join("dist", soname())
+
+
 def faults():
     """What is wrong with the libraries by the sources, a line each. Nothing is run."""
     record = read_record()
@@ -46,41 +69,96 @@ def faults():
         return
     if record["sources"] != sources.known(CRATE):
         yield f"sources have changed since {SHARED} was built: {MAKE}"
-    for path, word in ((SHARED, "shared"), (PACKAGED, "shared"), (STATIC, "static")):
+    for path, word in ((SHARED, "shared"), (PACKAGED, "shared"), (STATIC, "static"),
+                       (ALLOCATOR, "allocator")):
         if programs.sum_of(path) != record[word]:
-            yield f"{path} isn't the library of {RECORD}: {MAKE}"
-
-
-def kit_folder():
-    """The folder of the kit whose `rt` is on the path."""
-    return os.path.dirname(os.path.dirname(os.path.realpath(shutil.which("rt"))))
+            yield f"{path} isn't that of {RECORD}: {MAKE}"
+    path = os.path.join(repo.TOP, link())
+    if not os.path.islink(path) or os.readlink(path) != os.path.basename(SHARED):
+        yield f"{link()} is no symbolic link to {os.path.basename(SHARED)}: {MAKE}"
 
 
 def proved():
-    """Whether `rt` proves and compiles the crate in this checkout, over what it kept."""
-    folder = os.path.join(repo.TOP, "crates", CRATE)
-    return subprocess.run(["rt", "lib"], cwd=folder, stdin=subprocess.DEVNULL).returncode == 0
+    """Whether `rt` proves the crate in this checkout, over what it kept, and compiles it."""
+    if not os.path.isfile(os.path.join(repo.TOP, BUILT)) and not are_built_below():
+        return False
+    return rt_lib(CRATE)
 
 
-def run(*words, cwd=None):
-    subprocess.run(words, cwd=cwd, check=True, stdin=subprocess.DEVNULL)
+def rt_lib(crate, *words):
+    """Whether `rt` proves a crate and builds its library; what it prints is shown where not."""
+    ran = subprocess.run(["rt", "lib", *words], cwd=os.path.join(repo.TOP, "crates", crate),
+                         stdin=subprocess.DEVNULL, stdout=subprocess.PIPE,
+                         stderr=subprocess.STDOUT, text=True, errors="replace")
+    if ran.returncode:
+        print(ran.stdout, f"dist: rt doesn't prove {crate}", sep="", flush=True)
+    return ran.returncode == 0
 
 
-def linked(room):
-    """Makes both libraries of what `rt` compiled; gives their octets."""
-    kit = kit_folder()
-    tools, heap = os.path.join(kit, "toolchain", "bin"), os.path.join(kit, "c", "liblibc_c.a")
-    built, seen = os.path.join(repo.TOP, BUILT), os.path.join(room, "seen")
-    with open(seen, "w", encoding="ascii") as file:
-        file.write(SEEN)
-    run(f"{tools}/ld.lld", "-shared", "--build-id=none", "--gc-sections", "-z", "relro", "-z",
-        "now", "-z", "noexecstack", "-soname", os.path.basename(SHARED), "--version-script", seen,
-        "-o", "shared", "--whole-archive", built, "--no-whole-archive", heap,
-        os.path.join(kit, "toolchain", "lib", "libc.so.6"), cwd=room)
-    for archive in (built, heap):
-        run(f"{tools}/llvm-ar", "x", archive, cwd=room)
-    objects = sorted(it for it in os.listdir(room) if it.endswith(".o"))
-    run(f"{tools}/llvm-ar", "rcsD", "static", *objects, cwd=room)
+def chains(crates, listed):
+    """About how many seconds each of the crates takes, lowest first, with the dearest chain of
+    those above it."""
+    costs, found = progress.costs(crates), {}
+    for it in reversed(crates):
+        above = (found[other] for other in crates if it in listed[other])
+        found[it] = costs[it] + max(above, default=0)
+    return found
+
+
+def are_built_below():
+    """Has `rt` prove the crates below, lowest first and several at a time, since by itself it goes
+    from one to the next; gives whether all are proved."""
+    listed = repo.crates()
+    crates, done, running = repo.below(listed[CRATE], listed), set(), {}
+    chain = chains(crates, listed)
+    left, count = sorted(crates, key=lambda it: -chain[it]), len(crates)
+    side_by_side = lanes.lanes(lanes.FROM_NOTHING)
+    print(f"dist: rt proves {count} crates below {CRATE}, {side_by_side} at a time", flush=True)
+    with ThreadPoolExecutor(side_by_side) as pool:
+        while left or running:
+            ready = [it for it in left if done.issuperset(listed[it])]
+            for it in ready[:side_by_side - len(running)]:
+                left.remove(it)
+                running[pool.submit(rt_lib, it, "--jobs", "1")] = it
+            for it in wait(running, return_when=FIRST_COMPLETED).done:
+                crate = running.pop(it)
+                if not it.result():
+                    return False
+                done.add(crate)
+                print(f"dist: {crate}: {len(done)} of {count} proved", flush=True)
+    return True
+
+
+def run(room, *words):
+    subprocess.run(words, cwd=room, check=True, stdin=subprocess.DEVNULL)
+
+
+def first_line(*words):
+    """The first line that a command prints: its name and version."""
+    return subprocess.run(words, stdin=subprocess.DEVNULL, capture_output=True, text=True,
+                          check=True).stdout.splitlines()[0]
+
+
+def tools():
+    """What the libraries are made by on this machine."""
+    from program import building
+    return {"kit": building.kit(), "compiler": first_line("cc", "--version"),
+            "binutils": first_line("ld", "--version")}
+
+
+def linked(archive, room):
+    """Makes both libraries of an archive that `rt` left; gives their octets."""
+    shutil.copy(os.path.join(repo.TOP, ALLOCATOR), room)
+    shutil.copy(archive, os.path.join(room, "proved.a"))
+    for name, text in (("seen", f"{{ global: {PUBLIC}; local: *; }};\n"), ("public", f"{PUBLIC}\n")):
+        with open(os.path.join(room, name), "w", encoding="ascii") as file:
+            file.write(text)
+    run(room, "cc", *COMPILED, "-c", os.path.basename(ALLOCATOR), "-o", "allocator.o")
+    run(room, "ld", "-r", "-o", "certpath.o", "--whole-archive", "proved.a", "allocator.o")
+    run(room, "objcopy", "--wildcard", "--keep-global-symbols=public", "certpath.o")
+    run(room, "ar", "rcsD", "static", "certpath.o")
+    run(room, "cc", *LINKED, f"-Wl,-soname,{soname()}", "-Wl,--version-script=seen", "-o", "shared",
+        "certpath.o", "-lc")
     return [sources.octets_of(os.path.join(room, it)) for it in ("shared", "static")]
 
 
@@ -91,53 +169,99 @@ def made():
     if not proved():
         return None
     with tempfile.TemporaryDirectory(prefix="library-") as room:
-        shared, static = linked(room)
-    record = {"kit": building.kit(), "sources": digest, "shared": programs.sum_of_octets(shared),
-              "static": programs.sum_of_octets(static), "needs": building.needs_of(shared)}
+        shared, static = linked(os.path.join(repo.TOP, BUILT), room)
+    record = {**tools(), "sources": digest, "allocator": programs.sum_of(ALLOCATOR),
+              "shared": programs.sum_of_octets(shared), "static": programs.sum_of_octets(static),
+              "needs": building.needs_of(shared)}
     return shared, static, record
 
 
 def make():
     """Puts the libraries and their record into dist/; gives the status."""
-    from program import building
     found = made()
-    if found is None:
-        print(f"dist: rt doesn't prove {CRATE}")
-        return 1
-    shared, static, record = found
+    if found:
+        put(*found)
+    return 0 if found else 1
+
+
+def put(shared, static, record):
+    """Writes the libraries, their record, and the link."""
+    from program import building
     text = "".join(f"{it} {record[it]}\n" for it in WORDS)
     for path, octets in ((SHARED, shared), (PACKAGED, shared), (STATIC, static),
                          (RECORD, text.encode())):
         building.put(os.path.join(repo.TOP, path), octets, 0o644)
         print(f"dist: {path} has {len(octets)} octets")
-    return 0
+    path = os.path.join(repo.TOP, link())
+    if os.path.lexists(path):
+        os.remove(path)
+    os.symlink(os.path.basename(SHARED), path)
 
 
-def kept():
-    """Whether `rt` has kept a library of these sources, so that making it again takes seconds."""
-    stamp = os.path.join(repo.TOP, "crates", CRATE, "out", "rlib")
-    return os.path.isfile(os.path.join(repo.TOP, BUILT)) or os.path.isdir(stamp)
+def answers(shared):
+    """What a shared library answers on the worked cases."""
+    with tempfile.TemporaryDirectory(prefix="library-") as room:
+        with open(os.path.join(room, os.path.basename(SHARED)), "wb") as file:
+            file.write(shared)
+        ran = subprocess.run([sys.executable, os.path.join(repo.TOP, ANSWERS), room],
+                             stdin=subprocess.DEVNULL, capture_output=True)
+    return ran.returncode, ran.stdout, ran.stderr[-1000:]
+
+
+def shared_of(static):
+    """A shared library that has all of a static one."""
+    with tempfile.TemporaryDirectory(prefix="library-") as room:
+        with open(os.path.join(room, "static.a"), "wb") as file:
+            file.write(static)
+        run(room, "cc", "-shared", "-nostdlib", "-o", "shared", "-Wl,--whole-archive", "static.a",
+            "-Wl,--no-whole-archive", "-lc")
+        return sources.octets_of(os.path.join(room, "shared"))
 
 
 def check():
     """What differs from what these sources give, a line each."""
-    from program import building
     amiss = [*faults()]
     yield from amiss
     if amiss:
         return
-    if not kept():
+    lacks = [it for it in NEEDED if not shutil.which(it)]
+    if not os.path.isfile(os.path.join(repo.TOP, BUILT)):
+        lacks = [f"{BUILT}, which `rt lib` makes in the crate's folder"]
+    if lacks:
         print(f"dist: {SHARED} and {STATIC} are those of {RECORD}; they weren't made again, since "
-              f"`rt lib` kept none here: {MAKE} makes them")
+              f"there is no {', '.join(lacks)}")
         return
-    found, record = made(), read_record()
+    found = made()
     if found is None:
         yield f"rt doesn't prove {CRATE}"
-    elif record["kit"] != found[2]["kit"]:
-        print(f"dist: {SHARED} was built by {record['kit']}: its octets aren't compared")
-    else:
-        for path, word in ((SHARED, "shared"), (STATIC, "static")):
-            if record[word] != found[2][word]:
-                yield f"{path} isn't what these sources give: {MAKE}"
-            else:
-                print(f"dist: {path} is what was made anew, octet for octet")
+        return
+    yield from compared(read_record(), *found)
+
+
+def compared(record, shared, static, made_now):
+    """Where the libraries of dist/ differ from those that were just made."""
+    others = [f"{record[it]}, and this is {made_now[it]}" for it in TOOLS if record[it] != made_now[it]]
+    if others:
+        print(f"dist: {SHARED} was made by {'; '.join(others)}: what the libraries answer is "
+              "compared, and not their octets")
+        yield from unlike(shared, static)
+        return
+    for path, word in ((SHARED, "shared"), (STATIC, "static")):
+        if record[word] != made_now[word]:
+            yield f"{path} isn't what these sources give: {MAKE}"
+        else:
+            print(f"dist: {path} is what was made anew, octet for octet")
+
+
+def unlike(shared, static):
+    """Where the libraries of dist/ answer otherwise than those that were just made."""
+    wanted = answers(shared)
+    if wanted[0] or not wanted[1]:
+        yield f"the library that was just made gives no answers: {wanted[2].decode(errors='replace')}"
+        return
+    in_dist = [sources.octets_of(os.path.join(repo.TOP, it)) for it in (SHARED, STATIC)]
+    for what, octets in ((SHARED, in_dist[0]), (STATIC, shared_of(in_dist[1])),
+                         ("the static library that was just made", shared_of(static))):
+        if answers(octets)[:2] != wanted[:2]:
+            yield f"{what} answers otherwise than the shared library that was just made: {MAKE}"
+    print(f"dist: both libraries were asked, {wanted[1].count(bytes([10]))} lines of answers each")

@@ -4,12 +4,11 @@
 With the word `laws` it lists the laws that have premises and no example, and fails for none of them."""
 import os
 import re
-import subprocess
 import sys
 
 sys.path.insert(0, os.path.dirname(os.path.dirname(os.path.abspath(__file__))))
 from dev import items, manual
-from gate import dist, laws, library, page_checks, source_checks, words
+from gate import dist, formatting, gate, laws, library, page_checks, source_checks, words
 from program import repo
 from trials import bundling
 
@@ -47,12 +46,13 @@ CRATES = repo.crates()
 
 
 def layout():
-    """Each file is laid out as `rt fmt` does it."""
-    page = subprocess.run(["rt", "doc"], capture_output=True, text=True, stdin=subprocess.DEVNULL).stdout.strip()
-    words = [os.path.join(os.path.dirname(page), "bin", "rattle"), "fmt", "--check", *OF_RATTLE]
-    ran = subprocess.run(words, cwd=repo.TOP, stdin=subprocess.DEVNULL, stdout=subprocess.DEVNULL, stderr=subprocess.PIPE, text=True)
-    lines = ran.stderr.splitlines() or [f"rattle fmt ended with status {ran.returncode}"]
-    return [f"{it}: run rt fmt in the crate's folder" if it.endswith(" is not in the layout") else it for it in lines] if ran.returncode else []
+    """Each file that changed since the last commit is laid out as `rt fmt` does it. (`rt ci` refuses any other.)"""
+    yield from formatting.faults()
+
+
+def table_is_made():
+    """The table of docs/GATE.md has a row for each crate, and counts its edits."""
+    yield from gate.faults()
 
 
 def edits_apply():
@@ -266,7 +266,7 @@ def libraries_are_built():
 
 
 def main():
-    checks = (layout, edits_apply, few_edits, all_read, no_labels, no_machine, docs_name_files, crates_listed, few_ways, judge_alone, roads_apart, headers_counted, no_handles, short_files, items_spelled, worked_causes, bundles, manual_is_made, dist_is_built, libraries_are_built, plain_words)
+    checks = (layout, edits_apply, few_edits, all_read, no_labels, no_machine, docs_name_files, crates_listed, few_ways, judge_alone, roads_apart, headers_counted, no_handles, short_files, items_spelled, table_is_made, worked_causes, bundles, manual_is_made, dist_is_built, libraries_are_built, plain_words)
     checks += source_checks.CHECKS
     checks += page_checks.CHECKS
     failed = 0

@@ -1,8 +1,10 @@
-"""Checks of `quick.py` that follow the names in sources and in definitions."""
+"""Checks of `quick.py` that follow the names in sources and in definitions, and of what scripts call."""
+import os
 import re
 
 from dev import believe
 from gate import bodies, calls, counting, syntax
+from program import repo
 
 
 # The runs of `certpath_run`, and by which call each finds and by which it checks.
@@ -66,4 +68,54 @@ def bodies_named():
     yield from bodies.faults()
 
 
-CHECKS = (check_asked, key_ids_read_apart, pages_counted, bodies_named)
+# What reaches behind the commands of the toolchain: how a line of a script looks that does, and what it does.
+BEHIND = (
+    (r"""toolchain/bin|rlibs|logic_built|["']bin["'], *["']rattle["']|/bin/rattle\b""", "calls or names what lies in the toolchain's folder"),
+    (r"""realpath\(.*\brt\b|["']rt["'], *["']doc["']|\brt doc\b""", "looks for the toolchain's folder"),
+    (r"""out/(?:incremental|rlib)|["']out["'], *["'](?:incremental|rlib)["']""", "names work that the toolchain kept"),
+    (r"rattle-logic|rt-edit-|rt-run-", "names temporary files of the toolchain"),
+    (r"/cmdline|/environ(?:[^A-Za-z]|$)|/proc/(?!self/)[^ ]*/(?:cwd|exe|fd|fdinfo|maps|mem|smaps|stack|syscall|wchan)\b", "looks into a process"),
+    (r"RT_JOBS", "names a variable that no page of the toolchain names"),
+    (r"systemctl|systemd-run", "calls a service manager"),
+    (r"""\b(?:strace|ltrace|ptrace|gdb|bpftrace)\b""", "traces a process"),
+)
+# Lines that do, by which the look itself is tried, and lines that don't.
+PLANTED = ('run(f"{kit}/toolchain/bin/ld.lld")', 'os.path.join(kit, "bin", "rattle")', 'os.path.realpath(shutil.which("rt"))',
+           'subprocess.run(["rt", "doc"])', 'os.rename("out/incremental", seed)', 'os.path.join(folder, "out", "rlib")',
+           'glob.glob("rattle-logic-built-*")', 'open(f"/proc/{pid}/cmdline")', 'open(f"/proc/{pid}/environ")',
+           'os.readlink(f"/proc/{pid}/cwd")', 'os.listdir(f"/proc/{pid}/fd")', '{**os.environ, "RT_JOBS": "1"}',
+           'systemd-run --scope rt ci', "systemctl start x", "gdb -p 1")
+HARMLESS = ('subprocess.run(["rt", "ci"])', "os.environ", 'open("/proc/self/maps")', 'open("/proc/meminfo")', 'os.path.join("out", "programs")')
+THIS = "tools/gate/source_checks.py"
+
+
+def behind_the_kit(text):
+    """The lines of a text that reach behind the commands of the toolchain: number and what is amiss."""
+    for number, line in enumerate(text.splitlines(), 1):
+        yield from ((number, why) for pattern, why in BEHIND if re.search(pattern, line))
+
+
+def scripts(top=repo.TOP):
+    """The scripts of the repository, by their paths: those that are named so, and those that begin as one."""
+    for at, folders, names in os.walk(top):
+        folders[:] = sorted(it for it in folders if it not in (".git", "out", "__pycache__"))
+        for path in (os.path.join(at, it) for it in sorted(names)):
+            if path.endswith((".py", ".sh")) or os.access(path, os.X_OK) and is_script(path):
+                yield os.path.relpath(path, top)
+
+
+def is_script(path):
+    with open(path, "rb") as file:
+        return file.read(2) == b"#!"
+
+
+def toolchain_by_commands(top=repo.TOP):
+    """Scripts use the toolchain by its commands alone: none calls what lies behind them, or looks into what they start."""
+    yield from (f"{THIS}: a script with the line {it} isn't refused" for it in PLANTED if not [*behind_the_kit(it)])
+    yield from (f"{THIS}: a script with the line {it} is refused" for it in HARMLESS if [*behind_the_kit(it)])
+    for path in scripts(top):
+        if path != THIS:
+            yield from (f"{path}:{number}: it {why}" for number, why in behind_the_kit(repo.read(path, top)))
+
+
+CHECKS = (check_asked, key_ids_read_apart, pages_counted, bodies_named, toolchain_by_commands)

@@ -98,15 +98,6 @@ def alone(title, watch):
         yield has_waited
 
 
-def busy_crates(leader):
-    """The crates that are being proved below a process, by the words of its children."""
-    found = []
-    for words in map(processes.words_of, processes.family(leader)):
-        if "--crate-name" in words[:-1]:
-            found.append(words[words.index("--crate-name") + 1])
-    return [*dict.fromkeys(found)]
-
-
 def read_into(child, lines):
     """Hands on each line that a child prints, and none at the end."""
     for line in child.stdout:
@@ -124,16 +115,8 @@ def waiting_lines(lines):
     return [it for it in found if it is not None], None in found
 
 
-def side_by_side():
-    """About how many proofs run at a time: as RT_JOBS says, or else as processors and memory
-    allow."""
-    number = os.environ.get("RT_JOBS", "")
-    return int(number) if number.isdigit() and int(number) else lanes.lanes(lanes.FROM_NOTHING)
-
-
 def started(copy, room):
-    """Starts `rt ci` on the copy, in a session of its own: so all that it starts can be ended.
-    Unless RT_JOBS is set, `rt` starts as many proofs as processors and memory allow."""
+    """Starts `rt ci` on the copy, in a session of its own: so all that it starts can be ended."""
     environment = {**os.environ, "TMPDIR": room}
     return subprocess.Popen(["rt", "ci"], cwd=copy, env=environment, start_new_session=True,
                             stdin=subprocess.DEVNULL, stdout=subprocess.PIPE,
@@ -144,28 +127,26 @@ def proved(child, progress, log, watch):
     """Reports what `rt ci` proves until it ends; gives its status. However this ends, nothing that
     the child started goes on."""
     try:
-        lines, found, is_over = queue.Queue(), [], False
+        lines, is_over = queue.Queue(), False
         threading.Thread(target=read_into, args=(child, lines), daemon=True).start()
         while not is_over:
             watch.look()
-            earlier = found
             found, is_over = waiting_lines(lines)
             log.writelines(found)
             log.flush()
-            # (a moment later, so that what comes after them is under way)
-            report(earlier + found if is_over else earlier, progress, child.pid)
+            report(found, progress)
         return child.wait()
     finally:
         processes.end(child)
 
 
-def report(lines, progress, leader):
+def report(lines, progress):
     """Reports the crates that the lines of `rt ci` name as proved."""
     for pattern in (KEPT, PROVED):
         matches = filter(None, map(pattern.match, lines))
         names = [it[1] for it in matches if it[1] in progress.left]
         if names:
-            progress.step(names, pattern is KEPT, busy_crates(leader))
+            progress.step(names, pattern is KEPT)
 
 
 def kit():
@@ -239,7 +220,7 @@ def made(crate, watch):
     """Proves and builds a crate's program; gives its path, or reports why there is none."""
     log = os.path.join("out", f"{crate}.log")
     with a_copy(crate) as (copy, room), open_log(log, "w") as out:
-        digest, progress = sources.digest(crate, copy), Progress(crate, side_by_side())
+        digest, progress = sources.digest(crate, copy), Progress(crate, lanes.lanes(lanes.FROM_NOTHING))
         progress.announce(log, keeps_work())
         status = proved(started(copy, room), progress, out, watch)
         program = os.path.join(copy, "crates", crate, "out", crate)

@@ -63,15 +63,6 @@ def family(leader):
     return found
 
 
-def words_of(pid):
-    """The command line of a process, empty once it has ended."""
-    try:
-        with open(f"/proc/{pid}/cmdline", encoding="utf-8", errors="replace") as file:
-            return file.read().split("\0")[:-1]
-    except OSError:
-        return []
-
-
 def end(child):
     """Ends a child that leads a session, and all below it. Each is halted first, so that none
     starts another meanwhile."""

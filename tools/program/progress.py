@@ -71,8 +71,13 @@ class Progress:
             f"{minutes(self.whole)}, {max(1, round(count * DISK))} GB of disk and up to "
             f"{self.at_a_time * MEMORY} GB of memory{less}; what rt prints goes to {log}")
 
-    def step(self, names, are_kept, busy):
-        """Reports that crates are done, by this or by an earlier build, and what is under way."""
+    def ready(self):
+        """The crates that stand on none that is left, dearest first."""
+        found = [it for it in self.left if not self.left.intersection(self.uses[it])]
+        return sorted(found, key=lambda it: (-self.costs[it], it))
+
+    def step(self, names, are_kept):
+        """Reports that crates are done, by this or by an earlier build, and what can be next."""
         before = self.seconds()
         self.left -= {*names}
         if are_kept:
@@ -81,9 +86,9 @@ class Progress:
         done = len(self.crates) - len(self.left)
         others = f" and {len(names) - 1} more" if len(names) > 1 else ""
         earlier = " kept from earlier runs" if are_kept else ""
-        way = f"; under way: {', '.join(busy)}" if busy and self.left else ""
-        say(f"{self.title}: {names[0]}{others}{earlier}: {done} of {len(self.crates)} proved{way}"
-            f"{self.remaining()}")
+        ready = ", ".join(self.ready()[:self.at_a_time])
+        say(f"{self.title}: {names[0]}{others}{earlier}: {done} of {len(self.crates)} proved"
+            f"{f'; next: {ready}' if ready else ''}{self.remaining()}")
 
     def remaining(self):
         if not self.left:

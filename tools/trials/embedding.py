@@ -22,6 +22,8 @@ from trials import paths
 CHANGED = "100000"
 STRICT = ["-std=c99", "-Wall", "-Wextra", "-Werror", "-O1"]
 SANITIZERS = ["-g", "-fsanitize=address,undefined", "-fno-sanitize-recover=all"]
+# What the library asks the C library for memory by goes to the program that counts it.
+WRAPPED = [f"-Wl,--wrap={it}" for it in ("malloc", "realloc", "free")]
 COUNTED = re.compile(r"(\d+) passed, (\d+) failed\s*\Z")
 TESTED = re.compile(r"Ran (\d+) tests")
 BUNDLE, ANCHORS = os.path.join("samples", "bundle.der"), os.path.join("samples", "root.der")
@@ -113,7 +115,7 @@ def c_programs(count, room, number):
     memory = os.path.join("tools", "trials", "embedding", "memory.c")
     tried(count, compiled(count, room, calls, [], [static]), *files, "1000")
     tried(count, compiled(count, room, calls, SANITIZERS, [static]), *files, number)
-    refused_memory(count, room, compiled(count, room, memory, SANITIZERS, [static]))
+    refused_memory(count, room, compiled(count, room, memory, SANITIZERS, [*WRAPPED, static]))
 
 
 def c_example(count, room):

@@ -141,7 +141,8 @@ class Run:
         children = []
         for path in glob.glob(f"/proc/{self.process.pid}/task/*/children"):
             children += map(int, octets_at(path).split())
-        return [it for it in children if b"spawn_main" in octets_at(f"/proc/{it}/cmdline")]
+        # (a worker of Dask has threads; the process of Python that frees what children leave has one)
+        return [it for it in children if threads_of(it) > 1]
 
     def kill_a_worker(self, pattern):
         """Kills a worker when a file of this kind is there; whether there was one to kill."""
@@ -153,6 +154,12 @@ class Run:
                 return True
             time.sleep(SHORT)
         return False
+
+
+def threads_of(process):
+    """How many threads a process has; none where it has ended."""
+    found = re.search(rb"Threads:\s+(\d+)", octets_at(f"/proc/{process}/status"))
+    return int(found[1]) if found else 0
 
 
 def octets_at(path):

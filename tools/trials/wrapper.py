@@ -1,6 +1,7 @@
 #!/usr/bin/env python3
 """Tries ./certpath, its builds and dist/ on copies of the repository: what is printed, the status,
-and which processes and files are left.
+and which processes and files are left; and that ./test quick refuses scripts that reach behind the
+toolchain's commands.
 
 Nothing is proved. In the place of the toolchain stands a script that prints what `rt ci` prints and
 writes a program that prints its words. The first trial alone has dist/certpath itself, and runs the
@@ -18,8 +19,8 @@ import time
 
 sys.dont_write_bytecode = True
 sys.path.insert(0, os.path.dirname(os.path.dirname(os.path.abspath(__file__))))
-from gate import dist
-from program import processes, programs, repo, sources, usage
+from gate import dist, source_checks
+from program import programs, repo, sources, usage
 
 SECONDS = 120
 # What ./certpath needs of the repository beside crates, and the items of tools/trials/paths.py.
@@ -31,8 +32,14 @@ MAIN = os.path.join("crates", programs.CERTPATH, "src", "main.rt")
 # A program that prints its words.
 STAND_IN = b'#!/bin/sh\necho "stand-in $*"\n'
 OPTION = re.compile(r"--[a-z][a-z-]*")
-# In the environment of all that a trial starts.
-MARK = "CERTPATH_TRIAL"
+# Each process that stands in for the toolchain's writes down its number and when it began, since
+# numbers are given again.
+NOTED = """\
+import os
+with open("/proc/self/stat", encoding="ascii", errors="replace") as its, \
+        open(os.environ["FAKE_RT_STARTED"], "a") as to:
+    print(os.getpid(), its.read().rpartition(")")[2].split()[19], file=to)
+"""
 KIT = "the kit of the trials"
 FAKE_RT = f"""\
 #!{sys.executable} -IS
@@ -42,18 +49,19 @@ if sys.argv[1:] == ["version"]:
     sys.exit()
 if sys.argv[1:] == ["help"]:
     sys.exit("rt ci [--anew]")
+{NOTED}
 kind, began = os.environ["FAKE_RT"], open(os.environ["FAKE_RT_BEGAN"], "a")
 names = [it.partition(":")[0].split()[0] for it in open("crates.txt", encoding="utf-8")]
 print("rt: " + names[0] + " proved", flush=True)
 print("ci", file=began, flush=True)
 if kind == "hangs":
     # children of this session and of another, and a child of a child
-    sleep = [sys.executable, "-ISc", "import time; time.sleep(600)", "--crate-name", names[1]]
-    between = [sys.executable, "-ISc", "import subprocess, sys; subprocess.run(sys.argv[1:])"]
+    noted = {NOTED!r}
+    sleep = [sys.executable, "-ISc", noted + "import time; time.sleep(600)"]
+    between = [sys.executable, "-ISc", noted + "import subprocess, sys; subprocess.run(sys.argv[1:])"]
     for words in (sleep, between + sleep):
         for is_apart in (False, True):
             subprocess.Popen(words, start_new_session=is_apart)
-    print("children", file=began, flush=True)
     time.sleep(600)
 if kind == "fails":
     sys.exit("rt: FAILED: " + names[1])
@@ -83,6 +91,15 @@ def wait_for(is_so):
         time.sleep(0.05)
 
 
+def state_of(pid):
+    """The state of a process and when it began, as the system prints both; state X once it is gone."""
+    try:
+        fields = sources.octets_of(f"/proc/{pid}/stat").rpartition(b")")[2].decode("ascii").split()
+    except OSError:
+        return "X", None
+    return fields[0], fields[19]
+
+
 class Room:
     """A copy of the repository, paths with and without a toolchain, and counts of trials."""
 
@@ -90,7 +107,7 @@ class Room:
         self.top, self.passed, self.failed = top, 0, 0
         self.copy, self.bare = os.path.join(top, "copy"), os.path.join(top, "bare")
         self.tools, self.temporary = os.path.join(top, "tools"), os.path.join(top, "temporary")
-        self.began = os.path.join(top, "began")
+        self.began, self.started = os.path.join(top, "began"), os.path.join(top, "started")
         os.mkdir(self.temporary)
         for folder in (self.bare, self.tools):
             script = f'#!/bin/sh\nexec {sys.executable} "$@"\n'
@@ -138,15 +155,19 @@ class Room:
 
     def environment(self, kind=None):
         """The environment of a run: without a toolchain, or with the script and what it does."""
-        its = {"PATH": self.tools if kind else self.bare, MARK: self.top,
-               "TMPDIR": self.temporary, "LANG": "C.UTF-8"}
-        return {**its, "FAKE_RT": kind, "FAKE_RT_BEGAN": self.began} if kind else its
+        its = {"PATH": self.tools if kind else self.bare, "TMPDIR": self.temporary,
+               "LANG": "C.UTF-8"}
+        fake = {"FAKE_RT": kind, "FAKE_RT_BEGAN": self.began, "FAKE_RT_STARTED": self.started}
+        return {**its, **fake} if kind else its
 
     def start(self, words, kind=None, **how):
         """Starts a script of the copy on words, in the copy."""
         how = {"stdin": subprocess.DEVNULL, "stdout": subprocess.PIPE, **how}
-        return subprocess.Popen([self.place(words[0]), *words[1:]], cwd=self.copy, text=True,
-                                env=self.environment(kind), stderr=subprocess.PIPE, **how)
+        child = subprocess.Popen([self.place(words[0]), *words[1:]], cwd=self.copy, text=True,
+                                 env=self.environment(kind), stderr=subprocess.PIPE, **how)
+        with open(self.started, "a", encoding="ascii") as to:
+            print(child.pid, state_of(child.pid)[1], file=to)
+        return child
 
     def run(self, *words, **how):
         """The status of a script, what it printed on standard output, and its lines on standard
@@ -196,15 +217,10 @@ class Room:
             file.write("// one more line\n")
 
     def processes_left(self):
-        """The processes that trials started and that haven't ended."""
-        mark, found = f"{MARK}={self.top}".encode(), []
-        for pid in processes.table():
-            try:
-                if mark in sources.octets_of(f"/proc/{pid}/environ").split(b"\0"):
-                    found.append(pid)
-            except OSError:
-                continue
-        return found
+        """The processes that trials started and that haven't ended. No other is looked at."""
+        noted = [it.split() for it in sources.octets_of(self.started).decode("ascii").splitlines()]
+        states = ((int(pid), began, state_of(pid)) for pid, began in noted)
+        return [pid for pid, began, (state, its) in states if its == began and state not in "ZX"]
 
     def left(self):
         """The processes and the temporary files that are left."""
@@ -330,8 +346,8 @@ def stopped_builds(room):
     for number in (signal.SIGTERM, signal.SIGINT, signal.SIGHUP):
         room.forget()
         child = room.start(["certpath", "--build"], "hangs")
-        wait_for(lambda: "children" in room.builds_begun())
-        room.same(f"{number.name}: under way", len(room.processes_left()) >= 6, True)
+        # (the script, what builds, four children, and a child of two of these)
+        wait_for(lambda: len(room.processes_left()) >= 8)
         child.send_signal(number)
         output, error = child.communicate(timeout=SECONDS)
         room.same(f"{number.name}: the end",
@@ -340,7 +356,7 @@ def stopped_builds(room):
         room.same(f"{number.name}: what is left", room.left(), ([], []))
     room.forget()
     child = room.start(["certpath", "--build"], "hangs", start_new_session=True)
-    wait_for(lambda: "children" in room.builds_begun())
+    wait_for(lambda: len(room.processes_left()) >= 8)
     child.stderr.close()
     child.send_signal(signal.SIGTERM)
     child.wait(SECONDS)
@@ -351,7 +367,7 @@ def killed_build(room):
     """What a build left that was killed, and so couldn't remove it, the next one removes."""
     room.forget()
     child = room.start(["certpath", "--build"], "hangs")
-    wait_for(lambda: "children" in room.builds_begun())
+    wait_for(lambda: len(room.processes_left()) >= 8)
     child.kill()
     child.communicate(timeout=SECONDS)
     # (on a busy machine one that is killed may have begun another meanwhile)
@@ -423,9 +439,21 @@ def dist_made_and_checked(room):
     ran("check of changed sources", ["check", program], 1, "sources have changed")
 
 
+def planted_script(room):
+    """./test quick refuses a script that reaches behind the toolchain's commands."""
+    room.same("scripts as they are", [*source_checks.toolchain_by_commands(room.copy)], [])
+    for name, head in (("planted.py", ""), ("planted", "#!/bin/sh\n")):
+        for line in source_checks.PLANTED:
+            write(room.place("tools", name), f"{head}{line}\n".encode(), 0o755)
+            place = f"{os.path.join('tools', name)}:{2 if head else 1}:"
+            found = [*source_checks.toolchain_by_commands(room.copy)]
+            room.same(f"{name} with {line}", [it.startswith(place) for it in found], [True])
+        os.remove(room.place("tools", name))
+
+
 WHOLE = (first_commands, options_named)
 SMALL = (helps, wrong_words, handed_on, bad_programs, changed_sources, stopped_builds, killed_build,
-         two_builds, dist_made_and_checked, the_gates_program)
+         two_builds, dist_made_and_checked, the_gates_program, planted_script)
 
 
 def tried(is_whole, trials):

@@ -1,6 +1,7 @@
 /*
  * Refused memory: this program hands out memory in the place of the C library, and refuses the n-th
- * request of a call, for each n until the call makes no such request. Each time the call has to
+ * request of a call, for each n until the call makes no such request. (It asks for none itself, and
+ * is linked with --wrap=malloc, --wrap=realloc and --wrap=free.) Each time the call has to
  * answer CERTPATH_OUT_OF_MEMORY and write nothing, or what it answers with all its memory; and
  * nothing may be left over. Calls on one item are made on each item of the bundle, `find` on its
  * first one, and `check` on what was found of that.
@@ -14,12 +15,7 @@
 #include <stdlib.h>
 #include <string.h>
 
-/* ---- what the library asks memory of */
-
-typedef struct {
-    _Bool is_there;
-    void *block;
-} tried;
+/* ---- what the library asks memory of: the linker puts these in the place of the C library's (--wrap) */
 
 static size_t requests, refused, blocks;
 
@@ -29,34 +25,30 @@ static int is_refused(void)
     return ++requests == refused;
 }
 
-static tried made(void *block)
-{
-    tried answer = {block != NULL, block};
-    return answer;
-}
+void *__real_malloc(size_t size);
+void *__real_realloc(void *block, size_t size);
+void __real_free(void *block);
+void *__wrap_malloc(size_t size);
+void *__wrap_realloc(void *block, size_t size);
+void __wrap_free(void *block);
 
-tried rattle_alloc(size_t size, size_t align);
-tried rattle_realloc(void *block, size_t before, size_t size, size_t align);
-void rattle_dealloc(void *block);
-
-tried rattle_alloc(size_t size, size_t align)
+void *__wrap_malloc(size_t size)
 {
     if (is_refused())
-        return made(NULL);
+        return NULL;
     blocks++;
-    return made(malloc(size ? size : align));
+    return __real_malloc(size);
 }
 
-tried rattle_realloc(void *block, size_t before, size_t size, size_t align)
+void *__wrap_realloc(void *block, size_t size)
 {
-    (void)before;
-    return made(is_refused() ? NULL : realloc(block, size ? size : align));
+    return is_refused() ? NULL : __real_realloc(block, size);
 }
 
-void rattle_dealloc(void *block)
+void __wrap_free(void *block)
 {
     blocks--;
-    free(block);
+    __real_free(block);
 }
 
 /* ---- what is called */
@@ -69,7 +61,7 @@ typedef struct {
     unsigned char buffer[ROOM];
 } written;
 
-static unsigned char *bundle, *anchors, *vouchers, lines[3 * ROOM];
+static unsigned char bundle[ROOM], anchors[ROOM], vouchers[ROOM], lines[3 * ROOM];
 static size_t bundle_length, anchors_length, vouchers_length, lines_length;
 static certpath_span one;
 
@@ -280,24 +272,26 @@ static void of_items(const certpath_span *spans, size_t count)
 
 static void of_files(void)
 {
-    size_t k, sum;
+    size_t k, sum, total = 0;
     for (k = 0; k < sizeof OF_FILES / sizeof *OF_FILES; k++) {
         sum = all_refusals(&OF_FILES[k]);
+        total += sum;
         printf("%s %zu%s", OF_FILES[k].name, sum, k + 1 < sizeof OF_FILES / sizeof *OF_FILES ? ", " : " requests\n");
     }
+    tell("all calls", 0, total > 0, "no request for memory was seen");
 }
 
-static unsigned char *octets_of(const char *path, size_t *length)
+static size_t read_file(const char *path, unsigned char *octets)
 {
     FILE *file = fopen(path, "rb");
-    unsigned char *octets = malloc(ROOM);
-    if (!file || !octets) {
+    size_t length;
+    if (!file) {
         fprintf(stderr, "cannot read %s\n", path);
         exit(4);
     }
-    *length = fread(octets, 1, ROOM, file);
+    length = fread(octets, 1, ROOM, file);
     fclose(file);
-    return octets;
+    return length;
 }
 
 int main(int count, char **words)
@@ -306,18 +300,15 @@ int main(int count, char **words)
     certpath_moment *at = &settings.moment;
     if (count != 5 || sscanf(words[4], "%hd-%hhd-%hhd", &at->year, &at->month, &at->day) != 3)
         return 2;
-    bundle = octets_of(words[1], &bundle_length);
-    anchors = octets_of(words[2], &anchors_length);
-    vouchers = octets_of(words[3], &vouchers_length);
+    bundle_length = read_file(words[1], bundle);
+    anchors_length = read_file(words[2], anchors);
+    vouchers_length = read_file(words[3], vouchers);
     write_lines();
     if (frame(&framed) != CERTPATH_DONE || find(&found) != CERTPATH_DONE)
         return 1;
     of_items((const certpath_span *)framed.buffer,
              ((const certpath_framed *)framed.result)->count);
     of_files();
-    free(bundle);
-    free(anchors);
-    free(vouchers);
     printf("memory: %d passed, %d failed\n", passed, failed);
     return failed != 0;
 }
