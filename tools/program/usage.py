@@ -31,14 +31,15 @@ Commands:
   recheck    checks what paths found elsewhere, by the evidence that it wrote, without a search
   questions  prints which keys may have signed which items
   frame      prints where each item of a file begins and how long it is
-  help       prints this help, or that of the command behind it
+  help       prints this help, or that of the command after it
 
 Options:
-  -h, --help     prints this help; behind a command, that of the command
+  -h, --help     prints this help; after a command, that of the command
   -V, --version  prints the version, the digest of the sources, and what built the program
   --build        builds the program from the sources, prints where it is, and runs nothing
 
-The word - as a file is standard input. PEM files are made into such files by ./bundle.
+The word - as a file is standard input. Files of items are DER: of a PEM file frame says end fault 0
+and path finds no certificate in it, and ./bundle makes a DER file of it.
 """
 
 FILES = """\
@@ -52,7 +53,7 @@ QUESTION = f"""\
 {FILES}
 Options:
   --target N      the position in BUNDLE, from 0 on, of the certificate that needs a path
-  --at MOMENT     the time of the validation, in UTC: YYYY-MM-DDTHH:MM:SS
+  --at MOMENT     the time of the validation, in UTC: YYYY-MM-DDTHH:MM:SS, with no Z after it
   --demand-lists  each certificate of the path needs a revocation list of its issuer
   --limit N       the most content octets of an item [default: 16777216]
   -h, --help      prints this help
@@ -87,7 +88,7 @@ usage: certpath paths BUNDLE ANCHORS VOUCHERS --at MOMENT [--demand-lists] [--li
 
 {FILES}
 Options:
-  --at MOMENT     the time of the validation, in UTC: YYYY-MM-DDTHH:MM:SS
+  --at MOMENT     the time of the validation, in UTC: YYYY-MM-DDTHH:MM:SS, with no Z after it
   --demand-lists  each certificate of a path needs a revocation list of its issuer
   --limit N       the most content octets of an item [default: 16777216]
   --evidence FILE writes to FILE what certpath recheck needs to check all lines
@@ -108,7 +109,7 @@ usage: certpath recheck BUNDLE ANCHORS VOUCHERS EVIDENCE --at MOMENT [--demand-l
 {FILES}  EVIDENCE  what certpath paths --evidence wrote
 
 Options:
-  --at MOMENT     the time of the validation, in UTC: YYYY-MM-DDTHH:MM:SS
+  --at MOMENT     the time of the validation, in UTC: YYYY-MM-DDTHH:MM:SS, with no Z after it
   --demand-lists  each certificate of a path needs a revocation list of its issuer
   --limit N       the most content octets of an item [default: 16777216]
   -h, --help      prints this help
@@ -172,7 +173,7 @@ def done(words):
     if first in COMMANDS:
         return printed(TEXTS[first]) if asks_for_help(rest) else run(words)
     if first is None:
-        streams.tell(f"{USAGE}{SEE}")
+        streams.write_lines([*USAGE.splitlines(), SEE])
         return REFUSED
     if first in HELP:
         return helped(rest)
@@ -193,7 +194,7 @@ def run(words):
     """Becomes the program, with standard input in the place of a file that is called -."""
     if words.count("-") > 1:
         return refused("standard input can be one file only")
-    if ("--evidence", "-") in zip(words, words[1:]):
+    if ("--evidence", "-") in zip(words, words[1:]) or "--evidence=-" in words:
         return refused("--evidence needs a file: - is standard input")
     return repo.run(programs.CERTPATH, [INPUT if it == "-" else it for it in words])
 

@@ -34,7 +34,7 @@ def held(file):
 def samples(t):
     """The lines for the samples are those that samples/make.sh computes."""
     t.same("samples", t.run("vouch", [in_samples("bundle.der"), in_samples("root.der")]),
-           (0, held("vouchers.txt"), ["vouch: 4 items, 4 vouched for, 4 lines, 0 told"]))
+           (0, held("vouchers.txt"), ["vouch: 4 items, 4 vouched for, 4 lines, 0 reported"]))
     for pem_name, names in (("fullchain", ("leaf", "intermediate")), ("root", ("root",)), ("list", ("list",)), ("other_list", ("other_list",))):
         bundled = t.run("bundle", [in_samples(f"{pem_name}.pem")])[1]
         t.same(f"{pem_name}.pem", bundled, b"".join(held(f"{it}.der") for it in names))
@@ -78,16 +78,16 @@ def ends(t):
     t.vouch("an empty bundle", [], [root], [])
     t.vouch("no files at all", [], [], [])
     for end, word in ((CUT, "cut"), (FAULT, "fault")):
-        summary = "vouch: 1 item, 1 vouched for, 1 line, 1 told"
+        summary = "vouch: 1 item, 1 vouched for, 1 line, 1 reported"
         t.same(f"a {word} in the bundle", t.lines(word, [root, end], []), (1, root_line, [f"bundle: {word} at {number}", summary]))
         t.same(f"a {word} in the anchors", t.lines(word, [root], [root, end]), (1, root_line, [f"anchors: {word} at {number}", summary]))
-        t.same(f"a {word} alone", t.lines(word, [end], []), (1, "", [f"bundle: {word} at 0", "vouch: 0 items, 0 vouched for, 0 lines, 1 told"]))
+        t.same(f"a {word} alone", t.lines(word, [end], []), (1, "", [f"bundle: {word} at 0", "vouch: 0 items, 0 vouched for, 0 lines, 1 reported"]))
     _, begin, end, _ = header_at(root, 0)
     limit = end - begin
     for words in (["--limit", str(limit)], [f"--limit=00{limit}"], ["--weak", "--limit", "4294967295"]):
-        t.same(f"the words {words}", t.lines("a limit", [root], [], *words), (0, root_line, ["vouch: 1 item, 1 vouched for, 1 line, 0 told"]))
+        t.same(f"the words {words}", t.lines("a limit", [root], [], *words), (0, root_line, ["vouch: 1 item, 1 vouched for, 1 line, 0 reported"]))
     t.same("a limit that is too small", t.lines("a limit", [root], [root], "--limit", str(limit - 1)),
-           (1, "", ["bundle: fault at 0", "anchors: fault at 0", "vouch: 0 items, 0 vouched for, 0 lines, 2 told"]))
+           (1, "", ["bundle: fault at 0", "anchors: fault at 0", "vouch: 0 items, 0 vouched for, 0 lines, 2 reported"]))
 
 
 def patched(t, setting):
