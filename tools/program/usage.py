@@ -150,9 +150,9 @@ Options:
   --limit N   the most content octets of an item [default: 16777216]
   -h, --help  prints this help
 
-Exit status: 0 the file is items to its end; 1 it ends within an item, or with what is no item;
-2 wrong words; 4 the file can't be read; 6 out of memory; 7 standard output fails; 70 no program
-could be run.
+Exit status: 0 nothing follows the last item; 1 the file ends within an item, or with what is no
+item; 2 wrong words; 4 the file can't be read; 6 out of memory; 7 standard output fails; 70 no
+program could be run.
 """
 
 TEXTS = {"path": PATH, "why": WHY, "paths": PATHS, "recheck": RECHECK, "questions": QUESTIONS, "frame": FRAME}
