@@ -26,6 +26,8 @@ TOPS = ("_rows", "_tests", "bench")
 EXAMPLES = "example_"
 # The crates that hand on others by name.
 PORTS = ("asn1_rs", "der_parser", "x509_parser")
+# What tries the crates that no rows and tests stand on.
+TRIALS = {"certpath_c": "tools/trials/embedding.py", "certpath_cli": "tools/trials/commands.py"}
 
 
 @functools.cache
@@ -208,7 +210,11 @@ def note_lines(crate):
     if users:
         lines.append(wrapped(f"- Used by {linked(users)}.").rstrip("\n"))
     if not crate.endswith(TOPS) and not crate.startswith(EXAMPLES):
-        lines.append(wrapped(f"- Rows and tests: {linked(runs(crate))}.").rstrip("\n"))
+        rows = runs(crate)
+        tried = f"- Rows and tests: {linked(rows)}." if rows else "- No crate of rows or tests stands on it."
+        if not rows and crate in TRIALS:
+            tried += f" Tried by `{TRIALS[crate]}`."
+        lines.append(wrapped(tried).rstrip("\n"))
     return "\n".join(lines) + "\n"
 
 
