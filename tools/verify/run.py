@@ -85,7 +85,7 @@ class Given:
         """What a file without a certificate holds."""
         if part.items:
             return "revocation lists and "
-        labels = dict.fromkeys(it.label() for it in part.left_out if it.label())
+        labels = dict.fromkeys(it.label for it in part.left_out if it.label)
         return f"{', '.join(labels)} and " if labels else ""
 
     def target(self, position):
