@@ -11,7 +11,7 @@ from typing import NamedTuple
 from pki import labels, reading
 from program import repo, streams
 from verify import waiting
-from verify.faults import UNREAD, Fault
+from verify.faults import NO_PROGRAM, UNREAD, Fault
 
 # Where systems keep their trust anchors, the first that is there.
 STORES = (
@@ -102,7 +102,7 @@ class Taken(BUNDLING.Bundle):
         self.unpacked += 1
         if self.unpacked > MOST_BLOCKS:
             raise Fault(UNREAD, f"{self.file}: more than {MOST_BLOCKS} PKCS #7 blocks; split it")
-        block = b"-----BEGIN PKCS7-----\n%s\n-----END PKCS7-----\n" % lines
+        block = b"-----BEGIN PKCS7-----\n%s\n-----END PKCS7-----\n" % b"\n".join(lines.split())
         self.add(Taken.of(where, of_seven(self.file, block, "PEM")))
 
     def add(self, other):
@@ -135,21 +135,24 @@ def in_shell(file, tail=""):
     return shlex.quote(f"{file}{tail}")
 
 
-def unpacked(words, octets):
+def unpacked(file, words, octets):
     """What `openssl` makes of octets that it reads from a file, none where it fails."""
     with tempfile.NamedTemporaryFile(prefix="verify-") as it:
         it.write(octets)
         it.flush()
         try:
             ran = subprocess.run(["openssl", *words, "-in", it.name], stdin=subprocess.DEVNULL, capture_output=True, timeout=SECONDS)
-        except (OSError, subprocess.TimeoutExpired):
-            return None
+        except OSError as error:
+            what = "PKCS #7" if words[0] == "pkcs7" else "PKCS #12"
+            raise Fault(NO_PROGRAM, f"{file}: {what} is unpacked by the command openssl, which isn't there; install it, or give PEM or DER") from error
+        except subprocess.TimeoutExpired as error:
+            raise Fault(UNREAD, f"{file}: openssl {words[0]} takes more than {SECONDS} s to unpack it; {REMEDY}") from error
     return ran.stdout if ran.returncode == 0 else None
 
 
 def of_seven(file, octets, form="DER"):
     """The PEM blocks of a PKCS #7 file."""
-    found = unpacked(["pkcs7", "-inform", form, "-print_certs"], octets)
+    found = unpacked(file, ["pkcs7", "-inform", form, "-print_certs"], octets)
     if found is None:
         command = f"openssl pkcs7 -inform {form} -in {in_shell(file)} -print_certs -out {in_shell(file, '.pem')}"
         raise Fault(UNREAD, f"{file}: PKCS #7 that can't be unpacked here; try: {command}")
@@ -160,7 +163,7 @@ def of_twelve(file, octets):
     """The PEM blocks of a PKCS #12 file without a password, the certificate of its key first."""
     empty = ["-nokeys", "-passin", "pass:"]
     for further in ([], ["-legacy"]):
-        parts = [unpacked(["pkcs12", *empty, which, *further], octets) for which in ("-clcerts", "-cacerts")]
+        parts = [unpacked(file, ["pkcs12", *empty, which, *further], octets) for which in ("-clcerts", "-cacerts")]
         if None not in parts:
             return b"".join(parts)
     command = f"openssl pkcs12 -in {in_shell(file)} -nokeys -out {in_shell(file, '.pem')}"
