@@ -18,6 +18,7 @@ from trials import refusals, verifying_faults, verifying_large, verifying_others
 from trials.chains import ISSUER_ID, NO_AUTHORITY, NO_SIGNER, OF_AUTHORITY, OF_LEAF, OF_ROOT, OWN_ID, Chain
 from trials.vouching_pki import Workshop
 from trials.vouching_trials import Trials
+from verify import times
 
 AT, STAMP = refusals.AT, "1780272000"
 LONG = {"begin": "20200101000000Z", "end": "20490101000000Z"}
@@ -38,16 +39,19 @@ RULES = {
     "revoked below a path length": "RFC 5280, 6.1.3, a, 3",
     "list demanded": "RFC 5280, 6.1.3, a, 3", "list past its next update, demanded": "RFC 5280, 6.1.3, a, 3",
     "list with a critical extension, demanded": "RFC 5280, 6.1.3, a, 3", "list that no key vouches for, demanded": "RFC 5280, 6.1.3, a, 3",
+    "list past its next update": "RFC 5280, 5.1.2.5", "list with a critical extension": "RFC 5280, 5.2", "list that no key vouches for": "RFC 5280, 6.3.3, g",
 }
 # What certtool refuses, and OpenSSL doesn't; and what it accepts at other moments, since it judges by the clock.
 STRICTER = {"name constraints", "critical name constraints", "weak signature"}
 OF_DATES = {"not yet valid"}
 # What the first line says of a list that isn't used, by the case.
 DOUBTS = {
-    "list past its next update": "BUT item 0 CN=leaf is revoked by list 2 ",
-    "list with a critical extension": "BUT whether item 0 CN=leaf is revoked isn't known from list 2 ",
-    "list that no key vouches for": "BUT item 0 CN=leaf is revoked by list 2 ",
+    "list past its next update": "item 0 CN=leaf is revoked by list 2 ",
+    "list with a critical extension": "whether item 0 CN=leaf is revoked isn't known from list 2 ",
+    "list that no key vouches for": "item 0 CN=leaf is revoked by list 2 ",
 }
+# How the first line begins, by the outcome.
+VERDICTS = {"path": "valid path at {}: CN=", "none": "no valid path at {}: CN=", "refused": "path refused at {}, since "}
 FIELDS = {"headline", "status", "outcome", "checked", "at", "target", "path", "anchor", "reasons", "unused_lists", "doubts", "warnings", "anchors", "not_judged"}
 # What ./verify concludes where `why` has no line against a certificate or a link.
 CONCLUDED = {"self-signed": {"issued by itself"}}
@@ -166,20 +170,22 @@ def refused(v, title, root):
     words = [*named(case.bundle), *anchors, "--at", AT, *case.words]
     status, found, told = v.json(*words)
     wanted = v.wanted[title]
-    is_path = wanted.why[0].startswith("path ")
-    answer = found[0]
-    yield title, (status, answer["status"], len(answer["path"]) > 0, told), (0 if is_path else 1, 0 if is_path else 1, is_path, [])
+    is_path, is_accepted = wanted.why[0].startswith("path "), wanted.why[0].startswith("path ") and title not in DOUBTS
+    answer, ends, outcome = found[0], 0 if is_accepted else 1, "path" if is_accepted else "refused" if is_path else "none"
+    yield title, (status, answer["status"], answer["outcome"], len(answer["path"]) > 0, told), (ends, ends, outcome, is_path, [])
     reasons = {it["reason"] for it in answer["reasons"]}
     true = {re.sub(r"^at \d+ (?:to (?:anchor )?\d+ )?(?:not usable: |no issuer: |not linked: )?", "", it) for it in wanted.why if obstacle(it)}
     true = {"no issuer here" if it.startswith("no issuer here: ") else it for it in true} or CONCLUDED.get(title, set())
     yield f"{title}: its reasons", reasons, true
     rules = {it["rule"] for it in answer["reasons"]}
     yield f"{title}: openssl", v.openssl(case.bundle[0], case.bundle[1:], case.anchors), is_path or title in RULES
-    yield f"{title}: its rule", title in RULES and RULES[title] not in rules, False
+    yield f"{title}: its rule", title in RULES and RULES[title] not in rules and f"({RULES[title]})" not in answer["headline"], False
     if verifying_others.CERTTOOL and title not in OF_DATES:
         certificates = [it for it in case.bundle if it.subject]
         yield f"{title}: certtool", v.certtool(certificates, case.anchors), (is_path or title in RULES) and title not in STRICTER
-    yield f"{title}: the first line", (" BUT " in answer["headline"], DOUBTS.get(title, "") in answer["headline"]), (title in DOUBTS, True)
+    verdict = VERDICTS[outcome].format(times.as_shown(times.moment_of(AT)))
+    yield f"{title}: the first line", (answer["headline"].startswith(verdict), DOUBTS.get(title, "") in answer["headline"]), (True, True)
+    yield f"{title}: --ignore-unused-lists", v.run(*words, "--quiet", "--ignore-unused-lists"), (0 if is_path else 1, "", [])
     if title == "names with control characters":
         text = v.run(*words, "--html", "-")[1] + v.run(*words, "--dot")[1] + v.run(*words)[1]
         yield title, CONTROL.findall(text), []
@@ -194,7 +200,7 @@ def other_key(v, root):
     made = refusals.Maker(v.shop, "other key", root)
     case = made.of_list(signer={"key": "rsa"})
     status, text, _ = v.run(*named(case.bundle), "other-key-3.pem", "--anchors", root.file, "--at", AT)
-    yield "a list by another key", (status, "BUT item 0 CN=leaf is revoked by list 2 " in text.split("\n")[0]), (0, True)
+    yield "a list by another key", (status, "since item 0 CN=leaf is revoked by list 2 " in text.split("\n")[0]), (1, True)
 
 
 def forms(v, chain):
@@ -227,7 +233,7 @@ def forms(v, chain):
     is_told = "keys.pem block 1 (PRIVATE KEY): left out" in text
     yield "private keys", (status, key.split(b"\n")[1].decode() in text, is_told, told), (0, False, True, [])
     status, text, told = v.run("-", "--anchors", root.file, octets=v.octets("all.pem"))
-    yield "standard input", (status, text.split("\n")[0][:24], told), (0, "CN=leaf: valid path to C", [])
+    yield "standard input", (status, text.split(" at ")[0], told), (0, "valid path", [])
     status, text, told = v.run("closed.p12", "--anchors", root.file)
     remedy = "unpack it: openssl pkcs12 -in closed.p12 -nokeys -out closed.p12.pem"
     yield "a password", (status, text, told), (4, "", [f"verify: closed.p12: PKCS #12 with a password, or damaged; {remedy}"])

@@ -108,7 +108,7 @@ def groups(t, holders):
         t.same(f"two reasons {words}", t.run("vouch", ["many", "empty", *words]), (0, b"", [*each, summary]))
     t.shop.keep("cut", leaves[0] + leaves[1] + odd[:-1])
     t.same("an end behind the reasons", t.run("vouch", ["cut", "root"]),
-           (1, b"", ["bundle 0, 1 (2 items): not verified by 1 key (..)", f"bundle: cut at {len(leaves[0] + leaves[1])}", "vouch: 2 items, 0 vouched for, 0 lines, 3 reported"]))
+           (1, b"", ["bundle 0, 1 (2 items): not verified by 1 key (..)", f"bundle: cut at {len(leaves[0] + leaves[1])}: the last item isn't whole", "vouch: 2 items, 0 vouched for, 0 lines, 3 reported"]))
 
 
 class Held(NamedTuple):
