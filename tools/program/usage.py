@@ -1,9 +1,15 @@
 """The words of `./certpath`: what is answered without the program, and what is handed to it."""
+import os
+
 from program import programs, repo, streams
 
 VERSION = "0.1.0"
 INPUT = "/dev/stdin"
 COMMANDS = ("frame", "path", "paths", "questions", "recheck", "why")
+# Scripts beside this one, which one may take for commands of it.
+SCRIPTS = ("bundle", "rows", "verify", "vouch")
+# So many characters of a word stand in a message.
+MOST_SHOWN = 200
 HELP, VERSIONS, BUILD = ("-h", "--help", "help"), ("-V", "--version", "version"), "--build"
 WELL, REFUSED, UNWRITTEN = 0, 2, 7
 SEE = "see './certpath --help'"
@@ -206,12 +212,17 @@ def refused(why):
 
 def unknown(word):
     """What is said of a word that is no command."""
+    shown = repr(word if len(word) <= MOST_SHOWN else f"{word[:MOST_SHOWN]}..")
     if word.startswith("-"):
-        return f"there is no option {word!r}"
+        return f"there is no option {shown}"
+    if word in SCRIPTS:
+        return f"{word} is a script of its own, ./{word}"
+    if os.path.isfile(word):
+        return f"{shown} is a file and no command: './verify FILE' and './certpath frame FILE' take one"
     import difflib
     near = difflib.get_close_matches(word, [*COMMANDS, "help", "version"], 1)
     similar = f", the most similar one is {near[0]!r}" if near else ""
-    return f"there is no command {word!r}{similar}"
+    return f"there is no command {shown}{similar}"
 
 
 def printed(text):

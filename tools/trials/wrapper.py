@@ -259,6 +259,8 @@ def wrong_words(room):
     room.same("certpath", (status, output, error), (2, "", [*usage.USAGE.splitlines(), usage.SEE]))
     for words, name in ((["pth"], "'path'"), (["frames", "x"], "'frame'"), (["-"], "'-'"),
                         (["--hlep"], "'--hlep'"), ([""], "''"), (["help", "pth"], "'path'"),
+                        (["verify", "x"], "./verify"), (["certpath"], "is a file"),
+                        (["x" * 5_000], f" '{'x' * 200}..';"), (["-" + "x" * 5_000], "x..';"),
                         (["--build", "x"], "--build"), (["path", "-", "-", "x"], "one file only"),
                         (["paths", "a", "b", "c", "--evidence=-"], "--evidence needs a file")):
         room.refuses(f"certpath {words}", words, 2, name, "./certpath --help", kind="builds")
