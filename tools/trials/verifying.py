@@ -14,7 +14,7 @@ from html.parser import HTMLParser
 sys.dont_write_bytecode = True
 sys.path.insert(0, os.path.dirname(os.path.dirname(os.path.abspath(__file__))))
 from program import repo
-from trials import refusals, verifying_faults, verifying_large, verifying_others
+from trials import messages, refusals, verifying_faults, verifying_large, verifying_others
 from trials.chains import ISSUER_ID, NO_AUTHORITY, NO_SIGNER, OF_AUTHORITY, OF_LEAF, OF_ROOT, OWN_ID, Chain
 from trials.vouching_pki import Workshop
 from trials.vouching_trials import Trials
@@ -326,6 +326,7 @@ def main():
         for found in runs.map(lambda job: job(), jobs):
             for title, is_so, should_be in found:
                 t.same(title, is_so, should_be)
+        messages.trials(t)
     print(f"verifying: {t.passed} passed, {t.failed} failed")
     return 1 if t.failed else 0
 
