@@ -14,7 +14,7 @@ from html.parser import HTMLParser
 sys.dont_write_bytecode = True
 sys.path.insert(0, os.path.dirname(os.path.dirname(os.path.abspath(__file__))))
 from program import repo
-from trials import refusals, verifying_faults, verifying_large, verifying_others
+from trials import messages, refusals, verifying_faults, verifying_large, verifying_others
 from trials.chains import ISSUER_ID, NO_AUTHORITY, NO_SIGNER, OF_AUTHORITY, OF_LEAF, OF_ROOT, OWN_ID, Chain
 from trials.vouching_pki import Workshop
 from trials.vouching_trials import Trials
@@ -57,7 +57,7 @@ FIELDS = {"headline", "status", "outcome", "checked", "at", "target", "path", "a
 CONCLUDED = {"self-signed": {"issued by itself"}}
 TIMES = {
     "2026-06-01": "2026-06-01T00:00:00Z", "2026-06-01T12:30": "2026-06-01T12:30:00Z", "2026-06-01 12:30:01": "2026-06-01T12:30:01Z",
-    "2026-06-01T12:30:00Z": "2026-06-01T12:30:00Z", "2026-06-01T12:30:00+02:00": "2026-06-01T10:30:00Z",
+    "2026-06-01Z": "2026-06-01T00:00:00Z", "2026-06-01T12:30:00Z": "2026-06-01T12:30:00Z", "2026-06-01T12:30:00+02:00": "2026-06-01T10:30:00Z",
 }
 RUNS, STORE = 4, "/etc/ssl/certs/ca-certificates.crt"
 CONTROL = re.compile(r"[\x00-\x09\x0b-\x1f\x7f-\x9f]")
@@ -185,6 +185,7 @@ def refused(v, title, root):
         yield f"{title}: certtool", v.certtool(certificates, case.anchors), (is_path or title in RULES) and title not in STRICTER
     verdict = VERDICTS[outcome].format(times.as_shown(times.moment_of(AT)))
     yield f"{title}: the first line", (answer["headline"].startswith(verdict), DOUBTS.get(title, "") in answer["headline"]), (True, True)
+    yield f"{title}: --quiet", v.run(*words, "--quiet"), (ends, "", [])
     yield f"{title}: --ignore-unused-lists", v.run(*words, "--quiet", "--ignore-unused-lists"), (0 if is_path else 1, "", [])
     if title == "names with control characters":
         text = v.run(*words, "--html", "-")[1] + v.run(*words, "--dot")[1] + v.run(*words)[1]
@@ -249,6 +250,14 @@ def words_of(v, chain):
         yield f"--target {word}", [it["target"]["subject"] for it in found], ["CN=Second"]
     v.shop.keep("three.pem", b"".join(map(v.octets, files)))
     yield "--all", [it["target"]["subject"] for it in v.json("three.pem", *anchors, "--all")[1]], ["CN=leaf", "CN=Second", "CN=First"]
+    leaf_again = v.json("three.pem", *files, *anchors, "--all")[1]
+    yield "--all of several FILEs", [it["target"]["subject"] for it in leaf_again], ["CN=leaf", "CN=Second", "CN=First"]
+    yield "--all of files of one each", [it["target"]["subject"] for it in v.json(*files, *anchors, "--all")[1]], ["CN=leaf", "CN=Second", "CN=First"]
+    found = v.json(files[0], *anchors, "--lists", files[1], "--lists", files[2], "--all")[1]
+    yield "--all and --lists", [it["target"]["subject"] for it in found], ["CN=leaf"]
+    yield "--all of a FILE of keys too", [it["status"] for it in v.json(*files, v.shop.key("p256"), *anchors, "--all")[1]], [0, 0, 0]
+    for words in ([files[0], *anchors, *files[1:]], [*anchors, files[0], "--json", *files[1:]], [*anchors, "--", *files]):
+        yield f"the order of words {words}", v.run(*words)[0], 0
     for word, shown in TIMES.items():
         yield f"--at {word}", v.json(*files, *anchors, "--at", word)[1][0]["at"], shown
     yield "no issuer", v.run(files[0], *anchors)[0], 1
@@ -289,6 +298,22 @@ def pages(v, chain, root):
         yield f"the graph of {title}", (status_of_dot, graph.startswith("digraph "), drawn is None or drawn.returncode == 0), (status, True, True)
 
 
+def looks(v, root):
+    """The colours of the page: a certificate that is revoked, or may be, is red, and so is one without an issuer; a bar of dates is red where
+    the moment is outside it, and nowhere else."""
+    for title, item_zero, item_one, late in (("revoked", "bad", "good", 0), ("list past its next update", "bad", "good", 0), ("missing issuer", "bad", None, 0),
+                                             ("expired", "bad", "good", 1), ("nothing", "good", "good", 0)):
+        case = refusals.CASES[title](refusals.Maker(v.shop, f"{title} looked at", root))
+        _, text, _ = v.run(*named(case.bundle), "--anchors", root.file, "--at", AT, "--html", "-")
+        found = dict((place, look) for look, place in re.findall(r'<g class="(\w+)"><title>(item \d+): ', text))
+        wanted = {"item 0": item_zero, **({"item 1": item_one} if item_one else {})}
+        yield f"the colours of {title}", (found, text.count('class="bar late"')), (wanted, late)
+    for title, note in (("wrong root of the name", "signature not verified"), ("weak signature", "weak signature: sha1"), ("key identifiers", "names another key")):
+        case = refusals.CASES[title](refusals.Maker(v.shop, f"{title} looked at", root))
+        text = v.run(*named(case.bundle), "--anchors", case.anchors[0].file, "--at", AT, "--html", "-")[1]
+        yield f"the picture's words of {title}", (f">{note}</text>" in text, ">no voucher<" in text), (True, False)
+
+
 def of_system(v):
     """The system's store against itself: each certificate has a path to itself, or a reason with its rule."""
     if not os.path.isfile(STORE):
@@ -321,11 +346,12 @@ def main():
         jobs = [lambda it=it: [*kinds(v, it)] for it in KINDS]
         jobs += [lambda it=it: [*refused(v, it, root)] for it in refusals.CASES]
         jobs += [lambda: [*crossed(v)], lambda: [*other_key(v, root)], lambda: [*forms(v, chain)], lambda: [*words_of(v, chain)],
-                 lambda: [*pages(v, chain, root)], lambda: [*of_system(v)], lambda: [*large(v)]]
+                 lambda: [*pages(v, chain, root)], lambda: [*looks(v, root)], lambda: [*of_system(v)], lambda: [*large(v)]]
         jobs += [*verifying_others.jobs(v, root), *verifying_faults.jobs(v, root)]
         for found in runs.map(lambda job: job(), jobs):
             for title, is_so, should_be in found:
                 t.same(title, is_so, should_be)
+        messages.trials(t)
     print(f"verifying: {t.passed} passed, {t.failed} failed")
     return 1 if t.failed else 0
 

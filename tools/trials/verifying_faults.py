@@ -2,6 +2,7 @@
 and nothing is left behind."""
 import json
 import os
+import re
 import signal
 import subprocess
 import sys
@@ -101,6 +102,31 @@ def names(v, root):
         yield f"hostile name {number}", (status, seen, outputs[1].isascii()), (0, [], True)
 
 
+FORGED = "valid path at 2026-06-01T00:00:00Z: CN=good to CN=Root"
+FORGERIES = (f"/CN=x\n{FORGED}", f"/CN=x\r\n\x1b[2K{FORGED}", f"/CN={FORGED}", f"/CN=x\u2028{FORGED}", f"/CN=x\x0b{FORGED}\x85{FORGED}",
+             "/CN=www.example.org, O=Example, C=CZ")
+# Ends of lines by any reckoning (those of str.splitlines).
+LINE_ENDS = re.compile("[\n\r\x0b\x0c\x1c-\x1e\x85\u2028\u2029]")
+
+
+def forgeries(v, root):
+    """No subject forges a line or a verdict: each line of the output is one of ours, and the first one begins with the true verdict."""
+    made = Chain(v.shop, "forged")
+    for number, subject in enumerate(FORGERIES):
+        issuer = made.certificate("/CN=Between", "p256", root, OF_AUTHORITY, **LONG)
+        leaf = made.certificate(subject, "p521", issuer, OF_LEAF, **LONG)
+        v.shop.keep(f"forged {number}\n{FORGED}.pem", v.octets(leaf.file))
+        for words, verdict in (([leaf.file], "no valid path at "), ([leaf.file, issuer.file], "valid path at "),
+                               ([f"forged {number}\n{FORGED}.pem"], "no valid path at ")):
+            outputs = [v.run(*words, "--anchors", root.file, "--at", AT, *form)[1] for form in ((), ("--json",), ("--dot",), ("--html", "-"))]
+            lines = LINE_ENDS.split(outputs[0])
+            yield f"forged subject {number}: {words}: the first line", lines[0].startswith(f"{verdict}2026-06-01T00:00:00Z: CN="), True
+            yield f"forged subject {number}: {words}: a forged line", [it for it in lines[1:] if it.startswith("valid path at ")], []
+            yield f"forged subject {number}: {words}: forms", [bool(LINE_ENDS.search(it.replace("\n", ""))) for it in outputs], [False] * 4
+            yield f"forged subject {number}: {words}: --json", (outputs[1].count("\n"), json.loads(outputs[1])["headline"]), (1, lines[0])
+    yield "the commas of a value", "CN=www.example.org\\, O=Example\\, C=CZ" in outputs[0], True
+
+
 def containers(v, root):
     """Lists in PKCS #7, PKCS #7 among other blocks, files and anchors twice, rubbish behind items."""
     leaf, issuer, it = case_of(v, "containers", root).bundle
@@ -173,4 +199,4 @@ def remains(v, root):
 
 def jobs(v, root):
     """All of these, to be run side by side."""
-    return [lambda it=it: [*it(v, root)] for it in (targets, lists, names, containers, words_of, remains)]
+    return [lambda it=it: [*it(v, root)] for it in (targets, lists, names, forgeries, containers, words_of, remains)]

@@ -13,9 +13,8 @@ MOST_ASKED = 32
 YES, NO, UNKNOWN = "yes", "no", "unknown"
 # Outcomes beside those of `certpath why`.
 NO_TARGET, PATH_REFUSED = "no target", "refused"
-# Obstacles that say nothing against a certificate itself.
+# What stands in the way where no certificate has the issuer's name, or only the certificate itself.
 MISSING, ITS_OWN = "no issuer here", "issued by itself"
-UNANCHORED = (MISSING, ITS_OWN)
 # So many certificates are shown whose names read like an issuer's.
 MOST_ALIKE = 3
 TYPES = {*spelling.TYPES.values()}
@@ -86,12 +85,11 @@ class Answer(NamedTuple):
         return bool(self.path) and not self.is_refused
 
     def against(self):
-        """The places of certificates that something speaks against which isn't their issuers' matter: they aren't usable, or they are
+        """The places of certificates that something speaks against, and not against a link alone: they aren't usable, have no issuer, or are
         revoked, or may be."""
         if self.path:
             return {it.of.place for it in self.false_comfort()}
-        return {it.of.place for it in self.obstacles
-                if (it.to is None and it.words not in UNANCHORED) or REVOKED.fullmatch(it.words)}
+        return {it.of.place for it in self.obstacles if it.to is None or REVOKED.fullmatch(it.words)}
 
 
 def no_target(instead):

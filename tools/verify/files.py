@@ -154,8 +154,7 @@ def of_seven(file, octets, form="DER"):
     """The PEM blocks of a PKCS #7 file."""
     found = unpacked(file, ["pkcs7", "-inform", form, "-print_certs"], octets)
     if found is None:
-        command = f"openssl pkcs7 -inform {form} -in {in_shell(file)} -print_certs -out {in_shell(file, '.pem')}"
-        raise Fault(UNREAD, f"{file}: PKCS #7 that can't be unpacked here; try: {command}")
+        raise Fault(UNREAD, f"{file}: PKCS #7 that openssl can't unpack, as it is damaged or isn't SignedData; {REMEDY}")
     return found
 
 

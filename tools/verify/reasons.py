@@ -56,7 +56,7 @@ FORMS = (
     form(r"issuer spelled otherwise", "its issuer's name reads like the certificate's issuer", "RFC 5280, 6.3.3, a and b"),
     form(r"no next update", "it has no next update", "RFC 5280, 5.1.2.5"),
     form(r"not current before (\S+)", "it isn't current before {0}Z", "RFC 5280, 5.1.2.4"),
-    form(r"past next update (\S+)", "its next update was due at {0}Z", "RFC 5280, 5.1.2.5", "get the current list"),
+    form(r"past next update (\S+)", "its next update was due at {0}Z", "RFC 5280, 5.1.2.5"),
     form(r"extension (\d+) critical (\S+)", "it has the critical extension {1}", "RFC 5280, 5.2"),
     form(r"entry (\d+) has a critical extension", "its entry {0} has a critical extension", "RFC 5280, 5.3"),
     form(r"leads to an anchor with at most (\d+) below", "path lengths allow at most {0} certificates below it, and more stand there",

@@ -4,6 +4,7 @@ import signal
 import tempfile
 from itertools import islice
 
+from pki import reading
 from pki.shapes import LIST, kind_of
 from program import repo, streams
 from program.streams import counted
@@ -54,7 +55,7 @@ class Given:
         if word is None or is_position(word) or is_fingerprint(word) and not os.path.exists(word):
             return False
         if not os.path.exists(word):
-            raise Fault(faults.UNREAD, f"--target {word}: no such file, and neither a position nor a SHA-256 fingerprint of 64 hex digits")
+            raise Fault(faults.UNREAD, f"--target {reading.shortened(word)}: no such file, and neither a position nor a SHA-256 fingerprint of 64 hex digits")
         return True
 
     def all_targets(self):
