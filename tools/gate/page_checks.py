@@ -2,7 +2,7 @@
 import os
 import re
 
-from dev import calling, pages
+from dev import believe, calling, pages
 from program import repo
 
 WIDTH, LONGEST_SENTENCE = 100, 40
@@ -182,7 +182,7 @@ def bullet(section, name):
 
 
 def promises_name():
-    """What docs/CRATES.md names as a contract stands in the crate or in one that it lists, and each definition page in its folder."""
+    """What docs/CRATES.md names as a contract stands in the crate or in one that it lists."""
     listed = repo.crates()
     for crate, section in pages.crate_sections():
         words = {it for name in {crate, *listed[crate]} for path in pages.sources(name, "src") for it in re.findall(r"\w+", pages.text(path))}
@@ -190,12 +190,16 @@ def promises_name():
             for word in re.findall(r"[A-Za-z_]\w*", code.removesuffix(".rt")):
                 if word not in words:
                     yield f"{pages.PAGE}: {crate} has no {word}"
-        there = {os.path.basename(path).removesuffix(".antt") for name in repo.below([crate], listed) for path in pages.sources(name, "specs")}
-        for code in bullet(section, "To believe"):
-            page = code.rpartition("/")[2]
-            if page[:1].isupper() and page not in there:
-                yield f"{pages.PAGE}: {crate} has no definition page {page}"
+
+
+def one_list_to_believe():
+    """Which pages have to be believed is said by docs/TRUST.md alone, which a script makes."""
+    for path in found_pages():
+        if path == pages.PAGE or re.fullmatch(r"crates/\w+/README\.md", path):
+            for number, line in enumerate(repo.read(path).splitlines(), 1):
+                if re.match(r"\W*To believe\W*:", line, re.I):
+                    yield f"{path}:{number}: a list of pages to believe, which {believe.PAGE} has: delete it"
 
 
 CHECKS = (narrow_pages, short_sentences, short_readme, contents_stand, claims_named, anchors_lead,
-          walk_stands, promises_name, tables_made, notes_made, calling_made)
+          walk_stands, promises_name, one_list_to_believe, tables_made, notes_made, calling_made)
