@@ -3,6 +3,7 @@ import os
 import re
 
 from dev import believe, calling, pages
+from gate import page_names
 from program import repo
 
 WIDTH, LONGEST_SENTENCE = 100, 40
@@ -202,4 +203,4 @@ def one_list_to_believe():
 
 
 CHECKS = (narrow_pages, short_sentences, short_readme, contents_stand, claims_named, anchors_lead,
-          walk_stands, promises_name, one_list_to_believe, tables_made, notes_made, calling_made)
+          walk_stands, promises_name, one_list_to_believe, tables_made, notes_made, calling_made, *page_names.CHECKS)
