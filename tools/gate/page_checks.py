@@ -4,12 +4,13 @@ import re
 
 from dev import believe, calling, pages
 from gate import page_names
-from program import repo
+from program import repo, usage
 
 WIDTH, LONGEST_SENTENCE = 100, 40
 README, README_WORDS, README_LINES = "README.md", 900, 120
 # Longer pages begin with their contents.
 MOST_WITHOUT_CONTENTS = 100
+PACKAGE, LOG = "python/pyproject.toml", "CHANGELOG.md"
 PROMISES, PROVED = "docs/PROMISES.md", "## What is proved"
 # Pages for a reader's first minutes.
 PLAIN_PAGES = (README, "docs/CLI.md")
@@ -171,6 +172,17 @@ def notes_made():
             yield f"{path}: {'there is none' if page is None else 'its lines are not what crates.txt says'}: run tools/dev/pages.py"
 
 
+def one_version():
+    """The package, the change log and the pages name the version that `./certpath --version` prints."""
+    numbered = r"(\d+\.\d+\.\d+)"
+    found = [(path, it) for path in found_pages() if path != LOG for it in re.findall(rf"\b[Vv]ersion {numbered}", repo.read(path))]
+    for path, pattern in ((PACKAGE, r'(?m)^version = "([^"]*)"'), (LOG, rf"(?m)^## {numbered} - ")):
+        found.append((path, next(iter(re.findall(pattern, repo.read(path))), "none")))
+    for path, it in found:
+        if it != usage.VERSION:
+            yield f"{path}: version {it}, and ./certpath --version prints {usage.VERSION}"
+
+
 def calling_made():
     """Each CALLING.md quotes contracts and callers as the sources have them."""
     yield from calling.faults()
@@ -203,4 +215,4 @@ def one_list_to_believe():
 
 
 CHECKS = (narrow_pages, short_sentences, short_readme, contents_stand, claims_named, anchors_lead,
-          walk_stands, promises_name, one_list_to_believe, tables_made, notes_made, calling_made, *page_names.CHECKS)
+          walk_stands, promises_name, one_list_to_believe, one_version, tables_made, notes_made, calling_made, *page_names.CHECKS)

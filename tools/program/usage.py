@@ -3,6 +3,7 @@ import os
 
 from program import programs, repo, streams
 
+# The one version, of the program, the scripts, the Python package and the pages; ./test quick compares what else names it.
 VERSION = "0.1.0"
 INPUT = "/dev/stdin"
 COMMANDS = ("frame", "path", "paths", "questions", "recheck", "why")
