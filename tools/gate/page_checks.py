@@ -15,7 +15,7 @@ PROMISES, PROVED = "docs/PROMISES.md", "## What is proved"
 # Pages for a reader's first minutes.
 PLAIN_PAGES = (README, "docs/CLI.md")
 WALK = "docs/ARCHITECTURE.md"
-WALK_ROW = re.compile(r"\| [^|]*\| [^|]*\| `([\w/]+\.rt)` \| ([^|]*)\|")
+WALK_ROW = re.compile(r"\| [^|]*\| [^|]*\| `([\w/]+\.(?:rt|py))` \| ([^|]*)\|")
 LINK = re.compile(r"\]\(([^()\s#]*)#([^()\s]+)\)")
 CODE = re.compile(r"`[^`\n]*`")
 # A row of a table that links can name.
@@ -146,15 +146,15 @@ def anchors_lead():
 
 
 def walk_stands():
-    """The functions that the walk of one certificate names stand in the files beside them."""
+    """The functions that the walks name stand in the files beside them: of crates, and of scripts by their paths from the top."""
     rows = WALK_ROW.findall(repo.read(WALK))
     if not rows:
         yield f"{WALK}: the table of the walk is gone"
     for path, names in rows:
-        source = f"crates/{path}"
+        source = path if path.endswith(".py") else f"crates/{path}"
         code = repo.read(source) if os.path.exists(os.path.join(repo.TOP, source)) else ""
         for name in re.findall(r"`(\w+)`", names):
-            if not re.search(rf"\bfn {name}\b", code):
+            if not re.search(rf"\b(?:fn|def) {name}\b", code):
                 yield f"{WALK}: {source} has no function {name}"
 
 
