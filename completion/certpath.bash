@@ -19,7 +19,7 @@ _certpath() {
 _certpath_other() {
   local word=${COMP_WORDS[COMP_CWORD]} words
   case ${1##*/} in
-    verify) words="--all --anchors --at --demand-lists --dot --help --html --json --limit --lists --quiet --target --weak" ;;
+    verify) words="--all --anchors --at --demand-lists --dot --help --html --ignore-unused-lists --json --limit --lists --quiet --target --weak" ;;
     vouch) words="--weak --tries --verbose --limit --help" ;;
     bundle) words="--help" ;;
   esac

@@ -1,36 +1,44 @@
 #!/usr/bin/env python3
 """Lists what one has to read to know what the contract of a public call means.
 
-  believe.py CRATE::CALL     prints each page of definitions that the call's clauses depend on, and the types that they speak of
-  believe.py --write         writes docs/TRUST.md
+  believe.py CRATE::CALL     prints each page of definitions that the call's clauses depend on,
+                             and the types that they speak of
+  believe.py --write         writes docs/TRUST.md, a list for every public call
 
-CALL is a function, or `Type::function`. From the words of the clauses it goes on to the words of each definition, and only of those
-definitions that are reached. It stops at the standard library and at the crates of the kit.
+CALL is a function, `Type::function`, or a function of include/certpath.h, as certpath_c::certpath_find. From the words of
+the clauses it goes on to the words of each definition, and only of those definitions that are reached. It stops at the
+standard library and at the crates of the kit. It reads Rattle by regular expressions: functions that a macro or a derived
+trait makes are not seen, nor what a name of a type parameter's trait gives.
 """
 import functools
 import os
 import re
 import sys
+import textwrap
 
 sys.path.insert(0, os.path.dirname(os.path.dirname(os.path.abspath(__file__))))
-from gate import calls, syntax
+from gate import calls, exports, syntax
 from program import repo
 
 PAGE = "docs/TRUST.md"
-# The calls of docs/TRUST.md.
-RUNS = ["cert_framing::Bundle::feed", "cert_framing::Bundle::finish", "certcheck::read_tree", "certpath_typed::read_typed",
-        "certcheck::check", "certpath_find::find", "certpath_run::run", "certpath_engine::frame", "certpath_vouchers::read_vouchers"]
-JUDGED = ["certcheck::check", "certpath_find::find", "certpath_run::run"]
-# The readers, each with its word in the head of a table.
-READERS = {"x509_certs::X509Certificate": "certificate", "x509_certs::TbsCertificate": "its signed part",
-           "x509_lists::CertificateRevocationList": "list", "x509_lists::TbsCertList": "its signed part",
-           "x509_lists::RevokedCertificate": "entry", "x509_requests::X509CertificationRequest": "request",
-           "x509_requests::X509CertificationRequestInfo": "its signed part"}
-PARTS = {"x509_ext::X509Extension": "extension", "x509_names::X509Name": "name", "x509_names::SubjectPublicKeyInfo": "key",
-         "x509_names::AlgorithmIdentifier": "algorithm", "x509_time::ASN1Time": "time", "x509_time::Validity": "validity"}
-# What the comment at the head of a page says where the page follows the code, and the pages of which that is known.
+# The calls of the table at the head of docs/TRUST.md: what is judged, and the readers.
+JUDGED = ["certcheck::check", "certcheck::check_all", "certpath_find::find", "certpath_find::find_all", "certpath_run::run",
+          "certpath_run::run_why", "certpath_run::run_all", "certpath_run::find_evidence", "certpath_recheck::run_recheck",
+          "certpath_run::run_questions", "cert_questions::questions", "certpath_why::push_why"]
+HEADS = ["certpath_engine::read_words", "certpath_engine::frame", "cert_framing::Bundle::feed", "cert_framing::Bundle::finish",
+         "certcheck::read_tree", "certpath_typed::read_typed", *JUDGED, "certpath_vouchers::read_vouchers",
+         "certpath_evidence::read_evidence", "x509_certs::X509Certificate::from_der",
+         "x509_lists::CertificateRevocationList::from_der", "x509_requests::X509CertificationRequest::from_der",
+         "x509_names::X509Name::from_der", "x509_time::ASN1Time::from_der"]
+C_CRATE = "certpath_c"
+# Crates that run code, and hand nothing to others.
+NO_LIBRARY = re.compile(r"(?:_rows|_tests|bench)$|^example_")
+# A page follows the code where the comment at its head says so, or its name does; and the pages of which that is known.
 FOLLOWS = re.compile(r"retrace|step by step|as the code|from where it lies in the octets")
-FOLLOWING = {"crates/cert_judge/specs/Limits.antt"}
+FOLLOWS_BY_NAME = re.compile(r"(?:Reading|Readers)\.antt$")
+FOLLOWING = {f"crates/{it}.antt" for it in (
+    "asn1_any/specs/Reading", "asn1_core/specs/Reading", "asn1_oid/specs/Reading", "cert_judge/specs/Limits",
+    "cert_judge/specs/Named", "x509_core/specs/Reading", "x509_names/specs/Reading")}
 HEAD = re.compile(r"^(?:(?:pattern|unfoldable|abbrev|axiom|pub) )*(record|data)? ?(?:pub )?([^\s:(){}]+)(?= )")
 OPENING = re.compile(r"^(?:abbrev|unfoldable|record|data|pub (?:record|data|abbrev|unfoldable)|pattern|axiom)\b|^(?:pub )?\S+(?: \{[^}]*\})? :(?= )")
 OTHER = re.compile(r"(?:pub )?(?:use|mod|infix\w*) ")
@@ -201,10 +209,9 @@ GIVEN = re.compile(r"\bghost \w+ = \{.*?\};", re.DOTALL)
 
 
 class Trust:
-    """What the contract of a call depends on, each with the clauses that lead to it."""
+    """What the contract of a function depends on, each with the clauses that lead to it."""
 
-    def __init__(self, call):
-        called = calls.function(call)
+    def __init__(self, call, called):
         self.call, self.found = call, {}
         self.clauses = [name or "its one clause" for _, name, _ in called.clauses]
         for (_, _, text), name in zip(called.clauses, self.clauses):
@@ -256,9 +263,14 @@ def short(path):
     return path.removeprefix("crates/").removesuffix(".antt")
 
 
+def trust_of(call):
+    """What the contract of the function that a call names depends on."""
+    return Trust(call, calls.function(call))
+
+
 def told(call):
     """The lines that are printed of a call."""
-    trust = Trust(call)
+    trust = trust_of(call)
     pages = [it for it in trust.pages if is_page(it)]
     for path, of in trust.pages.items():
         yield f"{path}: {trust.lines(path)} of {length(path)} lines: {', '.join(it.name for it in of)}"
@@ -266,81 +278,166 @@ def told(call):
     yield f"{call}: {len(pages)} pages, {sum(map(trust.lines, pages))} lines; types of {len(trust.pages) - len(pages)} sources"
 
 
-HEADER = """# What a promise rests on
+HEADER = """# What a promise rests on: the pages to believe
 
-This page is written by `python3 tools/dev/believe.py --write`; `./test quick` compares it.
+For who reviews a contract. A contract is proved, so its code and proofs needn't be read. What has
+to be read is the function's clauses, and the definitions that their words stand for. This page
+lists the pages of these definitions for every public call, those of `include/certpath.h` too.
+`python3 tools/dev/believe.py --write` makes it, and `./test quick` compares it.
 
-A contract is proved, so its code and proofs needn't be read. What has to be read, to know what it
-promises, is the clauses of the function and the definitions that their words stand for. This page
-counts these definitions for the calls that matter most.
-`python3 tools/dev/believe.py CRATE::CALL` prints their names, page by page: for example of
-`certcheck::check`.
+    python3 tools/dev/believe.py certcheck::check
 
-How it is made: from the words of the clauses (`ensures`, `requires`) and of the signature, through
-the `ghost use` lines of the source, to the definitions in `specs/`, and from the words of each
-definition on. Only definitions that are reached this way count, with the comment above each; not
-the rest of their pages. Types of the sources count beside them: their fields, their ghost fields,
-what a `Model` says that they stand for, and of a trait what its functions promise. Contracts of
-private functions don't count. The way ends at the standard library and at the crates of the kit.
+prints each page of one call, with the definitions on it that are reached, and how many lines these
+take. `CRATE::Type::function` names a function of a type.
 
-How to read it: a number is how many lines of a page a call depends on. In `12+30`, of a reader, 30
-of the 42 lines are reached by the clause `exact` alone, which says which error comes: it is written
-in definitions that follow the reader's steps, on pages named `Reading` and `Readers`. Whoever only
-wants to know what a reader accepts, and as which value, needn't read those.
+How it is made: from the words of the clauses and of the signature, through the `ghost use` lines of
+the source, to the definitions in `specs/`, and from the words of each definition on. Only
+definitions that are reached this way count, with the comment above each. Types of the sources count
+beside them: their fields, what a `Model` says that they stand for, and of a trait what its
+functions promise. It ends at the standard library and at the crates of the kit. Derived functions
+and laws are not listed; the command takes a law as well.
 
 - [How much](#how-much)
-- [Framing, classes, paths, the program](#framing-classes-paths-the-program)
-- [Readers of certificates, lists and requests](#readers-of-certificates-lists-and-requests)
-- [Readers of their parts](#readers-of-their-parts)
+- [Every public call](#every-public-call)
+"""
+INTRODUCTION = """## Every public call
+
+A crate's first line names the pages of other crates that its calls depend on. Then come its calls,
+each with the pages of the crate's own `specs/`. `(12 pages, 340 lines)` is the most that one call
+of the line depends on, pages of other crates included; only lines that are reached count. A call
+that isn't listed depends on no page.
 """
 
 
 def summary(trusts):
     """A row for each call."""
-    yield "| call | pages | lines reached | by `exact` alone | lines of these pages | sources |"
-    yield "|---|---|---|---|---|---|"
+    yield "| call | pages | lines | of these by `exact` alone | sources |"
+    yield "|---|---|---|---|---|"
     for trust in trusts:
         pages = [it for it in trust.pages if is_page(it)]
-        whole, exact = (sum(map(it, pages)) for it in (length, trust.exact))
-        yield f"| `{trust.call}` | {len(pages)} | {sum(map(trust.lines, pages))} | {exact or ''} | {whole} | {len(trust.pages) - len(pages)} |"
+        lines, exact = (sum(map(it, pages)) for it in (trust.lines, trust.exact))
+        yield f"| `{trust.call}` | {len(pages)} | {lines} | {exact or ''} | {len(trust.pages) - len(pages)} |"
+
+
+@functools.cache
+def trust_in(function):
+    """What the contract of a function of the sources depends on."""
+    return Trust(f"{function.file.crate}::{calls.name_of(function)}", function)
+
+
+def own_pages(crate):
+    """The pages of a crate's specs/ that its public calls and laws depend on, but for those that follow the code."""
+    found = {path for it in exports.exported(crate) for path in trust_in(it).pages if is_page(path) and path.startswith(f"crates/{crate}/")}
+    return sorted(page_name(it) for it in found if not follows(it))
+
+
+def page_name(path):
+    """The name of a page within its crate."""
+    return path.partition("/specs/")[2].removesuffix(".antt")
+
+
+def of_others(crate):
+    """The pages of other crates, crate by crate."""
+    found = {}
+    for it in exports.public(crate):
+        for path in filter(is_page, trust_in(it).pages):
+            found.setdefault(path.split("/")[1], set()).add(page_name(path))
+    found.pop(crate, None)
+    return "; ".join(f"`{it}`: {named(sorted(found[it]))}" for it in found)
+
+
+def named(pages):
+    return ", ".join(f"`{it}`" for it in pages)
+
+
+def grouped(functions):
+    """Functions as they are named together: those of one type behind its name, each name once."""
+    found = {}
+    for it in functions:
+        found.setdefault(it.owner_type, {})[it.name] = True
+    for owner, names in found.items():
+        if owner and len(names) > 1:
+            yield f"`{owner}::{{{', '.join(names)}}}`"
+        elif owner:
+            yield f"`{owner}::{next(iter(names))}`"
+        else:
+            yield from (f"`{it}`" for it in names)
+
+
+def number(count, what):
+    return f"{count} {what}" if count == 1 else f"{count} {what}s"
+
+
+@functools.cache
+def has_pages(crate):
+    """Whether a public call of a crate depends on a page."""
+    return not NO_LIBRARY.search(crate) and any(is_page(path) for it in exports.public(crate) for path in trust_in(it).pages)
+
+
+def crate_lines(crate):
+    """The lines of a crate: the pages of others, then its calls by the pages of its own."""
+    by_pages = {}
+    for it in exports.public(crate):
+        pages = [*filter(is_page, trust_in(it).pages)]
+        if pages:
+            own = tuple(sorted(page_name(path) for path in pages if path.startswith(f"crates/{crate}/")))
+            by_pages.setdefault(own, []).append(it)
+    if by_pages:
+        yield f"### `{crate}`"
+        yield ""
+    if of_others(crate):
+        yield f"- *Of others*: {of_others(crate)}."
+    for own, those in sorted(by_pages.items(), key=lambda it: (len(it[0]), it[0])):
+        trusts = [trust_in(it) for it in those]
+        pages = max(sum(map(is_page, it.pages)) for it in trusts)
+        lines = max(sum(it.lines(path) for path in it.pages if is_page(path)) for it in trusts)
+        yield f"- {', '.join(grouped(those))}: {named(own) or 'none of its own'} ({number(pages, 'page')}, {number(lines, 'line')})."
 
 
 def length(path):
     return repo.read(path).count("\n")
 
 
-def matrix(trusts, heads):
-    """A row for each page, with how many lines each call reaches."""
-    yield f"| page | {' | '.join(heads)} |"
-    yield "|---" * (len(heads) + 1) + "|"
-    for path in sorted({path for it in trusts for path in it.pages}, key=lambda it: (not is_page(it), it)):
-        yield f"| {short(path)} | {' | '.join(cell(it, path) for it in trusts)} |"
-
-
-def cell(trust, path):
-    exact = trust.exact(path)
-    return f"{trust.lines(path) - exact}+{exact}" if exact else str(trust.lines(path) or "")
+def follows(path):
+    return bool(FOLLOWS_BY_NAME.search(path) or FOLLOWS.search(repo.read(path).split("\nuse ")[0]))
 
 
 def following(trusts):
     """The pages that follow the code among those of calls."""
-    return sorted({path for it in trusts for path in it.pages if is_page(path) and FOLLOWS.search(repo.read(path).split("\nuse ")[0])})
+    return sorted({path for it in trusts for path in it.pages if is_page(path) and follows(path)})
+
+
+def wrapped(line):
+    """A line of a page, cut before column 100; what is below an item of a list is indented."""
+    indent = "  " if line.startswith("- ") else ""
+    return textwrap.fill(line, 100, subsequent_indent=indent, break_long_words=False, break_on_hyphens=False)
+
+
+def libraries():
+    return [it for it in syntax.CRATES if not NO_LIBRARY.search(it)]
+
+
+def judged():
+    """The calls that judge, and all of the C library."""
+    return [*map(trust_of, JUDGED), *map(trust_in, exports.public(C_CRATE))]
 
 
 def written():
     """The text of docs/TRUST.md."""
-    groups = (("Framing, classes, paths, the program", RUNS, [it.split("::")[-1] for it in RUNS]),
-              ("Readers of certificates, lists and requests", [f"{it}::from_der" for it in READERS], READERS.values()),
-              ("Readers of their parts", [f"{it}::from_der" for it in PARTS], PARTS.values()))
-    trusts = {call: Trust(call) for _, calls, _ in groups for call in calls}
-    kit = sorted({module.split()[0] for it in trusts.values() for module in it.kit})
-    follow = following(trusts[it] for it in JUDGED)
-    lines = [HEADER, "## How much", "", *summary(trusts.values()), "",
-             f"Of the crates of the kit definitions of these are reached: {', '.join(f'`{it}`' for it in kit)}.", "",
-             "Of the pages of `check`, `find` and `run` these follow the code: "
-             + (", ".join(f"`{short(it)}`" for it in follow) or "none") + ".", ""]
-    for title, calls, heads in groups:
-        lines += [f"## {title}", "", *matrix([trusts[it] for it in calls], heads), ""]
+    every = [trust_in(it) for crate in libraries() for it in exports.public(crate)]
+    listed = [it for it in every if any(map(is_page, it.pages))]
+    kit = sorted({module.split()[0] for it in every for module in it.kit})
+    heads = [*map(trust_of, HEADS), *map(trust_in, exports.public(C_CRATE))]
+    lines = [HEADER, "## How much", "", *summary(heads), "",
+             wrapped(f"Of {len(every)} public calls {len(listed)} depend on a page. Of the crates of the kit definitions of these are reached: {', '.join(f'`{it}`' for it in kit)}."), "",
+             "A reader's clause `exact` says which error comes. It is written in definitions that follow the",
+             "reader's steps, on pages named `Reading` and `Readers`. To know what a reader accepts, and as which",
+             "value, these needn't be read.", "",
+             wrapped("Of the pages of the calls that judge, and of C's, these follow the code step by step: " + (", ".join(f"`{short(it)}`" for it in following(judged())) or "none") + "."), "",
+             INTRODUCTION]
+    for crate in libraries():
+        found = [*map(wrapped, crate_lines(crate))]
+        lines += [*found, ""] if found else []
     return "\n".join(lines)
 
 
@@ -348,8 +445,8 @@ def faults():
     """What is amiss with docs/TRUST.md, and with what it counts."""
     if not os.path.exists(os.path.join(repo.TOP, PAGE)) or repo.read(PAGE) != written():
         yield f"{PAGE}: it isn't what tools/dev/believe.py writes: run python3 tools/dev/believe.py --write"
-    for path in {*following(Trust(it) for it in JUDGED)} - FOLLOWING:
-        yield f"{path}: it follows the code, and the contract of check, find or run depends on it"
+    for path in {*following(judged())} - FOLLOWING:
+        yield f"{path}: it follows the code, and the contract of a call that judges depends on it"
 
 
 def main(words):

@@ -16,21 +16,53 @@ SOURCE, PAGE, COMPLETION = "docs/CLI.md", "docs/certpath.1", "completion/certpat
 REMEDY = "run python3 tools/dev/manual.py"
 OPTION = re.compile(r"(?<![\w-])--?[a-z][a-z-]*")
 RULE = re.compile(r"\|(?:-+\|)+")
+LINK = re.compile(r"\[([^\]]*)\]\(([^)#]*)[^)]*\)")
+# What the page describes, as `man` lists it; the sections of these commands begin with their forms.
+NAMES = ("certpath", "verify", "bundle", "vouch")
+SECTION = re.compile(r"(?ms)^## `([a-z]+)[^`\n]*`\n(.*?)(?=^## |\Z)")
+# The links of the page itself, which a manual page has no use for.
+CONTENTS = "Also:"
+SEE_ALSO = "openssl-verify(1), openssl-x509(1), openssl-crl(1); README.md and the folder docs of the repository"
 # Commands whose help isn't a text of a module, by what ./vouch and ./bundle say of their words.
 FURTHER = {"vouch": ("--weak", "--tries", "--verbose", "--limit", "--help"), "bundle": ("--help",)}
 
 
 def plain(text):
     """A text without the marks of Markdown, as roff wants it: commands and words to type in bold."""
-    text = re.sub(r"\[([^\]]*)\]\([^)]*\)", r"\1", text).replace("\\", "\\e").replace("-", "\\-")
+    text = LINK.sub(linked, text).replace("\\", "\\e").replace("-", "\\-")
     text = re.sub(r"\*\*([^*]+)\*\*", r"\\fB\1\\fR", text)
     text = re.sub(r"`([^`]+)`", r"\\fB\1\\fR", text)
     return f"\\&{text}" if text[:1] in (".", "'") else text
 
 
+def linked(link):
+    """The text of a link, and the page that it leads to where that is another one."""
+    text, page = link[1], link[2]
+    if not page:
+        return text
+    path = os.path.normpath(os.path.join(os.path.dirname(SOURCE), page))
+    return path if text == page else f"{text} ({path})"
+
+
+def heading(line):
+    """The line of roff for a heading, without marks: capitals are made of the words alone."""
+    title = line.lstrip("# ").replace("`", "").upper().replace("-", "\\-")
+    return f'{".SH" if line.startswith(("# ", "## ")) else ".SS"} "{title}"'
+
+
+def synopsis(text):
+    """The forms of the commands that the page is named for: the block that each section begins with."""
+    yield from (".SH SYNOPSIS", ".nf")
+    for name, section in SECTION.findall(text):
+        first = blocks(section)[0]
+        if name in NAMES and first[0].startswith("    "):
+            yield from (plain(it[4:]) for it in first)
+    yield ".fi"
+
+
 def row_of(line):
     """The cells of a table's line."""
-    return [it.strip() for it in re.split(r"(?<!\\)\|", line.strip().strip("|"))]
+    return [it.strip().replace("\\|", "|") for it in re.split(r"(?<!\\)\|", line.strip().strip("|"))]
 
 
 def table(lines):
@@ -61,8 +93,10 @@ def blocks(text):
 def of_block(lines):
     """The lines of roff for a block."""
     first = lines[0]
+    if first.startswith(CONTENTS):
+        return
     if first.startswith("#"):
-        yield f'{".SH" if first.startswith(("# ", "## ")) else ".SS"} "{plain(first.lstrip("# ")).upper()}"'
+        yield heading(first)
         if lines[1:]:
             yield from of_block(lines[1:])
     elif first.startswith("    "):
@@ -81,8 +115,9 @@ def page():
     """The manual page."""
     _, _, body = repo.read(SOURCE).partition("\n")
     head = [f'.TH CERTPATH 1 "" "certpath {usage.VERSION}"', ".SH NAME",
-            "certpath, verify, bundle, vouch \\- X.509 certificates, revocation lists and certificate paths"]
-    return "\n".join([*head, ".SH COMMANDS", *(line for block in blocks(body) for line in of_block(block))]) + "\n"
+            f"{', '.join(NAMES)} \\- X.509 certificates, revocation lists and certificate paths"]
+    lines = [line for block in blocks(body) for line in of_block(block)]
+    return "\n".join([*head, *synopsis(body), ".SH COMMANDS", *lines, '.SH "SEE ALSO"', plain(SEE_ALSO)]) + "\n"
 
 
 def options_of(text):

@@ -14,6 +14,7 @@ import re
 import sys
 
 sys.path.insert(0, os.path.dirname(os.path.dirname(os.path.abspath(__file__))))
+from dev import believe
 from program import repo
 
 PAGE = "docs/CRATES.md"
@@ -26,6 +27,8 @@ TOPS = ("_rows", "_tests", "bench")
 EXAMPLES = "example_"
 # The crates that hand on others by name.
 PORTS = ("asn1_rs", "der_parser", "x509_parser")
+# What tries the crates that no rows and tests stand on.
+TRIALS = {"certpath_c": "tools/trials/embedding.py", "certpath_cli": "tools/trials/commands.py"}
 
 
 @functools.cache
@@ -126,11 +129,9 @@ def crate_sections():
 
 
 def believed():
-    """Each crate with the pages of its specs/ that the page says have to be believed."""
-    for crate, section in crate_sections():
-        bullet = re.search(r"(?m)^- \*To believe\*:((?:.|\n  )*)", section)
-        words = re.split(r"To read contracts with|For errors", " ".join(bullet[1].split()))[0] if bullet else ""
-        pages = [it for it in re.findall(r"`(\w+)`", words) if f"crates/{crate}/specs/{it}.antt" in sources(crate, "specs")]
+    """Each crate with the pages of its specs/ that its contracts depend on."""
+    for crate in repo.crates():
+        pages = [] if crate.endswith(TOPS) or crate.startswith(EXAMPLES) else believe.own_pages(crate)
         if pages:
             yield crate, pages
 
@@ -202,13 +203,19 @@ def note_lines(crate):
     rest = "examples" if crate.startswith(EXAMPLES) else "rows-tests-benches"
     place = f"docs/CRATES.md#{crate if has_section else rest}"
     users = [it for it in listed if crate in listed[it]]
-    lines = [f"- Promises, and the pages to believe: [docs/CRATES.md](../../{place})."]
+    lines = [f"- Promises: [docs/CRATES.md](../../{place})."]
+    if believe.has_pages(crate):
+        lines.append(f"- Pages to believe: [docs/TRUST.md](../../docs/TRUST.md#{crate}).")
     if listed[crate]:
         lines.append(wrapped(f"- Stands on {linked(listed[crate])}.").rstrip("\n"))
     if users:
         lines.append(wrapped(f"- Used by {linked(users)}.").rstrip("\n"))
     if not crate.endswith(TOPS) and not crate.startswith(EXAMPLES):
-        lines.append(wrapped(f"- Rows and tests: {linked(runs(crate))}.").rstrip("\n"))
+        rows = runs(crate)
+        tried = f"- Rows and tests: {linked(rows)}." if rows else "- No crate of rows or tests stands on it."
+        if not rows and crate in TRIALS:
+            tried += f" Tried by `{TRIALS[crate]}`."
+        lines.append(wrapped(tried).rstrip("\n"))
     return "\n".join(lines) + "\n"
 
 

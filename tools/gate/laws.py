@@ -9,7 +9,6 @@ import re
 from dev import believe
 from gate import calls
 
-NOTHING = re.compile(r"\{\s*\}")
 # What a clause begins with that speaks of all values: names with their types.
 FOR_ALL = re.compile(r"\s*(?:[({][^(){}]*(?:\([^()]*\)[^(){}]*)*\s:\s(?:[^(){}]|\([^()]*\))*[)}]\s*)+→")
 INNER = re.compile(r"\([^()]*\)|\{[^{}]*\}")
@@ -18,7 +17,7 @@ EXAMPLE = re.compile(r"examples?(?:_of_|$)|worked_")
 
 def laws():
     """The public functions that do nothing."""
-    return [it for it in calls.functions() if it.is_public and it.clauses and NOTHING.fullmatch(it.body)]
+    return [it for it in calls.functions() if it.is_law]
 
 
 def said(function, text):

@@ -2,18 +2,20 @@
 import os
 import re
 
-from dev import calling, pages
-from program import repo
+from dev import believe, calling, pages
+from gate import page_names
+from program import repo, usage
 
 WIDTH, LONGEST_SENTENCE = 100, 40
 README, README_WORDS, README_LINES = "README.md", 900, 120
 # Longer pages begin with their contents.
 MOST_WITHOUT_CONTENTS = 100
+PACKAGE, LOG = "python/pyproject.toml", "CHANGELOG.md"
 PROMISES, PROVED = "docs/PROMISES.md", "## What is proved"
 # Pages for a reader's first minutes.
 PLAIN_PAGES = (README, "docs/CLI.md")
 WALK = "docs/ARCHITECTURE.md"
-WALK_ROW = re.compile(r"\| [^|]*\| [^|]*\| `([\w/]+\.rt)` \| ([^|]*)\|")
+WALK_ROW = re.compile(r"\| [^|]*\| [^|]*\| `([\w/]+\.(?:rt|py))` \| ([^|]*)\|")
 LINK = re.compile(r"\]\(([^()\s#]*)#([^()\s]+)\)")
 CODE = re.compile(r"`[^`\n]*`")
 # A row of a table that links can name.
@@ -144,15 +146,15 @@ def anchors_lead():
 
 
 def walk_stands():
-    """The functions that the walk of one certificate names stand in the files beside them."""
+    """The functions that the walks name stand in the files beside them: of crates, and of scripts by their paths from the top."""
     rows = WALK_ROW.findall(repo.read(WALK))
     if not rows:
         yield f"{WALK}: the table of the walk is gone"
     for path, names in rows:
-        source = f"crates/{path}"
+        source = path if path.endswith(".py") else f"crates/{path}"
         code = repo.read(source) if os.path.exists(os.path.join(repo.TOP, source)) else ""
         for name in re.findall(r"`(\w+)`", names):
-            if not re.search(rf"\bfn {name}\b", code):
+            if not re.search(rf"\b(?:fn|def) {name}\b", code):
                 yield f"{WALK}: {source} has no function {name}"
 
 
@@ -170,6 +172,17 @@ def notes_made():
             yield f"{path}: {'there is none' if page is None else 'its lines are not what crates.txt says'}: run tools/dev/pages.py"
 
 
+def one_version():
+    """The package, the change log and the pages name the version that `./certpath --version` prints."""
+    numbered = r"(\d+\.\d+\.\d+)"
+    found = [(path, it) for path in found_pages() if path != LOG for it in re.findall(rf"\b[Vv]ersion {numbered}", repo.read(path))]
+    for path, pattern in ((PACKAGE, r'(?m)^version = "([^"]*)"'), (LOG, rf"(?m)^## {numbered} - ")):
+        found.append((path, next(iter(re.findall(pattern, repo.read(path))), "none")))
+    for path, it in found:
+        if it != usage.VERSION:
+            yield f"{path}: version {it}, and ./certpath --version prints {usage.VERSION}"
+
+
 def calling_made():
     """Each CALLING.md quotes contracts and callers as the sources have them."""
     yield from calling.faults()
@@ -182,7 +195,7 @@ def bullet(section, name):
 
 
 def promises_name():
-    """What docs/CRATES.md names as a contract stands in the crate or in one that it lists, and each definition page in its folder."""
+    """What docs/CRATES.md names as a contract stands in the crate or in one that it lists."""
     listed = repo.crates()
     for crate, section in pages.crate_sections():
         words = {it for name in {crate, *listed[crate]} for path in pages.sources(name, "src") for it in re.findall(r"\w+", pages.text(path))}
@@ -190,12 +203,16 @@ def promises_name():
             for word in re.findall(r"[A-Za-z_]\w*", code.removesuffix(".rt")):
                 if word not in words:
                     yield f"{pages.PAGE}: {crate} has no {word}"
-        there = {os.path.basename(path).removesuffix(".antt") for name in repo.below([crate], listed) for path in pages.sources(name, "specs")}
-        for code in bullet(section, "To believe"):
-            page = code.rpartition("/")[2]
-            if page[:1].isupper() and page not in there:
-                yield f"{pages.PAGE}: {crate} has no definition page {page}"
+
+
+def one_list_to_believe():
+    """Which pages have to be believed is said by docs/TRUST.md alone, which a script makes."""
+    for path in found_pages():
+        if path == pages.PAGE or re.fullmatch(r"crates/\w+/README\.md", path):
+            for number, line in enumerate(repo.read(path).splitlines(), 1):
+                if re.match(r"\W*To believe\W*:", line, re.I):
+                    yield f"{path}:{number}: a list of pages to believe, which {believe.PAGE} has: delete it"
 
 
 CHECKS = (narrow_pages, short_sentences, short_readme, contents_stand, claims_named, anchors_lead,
-          walk_stands, promises_name, tables_made, notes_made, calling_made)
+          walk_stands, promises_name, one_list_to_believe, one_version, tables_made, notes_made, calling_made, *page_names.CHECKS)

@@ -7,12 +7,14 @@ from program import repo
 
 # Comments, texts and characters of Rattle; a lifetime has no quote at its end.
 OPAQUE = re.compile(r"""//[^\n]*|/\*.*?\*/|"(?:[^"\\]|\\.)*"|(?<![\w'])b?'(?:\\[^']+|[^'\\\n])'""", re.DOTALL)
-FUNCTION = re.compile(r"(?m)^[ \t]*(?:pub(?:\([\w ]+\))? )?(?:const |unsafe )*fn (\w+)")
+# (the name of an ABI, as in `extern "C"`, is blanked)
+FUNCTION = re.compile(r"(?m)^[ \t]*(?:pub(?:\([\w ]+\))? )?(?:const |unsafe |extern +)*fn (\w+)")
 BLOCK = re.compile(r"(?m)^[ \t]*(?:pub(?:\([\w ]+\))? )?(?:impl\b|trait\b|mod\b)[^{};]*\{")
 TYPE = re.compile(r"(?m)^(?:pub(?:\([\w ]+\))? )?(struct|enum|trait|type|const) (\w+)")
 GHOST_USE = re.compile(r"ghost use ([\w.]+)(?:\.\{([^}]*)\}| as (\w+))?;")
 RUST_USE = re.compile(r"(?m)^[ \t]*(?:pub(?:\([\w ]+\))? )?use ([^;]+);")
 BRACKETS = {"(": re.compile(r"[()]"), "{": re.compile(r"[{}]"), "[": re.compile(r"[\[\]]")}
+NOTHING = re.compile(r"\{\s*\}")
 CLAUSE = re.compile(r"\b(requires|ensures)\s+(\w*)\s*(?=\{)|[{;\[]")
 
 
@@ -50,7 +52,12 @@ class Function:
 
     @property
     def is_public(self):
-        return bool(re.match(r"\s*pub (?:const )?fn\b", self.signature))
+        return bool(re.match(r"\s*pub (?:const |unsafe |extern +)*fn\b", self.signature))
+
+    @functools.cached_property
+    def is_law(self):
+        """Whether it does nothing: what it says are its clauses."""
+        return bool(self.is_public and self.clauses and NOTHING.fullmatch(self.body or ""))
 
     @functools.cached_property
     def owner_type(self):

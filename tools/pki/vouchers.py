@@ -82,4 +82,4 @@ class Vouching:
 
     def summary(self):
         return (f"vouch: {counted(len(self.bundle), 'item')}, {self.vouched} vouched for, {counted(len(self.vouchers), 'line')}, "
-                f"{self.told.count} told")
+                f"{self.told.count} reported")

@@ -1,9 +1,16 @@
 """The words of `./certpath`: what is answered without the program, and what is handed to it."""
+import os
+
 from program import programs, repo, streams
 
+# The one version, of the program, the scripts, the Python package and the pages; ./test quick compares what else names it.
 VERSION = "0.1.0"
 INPUT = "/dev/stdin"
 COMMANDS = ("frame", "path", "paths", "questions", "recheck", "why")
+# Scripts beside this one, which one may take for commands of it.
+SCRIPTS = ("bundle", "rows", "verify", "vouch")
+# So many characters of a word stand in a message.
+MOST_SHOWN = 200
 HELP, VERSIONS, BUILD = ("-h", "--help", "help"), ("-V", "--version", "version"), "--build"
 WELL, REFUSED, UNWRITTEN = 0, 2, 7
 SEE = "see './certpath --help'"
@@ -31,14 +38,15 @@ Commands:
   recheck    checks what paths found elsewhere, by the evidence that it wrote, without a search
   questions  prints which keys may have signed which items
   frame      prints where each item of a file begins and how long it is
-  help       prints this help, or that of the command behind it
+  help       prints this help, or that of the command after it
 
 Options:
-  -h, --help     prints this help; behind a command, that of the command
+  -h, --help     prints this help; after a command, that of the command
   -V, --version  prints the version, the digest of the sources, and what built the program
   --build        builds the program from the sources, prints where it is, and runs nothing
 
-The word - as a file is standard input. PEM files are made into such files by ./bundle.
+The word - as a file is standard input. Files of items are DER: of a PEM file frame says end fault 0
+and path finds no certificate in it, and ./bundle makes a DER file of it.
 """
 
 FILES = """\
@@ -52,7 +60,7 @@ QUESTION = f"""\
 {FILES}
 Options:
   --target N      the position in BUNDLE, from 0 on, of the certificate that needs a path
-  --at MOMENT     the time of the validation, in UTC: YYYY-MM-DDTHH:MM:SS
+  --at MOMENT     the time of the validation, in UTC: YYYY-MM-DDTHH:MM:SS, with no Z after it
   --demand-lists  each certificate of the path needs a revocation list of its issuer
   --limit N       the most content octets of an item [default: 16777216]
   -h, --help      prints this help
@@ -87,7 +95,7 @@ usage: certpath paths BUNDLE ANCHORS VOUCHERS --at MOMENT [--demand-lists] [--li
 
 {FILES}
 Options:
-  --at MOMENT     the time of the validation, in UTC: YYYY-MM-DDTHH:MM:SS
+  --at MOMENT     the time of the validation, in UTC: YYYY-MM-DDTHH:MM:SS, with no Z after it
   --demand-lists  each certificate of a path needs a revocation list of its issuer
   --limit N       the most content octets of an item [default: 16777216]
   --evidence FILE writes to FILE what certpath recheck needs to check all lines
@@ -108,7 +116,7 @@ usage: certpath recheck BUNDLE ANCHORS VOUCHERS EVIDENCE --at MOMENT [--demand-l
 {FILES}  EVIDENCE  what certpath paths --evidence wrote
 
 Options:
-  --at MOMENT     the time of the validation, in UTC: YYYY-MM-DDTHH:MM:SS
+  --at MOMENT     the time of the validation, in UTC: YYYY-MM-DDTHH:MM:SS, with no Z after it
   --demand-lists  each certificate of a path needs a revocation list of its issuer
   --limit N       the most content octets of an item [default: 16777216]
   -h, --help      prints this help
@@ -149,9 +157,9 @@ Options:
   --limit N   the most content octets of an item [default: 16777216]
   -h, --help  prints this help
 
-Exit status: 0 the file is items to its end; 1 it ends within an item, or with what is no item;
-2 wrong words; 4 the file can't be read; 6 out of memory; 7 standard output fails; 70 no program
-could be run.
+Exit status: 0 nothing follows the last item; 1 the file ends within an item, or with what is no
+item; 2 wrong words; 4 the file can't be read; 6 out of memory; 7 standard output fails; 70 no
+program could be run.
 """
 
 TEXTS = {"path": PATH, "why": WHY, "paths": PATHS, "recheck": RECHECK, "questions": QUESTIONS, "frame": FRAME}
@@ -172,7 +180,7 @@ def done(words):
     if first in COMMANDS:
         return printed(TEXTS[first]) if asks_for_help(rest) else run(words)
     if first is None:
-        streams.tell(f"{USAGE}{SEE}")
+        streams.write_lines([*USAGE.splitlines(), SEE])
         return REFUSED
     if first in HELP:
         return helped(rest)
@@ -193,7 +201,7 @@ def run(words):
     """Becomes the program, with standard input in the place of a file that is called -."""
     if words.count("-") > 1:
         return refused("standard input can be one file only")
-    if ("--evidence", "-") in zip(words, words[1:]):
+    if ("--evidence", "-") in zip(words, words[1:]) or "--evidence=-" in words:
         return refused("--evidence needs a file: - is standard input")
     return repo.run(programs.CERTPATH, [INPUT if it == "-" else it for it in words])
 
@@ -205,12 +213,17 @@ def refused(why):
 
 def unknown(word):
     """What is said of a word that is no command."""
+    shown = repr(word if len(word) <= MOST_SHOWN else f"{word[:MOST_SHOWN]}..")
     if word.startswith("-"):
-        return f"there is no option {word!r}"
+        return f"there is no option {shown}"
+    if word in SCRIPTS:
+        return f"{word} is a script of its own, ./{word}"
+    if os.path.isfile(word):
+        return f"{shown} is a file and no command: './verify FILE' and './certpath frame FILE' take one"
     import difflib
     near = difflib.get_close_matches(word, [*COMMANDS, "help", "version"], 1)
     similar = f", the most similar one is {near[0]!r}" if near else ""
-    return f"there is no command {word!r}{similar}"
+    return f"there is no command {shown}{similar}"
 
 
 def printed(text):

@@ -8,6 +8,7 @@ import tempfile
 from program import repo
 
 CERTIFICATE = "CERTIFICATE"
+NO_LINE, NO_FILE = "that is no line of its own (are newlines missing?)", "no such file; is the name right?"
 
 
 def sample(name):
@@ -23,6 +24,8 @@ def pem(octets, label=CERTIFICATE, end=b"\n"):
 
 
 LEAF, INTERMEDIATE, ROOT, LIST = map(sample, ("leaf", "intermediate", "root", "list"))
+# So many lines a block of the leaf has.
+LINES = pem(LEAF).count(b"\n")
 # A request for a certificate (RFC 2986): signed as one, and none.
 REQUEST = bytes.fromhex("3010 3009 020100 3000 3000 a000 3000 030100")
 # A private key (RFC 5208), whose octets may never come out.
@@ -56,10 +59,28 @@ CASES = (
       "broken block 12 (CERTIFICATE): 1 octet after the item; left out",
       "bundle: 1 item (1 certificate, 0 lists), 12 left out"], 1),
     ({"lines": b"# -----BEGIN CERTIFICATE-----\n-----END CERTIFICATE-----\n" + LIST + b"\n" + pem(LEAF)}, ["lines"], LEAF,
-     ["lines line 1: a BEGIN that is no line of its own; left out",
+     [f"lines line 1: a BEGIN {NO_LINE}; left out",
       "lines line 2: an END (CERTIFICATE) without a BEGIN; left out",
       "lines line 3: octets around the blocks that are no text; left out",
       "bundle: 1 item (1 certificate, 0 lists), 3 left out"], 1),
+    ({"flat": pem(LEAF).replace(b"\n", b" ") + b"\n" + pem(KEY, "PRIVATE KEY", b"")}, ["flat", "leaf"], LEAF,
+     [f"flat line 1: a BEGIN {NO_LINE}; left out", f"flat line 2: a BEGIN {NO_LINE}; left out",
+      "bundle: 1 item (1 certificate, 0 lists), 2 left out"], 1),
+    ({"labels": b"".join([pem(LEAF, "A" * 64), pem(LEAF, "A" * 65), pem(LEAF, "A--B"), pem(LEAF, " A"), pem(LEAF, "A B-C"), pem(LEAF, ""), pem(ROOT)])},
+     ["labels"], ROOT,
+     ["labels block 1 (line 1): its label isn't known; left out",
+      *(f"labels line {line}: {kind} {NO_LINE}; left out" for line in (LINES + 1, 2 * LINES + 1, 3 * LINES + 1) for kind, line in
+        (("a BEGIN", line), ("an END", line + LINES - 1))),
+      f"labels block 2 (line {4 * LINES + 1}): its label isn't known; left out",
+      f"labels block 3 (line {5 * LINES + 1}): its label isn't known; left out",
+      "bundle: 1 item (1 certificate, 0 lists), 9 left out"], 1),
+    ({"ends": pem(LEAF).replace(b"END CERTIFICATE", b"END %s" % (b"A" * 64)) + b"-----END " + b"A" * 64 + b"-----\n" + pem(ROOT).replace(b"-----END", b"----END")},
+     ["ends", "leaf"], LEAF,
+     ["ends block 1 (CERTIFICATE): its END has another label; left out", f"ends line {LINES + 1}: an END without a BEGIN; left out",
+      "ends block 2 (CERTIFICATE): its END is missing; left out", "bundle: 1 item (1 certificate, 0 lists), 3 left out"], 1),
+    ({"random.der": bytes.fromhex("3084 c1dead00 0102"), "odd.pem": b"-----BEGINCERTIFICATE-----\n"}, ["random.der", "odd.pem"], b"",
+     ["random.der octet 0: its length is above 16777216, 8 octets to the file's end; left out", f"odd.pem line 1: a BEGIN {NO_LINE}; left out",
+      "bundle: 0 items (0 certificates, 0 lists), 2 left out"], 1),
     ({"some": REQUEST + LEAF + LONG + LIST + b"\x30\x80\0\0", "tail": ROOT + b"\n", "cut": LEAF[:-1], "none": b""},
      ["some", "tail", "cut", "none"], LEAF + LIST + ROOT,
      ["some octet 0: neither certificate nor revocation list; left out",
@@ -70,8 +91,11 @@ CASES = (
       "none: empty; left out",
       "bundle: 3 items (2 certificates, 1 list), 6 left out"], 1),
     ({}, [], b"", ["usage: ./bundle FILE.. > bundle.der"], 2),
-    ({}, ["leaf", "missing"], b"", ["cannot read missing"], 4),
-    ({}, ["miss\x1b[2Jing\n"], b"", ["cannot read miss\\x1b[2Jing\\n"], 4),
+    ({}, ["leaf", "missing"], b"", [f"cannot read missing: {NO_FILE}"], 4),
+    ({}, ["leaf", ""], b"", [f"cannot read '': {NO_FILE}"], 4),
+    ({}, ["."], b"", ["cannot read .: it is a folder; name its files"], 4),
+    ({}, ["m" * 1000], b"", [f"cannot read {'m' * 200}..: File name too long"], 4),
+    ({}, ["miss\x1b[2Jing\n"], b"", [f"cannot read miss\\x1b[2Jing\\n: {NO_FILE}"], 4),
     ({"es\x9bcape": b"junk\n"}, ["es\x9bcape", "leaf"], LEAF,
      ["es\\x9bcape: neither PEM nor DER; left out", "bundle: 1 item (1 certificate, 0 lists), 1 left out"], 1),
 )

@@ -4,8 +4,8 @@
     python3 tools/trials/readme.py [PAGE..]
     python3 tools/trials/readme.py --write PAGE   puts what the commands print below them, for a reader to compare with what is right
 
-A command is a line of a code block that begins with `$ `; the lines to the next command, or to the end of the block, are
-what it has to print on standard output and standard error. All commands of a page run in one copy of the repository, in
+A command is a line of a code block that begins with `$ `, with the lines after it while they end in a backslash; the lines
+to the next command, or to the end of the block, are what it has to print on standard output and standard error. All commands of a page run in one copy of the repository, in
 their order. Nothing is built: the commands find an `rt` that fails, so a program has to be there for these sources, in
 dist/ or in out/programs/. The last line is `N passed, M failed`.
 """
@@ -19,7 +19,7 @@ import tempfile
 sys.path.insert(0, os.path.dirname(os.path.dirname(os.path.abspath(__file__))))
 from program import repo
 
-PROMPT, INDENT = "$ ", "    "
+PROMPT, INDENT, GOES_ON = "$ ", "    ", "\\"
 SECONDS = 120
 # What builds keep, and what stands in the place of `rt`.
 PROGRAMS = os.path.join("out", "programs")
@@ -47,11 +47,16 @@ def commands(page):
     for lines in blocks(page):
         if not lines[0].startswith(PROMPT):
             continue
+        goes_on = False
         for line in lines:
-            if line.startswith(PROMPT):
+            if goes_on:
+                found[-1] = (f"{found[-1][0]}\n{line}", [])
+            elif line.startswith(PROMPT):
                 found.append((line[len(PROMPT):], []))
             else:
                 found[-1][1].append(line)
+                continue
+            goes_on = line.endswith(GOES_ON)
     return found
 
 
@@ -104,11 +109,13 @@ def page_failures(path):
 
 def filled(page, outputs):
     """A page with the outputs of its commands, in their order, below them."""
-    found, outputs, is_output = [], iter(outputs), False
+    found, outputs, is_output, goes_on = [], iter(outputs), False, False
     for line in page.splitlines():
-        if line.startswith(INDENT + PROMPT):
-            found += [line, *(INDENT + it for it in next(outputs))]
-            is_output = True
+        if goes_on or line.startswith(INDENT + PROMPT):
+            found.append(line)
+            is_output, goes_on = True, line.endswith(GOES_ON)
+            if not goes_on:
+                found += (INDENT + it for it in next(outputs))
         elif not is_output or not line.startswith(INDENT):
             found.append(line)
             is_output = False

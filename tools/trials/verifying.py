@@ -14,10 +14,11 @@ from html.parser import HTMLParser
 sys.dont_write_bytecode = True
 sys.path.insert(0, os.path.dirname(os.path.dirname(os.path.abspath(__file__))))
 from program import repo
-from trials import refusals, verifying_faults, verifying_large, verifying_others
+from trials import messages, refusals, verifying_faults, verifying_large, verifying_others
 from trials.chains import ISSUER_ID, NO_AUTHORITY, NO_SIGNER, OF_AUTHORITY, OF_LEAF, OF_ROOT, OWN_ID, Chain
 from trials.vouching_pki import Workshop
 from trials.vouching_trials import Trials
+from verify import times
 
 AT, STAMP = refusals.AT, "1780272000"
 LONG = {"begin": "20200101000000Z", "end": "20490101000000Z"}
@@ -38,22 +39,25 @@ RULES = {
     "revoked below a path length": "RFC 5280, 6.1.3, a, 3",
     "list demanded": "RFC 5280, 6.1.3, a, 3", "list past its next update, demanded": "RFC 5280, 6.1.3, a, 3",
     "list with a critical extension, demanded": "RFC 5280, 6.1.3, a, 3", "list that no key vouches for, demanded": "RFC 5280, 6.1.3, a, 3",
+    "list past its next update": "RFC 5280, 5.1.2.5", "list with a critical extension": "RFC 5280, 5.2", "list that no key vouches for": "RFC 5280, 6.3.3, g",
 }
 # What certtool refuses, and OpenSSL doesn't; and what it accepts at other moments, since it judges by the clock.
 STRICTER = {"name constraints", "critical name constraints", "weak signature"}
 OF_DATES = {"not yet valid"}
 # What the first line says of a list that isn't used, by the case.
 DOUBTS = {
-    "list past its next update": "BUT item 0 CN=leaf is revoked by list 2 ",
-    "list with a critical extension": "BUT whether item 0 CN=leaf is revoked isn't known from list 2 ",
-    "list that no key vouches for": "BUT item 0 CN=leaf is revoked by list 2 ",
+    "list past its next update": "item 0 CN=leaf is revoked by list 2 ",
+    "list with a critical extension": "whether item 0 CN=leaf is revoked isn't known from list 2 ",
+    "list that no key vouches for": "item 0 CN=leaf is revoked by list 2 ",
 }
+# How the first line begins, by the outcome.
+VERDICTS = {"path": "valid path at {}: CN=", "none": "no valid path at {}: CN=", "refused": "path refused at {}, since "}
 FIELDS = {"headline", "status", "outcome", "checked", "at", "target", "path", "anchor", "reasons", "unused_lists", "doubts", "warnings", "anchors", "not_judged"}
 # What ./verify concludes where `why` has no line against a certificate or a link.
 CONCLUDED = {"self-signed": {"issued by itself"}}
 TIMES = {
     "2026-06-01": "2026-06-01T00:00:00Z", "2026-06-01T12:30": "2026-06-01T12:30:00Z", "2026-06-01 12:30:01": "2026-06-01T12:30:01Z",
-    "2026-06-01T12:30:00Z": "2026-06-01T12:30:00Z", "2026-06-01T12:30:00+02:00": "2026-06-01T10:30:00Z",
+    "2026-06-01Z": "2026-06-01T00:00:00Z", "2026-06-01T12:30:00Z": "2026-06-01T12:30:00Z", "2026-06-01T12:30:00+02:00": "2026-06-01T10:30:00Z",
 }
 RUNS, STORE = 4, "/etc/ssl/certs/ca-certificates.crt"
 CONTROL = re.compile(r"[\x00-\x09\x0b-\x1f\x7f-\x9f]")
@@ -166,20 +170,23 @@ def refused(v, title, root):
     words = [*named(case.bundle), *anchors, "--at", AT, *case.words]
     status, found, told = v.json(*words)
     wanted = v.wanted[title]
-    is_path = wanted.why[0].startswith("path ")
-    answer = found[0]
-    yield title, (status, answer["status"], len(answer["path"]) > 0, told), (0 if is_path else 1, 0 if is_path else 1, is_path, [])
+    is_path, is_accepted = wanted.why[0].startswith("path "), wanted.why[0].startswith("path ") and title not in DOUBTS
+    answer, ends, outcome = found[0], 0 if is_accepted else 1, "path" if is_accepted else "refused" if is_path else "none"
+    yield title, (status, answer["status"], answer["outcome"], len(answer["path"]) > 0, told), (ends, ends, outcome, is_path, [])
     reasons = {it["reason"] for it in answer["reasons"]}
     true = {re.sub(r"^at \d+ (?:to (?:anchor )?\d+ )?(?:not usable: |no issuer: |not linked: )?", "", it) for it in wanted.why if obstacle(it)}
     true = {"no issuer here" if it.startswith("no issuer here: ") else it for it in true} or CONCLUDED.get(title, set())
     yield f"{title}: its reasons", reasons, true
     rules = {it["rule"] for it in answer["reasons"]}
     yield f"{title}: openssl", v.openssl(case.bundle[0], case.bundle[1:], case.anchors), is_path or title in RULES
-    yield f"{title}: its rule", title in RULES and RULES[title] not in rules, False
+    yield f"{title}: its rule", title in RULES and RULES[title] not in rules and f"({RULES[title]})" not in answer["headline"], False
     if verifying_others.CERTTOOL and title not in OF_DATES:
         certificates = [it for it in case.bundle if it.subject]
         yield f"{title}: certtool", v.certtool(certificates, case.anchors), (is_path or title in RULES) and title not in STRICTER
-    yield f"{title}: the first line", (" BUT " in answer["headline"], DOUBTS.get(title, "") in answer["headline"]), (title in DOUBTS, True)
+    verdict = VERDICTS[outcome].format(times.as_shown(times.moment_of(AT)))
+    yield f"{title}: the first line", (answer["headline"].startswith(verdict), DOUBTS.get(title, "") in answer["headline"]), (True, True)
+    yield f"{title}: --quiet", v.run(*words, "--quiet"), (ends, "", [])
+    yield f"{title}: --ignore-unused-lists", v.run(*words, "--quiet", "--ignore-unused-lists"), (0 if is_path else 1, "", [])
     if title == "names with control characters":
         text = v.run(*words, "--html", "-")[1] + v.run(*words, "--dot")[1] + v.run(*words)[1]
         yield title, CONTROL.findall(text), []
@@ -194,7 +201,7 @@ def other_key(v, root):
     made = refusals.Maker(v.shop, "other key", root)
     case = made.of_list(signer={"key": "rsa"})
     status, text, _ = v.run(*named(case.bundle), "other-key-3.pem", "--anchors", root.file, "--at", AT)
-    yield "a list by another key", (status, "BUT item 0 CN=leaf is revoked by list 2 " in text.split("\n")[0]), (0, True)
+    yield "a list by another key", (status, "since item 0 CN=leaf is revoked by list 2 " in text.split("\n")[0]), (1, True)
 
 
 def forms(v, chain):
@@ -227,7 +234,7 @@ def forms(v, chain):
     is_told = "keys.pem block 1 (PRIVATE KEY): left out" in text
     yield "private keys", (status, key.split(b"\n")[1].decode() in text, is_told, told), (0, False, True, [])
     status, text, told = v.run("-", "--anchors", root.file, octets=v.octets("all.pem"))
-    yield "standard input", (status, text.split("\n")[0][:24], told), (0, "CN=leaf: valid path to C", [])
+    yield "standard input", (status, text.split(" at ")[0], told), (0, "valid path", [])
     status, text, told = v.run("closed.p12", "--anchors", root.file)
     remedy = "unpack it: openssl pkcs12 -in closed.p12 -nokeys -out closed.p12.pem"
     yield "a password", (status, text, told), (4, "", [f"verify: closed.p12: PKCS #12 with a password, or damaged; {remedy}"])
@@ -243,6 +250,14 @@ def words_of(v, chain):
         yield f"--target {word}", [it["target"]["subject"] for it in found], ["CN=Second"]
     v.shop.keep("three.pem", b"".join(map(v.octets, files)))
     yield "--all", [it["target"]["subject"] for it in v.json("three.pem", *anchors, "--all")[1]], ["CN=leaf", "CN=Second", "CN=First"]
+    leaf_again = v.json("three.pem", *files, *anchors, "--all")[1]
+    yield "--all of several FILEs", [it["target"]["subject"] for it in leaf_again], ["CN=leaf", "CN=Second", "CN=First"]
+    yield "--all of files of one each", [it["target"]["subject"] for it in v.json(*files, *anchors, "--all")[1]], ["CN=leaf", "CN=Second", "CN=First"]
+    found = v.json(files[0], *anchors, "--lists", files[1], "--lists", files[2], "--all")[1]
+    yield "--all and --lists", [it["target"]["subject"] for it in found], ["CN=leaf"]
+    yield "--all of a FILE of keys too", [it["status"] for it in v.json(*files, v.shop.key("p256"), *anchors, "--all")[1]], [0, 0, 0]
+    for words in ([files[0], *anchors, *files[1:]], [*anchors, files[0], "--json", *files[1:]], [*anchors, "--", *files]):
+        yield f"the order of words {words}", v.run(*words)[0], 0
     for word, shown in TIMES.items():
         yield f"--at {word}", v.json(*files, *anchors, "--at", word)[1][0]["at"], shown
     yield "no issuer", v.run(files[0], *anchors)[0], 1
@@ -283,6 +298,22 @@ def pages(v, chain, root):
         yield f"the graph of {title}", (status_of_dot, graph.startswith("digraph "), drawn is None or drawn.returncode == 0), (status, True, True)
 
 
+def looks(v, root):
+    """The colours of the page: a certificate that is revoked, or may be, is red, and so is one without an issuer; a bar of dates is red where
+    the moment is outside it, and nowhere else."""
+    for title, item_zero, item_one, late in (("revoked", "bad", "good", 0), ("list past its next update", "bad", "good", 0), ("missing issuer", "bad", None, 0),
+                                             ("expired", "bad", "good", 1), ("nothing", "good", "good", 0)):
+        case = refusals.CASES[title](refusals.Maker(v.shop, f"{title} looked at", root))
+        _, text, _ = v.run(*named(case.bundle), "--anchors", root.file, "--at", AT, "--html", "-")
+        found = dict((place, look) for look, place in re.findall(r'<g class="(\w+)"><title>(item \d+): ', text))
+        wanted = {"item 0": item_zero, **({"item 1": item_one} if item_one else {})}
+        yield f"the colours of {title}", (found, text.count('class="bar late"')), (wanted, late)
+    for title, note in (("wrong root of the name", "signature not verified"), ("weak signature", "weak signature: sha1"), ("key identifiers", "names another key")):
+        case = refusals.CASES[title](refusals.Maker(v.shop, f"{title} looked at", root))
+        text = v.run(*named(case.bundle), "--anchors", case.anchors[0].file, "--at", AT, "--html", "-")[1]
+        yield f"the picture's words of {title}", (f">{note}</text>" in text, ">no voucher<" in text), (True, False)
+
+
 def of_system(v):
     """The system's store against itself: each certificate has a path to itself, or a reason with its rule."""
     if not os.path.isfile(STORE):
@@ -315,11 +346,12 @@ def main():
         jobs = [lambda it=it: [*kinds(v, it)] for it in KINDS]
         jobs += [lambda it=it: [*refused(v, it, root)] for it in refusals.CASES]
         jobs += [lambda: [*crossed(v)], lambda: [*other_key(v, root)], lambda: [*forms(v, chain)], lambda: [*words_of(v, chain)],
-                 lambda: [*pages(v, chain, root)], lambda: [*of_system(v)], lambda: [*large(v)]]
+                 lambda: [*pages(v, chain, root)], lambda: [*looks(v, root)], lambda: [*of_system(v)], lambda: [*large(v)]]
         jobs += [*verifying_others.jobs(v, root), *verifying_faults.jobs(v, root)]
         for found in runs.map(lambda job: job(), jobs):
             for title, is_so, should_be in found:
                 t.same(title, is_so, should_be)
+        messages.trials(t)
     print(f"verifying: {t.passed} passed, {t.failed} failed")
     return 1 if t.failed else 0
 

@@ -2,6 +2,7 @@
 and nothing is left behind."""
 import json
 import os
+import re
 import signal
 import subprocess
 import sys
@@ -53,10 +54,10 @@ def targets(v, root):
     told_behind = "behind-list.pem block 2 (CERTIFICATE): not base64"
     yield "a damaged target behind a list", v.run("behind-list.pem", *anchors), (4, "", [f"verify: {told_behind}; {remedy}"])
     status, text, _ = v.run("no-base64.pem", *anchors, "--all")
-    yield "a damaged target among all", (status, f"\n{told}, so no target\n" in text), (3, True)
+    yield "a damaged target among all", (status, f"\nno target: {told}\n" in text), (3, True)
     yield "a damaged target, another one named", v.run("no-base64.pem", *anchors, "--target", issuer.file, "--quiet"), (0, "", [])
     status, text, told = v.run("no-month.pem", *anchors)
-    yield "an other target", (status, text.startswith("item 0 (no-month.pem): neither a certificate nor a list"), told), (3, True, [])
+    yield "an other target", (status, text.startswith("no target: item 0 (no-month.pem): neither a certificate nor a list"), told), (3, True, [])
     yield "an other target among all", v.run("no-month.pem", *anchors, "--all", "--quiet"), (3, "", [])
     status, text, told = v.run("behind.pem", issuer.file, *anchors)
     yield "a damaged block behind", (status, "behind.pem block 2 (CERTIFICATE): not base64; left out" in text, told), (0, True, [])
@@ -73,17 +74,19 @@ def lists(v, root):
         v.shop.keep("faulty-list.pem", v.octets(issuer.file) + change(held) if title == "no month" else change(held) + v.octets(issuer.file))
         files = [leaf.file, issuer.file, "faulty-list.pem", "--anchors", root.file, "--at", AT]
         status, found, told = v.json(*files)
-        yield f"a list with {title}", (status, f", BUT whether a certificate of the path is revoked isn't known, as {said}" in found[0]["headline"],
-                                       len(found[0]["doubts"]), told), (0, True, 1, [])
+        yield f"a list with {title}", (status, f", since whether a certificate of the path is revoked isn't known, as {said}" in found[0]["headline"],
+                                       len(found[0]["doubts"]), told), (1, True, 1, [])
+        yield f"a list with {title}, ignored", v.run(*files, "--ignore-unused-lists", "--quiet"), (0, "", [])
     case = case_of(v, "weak list", root, digest="sha1")
     text = v.run(*[it.file for it in case.bundle], "--anchors", root.file, "--at", AT)[1]
-    yield "a weak list", "BUT item 0 CN=leaf is revoked by list 2 (weak-list-3.pem), which isn't used: its signature is weak: sha1" in text, True
+    yield "a weak list", "since item 0 CN=leaf is revoked by list 2 (weak-list-3.pem), which isn't used: its signature is weak: sha1" in text, True
     made = Chain(v.shop, "spelled list")
     other = made.certificate("/CN=Intermediate", "p256", root, OF_AUTHORITY, mask="pkix", **LONG)
     leaf, issuer, _ = case_of(v, "spelled leaf", root).bundle
     text = v.run(leaf.file, issuer.file, made.list(other, [2]).file, "--anchors", root.file, "--at", AT)[1]
-    told = "BUT whether item 0 CN=leaf is revoked isn't known from list 2"
-    yield "a list whose issuer is spelled otherwise", (told in text, "other octets than the certificate has" in text), (True, True)
+    told = "since whether item 0 CN=leaf is revoked isn't known from list 2"
+    how = "reads like the certificate's issuer, but its CN is a PrintableString in the list and a UTF8String in the certificate"
+    yield "a list whose issuer is spelled otherwise", (told in text, how in text), (True, True)
 
 
 def names(v, root):
@@ -97,6 +100,31 @@ def names(v, root):
         seen = [it for it in FORBIDDEN for text in (outputs[0], *outputs[2:]) if it in text and (it != "<img" or text is outputs[3])]
         status = json.loads(outputs[1])["status"]
         yield f"hostile name {number}", (status, seen, outputs[1].isascii()), (0, [], True)
+
+
+FORGED = "valid path at 2026-06-01T00:00:00Z: CN=good to CN=Root"
+FORGERIES = (f"/CN=x\n{FORGED}", f"/CN=x\r\n\x1b[2K{FORGED}", f"/CN={FORGED}", f"/CN=x\u2028{FORGED}", f"/CN=x\x0b{FORGED}\x85{FORGED}",
+             "/CN=www.example.org, O=Example, C=CZ")
+# Ends of lines by any reckoning (those of str.splitlines).
+LINE_ENDS = re.compile("[\n\r\x0b\x0c\x1c-\x1e\x85\u2028\u2029]")
+
+
+def forgeries(v, root):
+    """No subject forges a line or a verdict: each line of the output is one of ours, and the first one begins with the true verdict."""
+    made = Chain(v.shop, "forged")
+    for number, subject in enumerate(FORGERIES):
+        issuer = made.certificate("/CN=Between", "p256", root, OF_AUTHORITY, **LONG)
+        leaf = made.certificate(subject, "p521", issuer, OF_LEAF, **LONG)
+        v.shop.keep(f"forged {number}\n{FORGED}.pem", v.octets(leaf.file))
+        for words, verdict in (([leaf.file], "no valid path at "), ([leaf.file, issuer.file], "valid path at "),
+                               ([f"forged {number}\n{FORGED}.pem"], "no valid path at ")):
+            outputs = [v.run(*words, "--anchors", root.file, "--at", AT, *form)[1] for form in ((), ("--json",), ("--dot",), ("--html", "-"))]
+            lines = LINE_ENDS.split(outputs[0])
+            yield f"forged subject {number}: {words}: the first line", lines[0].startswith(f"{verdict}2026-06-01T00:00:00Z: CN="), True
+            yield f"forged subject {number}: {words}: a forged line", [it for it in lines[1:] if it.startswith("valid path at ")], []
+            yield f"forged subject {number}: {words}: forms", [bool(LINE_ENDS.search(it.replace("\n", ""))) for it in outputs], [False] * 4
+            yield f"forged subject {number}: {words}: --json", (outputs[1].count("\n"), json.loads(outputs[1])["headline"]), (1, lines[0])
+    yield "the commas of a value", "CN=www.example.org\\, O=Example\\, C=CZ" in outputs[0], True
 
 
 def containers(v, root):
@@ -120,7 +148,7 @@ def containers(v, root):
     yield "the anchor itself", ([one["place"] for one in found[0]["path"]], found[0]["status"]), (["item 0"], 0)
     _, found, _ = v.json("rubbish.der", issuer.file, *anchors)
     yield "rubbish behind", (found[0]["status"], ["7 octets to the file's end" in one for one in found[0]["warnings"]]), (0, [True])
-    yield "a PKCS #7 file that is cut", v.run("cut.p7b", *anchors), (4, "", ["verify: cut.p7b: the END of a PKCS #7 block is missing"])
+    yield "a PKCS #7 file that is cut", v.run("cut.p7b", *anchors), (4, "", ["verify: cut.p7b block 1 (PKCS7): its END is missing; mend the file, or leave it out"])
 
 
 def words_of(v, root):
@@ -136,7 +164,7 @@ def words_of(v, root):
             ([leaf.file, *anchors, "--at", "2026-02-30"], 2, "--at 2026-02-30: no moment; write now"),
             ([leaf.file, *anchors, "--html", leaf.file], 2, f"--html {leaf.file}: this file is read"),
             (["nothing", *anchors], 4, "nothing: empty"), ([leaf.file, "notes", *anchors], 4, "notes: neither PEM nor DER"),
-            (["a folder", *anchors], 4, "a folder: it is a folder"), (["", *anchors], 4, "'': no such file"),
+            (["a folder", *anchors], 4, "cannot read a folder: it is a folder"), (["", *anchors], 4, "cannot read '': no such file"),
             ([leaf.file, "--anchors", "notes"], 4, "notes: neither PEM nor DER"),
             ([leaf.file, "--anchors", it.file], 4, f"{it.file}: holds no certificate, so no anchor"),
             ([leaf.file, "--anchors", "a folder"], 4, "a folder: its files hold no certificate"),
@@ -146,7 +174,7 @@ def words_of(v, root):
             ([leaf.file, *anchors, "--target", "abcd"], 4, "--target abcd: no such file, and neither a position")):
         found, text, told = v.run(*words)
         yield f"words {' '.join(words)[:60]}", (found, text, len(told), said in "".join(told)), (status, "", 1, True)
-    for word, said in (("2", f"item 2 ({it.file}): a revocation list, so no target\n"), ("3", "item 3: there is none; the files hold 3 items, so")):
+    for word, said in (("2", f"no target: item 2 ({it.file}): a revocation list\n"), ("3", "no target: item 3: there is none; the files hold 3 items\n")):
         status, text, _ = v.run(leaf.file, issuer.file, it.file, *anchors, "--target", word)
         yield f"the target {word}", (status, text.startswith(said)), (3, True)
 
@@ -160,7 +188,7 @@ def remains(v, root):
         words = [*files, "--anchors", os.path.join(v.shop.room, root.file), "--at", AT]
         environment = {**os.environ, "TMPDIR": folder}
         status = subprocess.run([*command, *words], cwd=own, env=environment, stdout=subprocess.DEVNULL).returncode
-        yield "what remains", (status, os.listdir(folder), os.listdir(own)), (0, [], [])
+        yield "what remains", (status, os.listdir(folder), os.listdir(own)), (1, [], [])
         with subprocess.Popen([*command, "-", *words], cwd=own, env=environment, stdin=subprocess.PIPE, stderr=subprocess.PIPE) as child:
             # (more than a pipe holds, so that the run reads once this is written)
             child.stdin.write(b"\n" * MORE_THAN_A_PIPE)
@@ -171,4 +199,4 @@ def remains(v, root):
 
 def jobs(v, root):
     """All of these, to be run side by side."""
-    return [lambda it=it: [*it(v, root)] for it in (targets, lists, names, containers, words_of, remains)]
+    return [lambda it=it: [*it(v, root)] for it in (targets, lists, names, forgeries, containers, words_of, remains)]

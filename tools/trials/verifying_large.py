@@ -133,9 +133,9 @@ def trials(shop, words, count, titles=SHORT, is_told=False):
             yield f"{title}: reasons", asked, {"no voucher", f"revoked by list {count}"}
         elif "--all" in title:
             lines = text.split("\n")
-            yield title, (status, sum("valid path to CN=Root" in it for it in lines)), (1, sum(outcome(it) == "path" for it in range(count)))
+            yield title, (status, sum(it.startswith("valid path at ") for it in lines)), (1, sum(outcome(it) == "path" for it in range(count)))
         else:
-            yield title, (status, text.split("\n")[0]), (0, f"CN=leaf: valid path to CN=Root at {AT}T00:00:00Z")
+            yield title, (status, text.split("\n")[0]), (0, f"valid path at {AT}T00:00:00Z: CN=leaf to CN=Root")
 
 
 def progress(shop, words, count):

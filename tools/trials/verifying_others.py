@@ -15,6 +15,7 @@ STAMP = "1780272000"
 LONG = {"begin": "20200101000000Z", "end": "20490101000000Z"}
 PAST = {"begin": "20200101000000Z", "end": "20251231235959Z"}
 ANSWERS = {True: "path", False: "none"}
+VERDICTS = {"valid path at ": "path", "path refused at ": "refused", "no valid path at ": "none"}
 CERTTOOL = shutil.which("certtool")
 
 
@@ -137,9 +138,8 @@ def trials(v, title, row, root):
     anchors = [word for it in case.anchors for word in ("--anchors", it.file)]
     files = [it.file for it in [*case.certificates, *case.lists]]
     status, text, _ = v.run(*files, *anchors, "--at", refusals.AT, *case.words)
-    answer = "path" if status == 0 else "none"
-    but = ", BUT" if " BUT " in text.split("\n")[0] else ""
-    yield f"{title}: ./verify", (f"{answer}{but}", row.named in text), (row.verify, True)
+    answer = next(word for words, word in VERDICTS.items() if text.startswith(words))
+    yield f"{title}: ./verify", (answer, status == 0, row.named in text), (row.verify, row.verify == "path", True)
 
 
 def every_reason(v, root):

@@ -16,6 +16,8 @@ from certpath import Certificate
 
 LIST = "X509 CRL"
 USAGE = ["usage: ./vouch BUNDLE ANCHORS [--weak] [--tries N] [--verbose] [--limit N] > vouchers.txt"]
+NOT_WHOLE, NO_ITEM = "the last item isn't whole", "what begins there is no item"
+NO_FIRST = f"{NO_ITEM}; of PEM files ./bundle makes items"
 SAMPLES = os.path.join(repo.TOP, "samples")
 NEITHER = octets("30(02(05))")
 # What begins no item, and what is the front of one.
@@ -34,7 +36,7 @@ def held(file):
 def samples(t):
     """The lines for the samples are those that samples/make.sh computes."""
     t.same("samples", t.run("vouch", [in_samples("bundle.der"), in_samples("root.der")]),
-           (0, held("vouchers.txt"), ["vouch: 4 items, 4 vouched for, 4 lines, 0 told"]))
+           (0, held("vouchers.txt"), ["vouch: 4 items, 4 vouched for, 4 lines, 0 reported"]))
     for pem_name, names in (("fullchain", ("leaf", "intermediate")), ("root", ("root",)), ("list", ("list",)), ("other_list", ("other_list",))):
         bundled = t.run("bundle", [in_samples(f"{pem_name}.pem")])[1]
         t.same(f"{pem_name}.pem", bundled, b"".join(held(f"{it}.der") for it in names))
@@ -77,17 +79,18 @@ def ends(t):
     root_line, number = line(shop.public("p256"), root), len(root)
     t.vouch("an empty bundle", [], [root], [])
     t.vouch("no files at all", [], [], [])
-    for end, word in ((CUT, "cut"), (FAULT, "fault")):
-        summary = "vouch: 1 item, 1 vouched for, 1 line, 1 told"
-        t.same(f"a {word} in the bundle", t.lines(word, [root, end], []), (1, root_line, [f"bundle: {word} at {number}", summary]))
-        t.same(f"a {word} in the anchors", t.lines(word, [root], [root, end]), (1, root_line, [f"anchors: {word} at {number}", summary]))
-        t.same(f"a {word} alone", t.lines(word, [end], []), (1, "", [f"bundle: {word} at 0", "vouch: 0 items, 0 vouched for, 0 lines, 1 told"]))
+    for end, word, what, at_first in ((CUT, "cut", NOT_WHOLE, NOT_WHOLE), (FAULT, "fault", NO_ITEM, NO_FIRST)):
+        summary = "vouch: 1 item, 1 vouched for, 1 line, 1 reported"
+        alone = [f"bundle: {word} at 0: {at_first}", "vouch: 0 items, 0 vouched for, 0 lines, 1 reported"]
+        t.same(f"a {word} in the bundle", t.lines(word, [root, end], []), (1, root_line, [f"bundle: {word} at {number}: {what}", summary]))
+        t.same(f"a {word} in the anchors", t.lines(word, [root], [root, end]), (1, root_line, [f"anchors: {word} at {number}: {what}", summary]))
+        t.same(f"a {word} alone", t.lines(word, [end], []), (1, "", alone))
     _, begin, end, _ = header_at(root, 0)
     limit = end - begin
     for words in (["--limit", str(limit)], [f"--limit=00{limit}"], ["--weak", "--limit", "4294967295"]):
-        t.same(f"the words {words}", t.lines("a limit", [root], [], *words), (0, root_line, ["vouch: 1 item, 1 vouched for, 1 line, 0 told"]))
+        t.same(f"the words {words}", t.lines("a limit", [root], [], *words), (0, root_line, ["vouch: 1 item, 1 vouched for, 1 line, 0 reported"]))
     t.same("a limit that is too small", t.lines("a limit", [root], [root], "--limit", str(limit - 1)),
-           (1, "", ["bundle: fault at 0", "anchors: fault at 0", "vouch: 0 items, 0 vouched for, 0 lines, 2 told"]))
+           (1, "", [f"bundle: fault at 0: {NO_FIRST}", f"anchors: fault at 0: {NO_FIRST}", "vouch: 0 items, 0 vouched for, 0 lines, 2 reported"]))
 
 
 def patched(t, setting):
@@ -116,17 +119,22 @@ def refusals(t):
     os.makedirs(os.path.join(t.shop.room, "folder"), exist_ok=True)
     both = ["root", "root"]
     for words in ([], ["root"], [*both, "root"], ["--help"], [*both, "--wake"], [*both, "--limit"], [*both, "--weak", "--weak"],
-                  [*both, "--limit", "1", "--limit", "1"], [*both, "--tries"], [*both, "--tries=1", "--tries", "1"], [*both, "-v", "--verbose"], ["-", "root"]):
+                  [*both, "--limit", "1", "--limit", "1"], [*both, "--tries"], [*both, "--tries=1", "--tries", "1"], [*both, "-v", "--verbose"], ["-", "root", "--"]):
         t.same(f"vouch {words}", t.run("vouch", words), (2, b"", USAGE))
+    t.same("vouch - -", t.run("vouch", ["-", "-"], root), (2, b"", ["vouch: standard input can be one file only"]))
     for number in ("4294967296", "3x", "", "+3", "-1", "1" * 5000, "٣"):
-        for option in ("--limit", "--tries"):
-            t.same(f"{option} {number:.20}", t.run("vouch", ["none", "none", option, number]), (2, b"", ["bad number"]))
-    t.same("--tries 00", t.run("vouch", ["none", "none", "--tries", "00"]), (2, b"", ["bad number"]))
+        shown = "''" if not number else number if len(number) < 200 else f"{number[:200]}.."
+        for option, least in (("--limit", 0), ("--tries", 1)):
+            told = f"vouch: {option} {shown}: no number from {least} to 4294967295"
+            t.same(f"{option} {number:.20}", t.run("vouch", ["none", "none", option, number]), (2, b"", [told]))
+    t.same("--tries 00", t.run("vouch", ["none", "none", "--tries", "00"]), (2, b"", ["vouch: --tries 00: no number from 1 to 4294967295"]))
+    missing = "no such file; is the name right?"
     for words in (["none", "root"], ["root", "none"]):
-        t.same(f"vouch {words}", t.run("vouch", words), (4, b"", ["cannot read none"]))
-    t.same("a name with control characters", t.run("vouch", ["\x1b[2J\r\n\x9b", "root"]), (4, b"", ["cannot read \\x1b[2J\\r\\n\\x9b"]))
-    t.same("a folder", t.run("vouch", ["folder", "root"]), (4, b"", ["cannot read folder"]))
-    t.same("standard input", t.run("vouch", ["/dev/stdin", "root"], root)[:2], (0, line(t.shop.public("p256"), root).encode()))
+        t.same(f"vouch {words}", t.run("vouch", words), (4, b"", [f"cannot read none: {missing}"]))
+    t.same("a name with control characters", t.run("vouch", ["\x1b[2J\r\n\x9b", "root"]), (4, b"", [f"cannot read \\x1b[2J\\r\\n\\x9b: {missing}"]))
+    t.same("a folder", t.run("vouch", ["folder", "root"]), (4, b"", ["cannot read folder: it is a folder; name its files"]))
+    for words in (["/dev/stdin", "root"], ["-", "root"], ["root", "-"]):
+        t.same(f"standard input: {words}", t.run("vouch", words, root)[:2], (0, line(t.shop.public("p256"), root).encode()))
     with open("/dev/full", "wb") as full:
         t.same("a full disk", t.run("vouch", ["two", "root"], output=full), (7, None, ["bundle 1: neither certificate nor list", "cannot write"]))
         t.same("a full disk for a bundle", t.run("bundle", ["root"], output=full), (7, None, ["cannot write"]))

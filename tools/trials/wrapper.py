@@ -272,10 +272,13 @@ def helps(room):
 def wrong_words(room):
     """Words that are no command are answered with a hint, and with no program or build."""
     status, output, error = room.certpath()
-    room.same("certpath", (status, output, error[0].startswith("usage: certpath")), (2, "", True))
+    room.same("certpath", (status, output, error), (2, "", [*usage.USAGE.splitlines(), usage.SEE]))
     for words, name in ((["pth"], "'path'"), (["frames", "x"], "'frame'"), (["-"], "'-'"),
                         (["--hlep"], "'--hlep'"), ([""], "''"), (["help", "pth"], "'path'"),
-                        (["--build", "x"], "--build"), (["path", "-", "-", "x"], "one file only")):
+                        (["verify", "x"], "./verify"), (["certpath"], "is a file"),
+                        (["x" * 5_000], f" '{'x' * 200}..';"), (["-" + "x" * 5_000], "x..';"),
+                        (["--build", "x"], "--build"), (["path", "-", "-", "x"], "one file only"),
+                        (["paths", "a", "b", "c", "--evidence=-"], "--evidence needs a file")):
         room.refuses(f"certpath {words}", words, 2, name, "./certpath --help", kind="builds")
 
 

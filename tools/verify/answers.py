@@ -1,7 +1,9 @@
 """What is answered of a target: the path or what stands in its way, and what one should know beside it."""
 from typing import NamedTuple
 
-from verify import reasons
+from functools import cached_property
+
+from verify import reasons, spelling
 from verify.core import Kind, Shown, certpath, fingerprint, name_of
 from verify.report import REVOKED, Link, Report
 
@@ -9,6 +11,13 @@ NOT_JUDGED = ("host names", "extended key usage", "name constraints", "policies"
 # So often `certpath why` is asked again, at most, about lists that aren't used.
 MOST_ASKED = 32
 YES, NO, UNKNOWN = "yes", "no", "unknown"
+# Outcomes beside those of `certpath why`.
+NO_TARGET, PATH_REFUSED = "no target", "refused"
+# What stands in the way where no certificate has the issuer's name, or only the certificate itself.
+MISSING, ITS_OWN = "no issuer here", "issued by itself"
+# So many certificates are shown whose names read like an issuer's.
+MOST_ALIKE = 3
+TYPES = {*spelling.TYPES.values()}
 # What stands against a list no more at another moment and with a voucher.
 MENDED = ("no voucher", "past next update", "not current before", "by another key")
 # What stands against a list that no key of its issuer's name vouches for.
@@ -40,14 +49,18 @@ class Unused(NamedTuple):
 
 
 class Edge(NamedTuple):
-    """A link of the graph, and the words of what is against it."""
+    """A link of the graph, and in few words what is against it."""
     of: Shown
     to: Shown
-    words: list
+    notes: list
 
 
 class Answer(NamedTuple):
-    """The answer for one target, or, where that is no certificate, what stands there instead."""
+    """The answer for one target, or, where that is no certificate, what stands there instead.
+
+    A path is refused where a list that isn't used may revoke one of its certificates, unless such lists are ignored. A target that has
+    no path may be an anchor itself.
+    """
     target: Shown
     instead: str
     outcome: str
@@ -60,24 +73,43 @@ class Answer(NamedTuple):
     unread: list
     warnings: list
     is_asked_why: bool
+    is_refused: bool
+    as_anchor: Shown
 
     def false_comfort(self):
         """The lists that aren't used and would revoke a certificate of the path, or may."""
         return [it for it in self.unused if it.revokes != NO] if self.path else []
 
-    def is_doubtful(self):
-        """Whether there is a path that a list which isn't used may speak against."""
-        return bool(self.path and (self.unread or self.false_comfort()))
+    def is_accepted(self):
+        """Whether there is a path that isn't refused."""
+        return bool(self.path) and not self.is_refused
+
+    def against(self):
+        """The places of certificates that something speaks against, and not against a link alone: they aren't usable, have no issuer, or are
+        revoked, or may be."""
+        if self.path:
+            return {it.of.place for it in self.false_comfort()}
+        return {it.of.place for it in self.obstacles if it.to is None or REVOKED.fullmatch(it.words)}
 
 
 def no_target(instead):
     """The answer where the target is no certificate."""
-    return Answer(None, instead, "no target", True, [], None, [], [], [], [], [], True)
+    return Answer(None, instead, NO_TARGET, True, [], None, [], [], [], [], [], True, False, None)
+
+
+def letters(name):
+    """What is alike of names that read alike, though their octets may differ (RFC 5280, 7.1)."""
+    return (*name_of(name).casefold().split(),)
 
 
 def alike(one, other):
-    """Whether two names read alike, though their octets may differ (RFC 5280, 7.1)."""
-    return one == other or name_of(one).casefold().split() == name_of(other).casefold().split()
+    """Whether two names read alike."""
+    return one == other or letters(one) == letters(other)
+
+
+def braced(text):
+    """A text that `format` leaves as it is."""
+    return text.replace("{", "{{").replace("}", "}}")
 
 
 class Judge:
@@ -86,6 +118,7 @@ class Judge:
     def __init__(self, given, room, signatures):
         self.bundle, self.anchors, self.room, self.signatures = given.bundle, given.anchors, room, signatures
         self.unread, self.is_single, self.asked, self.idle = [*given.unread_lists()], len(given.targets) == 1, 0, {}
+        self.ignores_unused = given.asked.ignores_unused
         self.pairs = {*signatures.vouchers.text().splitlines()}
         # the lists of each issuer, and the questions of each list
         self.lists, self.questions = {}, {position: [] for position in self.bundle.of_kind[Kind.LIST]}
@@ -104,9 +137,56 @@ class Judge:
         anchor = self.anchors.certificate(report.anchor) if report.path else None
         words = {**report.unused, **dict(self.of_other_keys(report))}
         unused = [self.unused(position, words[position], path, shown) for position in sorted(words)]
-        against, edges, weak = ([*it] for it in (self.obstacles(report), self.edges(report), self.weak(report)))
-        return Answer(shown, None, report.outcome, report.is_checked, path, anchor, against, edges, unused, self.unread, weak,
-                      is_asked or bool(path))
+        against, edges = [*self.obstacles(report)], [*self.edges(report)]
+        weak = [*self.weak(report), *self.weak_target(target)]
+        is_refused = bool(path) and not self.ignores_unused and (bool(self.unread) or any(it.revokes != NO for it in unused))
+        return Answer(shown, None, PATH_REFUSED if is_refused else report.outcome, report.is_checked, path, anchor, against, edges, unused,
+                      self.unread, weak, is_asked or bool(path), is_refused, None if path else self.as_anchor(target))
+
+    @cached_property
+    def named_anchors(self):
+        """The anchors' positions by their names and keys, which are all that counts of an anchor."""
+        items = ((it, self.anchors.items[it]) for it in reversed(self.anchors.of_kind[Kind.CERTIFICATE]))
+        return {(it.subject, it.public_key_bytes): position for position, it in items}
+
+    def as_anchor(self, target):
+        """The anchor that a certificate is itself, by its name and key; none where it is none."""
+        it = self.bundle.items[target]
+        position = self.named_anchors.get((it.subject, it.public_key_bytes))
+        return None if position is None else self.anchors.certificate(position)
+
+    @cached_property
+    def names(self):
+        """What reads names as OpenSSL does, none where that isn't there."""
+        return spelling.reader()
+
+    @cached_property
+    def by_letters(self):
+        """The certificates of both sides by the letters of their subjects, the first few of each."""
+        found = {}
+        for side in (self.bundle, self.anchors):
+            for position in side.of_kind[Kind.CERTIFICATE]:
+                places = found.setdefault(letters(side.items[position].subject), [])
+                if len(places) < MOST_ALIKE:
+                    places.append((side, position))
+        return found
+
+    def like_issuer(self, position):
+        """What is said of certificates whose names read like that of an issuer, of which there is no certificate."""
+        issuer, said = self.bundle.items[position].issuer, []
+        for side, other in self.by_letters.get(letters(issuer), ()):
+            it = side.certificate(other)
+            how = self.how(issuer, side.items[other].subject)
+            said.append(f"; {it.place} has one that reads alike, {how.format('here', 'there')} ({it.file})")
+        return "".join(said)
+
+    def how(self, one, other):
+        """In what two names differ that read alike, for two places to be filled in."""
+        found = self.names.difference(one, other) if self.names else None
+        if found is None:
+            return "in other octets {0} than {1}"
+        of = " a" if found.one in TYPES and found.other in TYPES else ""
+        return f"but its {found.attribute} is{of} {braced(found.one)} {{0}} and{of} {braced(found.other)} {{1}}"
 
     def steps(self, report):
         """The path's steps: the position of each certificate, and its issuer's certificate."""
@@ -132,7 +212,8 @@ class Judge:
     def edges(self, report):
         for node in report.nodes.values():
             for link, words in node.links.items():
-                yield Edge(self.bundle.certificate(node.position), self.end(link), words)
+                notes = [self.of_link(node.position, link, it).note or it for it in words]
+                yield Edge(self.bundle.certificate(node.position), self.end(link), notes)
 
     def obstacles(self, report):
         """All that `why` tells against the certificates and links that the target leads to."""
@@ -147,10 +228,11 @@ class Judge:
                 words = f"leads to an anchor with at most {node.most} below"
                 yield Obstacle(here, None, words, reasons.sentence(words))
             if node.is_missing:
-                found = reasons.sentence("no issuer here")
-                yield Obstacle(here, None, "no issuer here", found._replace(text=f"{found.text}, {here.issuer}"))
+                found = reasons.sentence(MISSING)
+                text = f"{found.text}, {here.issuer}{self.like_issuer(node.position)}"
+                yield Obstacle(here, None, MISSING, found._replace(text=text))
             elif [*node.links] == [Link(node.position, False)]:
-                yield Obstacle(here, None, "issued by itself", reasons.sentence("issued by itself"))
+                yield Obstacle(here, None, ITS_OWN, reasons.sentence(ITS_OWN))
 
     def of_link(self, position, link, words):
         """A reason against a link; where the signature isn't verified, OpenSSL's own words stand beside it, and beside a list its file."""
@@ -162,16 +244,22 @@ class Judge:
         key = (self.anchors if link.is_anchor else self.bundle).items[link.to].public_key_bytes
         weak, refused = (of.get(position, {}).get(key) for of in (self.signatures.weak, self.signatures.refused))
         if weak:
-            return found._replace(text=f"its signature is verified, but weak: {weak}", advice=TAKES_WEAK)
+            return found._replace(text=f"its signature is verified, but weak: {weak}", advice=TAKES_WEAK, note=f"weak signature: {weak}")
         return found._replace(text=f"{found.text} ({refused})") if refused else found
 
     def weak(self, report):
-        """A warning for each certificate of the path whose signature is weak."""
+        """A warning for each certificate of the path whose signature is weak, and for a target whose own key is."""
         for position, holder in self.steps(report):
             weak = self.signatures.weak.get(position, {}).get(holder.public_key_bytes)
             if weak:
                 it = self.bundle.certificate(position)
                 yield f"{it.place} {it.subject}: its signature is weak: {weak}"
+
+    def weak_target(self, target):
+        """A warning where the target's own key is weak, which is no matter of any signature of the path."""
+        weak, it = self.signatures.weak_key(self.bundle.items[target]), self.bundle.certificate(target)
+        if weak:
+            yield f"{it.place} {it.subject}: its own key is weak: {weak}; a target isn't refused for that"
 
     def unused(self, position, words, path, target):
         """A list that isn't used, and whether it would revoke a certificate of the path, or, where there is none, the target."""
@@ -182,15 +270,18 @@ class Judge:
         issued = [one for one in concerned if self.bundle.items[one.position].issuer == it.issuer]
         revokes, of = self.revokes(position, it, words, issued or concerned, bool(issued) and bool(path or self.is_single))
         words = [*words, OTHER_SPELLING] if concerned and not issued else words
-        sentences = [self.of_list(position, one) for one in words]
+        sentences = [self.of_list(position, one, concerned) for one in words]
         found = Unused(position, self.bundle.file(position), name_of(it.issuer), words, sentences, revokes, of)
         if not concerned:
             self.idle[position] = found
         return found
 
-    def of_list(self, position, words):
-        """A reason why a list isn't used."""
+    def of_list(self, position, words, concerned):
+        """A reason why a list isn't used for the certificates that it concerns."""
         found, weak = reasons.sentence(words), self.signatures.weak_by_any(position)
+        if words == OTHER_SPELLING:
+            how = self.how(self.bundle.items[position].issuer, self.bundle.items[concerned[0].position].issuer)
+            return found._replace(text=f"{found.text}, {how.format('in the list', 'in the certificate')}")
         if words == NO_KEY and weak:
             return found._replace(text=f"its signature is weak: {weak}", advice=TAKES_WEAK)
         return found

@@ -48,9 +48,17 @@ class Shown(NamedTuple):
 def name_of(name):
     """A name as text, in which what isn't printable is escaped; its octets where it has no text."""
     try:
-        return streams.shown(name.text) or "(empty)"
+        return escaped(name.text) or "(empty)"
     except certpath.BadName:
         return f"#{name.public_bytes().hex().upper()}"
+
+
+def escaped(text):
+    """A name's text in one line: what isn't printable, as ends of lines and what changes the direction of text, is a backslash and
+    two hex digits for each octet (RFC 4514, 2.4)."""
+    if text.isprintable():
+        return text
+    return "".join(it if it.isprintable() else "".join(f"\\{octet:02X}" for octet in it.encode(errors="backslashreplace")) for it in text)
 
 
 def fingerprint(octets):
@@ -87,7 +95,8 @@ class Side:
         return [f"{it.file}: an item of {len(it.octets)} octets, above the limit; left out" for it in self.too_large]
 
     def file(self, position):
-        return self.given[position].file
+        """The file of an item, fit for a terminal."""
+        return streams.shown(self.given[position].file)
 
     def certificate(self, position):
         """What is shown of a certificate. The last ones are kept."""

@@ -1,18 +1,17 @@
 """The items of the caller's files: ./bundle takes them out of PEM and DER, `openssl` unpacks the containers."""
-import errno
 import importlib.machinery
 import importlib.util
 import os
 import re
 import shlex
 import subprocess
-import sys
 import tempfile
 from typing import NamedTuple
 
+from pki import labels, reading
 from program import repo, streams
 from verify import waiting
-from verify.faults import UNREAD, Fault
+from verify.faults import NO_PROGRAM, UNREAD, Fault
 
 # Where systems keep their trust anchors, the first that is there.
 STORES = (
@@ -28,15 +27,13 @@ HEADER = rb"\x30(?:[\x00-\x80]|\x81.|\x82..|\x83.{3}|\x84.{4})"
 SIGNED_DATA, PLAIN_DATA = (re.escape(bytes.fromhex(it)) for it in ("06092a864886f70d010702", "06092a864886f70d010701"))
 DER_OF_SEVEN = re.compile(HEADER + SIGNED_DATA, re.S)
 DER_OF_TWELVE = re.compile(HEADER + rb"\x02\x01\x03" + HEADER + rb"(?:" + SIGNED_DATA + rb"|" + PLAIN_DATA + rb")", re.S)
-BEGIN_OF_SEVEN = re.compile(rb"-----BEGIN (PKCS7|PKCS #7 SIGNED DATA|CMS)-----")
 # So many PKCS #7 blocks of a PEM file are unpacked, each by a run of `openssl`.
 MOST_BLOCKS = 100
 SECONDS = 60
 # No file has more octets, so that an endless one ends.
 MOST_OCTETS = 1 << 28
-# The label of a PEM block, at the end of the words that say where it stands.
-LABEL = re.compile(r" block \d+ \(([^()]*)\)\Z")
-LIST_LABEL = "X509 CRL"
+# Labels of blocks that may hold certificates, and of those that may hold lists.
+OF_CERTIFICATES, OF_LISTS = {*labels.CERTIFICATES, *labels.SEVEN}, {labels.LIST, *labels.SEVEN}
 REMEDY = "mend the file, or leave it out"
 
 
@@ -47,27 +44,23 @@ class Item(NamedTuple):
 
 
 class LeftOut(NamedTuple):
-    """What was left out of a file: where it stood, why, nothing where ./verify has no use for such a thing, and how many items were
-    taken before it."""
+    """What was left out of a file: where it stood, why, nothing where ./verify has no use for such a thing; the label of the PEM
+    block that it was, none where it was none or isn't known; and how many items were taken before it."""
     where: str
     why: str
+    label: str
     before: int
 
     def __str__(self):
         return f"{self.where}: {self.why}; left out" if self.why else f"{self.where}: left out"
 
-    def label(self):
-        """The label of the PEM block that it was, none where it was none."""
-        found = LABEL.search(self.where)
-        return found and found[1]
-
     def is_list(self):
         """Whether it was to be a revocation list."""
-        return self.why is not None and self.label() == LIST_LABEL
+        return self.why is not None and self.label in OF_LISTS
 
     def is_certificate(self):
         """Whether it may have been a certificate."""
-        return self.why is not None and self.label() in (None, *CERTIFICATE_LABELS)
+        return self.why is not None and (self.label is None or self.label in OF_CERTIFICATES)
 
 
 class Held(NamedTuple):
@@ -86,47 +79,55 @@ def loaded(script):
 
 
 BUNDLING = loaded("bundle")
-CERTIFICATE_LABELS = {*BUNDLING.LABELS} - {LIST_LABEL}
 
 
 class Taken(BUNDLING.Bundle):
-    """Items as ./bundle takes them; what it would report is kept."""
+    """Items of a file as ./bundle takes them, and those of PKCS #7 blocks; what ./bundle would report is kept."""
 
-    def __init__(self):
+    def __init__(self, file):
         super().__init__()
-        self.kept = []
+        self.file, self.kept, self.unpacked = file, [], 0
 
-    def tell(self, where, why=None):
-        self.kept.append(LeftOut(where, why, len(self.items)))
+    def tell(self, where, why=None, label=None):
+        self.kept.append(LeftOut(where, why, label, len(self.items)))
 
-    def take(self, octets, where):
+    def take(self, octets, where, label=None):
         waiting.LINE.say(f"reading {streams.shown(where)}")
-        super().take(octets, where)
+        super().take(octets, where, label)
+
+    def take_other(self, where, label, lines):
+        if label not in labels.SEVEN:
+            self.tell(where, None, label)
+            return
+        self.unpacked += 1
+        if self.unpacked > MOST_BLOCKS:
+            raise Fault(UNREAD, f"{self.file}: more than {MOST_BLOCKS} PKCS #7 blocks; split it")
+        block = b"-----BEGIN PKCS7-----\n%s\n-----END PKCS7-----\n" % b"\n".join(lines.split())
+        self.add(Taken.of(where, of_seven(self.file, block, "PEM")))
+
+    def add(self, other):
+        """Takes what another one took, behind what this one has."""
+        self.kept += [it._replace(before=it.before + len(self.items)) for it in other.kept]
+        self.items += other.items
+        self.lists += other.lists
+
+    @classmethod
+    def of(cls, name, octets):
+        """What octets hold."""
+        taken = cls(name)
+        BUNDLING.take_file(taken, name, octets)
+        return taken
 
 
 def octets_of(file):
     """What a file holds; - is standard input."""
     try:
-        if file == "-":
-            found = sys.stdin.buffer.read(MOST_OCTETS + 1) if sys.stdin else b""
-        else:
-            with open(file, "rb") as it:
-                found = it.read(MOST_OCTETS + 1)
-    except (OSError, ValueError) as error:
-        raise Fault(UNREAD, unreadable(file, error)) from error
+        found = reading.octets_of(file, MOST_OCTETS + 1)
+    except reading.Unreadable as error:
+        raise Fault(UNREAD, str(error)) from error
     if len(found) > MOST_OCTETS:
         raise Fault(UNREAD, f"{file}: it has more than {MOST_OCTETS} octets; split it")
     return found
-
-
-def unreadable(file, error):
-    """Why a file can't be read, and what to do."""
-    number = getattr(error, "errno", None)
-    if number == errno.EISDIR:
-        return f"{file}: it is a folder; name its files (folders are for --anchors)"
-    if number == errno.ENOENT:
-        return f"{file or repr(file)}: no such file; is the name right?"
-    return f"{file}: cannot read it ({getattr(error, 'strerror', None) or 'not a file name'})"
 
 
 def in_shell(file, tail=""):
@@ -134,24 +135,26 @@ def in_shell(file, tail=""):
     return shlex.quote(f"{file}{tail}")
 
 
-def unpacked(words, octets):
+def unpacked(file, words, octets):
     """What `openssl` makes of octets that it reads from a file, none where it fails."""
     with tempfile.NamedTemporaryFile(prefix="verify-") as it:
         it.write(octets)
         it.flush()
         try:
             ran = subprocess.run(["openssl", *words, "-in", it.name], stdin=subprocess.DEVNULL, capture_output=True, timeout=SECONDS)
-        except (OSError, subprocess.TimeoutExpired):
-            return None
+        except OSError as error:
+            what = "PKCS #7" if words[0] == "pkcs7" else "PKCS #12"
+            raise Fault(NO_PROGRAM, f"{file}: {what} is unpacked by the command openssl, which isn't there; install it, or give PEM or DER") from error
+        except subprocess.TimeoutExpired as error:
+            raise Fault(UNREAD, f"{file}: openssl {words[0]} takes more than {SECONDS} s to unpack it; {REMEDY}") from error
     return ran.stdout if ran.returncode == 0 else None
 
 
 def of_seven(file, octets, form="DER"):
     """The PEM blocks of a PKCS #7 file."""
-    found = unpacked(["pkcs7", "-inform", form, "-print_certs"], octets)
+    found = unpacked(file, ["pkcs7", "-inform", form, "-print_certs"], octets)
     if found is None:
-        command = f"openssl pkcs7 -inform {form} -in {in_shell(file)} -print_certs -out {in_shell(file, '.pem')}"
-        raise Fault(UNREAD, f"{file}: PKCS #7 that can't be unpacked here; try: {command}")
+        raise Fault(UNREAD, f"{file}: PKCS #7 that openssl can't unpack, as it is damaged or isn't SignedData; {REMEDY}")
     return found
 
 
@@ -159,7 +162,7 @@ def of_twelve(file, octets):
     """The PEM blocks of a PKCS #12 file without a password, the certificate of its key first."""
     empty = ["-nokeys", "-passin", "pass:"]
     for further in ([], ["-legacy"]):
-        parts = [unpacked(["pkcs12", *empty, which, *further], octets) for which in ("-clcerts", "-cacerts")]
+        parts = [unpacked(file, ["pkcs12", *empty, which, *further], octets) for which in ("-clcerts", "-cacerts")]
         if None not in parts:
             return b"".join(parts)
     command = f"openssl pkcs12 -in {in_shell(file)} -nokeys -out {in_shell(file, '.pem')}"
@@ -170,31 +173,12 @@ def plain(file, octets):
     """The octets as ./bundle reads them."""
     if DER_OF_SEVEN.match(octets):
         return of_seven(file, octets)
-    if DER_OF_TWELVE.match(octets):
-        return of_twelve(file, octets)
-    return b"".join(with_seven(file, octets))
-
-
-def with_seven(file, octets):
-    """The parts of a PEM file, in which what PKCS #7 blocks hold stands in their place."""
-    at = blocks = 0
-    while (found := BEGIN_OF_SEVEN.search(octets, at)) is not None:
-        ending = b"-----END %s-----" % found[1]
-        end = octets.find(ending, found.end())
-        blocks += 1
-        if end < 0 or blocks > MOST_BLOCKS:
-            why = f"more than {MOST_BLOCKS} PKCS #7 blocks; split it" if blocks > MOST_BLOCKS else "the END of a PKCS #7 block is missing"
-            raise Fault(UNREAD, f"{file}: {why}")
-        yield octets[at:found.start()]
-        yield of_seven(file, b"-----BEGIN PKCS7-----%s-----END PKCS7-----\n" % octets[found.end():end], "PEM")
-        at = end + len(ending)
-    yield octets[at:]
+    return of_twelve(file, octets) if DER_OF_TWELVE.match(octets) else octets
 
 
 def taken_from(file):
     """What a file holds, if anything."""
-    taken = Taken()
-    BUNDLING.take_file(taken, file, plain(file, octets_of(file)))
+    taken = Taken.of(file, plain(file, octets_of(file)))
     return Held([Item(it, file) for it in taken.items], taken.kept)
 
 
@@ -237,7 +221,7 @@ def held_in(source):
     if source == "-" or not os.path.isdir(source):
         return held(source)
     parts = [*map(taken_from, files_in(source))]
-    left_out = [it for part in parts for it in part.left_out if part.items or it.label() in CERTIFICATE_LABELS]
+    left_out = [it for part in parts for it in part.left_out if part.items or it.label in OF_CERTIFICATES]
     return Held([it for part in parts for it in part.items], left_out)
 
 

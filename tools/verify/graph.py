@@ -12,15 +12,16 @@ def label(*lines):
 
 
 def node(it, answer, on_path):
-    against = [one.sentence.text for one in answer.obstacles if one.of == it and one.to is None]
+    said = [one.sentence.text for one in answer.obstacles if one.of == it and one.to is None]
     shape = "house" if it.is_anchor else "box"
-    look = 'color="darkgreen", penwidth=2' if on_path else 'color="firebrick"' if against else 'color="gray40"'
-    return f'  {quoted(it.place)} [shape={shape}, {look}, label="{label(it.place, it.subject, *against)}"];'
+    is_bad = bool(said) or it.place in answer.against()
+    look = 'color="firebrick"' if is_bad else 'color="darkgreen", penwidth=2' if on_path else 'color="gray40"'
+    return f'  {quoted(it.place)} [shape={shape}, {look}, label="{label(it.place, it.subject, *said)}"];'
 
 
 def edge(it, on_path):
-    look = 'color="darkgreen", penwidth=2' if on_path else 'color="firebrick", style=dashed' if it.words else 'color="gray40"'
-    return f'  {quoted(it.of.place)} -> {quoted(it.to.place)} [{look}, label="{label(*it.words)}"];'
+    look = 'color="darkgreen", penwidth=2' if on_path else 'color="firebrick", style=dashed' if it.notes else 'color="gray40"'
+    return f'  {quoted(it.of.place)} -> {quoted(it.to.place)} [{look}, label="{label(*it.notes)}"];'
 
 
 def text(answer, moment):

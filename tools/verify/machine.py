@@ -25,7 +25,7 @@ def of_list(it):
 def status_of(answer):
     if answer.target is None:
         return faults.NO_TARGET
-    return faults.PATH if answer.path else faults.NONE
+    return faults.PATH if answer.is_accepted() else faults.NONE
 
 
 def reasons_of(answer):

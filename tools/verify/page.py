@@ -26,7 +26,7 @@ small{color:var(--quiet)}
 svg{display:block;width:100%;max-width:36rem;height:auto;font:13px system-ui,sans-serif;fill:var(--text)}
 .box{fill:var(--card);stroke:var(--line)}
 .good .box{stroke:var(--good)}.bad .box{stroke:var(--bad);stroke-width:2}.anchor .box{stroke:var(--anchor)}
-.bar{fill:var(--good)}.bad .bar{fill:var(--bad)}.anchor .bar{fill:var(--anchor)}
+.bar{fill:var(--good)}.bar.late{fill:var(--bad)}.anchor .bar{fill:var(--anchor)}
 .place,.dates,.note{font-size:11px;fill:var(--quiet)}
 .arrow{stroke:var(--good);stroke-width:2;fill:none}.head{fill:var(--good)}
 .bad .arrow{stroke:var(--bad);stroke-dasharray:4 3}.bad .head,.bad .note{fill:var(--bad)}
@@ -69,21 +69,27 @@ def of_obstacle(it):
     return f"{'<br>'.join(map(escape, said))}<br><small>{escape(rule)}</small>"
 
 
+def why_not(answer):
+    """The lines of what stands in the way."""
+    if answer.is_refused or not answer.is_asked_why:
+        return map(escape, people.why_not(answer))
+    return map(of_obstacle, answer.obstacles[:people.MOST_OBSTACLES])
+
+
 def look(answer):
-    if not answer.path:
+    if not answer.is_accepted():
         return "bad"
-    return "doubt" if answer.is_doubtful() else "good"
+    return "doubt" if people.doubts(answer) else "good"
 
 
 def of_answer(answer, number, moment):
     """The part of one target."""
     found = [f'<section aria-labelledby="h{number}"><h1 id="h{number}" class="{look(answer)}">{escape(people.headline(answer, moment))}</h1>\n',
              picture.svg(answer, moment, number)]
+    if answer.target is not None and not answer.is_accepted():
+        found.append(listed("Why not", why_not(answer)))
     if answer.path:
         found.append("<h2>Path</h2>" + "".join(map(of_certificate, [*answer.path, answer.anchor])))
-    elif answer.target is not None:
-        lines = [*map(of_obstacle, answer.obstacles[:people.MOST_OBSTACLES])]
-        found.append(listed("Why not", lines if answer.is_asked_why else [escape(people.NOT_ASKED)]))
     found.append(listed("Warnings", map(escape, people.warnings(answer, moment, ()))))
     return "".join([*found, "</section>\n"])
 

@@ -5,12 +5,16 @@ import textwrap
 
 from program import streams
 from verify import times
-from verify.answers import NOT_JUDGED, UNKNOWN, YES
+from verify.answers import NO, NOT_JUDGED, YES
 
 COLUMNS = 96
 NOT_ASKED = "not asked, since many other targets were: ask about it alone, with --target"
+# What one can do where a list that isn't used stands in the way.
+REMEDY = "give a list that can be used with --lists and leave this one out, or accept the path with --ignore-unused-lists"
 # What counts of an anchor.
 OF_ANCHOR = "its name and key alone (RFC 5280, 6.1.1, d)"
+ANCHOR_ITSELF = ("an anchor is trusted as it stands, and needs no path; as a target it is judged like any certificate, "
+                 "its own signature and validity too")
 # So many reasons are printed for a target.
 MOST_OBSTACLES = 100
 GREEN, RED, YELLOW, BOLD, PLAIN = "\x1b[32m", "\x1b[31m", "\x1b[33m", "\x1b[1m", "\x1b[0m"
@@ -38,23 +42,24 @@ def doubt(unused):
 
 
 def doubts(answer):
-    """What lists that aren't used may say against a path, what is certain first."""
+    """What lists that aren't used say against a path, or may, what is certain first."""
     if not answer.path:
         return []
     found = answer.false_comfort()
-    told = [doubt(it) for it in sorted(found, key=lambda it: it.revokes != YES)]
-    return told + [f"whether a certificate of the path is revoked isn't known, as a list can't be read: {it}" for it in map(streams.shown, answer.unread)]
+    said = [doubt(it) for it in sorted(found, key=lambda it: it.revokes != YES)]
+    return said + [f"whether a certificate of the path is revoked isn't known, as a list can't be read: {it}" for it in map(streams.shown, answer.unread)]
 
 
 def headline(answer, moment):
-    """The first line: the subject and the answer, and what may not be overlooked."""
+    """The first line: the answer, before any text of a certificate, and the subject."""
     at = times.as_shown(moment)
     if answer.target is None:
-        return f"{streams.shown(answer.instead)}, so no target"
+        return f"no target: {streams.shown(answer.instead)}"
     if not answer.path:
-        return f"{answer.target.subject}: no valid path at {at}"
-    said, against = f"{answer.target.subject}: valid path to {answer.anchor.subject} at {at}", doubts(answer)
-    return f"{said}, BUT {against[0]}" if against else said
+        itself = f"{answer.as_anchor.place} itself: " if answer.as_anchor else ""
+        return f"no valid path at {at}: {itself}{answer.target.subject}"
+    ends = f"{answer.target.subject} to {answer.anchor.subject}"
+    return f"path refused at {at}, since {doubts(answer)[0]}: {ends}" if answer.is_refused else f"valid path at {at}: {ends}"
 
 
 def check_fault(answer):
@@ -112,7 +117,7 @@ def of_obstacle(it):
 
 def of_list(it):
     """The line of a list that isn't used."""
-    if it.revokes in (YES, UNKNOWN):
+    if it.revokes != NO:
         return doubt(it)
     return f"list {it.position} ({it.file}) of {it.issuer} isn't used: {causes(it)}"
 
@@ -127,18 +132,33 @@ def of_anchor(answer, moment):
 
 def of_answer(answer, moment):
     """Warnings of one answer alone."""
-    return [*check_fault(answer), *of_anchor(answer, moment), *answer.warnings]
+    return [*check_fault(answer), *of_anchor(answer, moment), *answer.warnings, *([ANCHOR_ITSELF] if answer.as_anchor else [])]
+
+
+def lists_beside(answer):
+    """The lists that aren't used, but for those for which the path is refused."""
+    return [it for it in answer.unused if not (answer.is_refused and it.revokes != NO)]
 
 
 def warnings(answer, moment, notes):
     """All that one should know beside the answer."""
     yield from of_answer(answer, moment)
-    yield from map(of_list, answer.unused)
+    yield from map(of_list, lists_beside(answer))
     yield from notes
+
+
+def why_refused(answer):
+    """The lines of what a path is refused for."""
+    for it in doubts(answer):
+        yield it
+    yield f"    {REMEDY}"
 
 
 def why_not(answer):
     """The lines of all that stands in the way."""
+    if answer.is_refused:
+        yield from why_refused(answer)
+        return
     if not answer.is_asked_why:
         yield NOT_ASKED
     for it in answer.obstacles[:MOST_OBSTACLES]:
@@ -149,11 +169,11 @@ def why_not(answer):
 
 def add_answer(made, answer, moment, is_single):
     """The first line of a target, and the reasons where it has no path; of a single target the path's certificates too."""
-    made.add(headline(answer, moment), RED if not answer.path else YELLOW if answer.is_doubtful() else GREEN)
+    made.add(headline(answer, moment), RED if not answer.is_accepted() else YELLOW if doubts(answer) else GREEN)
+    if answer.target is not None and not answer.is_accepted():
+        made.section("why not", why_not(answer))
     if is_single:
         made.section("path", (line for it in [*answer.path, answer.anchor] if it for line in of_certificate(it)))
-    if answer.target is not None and not answer.path:
-        made.section("why not", why_not(answer))
 
 
 def text(answers, moment, anchors, notes, coloured, is_single):
@@ -162,7 +182,7 @@ def text(answers, moment, anchors, notes, coloured, is_single):
     for it in answers:
         add_answer(made, it, moment, is_single)
         shared.update(dict.fromkeys(of_answer(it, moment)))
-        of_lists.update((id(one), one) for one in it.unused)
+        of_lists.update((id(one), one) for one in lists_beside(it))
         yield from made.taken()
     made.section("warnings", dict.fromkeys([*shared, *map(of_list, of_lists.values()), *notes]))
     made.section("anchors", [anchors])

@@ -24,7 +24,7 @@ def steps(answer):
         ways = [it for it in answer.edges if it.of == found[-1] and it.to not in found]
         if not ways:
             break
-        found.append(min(ways, key=lambda it: (len(it.words), not it.to.is_anchor)).to)
+        found.append(min(ways, key=lambda it: (len(it.notes), not it.to.is_anchor)).to)
     return found
 
 
@@ -39,23 +39,24 @@ class Scale:
         return BAR_LEFT + BAR_WIDTH * (moment.timestamp() - self.first) / self.length
 
 
-def box(it, top, scale, against):
-    """The box of a certificate."""
+def box(it, top, scale, moment, against):
+    """The box of a certificate. The bar of its validity is red where the moment is outside, whatever else is against it."""
     look = "bad" if against else "anchor" if it.is_anchor else "good"
     begin, end = scale.at(it.begin), scale.at(it.end)
+    bar = "bar" if it.begin <= moment <= it.end else "bar late"
     dates = f"{it.begin:%Y-%m-%d} to {it.end:%Y-%m-%d}{', not judged' if it.is_anchor else ''}"
     return (f'<g class="{look}"><title>{escape(it.place)}: {escape(it.subject)}; valid {dates}</title>'
             f'<rect class="box" x="{EDGE}" y="{top}" width="{WIDTH - 2 * EDGE}" height="{BOX}" rx="6"/>'
             f'<text class="place" x="20" y="{top + 18}">{escape(it.place)}{" &#10007;" if against else ""}</text>'
             f'<text x="20" y="{top + 37}">{escape(shortened(it.subject))}</text>'
-            f'<rect class="bar" x="{begin:.1f}" y="{top + BAR_TOP}" width="{max(end - begin, 1.5):.1f}" height="{BAR_HEIGHT}" rx="3"/>'
+            f'<rect class="{bar}" x="{begin:.1f}" y="{top + BAR_TOP}" width="{max(end - begin, 1.5):.1f}" height="{BAR_HEIGHT}" rx="3"/>'
             f'<text class="dates" x="20" y="{top + 67}">{dates}</text></g>')
 
 
-def arrow(top, words):
+def arrow(top, notes):
     """The step from a certificate to its issuer."""
-    middle, look = WIDTH // 2, "bad" if words else "good"
-    note = f'<text class="note" x="{middle + 12}" y="{top + 17}">{escape(shortened(words[0]))}</text>' if words else ""
+    middle, look = WIDTH // 2, "bad" if notes else "good"
+    note = f'<text class="note" x="{middle + 12}" y="{top + 17}">{escape(shortened(notes[0]))}</text>' if notes else ""
     return (f'<g class="{look}"><path class="arrow" d="M{middle} {top}V{top + GAP - 7}"/>'
             f'<path class="head" d="M{middle - 5} {top + GAP - 8}h10l-5 7z"/>{note}</g>')
 
@@ -66,14 +67,14 @@ def svg(answer, moment, number):
     if not found:
         return ""
     scale, height = Scale(found, moment), len(found) * (BOX + GAP) + 8
-    against = {it.of.place for it in answer.obstacles if it.to is None} if not answer.path else set()
-    words, places = {(it.of.place, it.to.place): it.words for it in answer.edges}, [it.place for it in found]
+    against = answer.against()
+    notes, places = {(it.of.place, it.to.place): it.notes for it in answer.edges}, [it.place for it in found]
     at = scale.at(moment)
     anchored = "end" if at > WIDTH / 2 else "start"
     # (the boxes hide the line where names stand)
     parts = [f'<g class="moment"><path class="all" d="M{at:.1f} 14V{height - GAP}"/></g>']
-    parts += [box(it, 18 + k * (BOX + GAP), scale, it.place in against) for k, it in enumerate(found)]
-    parts += [arrow(18 + BOX + k * (BOX + GAP), words.get(step, [])) for k, step in enumerate(zip(places, places[1:]))]
+    parts += [box(it, 18 + k * (BOX + GAP), scale, moment, it.place in against) for k, it in enumerate(found)]
+    parts += [arrow(18 + BOX + k * (BOX + GAP), notes.get(step, [])) for k, step in enumerate(zip(places, places[1:]))]
     marks = "".join(f"M{at:.1f} {18 + k * (BOX + GAP) + BAR_TOP - MARK}v{BAR_HEIGHT + 2 * MARK}" for k in range(len(found)))
     parts.append(f'<g class="moment"><path d="{marks}"/><text x="{at:.1f}" y="11" text-anchor="{anchored}">{times.as_shown(moment)}</text></g>')
     said = "; then ".join(f"{it.place} {it.subject}, valid {it.begin:%Y-%m-%d} to {it.end:%Y-%m-%d}" for it in found)

@@ -18,10 +18,12 @@ ASK_EARLIER = "ask about another moment with --at, or get a renewed one"
 
 
 class Sentence(NamedTuple):
-    """A reason as a sentence, the section of its rule, and what one can do; nothing where that is plain."""
+    """A reason as a sentence, the section of its rule, what one can do, nothing where that is plain, and what a picture has room for, where
+    the words of `certpath why` say it in terms of their own."""
     text: str
     rule: str
     advice: str = ""
+    note: str = ""
 
 
 class Form(NamedTuple):
@@ -30,8 +32,8 @@ class Form(NamedTuple):
     sentence: Sentence
 
 
-def form(words, text, rule, advice=""):
-    return Form(re.compile(words), Sentence(text, rule, advice))
+def form(words, text, rule, advice="", note=""):
+    return Form(re.compile(words), Sentence(text, rule, advice, note))
 
 
 FORMS = (
@@ -44,16 +46,17 @@ FORMS = (
     form(r"extension (\d+) keyUsage without keyCertSign", "its keyUsage doesn't allow it to sign certificates", "RFC 5280, 6.1.4, n"),
     form(r"extension (\d+) (nameConstraints)", "it has name constraints", "RFC 5280, 6.1.4, g", NOT_JUDGED),
     form(r"extension (\d+) (policyConstraints)", "it has policy constraints", "RFC 5280, 6.1.4, i", NOT_JUDGED),
-    form(r"no voucher", "its signature isn't verified by that key", "RFC 5280, 6.1.3, a, 1"),
-    form(r"key identifiers differ", "its authority key identifier names another key", "RFC 5280, 4.2.1.1"),
+    form(r"no voucher", "its signature isn't verified by that key", "RFC 5280, 6.1.3, a, 1", note="signature not verified"),
+    form(r"key identifiers differ", "its authority key identifier names another key", "RFC 5280, 4.2.1.1", note="names another key"),
     form(r"revoked by list (\d+)", "revoked by list {0}", "RFC 5280, 6.1.3, a, 3"),
-    form(r"no list used", "lists are demanded, and no list of that issuer is used", "RFC 5280, 6.1.3, a, 3", "give a current list with --lists"),
+    form(r"no list used", "lists are demanded, and no list of that issuer is used", "RFC 5280, 6.1.3, a, 3", "give a current list with --lists",
+         "no list of its issuer is used"),
     form(r"no voucher by a key of its issuer", "no key of its issuer's name verifies its signature", "RFC 5280, 6.3.3, g"),
     form(r"by another key of its issuer", "another key of its issuer signed it than the one that signed the certificate", "docs/RULES.md, lists"),
-    form(r"issuer spelled otherwise", "its issuer's name has other octets than the certificate has there", "RFC 5280, 6.3.3, a and b"),
+    form(r"issuer spelled otherwise", "its issuer's name reads like the certificate's issuer", "RFC 5280, 6.3.3, a and b"),
     form(r"no next update", "it has no next update", "RFC 5280, 5.1.2.5"),
     form(r"not current before (\S+)", "it isn't current before {0}Z", "RFC 5280, 5.1.2.4"),
-    form(r"past next update (\S+)", "its next update was due at {0}Z", "RFC 5280, 5.1.2.5", "get the current list"),
+    form(r"past next update (\S+)", "its next update was due at {0}Z", "RFC 5280, 5.1.2.5"),
     form(r"extension (\d+) critical (\S+)", "it has the critical extension {1}", "RFC 5280, 5.2"),
     form(r"entry (\d+) has a critical extension", "its entry {0} has a critical extension", "RFC 5280, 5.3"),
     form(r"leads to an anchor with at most (\d+) below", "path lengths allow at most {0} certificates below it, and more stand there",

@@ -4,16 +4,17 @@ import signal
 import tempfile
 from itertools import islice
 
+from pki import reading
 from pki.shapes import LIST, kind_of
-from program import streams
+from program import repo, streams
 from program.streams import counted
-from verify import answers, asking, core, faults, files, graph, machine, page, people, signing, waiting, words
+from verify import answers, asking, core, faults, files, graph, machine, page, people, signing, spelling, waiting, words
 from verify.core import Kind
 from verify.faults import Fault
 from verify.report import Report, answers_of
 
 OTHER = "neither a certificate nor a list in its one spelling"
-CAUSES = "docs/OTHER.md has the causes"
+CAUSES = f"the causes stand in {os.path.join(repo.TOP, 'docs', 'OTHER.md')}"
 # So many targets without a path are asked about, why; fewer where the items have so many octets that it would take minutes.
 MOST_WHYS, MOST_WHY_OCTETS = 100, 200_000_000
 # Where there are no more questions than these, none is left out for one target's sake.
@@ -32,7 +33,8 @@ class Given:
         self.first = files.held(asked.files[0])
         further, lists = ([files.held(it) for it in of] for of in (asked.files[1:], asked.lists))
         self.named = files.held(asked.target) if self.is_file(asked.target) else None
-        parts = [self.first, *further, *lists, *([self.named] if self.named else [])]
+        self.of_files = [self.first, *further]
+        parts = [*self.of_files, *lists, *([self.named] if self.named else [])]
         found = files.anchors_of(asked.anchors)
         # (revocation lists in files of anchors are lists like others)
         items = [it for part in parts for it in part.items] + [it for it in found.items if self.is_list(it.octets)]
@@ -53,7 +55,7 @@ class Given:
         if word is None or is_position(word) or is_fingerprint(word) and not os.path.exists(word):
             return False
         if not os.path.exists(word):
-            raise Fault(faults.UNREAD, f"--target {word}: no such file, and neither a position nor a SHA-256 fingerprint of 64 hex digits")
+            raise Fault(faults.UNREAD, f"--target {reading.shortened(word)}: no such file, and neither a position nor a SHA-256 fingerprint of 64 hex digits")
         return True
 
     def all_targets(self):
@@ -62,10 +64,11 @@ class Given:
         if word is not None and self.named is None:
             return [self.position_of(word)]
         part, name = (self.named, word) if self.named else (self.first, self.asked.files[0])
-        lost = [it for it in part.left_out if it.is_certificate()]
+        parts = self.of_files if self.asked.is_all else [part]
+        lost = [it for one in parts for it in one.left_out if it.is_certificate()]
         positions = {self.bundle.items.octets(it): it for it in range(len(self.bundle.items))}
-        found = [self.target(positions[it.octets]) if it.octets in positions else f"{name}: an item above the limit"
-                 for it in part.items if not self.is_list(it.octets)]
+        found = dict.fromkeys(self.target(positions[it.octets]) if it.octets in positions else f"{it.file}: an item above the limit"
+                              for one in parts for it in one.items if not self.is_list(it.octets))
         if not found:
             raise Fault(faults.NO_TARGET, f"{name}: it holds {self.what_is_there(part)}no certificate, so no target")
         if self.asked.is_all:
@@ -73,7 +76,7 @@ class Given:
         at = next(number for number, it in enumerate(part.items) if not self.is_list(it.octets))
         if lost and lost[0].before <= at:
             raise Fault(faults.UNREAD, f"{lost[0].where}: {lost[0].why}; it would be the target: mend it, or name another one with --target")
-        return found[:1]
+        return [*found][:1]
 
     @staticmethod
     def is_list(octets):
@@ -85,7 +88,7 @@ class Given:
         """What a file without a certificate holds."""
         if part.items:
             return "revocation lists and "
-        labels = dict.fromkeys(it.label() for it in part.left_out if it.label())
+        labels = dict.fromkeys(it.label for it in part.left_out if it.label)
         return f"{', '.join(labels)} and " if labels else ""
 
     def target(self, position):
@@ -128,13 +131,21 @@ class Given:
             yield f"{len(lines) - MOST_LEFT_OUT} more were left out"
         for side, name in ((self.bundle, "item"), (self.anchors, "anchor")):
             for it in side.of_kind[Kind.OTHER][:MOST_LEFT_OUT]:
-                yield f"{name} {it} ({side.file(it)}, SHA-256 {core.fingerprint(side.items.octets(it))}): {OTHER}, so not used; {CAUSES}"
+                digest = core.fingerprint(side.items.octets(it))
+                yield f"{name} {it} ({side.file(it)}, SHA-256 {digest}){called(side.items.octets(it))}: {OTHER}, so not used; {CAUSES}"
 
     def anchors_line(self):
         """How many anchors there are, and from where."""
         count = len(self.anchors.of_kind[Kind.CERTIFICATE])
         store = " (the system's store)" if self.is_system else ""
         return f"{counted(count, 'certificate')} of {', '.join(self.sources)}{store}"
+
+
+def called(octets):
+    """By which name OpenSSL calls a certificate that is other, since the proved reader shows no field of it."""
+    reader = spelling.reader()
+    subject = reader.subject(octets) if reader else None
+    return f", to OpenSSL {subject}" if subject else ""
 
 
 def is_position(word):

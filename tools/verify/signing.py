@@ -11,11 +11,16 @@ NOT_TRIED = f"not tried: more than {MOST_TRIES} keys have its issuer's name"
 
 
 class Signatures(NamedTuple):
-    """What OpenSSL says: vouchers; and by an item's position and a key's octets in which words a verified signature is weak, and why others
-    aren't verified."""
+    """What OpenSSL says: vouchers; by an item's position and a key's octets in which words a verified signature is weak, and why others
+    aren't verified; and what asks it."""
     vouchers: object
     weak: dict
     refused: dict
+    openssl: object
+
+    def weak_key(self, certificate):
+        """In which words the key of a certificate is weak, none where it isn't."""
+        return self.openssl.key(certificate.public_key_bytes).weak
 
     def weak_by_any(self, item):
         """In which words an item's signature is weak by the first key that verifies it, none where it isn't."""
@@ -24,10 +29,10 @@ class Signatures(NamedTuple):
 
 def signatures(bundle, anchors, questions, takes_weak):
     """Asks OpenSSL each of the questions."""
-    found = Signatures(certpath.Vouchers(), {}, {})
     tries = max(len(questions), 1) if len(questions) <= FEW_QUESTIONS else MOST_TRIES
     try:
-        verdicts = certpath.openssl.answers(bundle.items, anchors.items, questions, tries)
+        found = Signatures(certpath.Vouchers(), {}, {}, certpath.openssl.verifier())
+        verdicts = certpath.openssl.answers(bundle.items, anchors.items, questions, tries, found.openssl)
         for verdict in waiting.counted("verifying signatures", verdicts, len(questions)):
             item, key = verdict.question.item, verdict.question.key_holder(bundle.items, anchors.items).public_key_bytes
             if verdict.is_taken(takes_weak):

@@ -2,9 +2,10 @@
 import re
 from datetime import datetime, timezone
 
+from pki import reading
 from verify.faults import WORDS, Fault
 
-FORM = re.compile(r"(\d{4}-\d\d-\d\d)(?:[T ](\d\d:\d\d(?::\d\d)?)(Z|[+-]\d\d:\d\d)?)?", re.ASCII)
+FORM = re.compile(r"(\d{4}-\d\d-\d\d)(?:[T ](\d\d:\d\d(?::\d\d)?))?(Z|[+-]\d\d:\d\d)?", re.ASCII)
 EXAMPLES = "now, 2026-06-01, 2026-06-01T12:00:00, 2026-06-01T12:00:00Z or 2026-06-01T12:00:00+02:00"
 
 
@@ -19,7 +20,7 @@ def moment_of(word):
         offset = "+00:00" if parts[3] in (None, "Z") else parts[3]
         return datetime.fromisoformat(f"{parts[1]}T{parts[2] or '00:00'}{offset}").astimezone(timezone.utc)
     except (ValueError, OverflowError) as error:
-        raise Fault(WORDS, f"--at {word}: no moment; write {EXAMPLES}") from error
+        raise Fault(WORDS, f"--at {reading.shortened(word)}: no moment; write {EXAMPLES}") from error
 
 
 def as_asked(moment):

@@ -4,6 +4,7 @@ import difflib
 import os
 from typing import NamedTuple
 
+from pki import reading
 from verify import times
 from verify.faults import WORDS, Fault
 
@@ -15,11 +16,23 @@ with intermediate certificates and revocation lists in any order; - is standard 
 that of `certpath why`, and signatures are verified by OpenSSL. docs/VERIFY.md has the whole text.
 """
 ENDS = """\
-Exit status: 0 every target has a path; 1 one has none; 2 wrong words; 3 the target is no certificate;
+Exit status: 0 every target has a path; 1 one has none, or it is refused; 2 wrong words; 3 the target is no certificate;
 4 a file can't be read, or holds no anchor; 6 out of memory; 7 standard output fails; 70 no program
 could be run.
 """
 LARGEST = 4294967295
+# Words of other verifiers, and what goes for them.
+OF_OTHERS = (
+    (("cafile", "capath", "trusted", "roots", "root", "ca", "cacert", "load-ca-certificate"), "; trust anchors are named by --anchors"),
+    (("untrusted", "intermediate", "intermediates", "chain"), "; further certificates are further FILEs"),
+    (("crl", "crls", "crlfile", "load-crl"), "; revocation lists are further FILEs, or --lists"),
+    (("crl-check", "crl-check-all"), "; --demand-lists wants a list of each issuer"),
+    (("attime", "time", "date"), "; the moment is --at"),
+    (("host", "hostname", "verify-host", "verify-hostname", "servername", "email", "ip", "verify-ip", "purpose", "sslserver"),
+     ": neither names of hosts nor purposes are judged"),
+)
+# So like must two options be that one is named for the other, and so many letters begin one.
+LIKENESS, LEAST = 0.75, 3
 
 
 class Words(NamedTuple):
@@ -32,6 +45,7 @@ class Words(NamedTuple):
     moment: object
     demands_lists: bool
     takes_weak: bool
+    ignores_unused: bool
     limit: str
     form: str
     page: str
@@ -41,39 +55,52 @@ class Parser(argparse.ArgumentParser):
     """Says what is wrong in one line."""
 
     def error(self, message):
-        raise Fault(WORDS, f"{message}; see ./verify --help")
+        raise Fault(WORDS, f"{reading.shortened(message)}; see ./verify --help")
 
-    def unknown(self, words):
-        """Says which word is no option, and which one is like it."""
-        word = next((it for it in words if it.startswith("-")), words[0])
+    def refuse_unknown(self, words):
+        """Ends the run where a word looks like an option and is none; says what goes for it."""
         options = [it for action in self._actions for it in action.option_strings]
-        near = difflib.get_close_matches(word.partition("=")[0], options, 1)
-        self.error(f"there is no option {word}{f', the most similar one is {near[0]}' if near else ''}")
+        for word in words:
+            name = word.partition("=")[0]
+            if word.startswith("-") and word != reading.STANDARD_INPUT and name not in options:
+                self.error(f"there is no option {reading.shortened(name)}{instead(name, options)}")
+
+
+def instead(name, options):
+    """What goes for a word that is no option: by the words of other verifiers, or by the letters."""
+    word = name.lstrip("-").lower().replace("_", "-")
+    known = next((said for words, said in OF_OTHERS if word in words), None)
+    if known is not None:
+        return known
+    near = [it for it in options if len(word) >= LEAST and it.startswith(f"--{word}")] or difflib.get_close_matches(f"--{word}", options, 1, LIKENESS)
+    return f", the most similar one is {near[0]}" if near else ""
 
 
 def number(word):
     """A number as `certpath` takes it."""
     if not (word.isascii() and word.isdigit() and len(word.lstrip("0")) <= 10 and int(word) <= LARGEST):
-        raise argparse.ArgumentTypeError(f"{word} is no number from 0 to {LARGEST}")
+        raise argparse.ArgumentTypeError(f"{reading.shortened(word)} is no number from 0 to {LARGEST}")
     return word
 
 
 def parser():
-    made = Parser("./verify", description=ABOUT, epilog=ENDS, allow_abbrev=False, formatter_class=argparse.RawDescriptionHelpFormatter)
-    made.add_argument("files", metavar="FILE", nargs="+", help="certificates and lists, the target first; - is standard input")
+    made = Parser("./verify", usage="./verify [OPTIONS] FILE..", description=ABOUT, epilog=ENDS, allow_abbrev=False, formatter_class=argparse.RawDescriptionHelpFormatter)
+    made.add_argument("files", metavar="FILE", nargs="*", help="certificates and lists, the target first; - is standard input")
     which = made.add_mutually_exclusive_group()
     which.add_argument("--target", metavar="FILE|SHA256|N",
                        help="another target: a file's first certificate, a fingerprint, or a position from 0")
-    which.add_argument("--all", dest="is_all", action="store_true", help="every certificate of the first FILE is a target")
+    which.add_argument("--all", dest="is_all", action="store_true", help="every certificate of every FILE is a target")
     made.add_argument("--anchors", metavar="FILE|FOLDER", action="append", default=[],
                       help="trust anchors; the system's store where it isn't given")
     made.add_argument("--lists", metavar="FILE", action="append", default=[],
-                      help="revocation lists, or more certificates")
+                      help="revocation lists, or more certificates, which are no targets of --all")
     made.add_argument("--at", dest="moment", metavar="TIME", default="now",
                       help=f"the moment of the question, in UTC: {times.EXAMPLES} [default: now]")
     made.add_argument("--demand-lists", dest="demands_lists", action="store_true",
                       help="each certificate needs a revocation list of its issuer")
-    made.add_argument("--weak", dest="takes_weak", action="store_true", help="accept MD5, SHA-1 and short keys, and warn of them")
+    made.add_argument("--weak", dest="takes_weak", action="store_true", help="accept signatures with MD5, SHA-1 or a signing key worth fewer than 112 bits of security, and warn of them")
+    made.add_argument("--ignore-unused-lists", dest="ignores_unused", action="store_true",
+                      help="accept a path also where a list that isn't used may revoke a certificate of it")
     made.add_argument("--limit", metavar="N", type=number, help="the most content octets of an item [default: 16777216]")
     form = made.add_mutually_exclusive_group()
     form.add_argument("--quiet", dest="form", action="store_const", const="quiet", help="print nothing; the status is the answer")
@@ -91,14 +118,22 @@ def is_same(one, other):
         return False
 
 
+def split(words):
+    """The words up to --, and the files behind it."""
+    at = words.index("--") if "--" in words else len(words)
+    return words[:at], words[at + 1:]
+
+
 def read(words):
     """The words of the command line; ends the run with the help where they ask for it."""
-    if not words:
-        raise Fault(WORDS, "a FILE is missing; see ./verify --help")
     made = parser()
-    given, unknown = made.parse_known_args(words)
-    if unknown:
-        made.unknown(unknown)
+    options, files = split(words)
+    made.refuse_unknown(options)
+    given, further = made.parse_known_args(options)
+    # (what argparse doesn't know are FILEs that stand behind options)
+    given.files += [*further, *files]
+    if not given.files:
+        made.error("a FILE is missing")
     if [*given.files, *given.lists, *given.anchors].count("-") > 1:
         raise Fault(WORDS, "standard input can be one file only")
     if given.page == "-" and given.form:
