@@ -91,6 +91,7 @@ CASES = (
       "none: empty; left out",
       "bundle: 3 items (2 certificates, 1 list), 6 left out"], 1),
     ({}, [], b"", ["usage: ./bundle FILE.. > bundle.der"], 2),
+    ({}, ["-", "leaf", "-"], b"", ["bundle: standard input can be one file only"], 2),
     ({}, ["leaf", "missing"], b"", [f"cannot read missing: {NO_FILE}"], 4),
     ({}, ["leaf", ""], b"", [f"cannot read '': {NO_FILE}"], 4),
     ({}, ["."], b"", ["cannot read .: it is a folder; name its files"], 4),

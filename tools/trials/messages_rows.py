@@ -57,6 +57,8 @@ WORDS = (
         f"{GOOD} --at 2026-06-01T12:00:00+02:00"),
     Row("verify leaf.pem --limit 3x", 2, ("argument --limit: 3x is no number from 0 to 4294967295",), f"{GOOD} --limit 4294967295"),
     Row("verify leaf.pem --json --quiet", 2, ("argument --quiet: not allowed with argument --json",), f"{GOOD} --json"),
+    Row("verify leaf.pem --json=x", 2, (f"verify: --json takes no value{SEE}",), f"{GOOD} --json"),
+    Row("bundle - -", 2, ("bundle: standard input can be one file only",), "./bundle - < leaf.pem"),
     Row("verify leaf.pem --at", 2, ("argument --at: expected one argument",), f"{GOOD} --at now"),
     Row("verify - --anchors -", 2, ("verify: standard input can be one file only",), GOOD),
     Row(f"{GOOD} --html - --json", 2, ("verify: --html - and --json can't both have standard output",), f"{GOOD} --html page.html --json"),

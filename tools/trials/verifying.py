@@ -59,6 +59,7 @@ TIMES = {
     "2026-06-01": "2026-06-01T00:00:00Z", "2026-06-01T12:30": "2026-06-01T12:30:00Z", "2026-06-01 12:30:01": "2026-06-01T12:30:01Z",
     "2026-06-01Z": "2026-06-01T00:00:00Z", "2026-06-01T12:30:00Z": "2026-06-01T12:30:00Z", "2026-06-01T12:30:00+02:00": "2026-06-01T10:30:00Z",
 }
+HEADERS = "/usr/include/openssl/evp.h"
 RUNS, STORE = 4, "/etc/ssl/certs/ca-certificates.crt"
 CONTROL = re.compile(r"[\x00-\x09\x0b-\x1f\x7f-\x9f]")
 
@@ -314,6 +315,17 @@ def looks(v, root):
         yield f"the picture's words of {title}", (f">{note}</text>" in text, ">no voucher<" in text), (True, False)
 
 
+def example():
+    """The example in C ends in a path, and leaves no file in the repository."""
+    if shutil.which("cc") is None or not os.path.exists(HEADERS):
+        print("verifying: no C compiler or no headers of OpenSSL, so examples/c/run.sh is not run")
+        return
+    before = sorted(os.listdir(repo.TOP))
+    ran = subprocess.run([os.path.join(repo.TOP, "examples", "c", "run.sh")], stdin=subprocess.DEVNULL, capture_output=True)
+    ends = ran.stdout.decode().splitlines()[-2:]
+    yield "examples/c/run.sh", (ran.returncode, ends, sorted(os.listdir(repo.TOP))), (0, ["path 0 1 anchor 0", "check yes"], before)
+
+
 def of_system(v):
     """The system's store against itself: each certificate has a path to itself, or a reason with its rule."""
     if not os.path.isfile(STORE):
@@ -346,7 +358,7 @@ def main():
         jobs = [lambda it=it: [*kinds(v, it)] for it in KINDS]
         jobs += [lambda it=it: [*refused(v, it, root)] for it in refusals.CASES]
         jobs += [lambda: [*crossed(v)], lambda: [*other_key(v, root)], lambda: [*forms(v, chain)], lambda: [*words_of(v, chain)],
-                 lambda: [*pages(v, chain, root)], lambda: [*looks(v, root)], lambda: [*of_system(v)], lambda: [*large(v)]]
+                 lambda: [*pages(v, chain, root)], lambda: [*looks(v, root)], lambda: [*of_system(v)], lambda: [*example()], lambda: [*large(v)]]
         jobs += [*verifying_others.jobs(v, root), *verifying_faults.jobs(v, root)]
         for found in runs.map(lambda job: job(), jobs):
             for title, is_so, should_be in found:

@@ -102,8 +102,8 @@ def names(v, root):
         yield f"hostile name {number}", (status, seen, outputs[1].isascii()), (0, [], True)
 
 
-FORGED = "valid path at 2026-06-01T00:00:00Z: CN=good to CN=Root"
-FORGERIES = (f"/CN=x\n{FORGED}", f"/CN=x\r\n\x1b[2K{FORGED}", f"/CN={FORGED}", f"/CN=x\u2028{FORGED}", f"/CN=x\x0b{FORGED}\x85{FORGED}",
+FORGED = "valid path at 2026-06-01T00:00:00Z: CN=a to CN=b"
+FORGERIES = (f"/CN=x\n{FORGED}", f"/CN=x\r\n\x1b[2K{FORGED}", f"/CN={FORGED}", f"/CN=x\u2028{FORGED}", f"/CN=x\x0b{FORGED}\x85",
              "/CN=www.example.org, O=Example, C=CZ")
 # Ends of lines by any reckoning (those of str.splitlines).
 LINE_ENDS = re.compile("[\n\r\x0b\x0c\x1c-\x1e\x85\u2028\u2029]")

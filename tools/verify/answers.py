@@ -1,7 +1,6 @@
 """What is answered of a target: the path or what stands in its way, and what one should know beside it."""
-from typing import NamedTuple
-
 from functools import cached_property
+from typing import NamedTuple
 
 from verify import reasons, spelling
 from verify.core import Kind, Shown, certpath, fingerprint, name_of

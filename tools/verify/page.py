@@ -20,7 +20,7 @@ h3{font-size:.95rem;margin:.8rem 0 .2rem}
 p,ul{margin:.4rem 0}li{margin:.3rem 0}
 dl{display:grid;grid-template-columns:5.5rem 1fr;gap:.1rem .8rem;margin:0;font-size:.9rem}
 dt{color:var(--quiet)}dd{margin:0;font-family:ui-monospace,monospace;font-size:.85rem}
-dd span{white-space:nowrap}
+dd span,h1 span{white-space:nowrap}
 section+section{border-top:1px solid var(--line);margin-top:2rem}
 small{color:var(--quiet)}
 svg{display:block;width:100%;max-width:36rem;height:auto;font:13px system-ui,sans-serif;fill:var(--text)}
@@ -84,7 +84,8 @@ def look(answer):
 
 def of_answer(answer, number, moment):
     """The part of one target."""
-    found = [f'<section aria-labelledby="h{number}"><h1 id="h{number}" class="{look(answer)}">{escape(people.headline(answer, moment))}</h1>\n',
+    title = escape(people.headline(answer, moment)).replace(times.as_shown(moment), date(moment), 1)
+    found = [f'<section aria-labelledby="h{number}"><h1 id="h{number}" class="{look(answer)}">{title}</h1>\n',
              picture.svg(answer, moment, number)]
     if answer.target is not None and not answer.is_accepted():
         found.append(listed("Why not", why_not(answer)))

@@ -1,5 +1,6 @@
 """The reasons of `certpath why` as sentences, each with the rule that it comes from and what to do."""
 import re
+from functools import lru_cache
 from typing import NamedTuple
 
 from program import streams
@@ -72,6 +73,7 @@ def named(word):
     return f"{EXTENSIONS[word]} ({word})" if word in EXTENSIONS else word
 
 
+@lru_cache(maxsize=4096)
 def sentence(words):
     """The sentence of a reason's words; the words themselves where they are new here."""
     for it in FORMS:

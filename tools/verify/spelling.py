@@ -4,6 +4,7 @@ An answer never depends on this; it says more of what is wrong.
 """
 import ctypes
 from ctypes import c_char_p, c_int, c_long, c_ulong, c_void_p
+from functools import lru_cache
 from typing import NamedTuple
 
 from verify.core import certpath
@@ -100,8 +101,9 @@ def shown(value):
     return f"'{value}'" if len(value) <= MOST_SHOWN else f"'{value[:MOST_SHOWN]}..'"
 
 
+@lru_cache(maxsize=1)
 def reader():
-    """What reads names, none where OpenSSL isn't there."""
+    """What reads names, made once; none where OpenSSL isn't there."""
     try:
         return Reader()
     except certpath.openssl.Missing:

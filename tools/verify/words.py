@@ -59,11 +59,15 @@ class Parser(argparse.ArgumentParser):
 
     def refuse_unknown(self, words):
         """Ends the run where a word looks like an option and is none; says what goes for it."""
-        options = [it for action in self._actions for it in action.option_strings]
+        options = {it: action for action in self._actions for it in action.option_strings}
         for word in words:
-            name = word.partition("=")[0]
-            if word.startswith("-") and word != reading.STANDARD_INPUT and name not in options:
-                self.error(f"there is no option {reading.shortened(name)}{instead(name, options)}")
+            name, equals, _ = word.partition("=")
+            if not word.startswith("-") or word == reading.STANDARD_INPUT:
+                continue
+            if name not in options:
+                self.error(f"there is no option {reading.shortened(name)}{instead(name, [*options])}")
+            if equals and options[name].nargs == 0:
+                self.error(f"{name} takes no value")
 
 
 def instead(name, options):
