@@ -2,8 +2,9 @@
 from ctypes import byref, c_size_t
 from typing import Container, Dict, List, NamedTuple
 
-from . import library
-from .items import Certificate, Items, Kind, Name, frame, items_of
+from . import arguments, library
+from .items import Certificate, Items, Kind, both, frame
+from .names import Name
 
 
 class Holder(NamedTuple):
@@ -14,7 +15,8 @@ class Holder(NamedTuple):
     """Its position in the bundle, or among the anchors."""
 
     def certificate(self, bundle: Items, anchors: Items) -> Certificate:
-        return (anchors if self.is_anchor else bundle)[self.position]
+        items = anchors if self.is_anchor else bundle
+        return items[arguments.number(self.position, "a position", len(items) - 1, IndexError)]
 
 
 class Question(NamedTuple):
@@ -36,9 +38,9 @@ def questions(bundle, anchors) -> List[Question]:
 
     Of signatures nothing else is ever asked: whoever answers these alike has the same paths. Of n
     items of one name there may be n times n questions; `holders_by_issuer` has each name once.
+    BadItem of octets that aren't DER items, ValueError of Items with two limits.
     """
-    bundle = items_of(bundle)
-    anchors = items_of(anchors, bundle.limit)
+    bundle, anchors = both(bundle, anchors)
     one, other = library.octets_of(bundle.data), library.octets_of(anchors.data)
     count, room = c_size_t(), 4 * len(bundle) + len(anchors) + 16
     while True:
@@ -73,8 +75,7 @@ def holders_by_issuer(bundle, anchors) -> Dict[Name, List[Holder]]:
 
     Since an item's questions depend on its issuer's name alone, it asks those of one item a name.
     """
-    bundle = items_of(bundle)
-    anchors = items_of(anchors, bundle.limit)
+    bundle, anchors = both(bundle, anchors)
     first = first_issued(bundle)
     names, asking = [*first], [Holder(False, it) for it in first.values()]
     holding = certificates_under(first, bundle, False) + certificates_under(first, anchors, True)
