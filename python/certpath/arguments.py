@@ -5,6 +5,7 @@ the library that hasn't passed one of these functions.
 """
 import operator
 import os
+from typing import Optional
 
 # The greatest numbers of the C types uint32_t and size_t (and uint64_t).
 MOST_32, MOST_64 = (1 << 32) - 1, (1 << 64) - 1
@@ -52,16 +53,17 @@ def shown(number: int) -> str:
     return str(number) if bits <= MOST_SHOWN_BITS else f"a number of {bits} bits"
 
 
-def number(value, what: str, most: int, error: type = ValueError) -> int:
-    """An int from 0 to `most`; TypeError of what is no int, `error` of one out of that range."""
+def number(value, what: str, most: Optional[int], error: type = ValueError) -> int:
+    """An int from 0 to `most`, or from 0 on where that is None; TypeError of what is no int,
+    `error` of one out of that range."""
     if isinstance(value, bool):
         raise TypeError(f"{what}: an int is needed, not bool")
     try:
         found = operator.index(value)
     except TypeError:
         raise TypeError(f"{what}: an int is needed, not {type_name(value)}") from None
-    if not 0 <= found <= most:
-        raise error(f"{what}: {shown(found)} isn't from 0 to {most}")
+    if found < 0 or most is not None and found > most:
+        raise error(f"{what}: {shown(found)} isn't from 0 " + ("on" if most is None else f"to {most}"))
     return found
 
 

@@ -275,26 +275,31 @@ def are_no_items(items: Items) -> bool:
     return items.limit == arguments.MOST_32 or are_no_items(Items(items.data, arguments.MOST_32))
 
 
-def items_of(data, what: str = "data", limit: int = LIMIT) -> Items:
-    """Items that are given as such, or as octets that are items to their last one.
+def items_of(data, what: str, limit: int = LIMIT) -> Items:
+    """Items that are given as such, or as octets that are items to their last one; BadItem of octets
+    that aren't."""
+    if isinstance(data, Items):
+        return data
+    items = Items(arguments.octets(data, what), limit)
+    refuse_text(items, what)
+    at, length = items.end.at, len(items.data)
+    if items.end.word == "cut":
+        raise library.BadItem(f"{what}: the item at octet {at} of {length} is cut off; "
+                              "certpath.frame() takes the items before it")
+    if not items.end.is_clean:
+        raise library.BadItem(f"{what}: no item of at most {limit} content octets begins at octet "
+                              f"{at} of {length}; certpath.frame() takes the items before it, and "
+                              "another limit")
+    return items
 
-    BadItem of octets that aren't, and of Items that PEM or other text was framed to.
-    """
-    if not isinstance(data, Items):
-        data = Items(arguments.octets(data, what), limit)
-        if data.end.word == "cut":
-            raise library.BadItem(f"{what}: the item at octet {data.end.at} of {len(data.data)} is "
-                                  "cut off; certpath.frame() takes the items before it")
-        if not data.end.is_clean and not are_no_items(data):
-            raise library.BadItem(f"{what}: no item of at most {limit} content octets begins at "
-                                  f"octet {data.end.at} of {len(data.data)}; certpath.frame() "
-                                  "takes the items before it, and another limit")
-    if are_no_items(data):
+
+def refuse_text(items: Items, what: str):
+    """BadItem of Items that PEM or other text was framed to."""
+    if are_no_items(items):
         raise library.BadItem(f"{what}: the octets are no DER items; {FROM_PEM}")
-    return data
 
 
-def both(bundle, anchors) -> Tuple[Items, Items]:
+def under_one_limit(bundle, anchors) -> Tuple[Items, Items]:
     """A bundle and anchors, each Items or octets, under one limit: that of Items that are given.
 
     BadItem as for `items_of`; ValueError of Items with two limits.
@@ -303,9 +308,17 @@ def both(bundle, anchors) -> Tuple[Items, Items]:
         bundle = items_of(bundle, "the bundle")
         anchors = items_of(anchors, "the anchors", bundle.limit)
     else:
-        anchors = items_of(anchors, "the anchors")
         bundle = items_of(bundle, "the bundle", anchors.limit)
     if bundle.limit != anchors.limit:
         raise ValueError(f"the bundle has the limit {bundle.limit}, and the anchors "
                          f"{anchors.limit}; frame both with one")
+    return bundle, anchors
+
+
+def both(bundle, anchors) -> Tuple[Items, Items]:
+    """A bundle and anchors under one limit. Items are refused too that have nothing but text, which
+    would be a file without items in silence."""
+    bundle, anchors = under_one_limit(bundle, anchors)
+    refuse_text(bundle, "the bundle")
+    refuse_text(anchors, "the anchors")
     return bundle, anchors

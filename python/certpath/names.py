@@ -90,8 +90,8 @@ class Name(Fixed):
         comma of a value is `\\,`. What isn't printable is written as octets, as `\\0A`. Names with
         one text may differ: compare names, not texts.
 
-        BadName where the octets are no name, or have a value that can't be shown: a TeletexString
-        that isn't ASCII.
+        BadName where the octets are no name, or have a value that can't be shown, as a
+        TeletexString in Latin-1.
         """
         if self.raw_text == NO_TEXT:
             raise library.BadName("the name has a value that can't be shown as text")

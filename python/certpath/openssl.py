@@ -131,7 +131,7 @@ class Judge:
     """Asks OpenSSL about items, with at most `tries` keys each."""
 
     def __init__(self, openssl=None, tries: int = MOST_TRIES):
-        self.tries = arguments.number(tries, "tries", arguments.MOST_64)
+        self.tries = arguments.number(tries, "tries", None)
         self.openssl = openssl or verifier()
         self._ids = {}
 

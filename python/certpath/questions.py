@@ -3,7 +3,7 @@ from ctypes import byref, c_size_t
 from typing import Container, Dict, List, NamedTuple
 
 from . import arguments, library
-from .items import Certificate, Items, Kind, both, frame
+from .items import Certificate, Items, Kind, both, frame, under_one_limit
 from .names import Name
 
 
@@ -74,8 +74,9 @@ def holders_by_issuer(bundle, anchors) -> Dict[Name, List[Holder]]:
     keys have to be tried on the items that were issued under it, in the order of the files.
 
     Since an item's questions depend on its issuer's name alone, it asks those of one item a name.
+    Items are taken however their octets end; errors are those of `questions` else.
     """
-    bundle, anchors = both(bundle, anchors)
+    bundle, anchors = under_one_limit(bundle, anchors)
     first = first_issued(bundle)
     names, asking = [*first], [Holder(False, it) for it in first.values()]
     holding = certificates_under(first, bundle, False) + certificates_under(first, anchors, True)

@@ -25,6 +25,7 @@ STRICT = ["-std=c99", "-Wall", "-Wextra", "-Werror", "-O1"]
 SANITIZERS = ["-g", "-fsanitize=address,undefined", "-fno-sanitize-recover=all"]
 COUNTED = re.compile(r"(\d+) passed, (\d+) failed\s*\Z")
 TESTED = re.compile(r"Ran (\d+) tests")
+PAGE_EXAMPLE = re.compile(r"(?ms)^```python\n(.*?)^```$")
 BUNDLE, ANCHORS = os.path.join("samples", "bundle.der"), os.path.join("samples", "root.der")
 # The worked cases of crates/check_rows/stdin on which memory is refused: what they have between
 # them is a certificate of version 1 and one of version 3, a list and what is almost one, a path of
@@ -175,6 +176,10 @@ def python_trials(count, room):
         count.tell(False, f"python/tests:\n{done.stdout[-3000:]}")
     else:
         count.add(int(number[1]), 0)
+    block = PAGE_EXAMPLE.search(repo.read("docs/EMBEDDING.md"))[1]
+    done = ran([sys.executable, "-c", block], env=paths)
+    count.tell(done.returncode == 0 and "\n(0, 1) 0\nTrue\npath 0 1 anchor 0\ncheck yes\n" in done.stdout,
+               f"the example of docs/EMBEDDING.md in Python:\n{done.stdout[-2000:]}")
     if ran([sys.executable, "-c", "import cryptography"], env=paths).returncode:
         print("embedding: `cryptography` isn't installed, so examples/python is not run")
         return
