@@ -64,7 +64,7 @@ class Item(Fixed):
         self._set(_octets=arguments.octets(octets, "an item"))
 
     @classmethod
-    def known(cls, octets: bytes):
+    def _known(cls, octets: bytes):
         """An item whose octets are known to be of its class."""
         made = cls.__new__(cls)
         made._set(_octets=octets)
@@ -244,7 +244,7 @@ class Items(Fixed, Sequence):
         position = range(len(self))[position]
         if position not in self._items:
             kind = self.kind(position)
-            item = CLASSES[kind].known(self.octets(position))
+            item = CLASSES[kind]._known(self.octets(position))
             if kind is Kind.OTHER:
                 # (it has nothing that is read but once, and a file may have millions of them)
                 return item

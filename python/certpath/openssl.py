@@ -178,6 +178,13 @@ def verdicts_on(asked: List[Question], judged: Judged) -> Iterator[Verdict]:
             yield Verdict(question, it.why is None, it.weaknesses, it.why)
 
 
+def item_asked(question: Question) -> int:
+    """Which item a question is on."""
+    if not isinstance(question, Question):
+        raise TypeError(f"asked: a Question is needed, not {arguments.type_name(question)}")
+    return question.item
+
+
 def answers(bundle, anchors, asked=None, tries: int = MOST_TRIES,
             openssl=None) -> Iterator[Verdict]:
     """What OpenSSL says of each question, by default of all of a bundle and anchors (Items or
@@ -188,7 +195,7 @@ def answers(bundle, anchors, asked=None, tries: int = MOST_TRIES,
     asked = questions(bundle, anchors) if asked is None else asked
     with closing(openssl) as own:
         judge = Judge(own, tries)
-        for item, group in groupby(asked, key=lambda it: it.item):
+        for item, group in groupby(asked, key=item_asked):
             of_item = [*group]
             holders = judge.holders([it.key_holder(bundle, anchors) for it in of_item])
             signed = bundle[arguments.number(item, "an item's position", len(bundle) - 1, IndexError)]

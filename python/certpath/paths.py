@@ -39,10 +39,14 @@ class Asked(NamedTuple):
 
 
 class Numbers(NamedTuple):
+    """What an answer consists of."""
     outcome: Outcome
     positions: Tuple[int, ...]
+    """Of a path: the target's position in the bundle, then its issuers' up to the last."""
     anchor: int
+    """Of a path: the anchor's position among the anchors; otherwise 0."""
     table: Tuple[int, ...]
+    """Numbers, as `certpath_find` of certpath.h describes them; `check` reads them."""
 
 
 class Answer(Numbers):
@@ -50,11 +54,6 @@ class Answer(Numbers):
 
     Answers are equal where their numbers are. One of `find` holds what was asked, which is pickled
     with it: the octets of bundle, anchors and vouchers. `Answer(*answer)` is without.
-
-    outcome    an Outcome
-    positions  of a path: the target's position in the bundle, then its issuers' up to the last
-    anchor     of a path: the anchor's position among the anchors; otherwise 0
-    table      numbers, as `certpath_find` of certpath.h describes them; `check` reads them
     """
     asked: Optional[Asked] = None
     """What was asked of `find`; None of an answer that was made otherwise."""

@@ -225,6 +225,11 @@ class Numbers(Refusing):
             with self.assertRaises(IndexError):
                 [*certpath.openssl.answers(bundle, anchors, asked)]
 
+    def test_no_questions(self):
+        for it in (None, 3, (0, 1, False), "question"):
+            with self.assertRaisesRegex(TypeError, "a Question is needed"):
+                [*certpath.openssl.answers(*self.given[:2], [it])]
+
     def test_positions_of_items(self):
         items = certpath.frame(self.given[0])
         for call in (items.octets, items.kind, items.__getitem__):
