@@ -67,7 +67,7 @@ class Item(Fixed):
     def _known(cls, octets: bytes):
         """An item whose octets are known to be of its class."""
         made = cls.__new__(cls)
-        made._set(_octets=octets)
+        made.__dict__["_octets"] = octets
         return made
 
     @kept

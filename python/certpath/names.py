@@ -1,6 +1,6 @@
 """Names, and their text."""
 import re
-from typing import List
+from typing import List, Set
 
 from . import arguments, library
 from .fixed import Fixed, kept
@@ -9,13 +9,22 @@ from .fixed import Fixed, kept
 ROOM = 512
 # What the library gives in the place of a text where a value can't be shown.
 NO_TEXT = "<X509Error: Invalid X.509 name>"
-# Where a further attribute may begin in the library's text, of a further set or of a set that has
-# begun; or else a value has just these characters.
-FURTHER = re.compile(r"(?:, | \+ )(?=((?:OID\([0-9a-f. ]*\)|[A-Za-z][A-Za-z0-9-]*)=))")
+# The type of an attribute in the library's text.
+TYPE = r"(?:OID\([0-9a-f. ]*\)|[A-Za-z][A-Za-z0-9-]*)="
+# Where a further attribute may begin in that text, of a further set or of a set that has begun; or
+# else a value has just these characters.
+FURTHER = re.compile(rf"(?:, | \+ )(?=({TYPE}))")
 # How text may lie in a name's octets: as UTF-8, or as a BMPString (X.690, 8.23.9).
 ENCODINGS = ("utf-8", "utf-16-be")
+# In how many octets at most it is looked for what stands around such a place, of all places together.
+MOST_SEARCHED = 1 << 26
 # What is escaped wherever it stands (RFC 4514, 2.4).
 SPECIAL = re.compile(r'["+,;<>\\]')
+# Text of which nothing is escaped, where its commas stand between attributes and all is printable.
+PLAIN_VALUE = r'[^"+,;<>\\# ](?:[^"+,;<>\\]*[^"+,;<>\\ ])?'
+PLAIN = re.compile(rf"{TYPE}{PLAIN_VALUE}(?:, {TYPE}{PLAIN_VALUE})*")
+# What stands between attributes, as a value would have it.
+COMMAS = tuple(", ".encode(it) for it in ENCODINGS)
 
 
 def hex_pairs(text: str) -> str:
@@ -36,6 +45,19 @@ def escaped(value: str) -> str:
     return "".join(it if it.isprintable() else hex_pairs(it) for it in value)
 
 
+def separators_in(octets: bytes) -> Set[str]:
+    """What octets hold, as UTF-8 or as a BMPString, that looks like the begin of a further attribute;
+    perhaps more."""
+    # (every second octet of a BMPString is that of an ASCII character)
+    return {it[0] + it[1] for part in (octets, octets[::2], octets[1::2])
+            for it in FURTHER.finditer(part.decode("latin-1"))}
+
+
+def stands_in(octets: bytes, text: str) -> bool:
+    """Whether octets hold a text, as UTF-8 or as a BMPString."""
+    return any(text.encode(it) in octets for it in ENCODINGS)
+
+
 def attributes_of(text: str, octets: bytes) -> List[str]:
     """The attributes of the library's text of a name, each after what separates it from the last.
 
@@ -44,16 +66,24 @@ def attributes_of(text: str, octets: bytes) -> List[str]:
     stands before and after that place, as they never do of two attributes: there is a header
     between them, which has no text.
     """
-    places = [*FURTHER.finditer(text)]
+    places, held = [*FURTHER.finditer(text)], separators_in(octets)
     values = [text.find("=") + 1, *(it.end(1) for it in places)]
     ends = [*(it.start() for it in places[1:]), len(text)]
+    are_many = len(places) * len(octets) > MOST_SEARCHED
     found, begin = [], 0
     for it, value, end in zip(places, values, ends):
-        around = text[value:end]
-        if not any(around.encode(encoding) in octets for encoding in ENCODINGS):
-            found.append(text[begin:it.start()])
-            begin = it.start()
+        if it[0] + it[1] in held and (are_many or stands_in(octets, text[value:end])):
+            # (a value has it)
+            continue
+        found.append(text[begin:it.start()])
+        begin = it.start()
     return [*found, text[begin:]]
+
+
+def is_plain(text: str, octets: bytes) -> bool:
+    """Whether nothing of the library's text of a name is to be escaped, as of most names."""
+    return (text.isprintable() and PLAIN.fullmatch(text) is not None
+            and not any(it in octets for it in COMMAS))
 
 
 def escaped_attribute(attribute: str) -> str:
@@ -95,6 +125,8 @@ class Name(Fixed):
         """
         if self.raw_text == NO_TEXT:
             raise library.BadName("the name has a value that can't be shown as text")
+        if is_plain(self.raw_text, self._octets):
+            return self.raw_text
         return "".join(map(escaped_attribute, attributes_of(self.raw_text, self._octets)))
 
     def __str__(self) -> str:

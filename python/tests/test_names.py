@@ -4,7 +4,9 @@
 """
 import pickle
 import re
+import time
 import unittest
+from unittest import mock
 
 import certpath
 from tests.common import (BMP, COMMON_NAME, COUNTRY, OCTET_STRING, ORGANIZATION, PRINTABLE, TELETEX,
@@ -79,9 +81,35 @@ class Escapes(unittest.TestCase):
             name = name_of(attribute(COMMON_NAME, "a"), attribute(identifier, "b, c"))
             self.assertEqual(text(name), rf"CN=a, {shown}=b\, c")
 
+    def test_plain(self):
+        """The short way for names of which nothing is escaped gives what the long one gives."""
+        values = ("", "a", "a b", " a", "a ", "#a", "a#", "a,b", "a, b", "a, O=b", "a+b", "a;b", "a\\",
+                  "a\nb", "a=b", "\u017d", "\u202e", ", ", " ", "a, C=DE", '"', "<", ">")
+        for one in values:
+            for other in values:
+                for tag in (0x0c, BMP):
+                    octets = name_of(attribute(COMMON_NAME, one),
+                                     attribute(ORGANIZATION, encoded(other, tag), tag))
+                    short = text(octets)
+                    with mock.patch("certpath.names.is_plain", lambda *_: False):
+                        self.assertEqual(short, text(octets))
+
+    def test_many_attributes(self):
+        """A name of so many attributes that not every place is looked at costs no more than others."""
+        many, begin = [attribute(COMMON_NAME, "a")] * 40000, time.process_time()
+        for value, shown, escapes in (("b", "b", 0), ("b, CN=c", r"b\, CN=c", len(many))):
+            found = text(name_of(*many, attribute(ORGANIZATION, value)))
+            self.assertTrue(found.endswith(f", O={shown}"))
+            self.assertEqual(found.count("\\"), escapes)
+        self.assertLess(time.process_time() - begin, 20)
+
     def test_raw_text(self):
         name = certpath.Name(common_name("a\nb, O=c"))
         self.assertEqual((name.raw_text, str(name)), ("CN=a\nb, O=c", r"CN=a\0Ab\, O=c"))
+
+
+def encoded(value, tag):
+    return value.encode("utf-16-be" if tag == BMP else "utf-8")
 
 
 def is_doubtful(one, other):
