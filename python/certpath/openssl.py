@@ -12,7 +12,7 @@ from typing import Callable, Iterator, List, NamedTuple, Optional
 from . import algorithms, arguments, libcrypto
 from .fixed import kept
 from .items import Certificate, Kind, both
-from .questions import Question, questions
+from .questions import Question, item_at, questions
 from .vouchers import Vouchers
 
 WORDS = {Kind.CERTIFICATE: libcrypto.CERTIFICATE, Kind.LIST: libcrypto.LIST}
@@ -140,7 +140,9 @@ class Judge:
         return KeyHolders(certificates, self.key_id)
 
     def judged(self, item, holders: KeyHolders) -> Judged:
-        """What OpenSSL says of an item, by the keys of certificates."""
+        """What OpenSSL says of a certificate or a list, by the keys of certificates."""
+        if item.kind not in WORDS:
+            raise ValueError("a certificate or a list is needed, not another item")
         with self.openssl.reading(WORDS[item.kind], item.public_bytes()) as read:
             if read is None:
                 return Judged(UNREAD, [])
@@ -198,8 +200,7 @@ def answers(bundle, anchors, asked=None, tries: int = MOST_TRIES,
         for item, group in groupby(asked, key=item_asked):
             of_item = [*group]
             holders = judge.holders([it.key_holder(bundle, anchors) for it in of_item])
-            signed = bundle[arguments.number(item, "an item's position", len(bundle) - 1, IndexError)]
-            yield from verdicts_on(of_item, judge.judged(signed, holders))
+            yield from verdicts_on(of_item, judge.judged(item_at(bundle, item), holders))
 
 
 def vouch(bundle, anchors, weak: bool = False, tries: int = MOST_TRIES) -> Vouched:

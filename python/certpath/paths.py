@@ -91,7 +91,12 @@ def given(asked: Asked) -> tuple:
 def room_for(count: int):
     """Room for so many numbers of a table."""
     numbers, size = c_uint64 * count, count * sizeof(c_uint64)
-    return numbers() if size < LARGE else numbers.from_buffer(mmap.mmap(-1, size))
+    if size < LARGE:
+        return numbers()
+    try:
+        return numbers.from_buffer(mmap.mmap(-1, size))
+    except OSError:
+        raise library.OutOfMemory(f"out of memory: the system gave no {size} octets") from None
 
 
 def find(bundle, anchors, vouchers: Union[Vouchers, bytes, str], target: int, at: datetime,

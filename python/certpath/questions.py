@@ -3,8 +3,16 @@ from ctypes import byref, c_size_t
 from typing import Container, Dict, List, NamedTuple
 
 from . import arguments, library
-from .items import Certificate, Items, Kind, both, frame, under_one_limit
+from .items import Certificate, Item, Items, Kind, both, frame, under_one_limit
 from .names import Name
+
+
+def item_at(items: Items, position: int) -> Item:
+    """The item at a position from 0; IndexError where there is none."""
+    position = arguments.number(position, "a position", arguments.MOST_64, IndexError)
+    if position >= len(items):
+        raise IndexError(f"there are {len(items)} items, and none at position {position}")
+    return items[position]
 
 
 class Holder(NamedTuple):
@@ -15,8 +23,11 @@ class Holder(NamedTuple):
     """Its position in the bundle, or among the anchors."""
 
     def certificate(self, bundle: Items, anchors: Items) -> Certificate:
-        items = anchors if self.is_anchor else bundle
-        return items[arguments.number(self.position, "a position", len(items) - 1, IndexError)]
+        """The certificate; IndexError where there is no such item, ValueError where it is none."""
+        found = item_at(anchors if self.is_anchor else bundle, self.position)
+        if found.kind is not Kind.CERTIFICATE:
+            raise ValueError(f"{self} is no certificate, but Kind.{found.kind.name}")
+        return found
 
 
 class Question(NamedTuple):

@@ -8,6 +8,7 @@ import pickle
 import subprocess
 import sys
 import unittest
+from unittest import mock
 
 import certpath
 from certpath import Answer, Outcome
@@ -148,7 +149,14 @@ print(most() - before)
 """
 
 
-class Memory(unittest.TestCase):
+class Memory(Chain):
+    def test_room_of_the_system(self):
+        with mock.patch("certpath.paths.LARGE", 1):
+            self.assertEqual(certpath.find(*self.given, 0, AT), self.answer)
+            with mock.patch("mmap.mmap", side_effect=OSError(12, "no memory")):
+                with self.assertRaisesRegex(certpath.OutOfMemory, "the system gave no 384 octets"):
+                    certpath.find(*self.given, 0, AT)
+
     def test_many_items(self):
         """Room for a table of 16 rows of 10^6 numbers, 122 MB, isn't taken where none is written."""
         words = [sys.executable, "-c", MEMORY]

@@ -225,6 +225,16 @@ class Numbers(Refusing):
             with self.assertRaises(IndexError):
                 [*certpath.openssl.answers(bundle, anchors, asked)]
 
+    def test_items_without_keys(self):
+        """What is no certificate has no key, and what is neither certificate nor list no signature."""
+        bundle, anchors = certpath.frame(sample("list.der") + b"\x30\x00"), certpath.frame(self.given[1])
+        for position in (0, 1):
+            said = self.refuses(ValueError, certpath.Holder(False, position).certificate, bundle, anchors)
+            self.assertRegex(said, "is no certificate, but Kind.")
+        asked = [certpath.Question(1, 0, True)]
+        with self.assertRaisesRegex(ValueError, "a certificate or a list is needed"):
+            [*certpath.openssl.answers(bundle, anchors, asked)]
+
     def test_no_questions(self):
         for it in (None, 3, (0, 1, False), "question"):
             with self.assertRaisesRegex(TypeError, "a Question is needed"):
