@@ -117,8 +117,9 @@ class Name(Fixed):
         """The name as text, as `C=DE, O=Example, CN=www.example.test`, fit for a line of a terminal.
 
         Attributes are in their order in the name. Values have the escapes of RFC 4514, 2.4: a
-        comma of a value is `\\,`. What isn't printable is written as octets, as `\\0A`. Names with
-        one text may differ: compare names, not texts.
+        comma of a value is `\\,`. What isn't printable is written as octets, as `\\0A`. A value never
+        passes for several attributes. In a name that repeats within a value what two attributes
+        are, these two may be shown as one value: compare names, not texts.
 
         BadName where the octets are no name, or have a value that can't be shown, as a
         TeletexString in Latin-1.
