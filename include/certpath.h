@@ -107,9 +107,9 @@ enum {
 int32_t certpath_field(const uint8_t *item, size_t item_length, uint32_t field, uint8_t *octets,
                        size_t room, size_t *length);
 
-/* A date and time in UTC, by the Gregorian calendar. */
+/* A date and time in UTC, by the Gregorian calendar, also before 1582. */
 typedef struct {
-    int16_t year;  /* 0 to 9999 */
+    int16_t year;  /* of an item 1950 to 9999 (RFC 5280, 4.1.2.5); else -9999 to 9999 */
     int8_t month;  /* 1 to 12 */
     int8_t day;    /* 1 to 31 */
     int8_t hour;   /* 0 to 23 */
@@ -119,16 +119,22 @@ typedef struct {
 
 typedef struct {
     certpath_moment first; /* a certificate's notBefore; a list's thisUpdate */
-    certpath_moment last;  /* a certificate's notAfter; a list's nextUpdate */
-    uint32_t has_last;     /* 1, or 0 for a list that has no nextUpdate */
+    certpath_moment last;  /* a certificate's notAfter; a list's nextUpdate, or else its thisUpdate */
+    uint32_t has_last;     /* 1, or 0 for a list that has no nextUpdate, whose `last` says nothing */
 } certpath_validity;
 
 /* The times of a certificate or a list; CERTPATH_NO_FIELD for anything else. */
 int32_t certpath_times(const uint8_t *item, size_t item_length, certpath_validity *validity);
 
 /*
- * Writes a name, by its element's octets, as text (UTF-8, no 0 at the end). CERTPATH_BAD_NAME
- * where it can't be read. `length` is set with CERTPATH_DONE and CERTPATH_TOO_SMALL.
+ * Writes a name, by its element's octets, as text (UTF-8, no 0 at the end), as
+ * `C=DE, O=Example, CN=www.example.test`. CERTPATH_BAD_NAME where it can't be read. `length` is set
+ * with CERTPATH_DONE and CERTPATH_TOO_SMALL.
+ *
+ * Values stand there as they stand in the name: with line ends, 0, terminal controls, marks that
+ * turn the direction of writing, and with ", O=". So escape the text before it is shown, as
+ * examples/c/questions.c does, and compare names by their octets. Of a name with a value that can't
+ * be shown, as a TeletexString in Latin-1, it is `<X509Error: Invalid X.509 name>`.
  */
 int32_t certpath_name(const uint8_t *name, size_t name_length, uint8_t *text, size_t room,
                       size_t *length);
@@ -143,8 +149,9 @@ typedef struct {
 } certpath_question;
 
 /*
- * Writes all questions of a bundle and anchors, both octets as certpath_frame cuts them. Nothing
- * else is asked of signatures: whoever answers these alike has the same paths. `count` is set with
+ * Writes all questions of a bundle and anchors, both octets as certpath_frame cuts them: what it
+ * doesn't take, as PEM, is no item here either, and only certpath_frame says so. Nothing else is
+ * asked of signatures: whoever answers these alike has the same paths. `count` is set with
  * CERTPATH_DONE and CERTPATH_TOO_SMALL.
  */
 int32_t certpath_questions(const uint8_t *bundle, size_t bundle_length, const uint8_t *anchors,
@@ -164,7 +171,7 @@ typedef struct {
     size_t target;          /* the position of the certificate in the bundle, from 0 */
     uint32_t limit;         /* of the items of both files, content octets */
     uint32_t demands_lists; /* not 0: each certificate needs a revocation list that is used */
-    certpath_moment moment; /* at which all has to be valid */
+    certpath_moment moment; /* at which all has to be valid, of the years -9999 to 9999 */
 } certpath_settings;
 
 /* What is answered. */

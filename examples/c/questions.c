@@ -1,12 +1,12 @@
 /*
  * Reads a bundle and anchors, shows the certificates of the bundle by name, and answers by OpenSSL
  * the questions that certpath asks: which keys verify which signatures. Prints a line for each, and
- * the voucher file that `certpath path` reads into a third file.
+ * the voucher file that `certpath path` reads into a third file, which must be a new one.
  *
  *     cc -Iinclude examples/c/questions.c -o questions dist/libcertpath.a -lcrypto
- *     ./questions samples/bundle.der samples/root.der vouchers.txt
+ *     ./questions samples/bundle.der samples/root.der new-vouchers.txt
  *
- * Both files are DER items one behind the other, as ./bundle makes them.
+ * Both files are DER items one after another, as ./bundle makes them.
  */
 #include "certpath.h"
 #include <openssl/evp.h>
@@ -26,7 +26,13 @@ typedef struct {
 
 static void refuse(const char *what)
 {
-    fprintf(stderr, "%s\n", what);
+    fprintf(stderr, "questions: %s\n", what);
+    exit(1);
+}
+
+static void refuse_file(const char *what, const char *path)
+{
+    fprintf(stderr, "questions: %s %s\n", what, path);
     exit(1);
 }
 
@@ -38,26 +44,43 @@ static void *room_for(size_t count, size_t size)
     return room;
 }
 
+/* Reads the octets of a file or a pipe, into room that is doubled. */
+static void read_octets(const char *path, file_of_items *all)
+{
+    size_t room = 1 << 15;
+    FILE *file = fopen(path, "rb");
+    if (!file)
+        refuse_file("cannot read", path);
+    while (all->length == room || !all->octets) {
+        room *= 2;
+        all->octets = realloc(all->octets, room);
+        if (!all->octets)
+            refuse("out of memory");
+        all->length += fread(all->octets + all->length, 1, room - all->length, file);
+    }
+    if (ferror(file))
+        refuse_file("cannot read", path);
+    fclose(file);
+}
+
 static file_of_items read_items(const char *path)
 {
     file_of_items all = {NULL, 0, NULL, 0};
-    certpath_framed framed;
-    FILE *file = fopen(path, "rb");
-    if (!file || fseek(file, 0, SEEK_END) != 0)
-        refuse("cannot read a file");
-    all.length = (size_t)ftell(file);
-    rewind(file);
-    all.octets = room_for(all.length, 1);
-    if (fread(all.octets, 1, all.length, file) != all.length)
-        refuse("cannot read a file");
-    fclose(file);
+    certpath_framed framed = {0, 0, CERTPATH_CLEAN};
+    int32_t status;
+    read_octets(path, &all);
     /* a first call asks how many items there are */
-    certpath_frame(all.octets, all.length, CERTPATH_LIMIT, NULL, 0, &framed);
-    all.count = framed.count;
-    all.items = room_for(all.count, sizeof *all.items);
-    if (certpath_frame(all.octets, all.length, CERTPATH_LIMIT, all.items, all.count, &framed)
-        != CERTPATH_DONE)
-        refuse("cannot cut a file into items");
+    status = certpath_frame(all.octets, all.length, CERTPATH_LIMIT, NULL, 0, &framed);
+    if (status == CERTPATH_TOO_SMALL) {
+        all.count = framed.count;
+        all.items = room_for(all.count, sizeof *all.items);
+        status = certpath_frame(all.octets, all.length, CERTPATH_LIMIT, all.items, all.count,
+                                &framed);
+    }
+    if (status != CERTPATH_DONE)
+        refuse("out of memory");
+    if (framed.end != CERTPATH_CLEAN)
+        refuse_file("these are no DER items to the end; ./bundle makes such of PEM:", path);
     return all;
 }
 
@@ -79,13 +102,33 @@ static unsigned char *field_of(const file_of_items *file, size_t position, uint3
     return octets;
 }
 
+/*
+ * Prints text for one line of a terminal: octets that aren't printable ASCII as a backslash and two
+ * hex digits, as RFC 4514, 2.4 has them, and so the backslash. A common name may hold line ends,
+ * terminal controls, and marks that turn the direction of writing.
+ */
+static void show_text(const unsigned char *text, size_t length)
+{
+    size_t k;
+    for (k = 0; k < length; k++) {
+        if (text[k] >= 32 && text[k] < 127 && text[k] != '\\')
+            putchar(text[k]);
+        else
+            printf("\\%02X", text[k]);
+    }
+}
+
 static void show_name(const file_of_items *file, size_t position, uint32_t field)
 {
-    unsigned char text[512];
-    size_t length, size;
-    unsigned char *name = field_of(file, position, field, &length);
-    if (name && certpath_name(name, length, text, sizeof text, &size) == CERTPATH_DONE)
-        printf("%.*s", (int)size, (const char *)text);
+    size_t length, size = 0;
+    unsigned char *text, *name = field_of(file, position, field, &length);
+    if (!name)
+        return;
+    certpath_name(name, length, NULL, 0, &size);
+    text = room_for(size, 1);
+    if (certpath_name(name, length, text, size, &size) == CERTPATH_DONE)
+        show_text(text, size);
+    free(text);
     free(name);
 }
 
@@ -185,9 +228,9 @@ int main(int count, char **words)
         refuse("usage: questions BUNDLE ANCHORS VOUCHERS");
     bundle = read_items(words[1]);
     anchors = read_items(words[2]);
-    to = fopen(words[3], "w");
+    to = fopen(words[3], "wx");
     if (!to)
-        refuse("cannot write the vouchers");
+        refuse_file("the file of the vouchers is there already, or cannot be written:", words[3]);
     show_items(&bundle);
     answer_questions(&bundle, &anchors, to);
     release(&bundle);

@@ -3,17 +3,41 @@
 certpath asks: which keys verify which signatures. Prints the voucher file that `certpath path` reads.
 
     PYTHONPATH=python python3 examples/python/questions.py BUNDLE ANCHORS > vouchers.txt
+
+Both files are DER items one after another, as ./bundle makes them.
 """
 import sys
 
 import certpath
 from cryptography import x509
-from cryptography.exceptions import InvalidSignature
-from cryptography.hazmat.primitives.asymmetric import ec, padding, rsa
+from cryptography.exceptions import InvalidSignature, UnsupportedAlgorithm
+from cryptography.hazmat.primitives.asymmetric import ec, ed25519, padding, rsa
 from cryptography.hazmat.primitives.serialization import load_der_public_key
 
+USAGE = "usage: questions.py BUNDLE ANCHORS > vouchers.txt"
 LOADERS = {certpath.Kind.CERTIFICATE: x509.load_der_x509_certificate,
            certpath.Kind.LIST: x509.load_der_x509_crl}
+
+
+def read_items(path):
+    """The items of a file, which has nothing else."""
+    try:
+        with open(path, "rb") as file:
+            items = certpath.frame(file.read())
+    except OSError as error:
+        sys.exit(f"questions.py: cannot read {path}: {error.strerror}")
+    if not items.end.is_clean:
+        sys.exit(f"questions.py: {path}: what begins at octet {items.end.at} is no whole item in "
+                 "DER; ./bundle FILE.. > FILE.der makes such a file of PEM and others")
+    return items
+
+
+def show(items):
+    """Prints a line for each item. Names are escaped, so that none of them is two lines."""
+    for position, item in enumerate(items):
+        names = {certpath.Kind.CERTIFICATE: "subject", certpath.Kind.LIST: "issuer"}
+        shown = getattr(item, names[item.kind]) if item.kind in names else ""
+        print(f"{position} {item.kind.name.lower()}: {shown}", file=sys.stderr)
 
 
 def signed_octets(item):
@@ -24,29 +48,42 @@ def signed_octets(item):
 
 def is_verified(item, key):
     """Whether a key verifies an item's signature: RSA with PKCS #1 v1.5, ECDSA, or Ed25519."""
-    octets, digest = signed_octets(item), item.signature_hash_algorithm
+    octets = signed_octets(item)
     try:
         if isinstance(key, rsa.RSAPublicKey):
-            key.verify(item.signature, octets, padding.PKCS1v15(), digest)
+            key.verify(item.signature, octets, padding.PKCS1v15(), item.signature_hash_algorithm)
         elif isinstance(key, ec.EllipticCurvePublicKey):
-            key.verify(item.signature, octets, ec.ECDSA(digest))
-        else:
+            key.verify(item.signature, octets, ec.ECDSA(item.signature_hash_algorithm))
+        elif isinstance(key, ed25519.Ed25519PublicKey):
             key.verify(item.signature, octets)
-    except InvalidSignature:
+        else:
+            return False
+    except (InvalidSignature, UnsupportedAlgorithm, TypeError):
+        # (a TypeError: the algorithm of the signature has no digest, as of another kind of key)
         return False
     return True
 
 
+def answer(item, key):
+    """Whether a key verifies the signature of an item, by `cryptography` alone; no where it can't
+    read one of them."""
+    try:
+        return is_verified(LOADERS[item.kind](item.public_bytes()), load_der_public_key(key))
+    except (ValueError, UnsupportedAlgorithm) as error:
+        print(f"not read: {certpath.names.escaped(str(error))}", file=sys.stderr)
+        return False
+
+
 def main(words):
-    bundle, anchors = (certpath.frame(open(it, "rb").read()) for it in words)
-    for position, item in enumerate(bundle):
-        shown = item.issuer if item.kind is certpath.Kind.LIST else item.subject
-        print(f"{position} {item.kind.name.lower()}: {shown}", file=sys.stderr)
+    if len(words) != 2:
+        sys.exit(USAGE)
+    bundle, anchors = map(read_items, words)
+    show(bundle)
     vouchers = certpath.Vouchers()
     for question in certpath.questions(bundle, anchors):
         item = bundle[question.item]
         key = question.key_holder(bundle, anchors).public_key_bytes
-        if is_verified(LOADERS[item.kind](item.public_bytes()), load_der_public_key(key)):
+        if answer(item, key):
             vouchers.add(key, item.public_bytes())
     print(vouchers.text(), end="")
 

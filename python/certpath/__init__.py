@@ -16,18 +16,19 @@ Everything is read in a shared library, whose functions are proved; this package
 and gives names to what comes back. It reads no DER. No call keeps anything, so any number of
 threads may call at once.
 """
-from .items import (LIMIT, Certificate, End, Item, Items, Kind, Name, Other, RevocationList,
-                    class_of, frame)
-from .library import (BadAnswer, BadLine, BadMoment, BadName, Error, LibraryMissing, NoField,
+from .cutting import End
+from .items import (LIMIT, Certificate, Item, Items, Kind, Other, RevocationList, class_of, frame)
+from .library import (BadAnswer, BadItem, BadLine, BadMoment, BadName, Error, LibraryMissing, NoField,
                       OutOfMemory, version)
-from .paths import Answer, Outcome, check, find
+from .names import Name
+from .paths import Answer, Asked, Outcome, check, find
 from .questions import Holder, Question, holders_by_issuer, questions
 from .reports import path, paths, why
 from .vouchers import Vouchers
 
 __all__ = [
-    "Answer", "BadAnswer", "BadLine", "BadMoment", "BadName", "Certificate", "End", "Error",
-    "Holder", "Item", "Items", "Kind", "LIMIT", "LibraryMissing", "Name", "NoField", "Other",
-    "OutOfMemory", "Outcome", "Question", "RevocationList", "Vouchers", "check", "class_of",
+    "Answer", "Asked", "BadAnswer", "BadItem", "BadLine", "BadMoment", "BadName", "Certificate",
+    "End", "Error", "Holder", "Item", "Items", "Kind", "LIMIT", "LibraryMissing", "Name", "NoField",
+    "Other", "OutOfMemory", "Outcome", "Question", "RevocationList", "Vouchers", "check", "class_of",
     "find", "frame", "holders_by_issuer", "path", "paths", "questions", "version", "why",
 ]

@@ -1,25 +1,26 @@
 """Items: the certificates and revocation lists of a file, and what they hold."""
 import enum
-from array import array
 from collections.abc import Sequence
 from ctypes import byref, c_size_t, c_uint32
-from datetime import datetime, timezone
-from functools import cached_property
-from typing import Iterator, NamedTuple, Optional
+from datetime import datetime
+from typing import Iterator, Optional, Tuple
 
-from . import library
+from . import arguments, library
+from .cutting import Cutter, End
+from .fixed import Fixed, kept
+from .moments import datetime_of
+from .names import Name
 
 LIMIT = 16777216
-# How many octets of a field or a name are asked for at first.
+# How many octets of a field are asked for at first.
 ROOM = 512
-# How many octets are cut in one call, or more where an item is longer.
-WINDOW = 1 << 20
-# How a file ends, by the numbers of certpath.h.
-ENDS = ("clean", "cut", "fault")
 # Stands for the class of an item that isn't known yet.
 UNKNOWN = 255
 # How many items are classed in one call.
 MANY = 1 << 16
+# How octets that aren't DER items can be made such.
+FROM_PEM = ("PEM has to be made DER: ssl.PEM_cert_to_DER_cert() reads one certificate, "
+            "./bundle of the repository whole files")
 
 
 class Kind(enum.Enum):
@@ -38,61 +39,41 @@ class Field(enum.IntEnum):
     ALGORITHM = 4
 
 
-class End(NamedTuple):
-    """How a file ends after its items: "clean", "cut" or "fault", and where they end."""
-    word: str
-    at: int
-
-    @property
-    def is_clean(self) -> bool:
-        return self.word == "clean"
+KINDS = tuple(Kind)
 
 
-class Name:
-    """A name (RFC 5280, 4.1.2.4). Names are equal where their octets are."""
-
-    def __init__(self, octets: bytes):
-        self._octets = octets
-
-    def public_bytes(self) -> bytes:
-        """The name's DER."""
-        return self._octets
-
-    @cached_property
-    def text(self) -> str:
-        """The name as text, as `C=DE, O=Example, CN=www.example.test`.
-
-        BadName where it has none.
-        """
-        octets, length = library.octets_of(self._octets)
-        call = library.loaded().certpath_name
-        return library.sized(lambda *room: call(octets, length, *room), ROOM).decode()
-
-    def __str__(self) -> str:
-        try:
-            return self.text
-        except library.BadName:
-            return self._octets.hex()
-
-    def __repr__(self) -> str:
-        return f"<Name({self})>"
-
-    def __eq__(self, other) -> bool:
-        return isinstance(other, Name) and self._octets == other._octets
-
-    def __hash__(self) -> int:
-        return hash(self._octets)
+def class_number(octets, length: int) -> int:
+    """The number of what the octets of an item are."""
+    found = c_uint32()
+    library.refuse(library.loaded().certpath_class(octets, length, byref(found)))
+    return found.value
 
 
-class Item:
+def class_of(data: bytes) -> Kind:
+    """What the octets of an item are."""
+    return KINDS[class_number(*library.octets_of(arguments.octets(data, "an item")))]
+
+
+class Item(Fixed):
     """A certificate, a revocation list, or other octets. Items are equal where their octets are.
 
     Fields are read when they are first asked for.
     """
-    kind = Kind.OTHER
 
     def __init__(self, octets: bytes):
-        self._octets = octets
+        self._set(_octets=arguments.octets(octets, "an item"))
+
+    @classmethod
+    def _known(cls, octets: bytes):
+        """An item whose octets are known to be of its class."""
+        made = cls.__new__(cls)
+        made.__dict__["_octets"] = octets
+        return made
+
+    @kept
+    def kind(self) -> Kind:
+        """What the item is."""
+        return class_of(self._octets)
 
     def public_bytes(self) -> bytes:
         """The item's DER."""
@@ -100,9 +81,10 @@ class Item:
 
     def field(self, field: Field) -> bytes:
         """A field's octets; NoField where the item has no such field."""
+        number = arguments.number(field, "the field", arguments.MOST_32)
         octets, length = library.octets_of(self._octets)
         call = library.loaded().certpath_field
-        return library.sized(lambda *room: call(octets, length, field, *room), ROOM)
+        return library.sized(lambda *room: call(octets, length, number, *room), ROOM)
 
     def __eq__(self, other) -> bool:
         return isinstance(other, Item) and self._octets == other._octets
@@ -113,55 +95,72 @@ class Item:
     def __repr__(self) -> str:
         return f"<{type(self).__name__}({len(self._octets)} octets)>"
 
+    def __reduce__(self):
+        return type(self), (self._octets,)
 
-class Other(Item):
+
+class OfKind(Item):
+    """An item of one class. Octets of another one are refused: BadItem."""
+
+    def __init__(self, octets: bytes):
+        super().__init__(octets)
+        found = class_of(self._octets)
+        if found is not self.kind:
+            raise library.BadItem(f"the octets of a {type(self).__name__} are needed, and these are "
+                                  f"Kind.{found.name}; {FROM_PEM}")
+
+
+class Other(OfKind):
     """Octets that are neither a certificate nor a list in its one spelling."""
+    kind = Kind.OTHER
 
 
-class Signed(Item):
+class Signed(OfKind):
     """What certificates and lists share."""
 
-    @cached_property
+    @kept
     def issuer(self) -> Name:
         """The name under which it was issued."""
         return Name(self.field(Field.ISSUER))
 
-    @cached_property
+    @kept
     def signature_algorithm(self) -> bytes:
         """The identifier of the signature's algorithm, the content of its OBJECT IDENTIFIER."""
         return self.field(Field.ALGORITHM)
 
-    @cached_property
-    def _times(self):
+    @kept
+    def _times(self) -> Tuple[datetime, Optional[datetime]]:
         octets, length = library.octets_of(self._octets)
         validity = library.Validity()
         library.refuse(library.loaded().certpath_times(octets, length, byref(validity)))
-        last = moment_of(validity.last) if validity.has_last else None
-        return moment_of(validity.first), last
+        last = datetime_of(validity.last) if validity.has_last else None
+        return datetime_of(validity.first), last
 
 
 class Certificate(Signed):
     """A certificate (RFC 5280, 4.1)."""
     kind = Kind.CERTIFICATE
 
-    @cached_property
+    @kept
     def subject(self) -> Name:
         """Whose certificate it is."""
         return Name(self.field(Field.SUBJECT))
 
-    @cached_property
+    @kept
     def serial_number(self) -> int:
         return int.from_bytes(self.field(Field.SERIAL), "big", signed=True)
 
     @property
     def not_valid_before_utc(self) -> datetime:
+        """From when it is valid."""
         return self._times[0]
 
     @property
     def not_valid_after_utc(self) -> datetime:
+        """Until when it is valid."""
         return self._times[1]
 
-    @cached_property
+    @kept
     def public_key_bytes(self) -> bytes:
         """The key's DER, a SubjectPublicKeyInfo."""
         return self.field(Field.KEY)
@@ -181,35 +180,28 @@ class RevocationList(Signed):
         return self._times[1]
 
 
-KINDS = tuple(Kind)
 CLASSES = {Kind.OTHER: Other, Kind.CERTIFICATE: Certificate, Kind.LIST: RevocationList}
 
 
-def moment_of(moment: library.Moment) -> datetime:
-    return datetime(moment.year, moment.month, moment.day, moment.hour, moment.minute,
-                    moment.second, tzinfo=timezone.utc)
+class Items(Fixed, Sequence):
+    """The items of octets in their order, each classed when it is first asked for.
 
+    `data` are the octets, `limit` is the most content octets of an item, and `end` says how the
+    octets end after the items. Items are never changed. They may be pickled, and are framed anew
+    where they are loaded.
+    """
+    data: bytes
+    limit: int
+    end: End
 
-def class_number(octets, length: int) -> int:
-    """The number of what the octets of an item are."""
-    found = c_uint32()
-    library.refuse(library.loaded().certpath_class(octets, length, byref(found)))
-    return found.value
-
-
-def class_of(data: bytes) -> Kind:
-    """What the octets of an item are."""
-    return KINDS[class_number(*library.octets_of(data))]
-
-
-class Items(Sequence):
-    """The items of a file in their order, each classed when it is first asked for."""
-
-    def __init__(self, data: bytes, limit: int, starts: array, end: End):
-        self.data, self.limit, self.end = data, limit, end
-        # where each item begins, and where the last one ends
-        self._starts, self._address = starts, library.address_of(data)
-        self._kinds, self._items = bytearray([UNKNOWN]) * len(self), {}
+    def __init__(self, data: bytes, limit: int = LIMIT):
+        octets = arguments.octets(data, "data")
+        limit = arguments.number(limit, "the limit", arguments.MOST_32)
+        cutter = Cutter(octets, limit)
+        end = cutter.all()
+        # (the starts: where each item begins, and where the last one ends)
+        self._set(data=octets, limit=limit, end=end, _starts=cutter.starts,
+                  _kinds=bytearray([UNKNOWN]) * (len(cutter.starts) - 1), _items={})
 
     def octets(self, position: int) -> bytes:
         """The octets of the item at a position."""
@@ -220,9 +212,7 @@ class Items(Sequence):
         """What the item at a position is; its octets aren't copied."""
         position = range(len(self))[position]
         if self._kinds[position] == UNKNOWN:
-            offset, end = self._starts[position], self._starts[position + 1]
-            part = library.part_of(self._address, offset, end - offset)
-            self._kinds[position] = class_number(*part)
+            self._kinds[position] = class_number(*self._part(position, position + 1))
         return KINDS[self._kinds[position]]
 
     def kinds(self) -> Iterator[Kind]:
@@ -232,13 +222,17 @@ class Items(Sequence):
                 self._class(first, min(first + MANY, len(self)))
         return map(KINDS.__getitem__, self._kinds)
 
+    def _part(self, first: int, end: int):
+        """The octets of the items from a position up to another one, as a call takes them."""
+        offset = self._starts[first]
+        return library.part_of(self.data, offset, self._starts[end] - offset)
+
     def _class(self, first: int, end: int):
         """Classes the items from a position up to another one, by one call."""
-        offset, room = self._starts[first], end - first
-        part = library.part_of(self._address, offset, self._starts[end] - offset)
+        room = end - first
         found, count = (c_uint32 * room)(), c_size_t()
-        library.refuse(library.loaded().certpath_classes(*part, self.limit, found, room,
-                                                         byref(count)))
+        library.refuse(library.loaded().certpath_classes(*self._part(first, end), self.limit,
+                                                         found, room, byref(count)))
         self._kinds[first:end] = bytes(found[:])
 
     def __len__(self) -> int:
@@ -250,70 +244,81 @@ class Items(Sequence):
         position = range(len(self))[position]
         if position not in self._items:
             kind = self.kind(position)
-            item = CLASSES[kind](self.octets(position))
+            item = CLASSES[kind]._known(self.octets(position))
             if kind is Kind.OTHER:
                 # (it has nothing that is read but once, and a file may have millions of them)
                 return item
-            self._items[position] = item
+            return self._items.setdefault(position, item)
         return self._items[position]
 
+    def __repr__(self) -> str:
+        return f"<Items({len(self)} of {len(self.data)} octets, {self.end.word})>"
 
-class Cutter:
-    """Cuts octets into items, a window of them at a time, so that many small items take little
-    memory beside the octets."""
-
-    def __init__(self, octets: bytes, limit: int):
-        self.length, self.limit = len(octets), limit
-        self.address, self.framed = library.address_of(octets), library.Framed()
-        self.starts, self.spans = array("Q"), array("Q")
-
-    def cut(self, at: int, length: int):
-        """Cuts a window: notes where its items begin, and gives how it ends."""
-        window = library.part_of(self.address, at, length)
-        self.make_room(length // 64 + 16)
-        while True:
-            room = len(self.spans) // 2
-            spans = library.spans_at(self.spans.buffer_info()[0])
-            status = library.loaded().certpath_frame(*window, self.limit, spans, room,
-                                                     byref(self.framed))
-            if status != library.TOO_SMALL:
-                break
-            self.make_room(self.framed.count)
-        library.refuse(status)
-        self.starts.extend(map(at.__add__, self.spans[:2 * self.framed.count:2]))
-        return ENDS[self.framed.end], at + self.framed.at
-
-    def make_room(self, count: int):
-        """Makes room for so many spans, each an offset and a length."""
-        if len(self.spans) < 2 * count:
-            self.spans = array("Q", bytes(2 * count * self.spans.itemsize))
-
-    def all(self) -> End:
-        """Cuts all of the octets; gives how they end."""
-        at, size = 0, WINDOW
-        while True:
-            length = min(size, self.length - at)
-            word, end = self.cut(at, length)
-            if word == "fault" or at + length == self.length:
-                self.starts.append(end)
-                return End(word, end)
-            if end == at:
-                # an item is longer than the window
-                size *= 2
-            at = end
+    def __reduce__(self):
+        return Items, (self.data, self.limit)
 
 
 def frame(data: bytes, limit: int = LIMIT) -> Items:
     """Cuts octets into items: DER SEQUENCEs one after another, each of at most `limit` content
-    octets. `items.end` says how the octets end after them."""
-    if not 0 <= limit < 1 << 32:
-        raise ValueError(f"the limit {limit} is not from 0 to 4294967295")
-    octets = bytes(data)
-    cutter = Cutter(octets, limit)
-    end = cutter.all()
-    return Items(octets, limit, cutter.starts, end)
+    octets. `items.end` says how the octets end after them.
+
+    TypeError of what is no octets, such as a path or a number; ValueError of a limit that isn't
+    from 0 to 4294967295.
+    """
+    return Items(data, limit)
 
 
-def items_of(data, limit: int = LIMIT) -> Items:
-    """Items that are given as such, or as octets."""
-    return data if isinstance(data, Items) else frame(data, limit)
+def are_no_items(items: Items) -> bool:
+    """Whether octets are there, and begin with no item, however large one may be."""
+    if items.end != ("fault", 0):
+        return False
+    return items.limit == arguments.MOST_32 or are_no_items(Items(items.data, arguments.MOST_32))
+
+
+def items_of(data, what: str, limit: int = LIMIT) -> Items:
+    """Items that are given as such, or as octets that are items to their last one; BadItem of octets
+    that aren't."""
+    if isinstance(data, Items):
+        return data
+    items = Items(arguments.octets(data, what), limit)
+    refuse_text(items, what)
+    at, length = items.end.at, len(items.data)
+    if items.end.word == "cut":
+        raise library.BadItem(f"{what}: the item at octet {at} of {length} is cut off; "
+                              "certpath.frame() takes the items before it")
+    if not items.end.is_clean:
+        raise library.BadItem(f"{what}: no item of at most {limit} content octets begins at octet "
+                              f"{at} of {length}; certpath.frame() takes the items before it, and "
+                              "another limit")
+    return items
+
+
+def refuse_text(items: Items, what: str):
+    """BadItem of Items that PEM or other text was framed to."""
+    if are_no_items(items):
+        raise library.BadItem(f"{what}: the octets are no DER items; {FROM_PEM}")
+
+
+def under_one_limit(bundle, anchors) -> Tuple[Items, Items]:
+    """A bundle and anchors, each Items or octets, under one limit: that of Items that are given.
+
+    BadItem as for `items_of`; ValueError of Items with two limits.
+    """
+    if isinstance(bundle, Items) or not isinstance(anchors, Items):
+        bundle = items_of(bundle, "the bundle")
+        anchors = items_of(anchors, "the anchors", bundle.limit)
+    else:
+        bundle = items_of(bundle, "the bundle", anchors.limit)
+    if bundle.limit != anchors.limit:
+        raise ValueError(f"the bundle has the limit {bundle.limit}, and the anchors "
+                         f"{anchors.limit}; frame both with one")
+    return bundle, anchors
+
+
+def both(bundle, anchors) -> Tuple[Items, Items]:
+    """A bundle and anchors under one limit. Items are refused too that have nothing but text, which
+    would be a file without items in silence."""
+    bundle, anchors = under_one_limit(bundle, anchors)
+    refuse_text(bundle, "the bundle")
+    refuse_text(anchors, "the anchors")
+    return bundle, anchors

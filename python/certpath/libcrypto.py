@@ -115,10 +115,26 @@ class Key(NamedTuple):
 
 
 class Verifier:
-    """Asks OpenSSL. The keys that were asked for last are kept, at most so many."""
+    """Asks OpenSSL. The keys that were asked for last are kept, at most so many, until `close` or
+    the end of the `with` block frees them."""
 
     def __init__(self, most=MOST_KEYS):
-        self.library, self.keys, self.most = loaded(), OrderedDict(), most
+        self.keys, self.most = OrderedDict(), most
+        self.library = loaded()
+
+    def __enter__(self):
+        return self
+
+    def __exit__(self, *_):
+        self.close()
+
+    def __del__(self):
+        self.close()
+
+    def close(self):
+        """Frees all keys that are kept. Whoever asks for a key again has it read anew."""
+        while self.keys:
+            self.drop_oldest()
 
     def read(self, function, octets):
         """What a d2i function makes of the octets, if it takes all of them."""
@@ -139,9 +155,13 @@ class Verifier:
     def make_room(self):
         """Frees the key that was asked for the longest time ago, where there is no room for another."""
         if len(self.keys) >= self.most:
-            _, oldest = self.keys.popitem(last=False)
-            if oldest.handle is not None:
-                self.library.EVP_PKEY_free(oldest.handle)
+            self.drop_oldest()
+
+    def drop_oldest(self):
+        """Frees the key that was asked for the longest time ago."""
+        _, oldest = self.keys.popitem(last=False)
+        if oldest.handle is not None:
+            self.library.EVP_PKEY_free(oldest.handle)
 
     def read_key(self, octets):
         """What OpenSSL makes of a key element."""

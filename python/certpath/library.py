@@ -40,16 +40,32 @@ class BadAnswer(Error, ValueError):
     """The numbers of an answer that is to be checked can't be an answer's."""
 
 
+class BadItem(Error, ValueError):
+    """Octets are no items, or an item of another class, where items or such an item are needed."""
+
+
 class BadLine(Error, ValueError):
     """A line of a voucher file is neither empty nor two digests; `line` is its number, from 1."""
 
     def __init__(self, line):
-        super().__init__(f"vouchers line {line}")
+        super().__init__(f"vouchers line {line}: it is neither empty nor two digests of 64 hex "
+                         "digits with one space between them")
         self.line = line
+
+    def __reduce__(self):
+        return BadLine, (self.line,)
 
 
 DONE, TOO_SMALL, BAD_LINE = 0, 2, 7
-ERRORS = {1: OutOfMemory, 3: NoField, 4: BadName, 5: BadMoment, 6: BadAnswer}
+# What each status that refuses a call is, and what is said of it.
+ERRORS = {
+    1: (OutOfMemory, "out of memory: the C library gave none"),
+    3: (NoField, "the item has no such field"),
+    4: (BadName, "the octets are no name"),
+    5: (BadMoment, "the calendar has no such date, or a clock no such time"),
+    6: (BadAnswer, "the numbers are no answer: an entry of the table stands for nothing, the table "
+                   "has no whole rows, or there is a path where the outcome isn't PATH"),
+}
 # The octets of a voucher: two SHA-256 digests.
 PAIR = 64
 
@@ -142,23 +158,19 @@ def version():
 def refuse(status):
     """Raises the error that a status is, unless the call was done."""
     if status != DONE:
-        raise ERRORS.get(status, Error)(f"status {status}")
+        error, said = ERRORS.get(status, (Error, f"the library refuses a call, status {status}"))
+        raise error(said)
 
 
-def octets_of(data):
+def octets_of(octets):
     """Octets as a call takes them, and their length."""
-    octets = bytes(data)
     return octets, len(octets)
 
 
-def address_of(octets):
-    """Where a `bytes` lies, as long as somebody holds it."""
-    return ctypes.cast(octets, ctypes.c_void_p).value
-
-
-def part_of(address, offset, length):
-    """A part of octets as a call takes it, which isn't copied."""
-    return OCTETS(address + offset), length
+def part_of(octets, offset, length):
+    """A part of a `bytes` as a call takes it, which isn't copied. It is there as long as somebody
+    holds the `bytes`."""
+    return OCTETS(ctypes.cast(octets, ctypes.c_void_p).value + offset), length
 
 
 def spans_at(address):

@@ -5,13 +5,14 @@
 
 Of this nothing is proved: what is vouched for is what OpenSSL says.
 """
-from functools import cached_property
+from contextlib import contextmanager
 from itertools import chain, groupby
 from typing import Callable, Iterator, List, NamedTuple, Optional
 
-from . import algorithms, libcrypto
-from .items import Certificate, Items, Kind, items_of
-from .questions import Question, questions
+from . import algorithms, arguments, libcrypto
+from .fixed import kept
+from .items import Certificate, Kind, both
+from .questions import Question, item_at, questions
 from .vouchers import Vouchers
 
 WORDS = {Kind.CERTIFICATE: libcrypto.CERTIFICATE, Kind.LIST: libcrypto.LIST}
@@ -67,11 +68,22 @@ class Judged(NamedTuple):
 
 
 def verifier():
-    """What asks OpenSSL; Missing where it isn't there. Each thread needs its own."""
+    """What asks OpenSSL; Missing where it isn't there. Each thread needs its own. Its `close` frees
+    the keys that it keeps, as does the end of a `with` block."""
     try:
         return libcrypto.Verifier()
     except ImportError as error:
         raise Missing(str(error)) from error
+
+
+@contextmanager
+def closing(openssl=None):
+    """What asks OpenSSL: the one that is given, or else one of its own, which is closed then."""
+    if openssl is not None:
+        yield openssl
+        return
+    with verifier() as made:
+        yield made
 
 
 def unknown(identifier: str) -> str:
@@ -86,14 +98,14 @@ class KeyHolders:
     def __init__(self, certificates: List[Certificate], key_id: Callable):
         self.certificates, self.key_id = certificates, key_id
 
-    @cached_property
+    @kept
     def _by_id(self):
         found = {}
         for place, it in enumerate(self.certificates):
             found.setdefault(self.key_id(it), []).append(place)
         return found
 
-    @cached_property
+    @kept
     def _by_key(self):
         return {it.public_key_bytes: place for place, it in enumerate(self.certificates)}
 
@@ -119,7 +131,8 @@ class Judge:
     """Asks OpenSSL about items, with at most `tries` keys each."""
 
     def __init__(self, openssl=None, tries: int = MOST_TRIES):
-        self.openssl, self.tries = openssl or verifier(), tries
+        self.tries = arguments.number(tries, "tries", None)
+        self.openssl = openssl or verifier()
         self._ids = {}
 
     def holders(self, certificates: List[Certificate]) -> KeyHolders:
@@ -127,7 +140,9 @@ class Judge:
         return KeyHolders(certificates, self.key_id)
 
     def judged(self, item, holders: KeyHolders) -> Judged:
-        """What OpenSSL says of an item, by the keys of certificates."""
+        """What OpenSSL says of a certificate or a list, by the keys of certificates."""
+        if item.kind not in WORDS:
+            raise ValueError("a certificate or a list is needed, not another item")
         with self.openssl.reading(WORDS[item.kind], item.public_bytes()) as read:
             if read is None:
                 return Judged(UNREAD, [])
@@ -165,28 +180,38 @@ def verdicts_on(asked: List[Question], judged: Judged) -> Iterator[Verdict]:
             yield Verdict(question, it.why is None, it.weaknesses, it.why)
 
 
+def item_asked(question: Question) -> int:
+    """Which item a question is on."""
+    if not isinstance(question, Question):
+        raise TypeError(f"asked: a Question is needed, not {arguments.type_name(question)}")
+    return question.item
+
+
 def answers(bundle, anchors, asked=None, tries: int = MOST_TRIES,
             openssl=None) -> Iterator[Verdict]:
     """What OpenSSL says of each question, by default of all of a bundle and anchors (Items or
     octets). For each item at most `tries` keys are tried: first those of the key identifier that
     the item names, then its own. The questions of an item have to stand side by side, as
     `questions` gives them."""
-    bundle = items_of(bundle)
-    anchors = items_of(anchors, bundle.limit)
-    judge = Judge(openssl, tries)
+    bundle, anchors = both(bundle, anchors)
     asked = questions(bundle, anchors) if asked is None else asked
-    for item, group in groupby(asked, key=lambda it: it.item):
-        of_item = [*group]
-        holders = judge.holders([it.key_holder(bundle, anchors) for it in of_item])
-        yield from verdicts_on(of_item, judge.judged(bundle[item], holders))
+    with closing(openssl) as own:
+        judge = Judge(own, tries)
+        for item, group in groupby(asked, key=item_asked):
+            of_item = [*group]
+            holders = judge.holders([it.key_holder(bundle, anchors) for it in of_item])
+            yield from verdicts_on(of_item, judge.judged(item_at(bundle, item), holders))
 
 
 def vouch(bundle, anchors, weak: bool = False, tries: int = MOST_TRIES) -> Vouched:
     """Vouchers for all that OpenSSL verifies; weak signatures (MD5, SHA-1, keys worth fewer than
-    112 bits of security) only where `weak` is true."""
-    bundle = items_of(bundle)
-    anchors = items_of(anchors, bundle.limit)
-    vouchers, verdicts = Vouchers(), []
+    112 bits of security) only where `weak` is true.
+
+    `bundle` and `anchors` are Items or octets; errors are those of `questions`. Missing where there
+    is no libcrypto of OpenSSL 3.
+    """
+    bundle, anchors = both(bundle, anchors)
+    weak, vouchers, verdicts = arguments.flag(weak, "weak"), Vouchers(), []
     for verdict in answers(bundle, anchors, tries=tries):
         verdicts.append(verdict)
         if verdict.is_taken(weak):

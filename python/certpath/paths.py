@@ -1,15 +1,20 @@
 """Paths from a certificate to an anchor."""
 import enum
-from ctypes import byref, c_size_t, c_uint32, c_uint64
-from datetime import datetime, timezone
-from typing import NamedTuple, Tuple, Union
+import mmap
+from array import array
+from ctypes import byref, c_size_t, c_uint32, c_uint64, sizeof
+from datetime import datetime
+from typing import NamedTuple, Optional, Sequence, Tuple, Union, overload
 
-from . import library
-from .items import Items, items_of
-from .vouchers import Vouchers
+from . import arguments, library
+from .items import Items, both
+from .moments import moment_of
+from .vouchers import Vouchers, vouchers_of
 
 # How many positions of a path, and rows of a table, are asked for at first.
 ROOM = 16
+# Room of so many octets is taken from the system, which gives memory where it is written.
+LARGE = 1 << 20
 
 
 class Outcome(enum.Enum):
@@ -22,8 +27,19 @@ class Outcome(enum.Enum):
     """The target is no certificate, or there is no such item."""
 
 
-class Answer(NamedTuple):
-    """An answer, with the table that shows that it is right."""
+class Asked(NamedTuple):
+    """What was asked of `find`."""
+    bundle: Items
+    anchors: Items
+    vouchers: bytes
+    """The vouchers, pairs of digests one after another."""
+    target: int
+    at: datetime
+    demand_lists: bool
+
+
+class Numbers(NamedTuple):
+    """What an answer consists of."""
     outcome: Outcome
     positions: Tuple[int, ...]
     """Of a path: the target's position in the bundle, then its issuers' up to the last."""
@@ -33,69 +49,159 @@ class Answer(NamedTuple):
     """Numbers, as `certpath_find` of certpath.h describes them; `check` reads them."""
 
 
-def moment_of(at: datetime) -> library.Moment:
-    """A moment in UTC, without its parts of a second. One without a time zone is taken as UTC."""
-    utc = at.astimezone(timezone.utc) if at.tzinfo else at
-    return library.Moment(utc.year, utc.month, utc.day, utc.hour, utc.minute, utc.second)
+class Answer(Numbers):
+    """An answer, with the table that shows that it is right. It is true where there is a path.
+
+    Answers are equal where their numbers are. One of `find` holds what was asked, which is pickled
+    with it: the octets of bundle, anchors and vouchers. `Answer(*answer)` is without.
+    """
+    asked: Optional[Asked] = None
+    """What was asked of `find`; None of an answer that was made otherwise."""
+
+    @property
+    def found(self) -> bool:
+        """Whether there is a path."""
+        return self.outcome is Outcome.PATH
+
+    def __bool__(self) -> bool:
+        return self.found
+
+    def _replace(self, **changed) -> "Answer":
+        made = super()._replace(**changed)
+        made.asked = self.asked
+        return made
+
+    __replace__ = _replace
 
 
 def settings_of(bundle: Items, target: int, at: datetime, demand_lists: bool) -> library.Settings:
     """What is asked, as a call takes it."""
-    if not 0 <= target <= c_size_t(-1).value:
-        raise ValueError(f"the target {target} is no position")
-    return library.Settings(target, bundle.limit, bool(demand_lists), moment_of(at))
+    target = arguments.number(target, "the target", arguments.MOST_64)
+    return library.Settings(target, bundle.limit, arguments.flag(demand_lists, "demand_lists"),
+                            moment_of(at))
 
 
-def asked(bundle: Items, anchors: Items, vouchers: Union[Vouchers, bytes], target: int,
-          at: datetime, demand_lists: bool) -> tuple:
-    """The arguments that `find` and `check` share."""
-    pairs = vouchers.octets() if isinstance(vouchers, Vouchers) else bytes(vouchers)
-    count, rest = divmod(len(pairs), library.PAIR)
-    if rest:
-        raise ValueError(f"vouchers are pairs of {library.PAIR} octets, and {rest} are left over")
-    return (*library.octets_of(bundle.data), *library.octets_of(anchors.data), pairs, count,
-            byref(settings_of(bundle, target, at, demand_lists)))
+def given(asked: Asked) -> tuple:
+    """The arguments that the calls to find and to check share."""
+    settings = settings_of(asked.bundle, asked.target, asked.at, asked.demand_lists)
+    return (*library.octets_of(asked.bundle.data), *library.octets_of(asked.anchors.data),
+            asked.vouchers, len(asked.vouchers) // library.PAIR, byref(settings))
 
 
-def find(bundle, anchors, vouchers, target: int, at: datetime,
+def room_for(count: int):
+    """Room for so many numbers of a table."""
+    numbers, size = c_uint64 * count, count * sizeof(c_uint64)
+    if size < LARGE:
+        return numbers()
+    try:
+        return numbers.from_buffer(mmap.mmap(-1, size))
+    except OSError:
+        raise library.OutOfMemory(f"out of memory: the system gave no {size} octets") from None
+
+
+def find(bundle, anchors, vouchers: Union[Vouchers, bytes, str], target: int, at: datetime,
          demand_lists: bool = False) -> Answer:
     """The first of the shortest valid paths from an item of the bundle to an anchor, or that there
-    is none, with a table that shows it.
+    is none, with a table that shows it. The answer is true where there is a path.
 
-    `bundle` and `anchors` are Items or octets, `vouchers` are Vouchers or their octets, `target` is
-    a position in the bundle. With `demand_lists` each certificate of the path needs a revocation
-    list that is used. OutOfMemory where the C library gives no memory.
+        if certpath.find(bundle, anchors, vouchers, 0, datetime.now(timezone.utc)):
+            ..
+
+    `bundle` and `anchors` are Items or octets, `vouchers` are Vouchers, their octets, or the text
+    of a voucher file, `target` is a position in the bundle. `at` is a datetime, of the years 1 to
+    9999; one without a time zone is taken as UTC. With `demand_lists` each certificate of the path
+    needs a revocation list that is used.
+
+    TypeError of an argument of another type. BadItem of octets that aren't DER items to their last
+    one, BadLine of text of vouchers, BadMoment; other ValueErrors of numbers that are out of range,
+    two limits, and vouchers that aren't pairs. OutOfMemory where the C library gives no memory.
     """
-    bundle = items_of(bundle)
-    anchors = items_of(anchors, bundle.limit)
-    arguments = asked(bundle, anchors, vouchers, target, at, demand_lists)
-    row, room, table_room = library.AnswerRow(), ROOM, ROOM * len(bundle)
+    asked = Asked(*both(bundle, anchors), vouchers_of(vouchers), target, at, demand_lists)
+    arguments_of_call = given(asked)
+    row, room, table_room = library.AnswerRow(), ROOM, ROOM * len(asked.bundle)
     while True:
-        positions, table = (c_size_t * room)(), (c_uint64 * table_room)()
-        status = library.loaded().certpath_find(*arguments, positions, room, table, table_room,
-                                                byref(row))
+        positions, table = (c_size_t * room)(), room_for(table_room)
+        status = library.loaded().certpath_find(*arguments_of_call, positions, room, table,
+                                                table_room, byref(row))
         if status != library.TOO_SMALL:
             break
         room, table_room = row.length, row.entries
     library.refuse(status)
-    return Answer(Outcome(row.outcome), tuple(positions[:row.length]), row.anchor,
-                  tuple(table[:row.entries]))
+    answer = Answer(Outcome(row.outcome), tuple(positions[:row.length]), row.anchor,
+                    tuple(table[:row.entries]))
+    answer.asked = asked
+    return answer
 
 
-def check(bundle, anchors, vouchers, target: int, at: datetime, answer: Answer,
-          demand_lists: bool = False) -> bool:
-    """Whether an answer of `find`, or of anybody, is right, as its table shows.
+def numbers_of(values: Sequence[int], what: str) -> array:
+    """Numbers of an answer; BadAnswer where one is no uint64_t, TypeError where it is no int."""
+    if isinstance(values, (str, bytes, bytearray)) or not isinstance(values, Sequence):
+        raise TypeError(f"the answer's {what}: a tuple of ints is needed, not "
+                        f"{arguments.type_name(values)}")
+    try:
+        return array("Q", [*values])
+    except OverflowError:
+        raise library.BadAnswer(f"the answer's {what}: a number isn't from 0 to "
+                                f"{arguments.MOST_64}") from None
+    except TypeError:
+        raise TypeError(f"the answer's {what}: each is an int") from None
 
-    It reads the items by another reader than `find`, and searches for nothing. BadAnswer where the
-    numbers of the answer can't be one's, as a table without whole rows.
-    """
-    bundle = items_of(bundle)
-    anchors = items_of(anchors, bundle.limit)
-    arguments = asked(bundle, anchors, vouchers, target, at, demand_lists)
-    length, entries = len(answer.positions), len(answer.table)
-    row = library.AnswerRow(answer.outcome.value, length, answer.anchor, entries)
+
+def is_right(asked: Asked, answer: Answer) -> bool:
+    """Whether an answer is right."""
+    if not isinstance(answer.outcome, Outcome):
+        raise TypeError("the answer's outcome: an Outcome is needed, not "
+                        f"{arguments.type_name(answer.outcome)}")
+    positions = numbers_of(answer.positions, "positions")
+    table = numbers_of(answer.table, "table")
+    anchor = arguments.number(answer.anchor, "the answer's anchor", arguments.MOST_64,
+                              library.BadAnswer)
+    row = library.AnswerRow(answer.outcome.value, len(positions), anchor, len(table))
     says_yes = c_uint32()
     library.refuse(library.loaded().certpath_check(
-        *arguments, byref(row), (c_size_t * length)(*answer.positions), length,
-        (c_uint64 * entries)(*answer.table), entries, byref(says_yes)))
+        *given(asked), byref(row), (c_size_t * len(positions)).from_buffer_copy(positions),
+        len(positions), (c_uint64 * len(table)).from_buffer_copy(table), len(table),
+        byref(says_yes)))
     return bool(says_yes.value)
+
+
+NOT_GIVEN = object()
+
+
+@overload
+def check(answer: Answer, /) -> bool: ...
+
+
+@overload
+def check(bundle, anchors, vouchers: Union[Vouchers, bytes, str], target: int, at: datetime,
+          answer: Answer, demand_lists: bool = False) -> bool: ...
+
+
+def check(bundle, anchors=NOT_GIVEN, vouchers=NOT_GIVEN, target=NOT_GIVEN, at=NOT_GIVEN,
+          answer=NOT_GIVEN, demand_lists=NOT_GIVEN):
+    """Whether an answer of `find`, or of anybody, is right, as its table shows.
+
+    It reads the items by another reader than `find`, and searches for nothing. `check(answer)`
+    repeats the question that an answer of `find` holds. Whoever got the answer from elsewhere asks
+    by his own: `check(bundle, anchors, vouchers, target, at, answer)`, with `demand_lists` where
+    `find` had it.
+
+    BadAnswer where the numbers of the answer can't be one's: out of range, or a table without
+    whole rows. Other errors are those of `find`.
+    """
+    further = anchors, vouchers, target, at
+    if isinstance(bundle, Answer):
+        if any(it is not NOT_GIVEN for it in (*further, answer, demand_lists)):
+            raise TypeError("check takes an answer alone, or what was asked and then the answer")
+        if bundle.asked is None:
+            raise TypeError("the answer doesn't hold what was asked: give check the bundle, the "
+                            "anchors, the vouchers, the target and the moment before it")
+        return is_right(bundle.asked, bundle)
+    if any(it is NOT_GIVEN for it in (*further, answer)):
+        raise TypeError("check takes an answer of find, or a bundle, anchors, vouchers, a target, "
+                        "a moment and an answer")
+    if not isinstance(answer, Answer):
+        raise TypeError(f"answer: an Answer is needed, not {arguments.type_name(answer)}")
+    demand_lists = False if demand_lists is NOT_GIVEN else demand_lists
+    return is_right(Asked(*both(bundle, anchors), vouchers_of(vouchers), target, at, demand_lists),
+                    answer)

@@ -2,8 +2,17 @@
 from ctypes import byref, c_size_t
 from typing import Container, Dict, List, NamedTuple
 
-from . import library
-from .items import Certificate, Items, Kind, Name, frame, items_of
+from . import arguments, library
+from .items import Certificate, Item, Items, Kind, both, frame, under_one_limit
+from .names import Name
+
+
+def item_at(items: Items, position: int) -> Item:
+    """The item at a position from 0; IndexError where there is none."""
+    position = arguments.number(position, "a position", arguments.MOST_64, IndexError)
+    if position >= len(items):
+        raise IndexError(f"there are {len(items)} items, and none at position {position}")
+    return items[position]
 
 
 class Holder(NamedTuple):
@@ -14,7 +23,11 @@ class Holder(NamedTuple):
     """Its position in the bundle, or among the anchors."""
 
     def certificate(self, bundle: Items, anchors: Items) -> Certificate:
-        return (anchors if self.is_anchor else bundle)[self.position]
+        """The certificate; IndexError where there is no such item, ValueError where it is none."""
+        found = item_at(anchors if self.is_anchor else bundle, self.position)
+        if found.kind is not Kind.CERTIFICATE:
+            raise ValueError(f"{self} is no certificate, but Kind.{found.kind.name}")
+        return found
 
 
 class Question(NamedTuple):
@@ -36,9 +49,9 @@ def questions(bundle, anchors) -> List[Question]:
 
     Of signatures nothing else is ever asked: whoever answers these alike has the same paths. Of n
     items of one name there may be n times n questions; `holders_by_issuer` has each name once.
+    BadItem of octets that aren't DER items, ValueError of Items with two limits.
     """
-    bundle = items_of(bundle)
-    anchors = items_of(anchors, bundle.limit)
+    bundle, anchors = both(bundle, anchors)
     one, other = library.octets_of(bundle.data), library.octets_of(anchors.data)
     count, room = c_size_t(), 4 * len(bundle) + len(anchors) + 16
     while True:
@@ -72,9 +85,9 @@ def holders_by_issuer(bundle, anchors) -> Dict[Name, List[Holder]]:
     keys have to be tried on the items that were issued under it, in the order of the files.
 
     Since an item's questions depend on its issuer's name alone, it asks those of one item a name.
+    Items are taken however their octets end; errors are those of `questions` else.
     """
-    bundle = items_of(bundle)
-    anchors = items_of(anchors, bundle.limit)
+    bundle, anchors = under_one_limit(bundle, anchors)
     first = first_issued(bundle)
     names, asking = [*first], [Holder(False, it) for it in first.values()]
     holding = certificates_under(first, bundle, False) + certificates_under(first, anchors, True)

@@ -1,29 +1,18 @@
-"""Tries each call of the package, its errors, and eight threads at once, on the samples.
+"""Tries each call of the package, and its errors, on the samples.
 
     cd python && python3 -m unittest
 """
 import os
 import subprocess
 import sys
-import threading
 import unittest
 from datetime import datetime, timedelta, timezone
-from types import SimpleNamespace
 from unittest import mock
 
 import certpath
 import certpath.openssl
 from certpath import library
-
-TOP = os.path.join(os.path.dirname(os.path.abspath(__file__)), "..", "..")
-VERSION_1 = bytes.fromhex(
-    "30433038020101300406022a033000301e170d3235303130313030303030305a170d3236303130313030303030305a"
-    "3000300930040" "6022a03030100300406022a03030100")
-
-
-def sample(name):
-    with open(os.path.join(TOP, "samples", name), "rb") as file:
-        return file.read()
+from tests.common import AT, TOP, VERSION_1, Chain, sample
 
 
 class Framing(unittest.TestCase):
@@ -52,13 +41,12 @@ class Framing(unittest.TestCase):
             with self.assertRaises(ValueError):
                 certpath.frame(VERSION_1, limit=limit)
 
-
     def test_windows(self):
         for octets in (sample("bundle.der"), sample("bundle.der")[:-1], b"\x30\x00" * 9 + b"\x31",
                        sample("leaf.der") + b"\x30\x00" * 2000 + sample("root.der"), b""):
             whole = certpath.frame(octets)
             for window in (1, 2, 3, 64, 884, len(octets) or 1):
-                with mock.patch("certpath.items.WINDOW", window):
+                with mock.patch("certpath.cutting.WINDOW", window):
                     items = certpath.frame(octets)
                 self.assertEqual(items.end, whole.end)
                 self.assertEqual([*map(items.octets, range(len(items)))],
@@ -121,28 +109,11 @@ class Items(unittest.TestCase):
     def test_others(self):
         other = certpath.frame(b"\x30\x00")[0]
         self.assertIsInstance(other, certpath.Other)
-        with self.assertRaises(certpath.NoField):
-            certpath.Certificate(b"\x30\x00").subject
-        with self.assertRaises(certpath.NoField):
-            certpath.Certificate(b"\x30\x00").not_valid_before_utc
         self.assertEqual((other.kind, other.public_bytes()), (certpath.Kind.OTHER, b"\x30\x00"))
-        for octets in (b"", b"\x02\x01", b"\x30\x00\x00"):
-            with self.subTest(octets=octets):
-                with self.assertRaises(certpath.BadName):
-                    certpath.Name(octets).text
-                self.assertEqual(str(certpath.Name(octets)), octets.hex())
         for call in (lambda: self.list.field(1), lambda: self.list.field(2),
-                     lambda: self.leaf.field(99), lambda: certpath.Certificate(b"").issuer):
-            with self.assertRaises(certpath.NoField):
+                     lambda: self.leaf.field(99), lambda: other.field(0)):
+            with self.assertRaisesRegex(certpath.NoField, "the item has no such field"):
                 call()
-
-    def test_long_names(self):
-        value = b"\x0c\x82\x04\x00" + b"a" * 1024
-        attribute = b"\x06\x03\x55\x04\x03" + value
-        inner = b"\x30\x82" + len(attribute).to_bytes(2, "big") + attribute
-        of_set = b"\x31\x82" + len(inner).to_bytes(2, "big") + inner
-        name = b"\x30\x82" + len(of_set).to_bytes(2, "big") + of_set
-        self.assertEqual(certpath.Name(name).text, "CN=" + "a" * 1024)
 
     def test_like_cryptography(self):
         try:
@@ -154,8 +125,10 @@ class Items(unittest.TestCase):
             self.assertEqual(item.subject.public_bytes(), other.subject.public_bytes())
             self.assertEqual(item.issuer.public_bytes(), other.issuer.public_bytes())
             self.assertEqual(item.serial_number, other.serial_number)
-            self.assertEqual(item.not_valid_before_utc, other.not_valid_before_utc)
-            self.assertEqual(item.not_valid_after_utc, other.not_valid_after_utc)
+            if hasattr(other, "not_valid_before_utc"):
+                # (since version 42)
+                self.assertEqual(item.not_valid_before_utc, other.not_valid_before_utc)
+                self.assertEqual(item.not_valid_after_utc, other.not_valid_after_utc)
 
 
 class Questions(unittest.TestCase):
@@ -235,24 +208,8 @@ class Vouching(unittest.TestCase):
             self.assertEqual((judged.why, [(it.holder, it.why is None) for it in judged.tried]),
                              (None, tried), "the key that the leaf names is the first")
 
-    def test_texts(self):
-        text = sample("vouchers.txt").decode()
-        vouchers = certpath.Vouchers.from_text(text)
-        self.assertEqual((vouchers.text(), len(vouchers.octets())), (text, 64 * 4))
-        with self.assertRaises(ValueError):
-            vouchers.add_digests(b"short", bytes(32))
 
-
-class Paths(unittest.TestCase):
-    """The path of the samples, from the leaf to the root that is the anchor."""
-
-    def setUp(self):
-        chain = sample("leaf.der") + sample("intermediate.der") + sample("root.der")
-        vouchers = certpath.Vouchers.from_text(sample("vouchers.txt").decode())
-        self.given = chain, sample("root.der"), vouchers
-        self.at = datetime(2027, 1, 1, tzinfo=timezone.utc)
-        self.answer = certpath.find(*self.given, target=0, at=self.at)
-
+class Paths(Chain):
     def says(self, **changed):
         return certpath.check(*self.given, target=0, at=self.at,
                               answer=self.answer._replace(**changed))
@@ -320,11 +277,10 @@ class Paths(unittest.TestCase):
 
     def test_limits(self):
         for limit, outcome in ((0, certpath.Outcome.NO_TARGET), (2 ** 32 - 1, certpath.Outcome.PATH)):
-            chain = certpath.frame(self.given[0], limit)
-            answer = certpath.find(chain, *self.given[1:], target=0, at=self.at)
+            given = *(certpath.frame(it, limit) for it in self.given[:2]), self.given[2]
+            answer = certpath.find(*given, target=0, at=self.at)
             self.assertIs(answer.outcome, outcome)
-            self.assertIs(certpath.check(chain, *self.given[1:], target=0, at=self.at,
-                                         answer=answer), True)
+            self.assertIs(certpath.check(*given, target=0, at=self.at, answer=answer), True)
 
     def test_nothing(self):
         answer = certpath.find(b"", b"", b"", target=0, at=self.at)
@@ -335,7 +291,7 @@ class Paths(unittest.TestCase):
         moment = {"year": 2027, "month": 2, "day": 28, "hour": 0, "minute": 0, "second": 0}
         for changed in ({"month": 13}, {"month": 0}, {"day": 29}, {"day": 0}, {"hour": 24},
                         {"minute": 60}, {"second": 60}, {"year": 10000}, {"hour": -1}):
-            at = SimpleNamespace(tzinfo=None, **{**moment, **changed})
+            at = type("Odd", (datetime,), changed)(**moment)
             with self.subTest(changed=changed):
                 with self.assertRaises(certpath.BadMoment):
                     certpath.find(*self.given, target=0, at=at)
@@ -353,7 +309,7 @@ class Reports(unittest.TestCase):
 
     def setUp(self):
         self.given = sample("bundle.der"), sample("root.der"), sample("vouchers.txt").decode()
-        self.at = datetime(2027, 1, 1, tzinfo=timezone.utc)
+        self.at = AT
         self.calls = {"path": {"target": 0}, "why": {"target": 0}, "paths": {}}
 
     def reports(self, *given, **further):
@@ -375,8 +331,8 @@ class Reports(unittest.TestCase):
 
     def test_limits(self):
         for limit in (0, 856, 2 ** 32 - 1):
-            bundle = certpath.frame(self.given[0], limit)
-            for name, text in self.reports(bundle, *self.given[1:]):
+            given = *(certpath.frame(it, limit) for it in self.given[:2]), self.given[2]
+            for name, text in self.reports(*given):
                 self.assertEqual(text, self.printed(name, "--limit", str(limit)))
 
     def test_vouchers(self):
@@ -391,12 +347,11 @@ class Reports(unittest.TestCase):
         for text, line in (("x", 1), ("\n\n00 00\n", 3)):
             with self.subTest(text=text), self.assertRaises(certpath.BadLine) as raised:
                 [*self.reports(*self.given[:2], text)]
-            self.assertEqual((raised.exception.line, str(raised.exception)),
-                             (line, f"vouchers line {line}"))
+            self.assertEqual((raised.exception.line, str(raised.exception)[:16]),
+                             (line, f"vouchers line {line}:"))
 
     def test_arguments(self):
-        moment = SimpleNamespace(tzinfo=None, year=2027, month=2, day=29, hour=0, minute=0,
-                                 second=0)
+        moment = type("Odd", (datetime,), {"day": 29})(2027, 2, 28)
         with self.assertRaises(certpath.BadMoment):
             [*self.reports(*self.given, at=moment)]
         for target in (-1, 2 ** 64):
@@ -430,13 +385,14 @@ class Library(unittest.TestCase):
 
     def test_refused_memory(self):
         items, root = certpath.frame(sample("bundle.der")), sample("root.der")
+        root_item = certpath.Certificate(root)
         at, answer = datetime(2027, 1, 1), certpath.Answer(certpath.Outcome.NO_TARGET, (), 0, ())
         calls = {
             "certpath_frame": [lambda: certpath.frame(root)],
             "certpath_class": [lambda: certpath.class_of(root), lambda: items.kind(0)],
             "certpath_classes": [items.kinds],
-            "certpath_field": [lambda: certpath.Certificate(root).subject],
-            "certpath_times": [lambda: certpath.Certificate(root).not_valid_after_utc],
+            "certpath_field": [lambda: root_item.field(0)],
+            "certpath_times": [lambda: root_item.not_valid_after_utc],
             "certpath_name": [lambda: certpath.Name(b"\x30\x00").text],
             "certpath_questions": [lambda: certpath.questions(items, items)],
             "certpath_find": [lambda: certpath.find(items, items, b"", 0, at)],
@@ -459,32 +415,6 @@ class Library(unittest.TestCase):
             with self.assertRaises(certpath.LibraryMissing):
                 certpath.version()
         library.loaded.cache_clear()
-
-    def test_threads(self):
-        expected, found = self.everything(), [None] * 8
-
-        def work(k):
-            for _ in range(20):
-                found[k] = self.everything()
-
-        threads = [threading.Thread(target=work, args=(k,)) for k in range(8)]
-        for thread in threads:
-            thread.start()
-        for thread in threads:
-            thread.join()
-        self.assertEqual(found, [expected] * 8)
-
-    def everything(self):
-        items = certpath.frame(sample("bundle.der"))
-        asked = certpath.questions(items, sample("root.der"))
-        vouchers = certpath.Vouchers.from_text(sample("vouchers.txt").decode())
-        given = items, sample("root.der"), vouchers, 0, datetime(2027, 1, 1)
-        answer = certpath.find(*given)
-        shown = [(it.issuer.text, it.kind, it.signature_algorithm) for it in items]
-        texts = certpath.path(*given), certpath.why(*given), certpath.paths(*given[:3], given[4])
-        leaf, found = items[0], certpath.openssl.vouch(items, given[1]).vouchers.text()
-        return (shown, leaf.serial_number, leaf.not_valid_after_utc, [*items.kinds()], asked, answer,
-                certpath.check(*given, answer), certpath.holders_by_issuer(items, given[1]), found, texts)
 
 
 if __name__ == "__main__":

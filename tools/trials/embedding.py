@@ -15,6 +15,7 @@ import tempfile
 
 sys.dont_write_bytecode = True
 sys.path.insert(0, os.path.dirname(os.path.dirname(os.path.abspath(__file__))))
+from dev import items
 from gate import library
 from program import repo
 from trials import paths
@@ -26,6 +27,7 @@ SANITIZERS = ["-g", "-fsanitize=address,undefined", "-fno-sanitize-recover=all"]
 WRAPPED = [f"-Wl,--wrap={it}" for it in ("malloc", "realloc", "free")]
 COUNTED = re.compile(r"(\d+) passed, (\d+) failed\s*\Z")
 TESTED = re.compile(r"Ran (\d+) tests")
+PAGE_EXAMPLE = re.compile(r"(?ms)^```python\n(.*?)^```$")
 BUNDLE, ANCHORS = os.path.join("samples", "bundle.der"), os.path.join("samples", "root.der")
 # The worked cases of crates/check_rows/stdin on which memory is refused: what they have between
 # them is a certificate of version 1 and one of version 3, a list and what is almost one, a path of
@@ -33,6 +35,8 @@ BUNDLE, ANCHORS = os.path.join("samples", "bundle.der"), os.path.join("samples",
 REFUSED = ("an anchor vouches for itself, at the last moment", "an extension that is judged",
            "revoked by a list", "a list that is other revokes nothing", "a later count is taken",
            "the key that is named")
+# A common name that would print a line of its own, clear the screen, and turn what follows it.
+FORGED = "a\n1 certificate: CN=forged, O=b\x1b[2J\u202e"
 
 
 class Count:
@@ -118,8 +122,28 @@ def c_programs(count, room, number):
     refused_memory(count, room, compiled(count, room, memory, SANITIZERS, [*WRAPPED, static]))
 
 
+def forged_file(room):
+    """A file of one certificate, of version 1, whose names are FORGED."""
+    value = items.element(b"\x0c", FORGED.encode())
+    name = f"30(31(30(06(550403){value.hex()})))"
+    dates = "30({}{})".format(*items.DATES)
+    key = f"30({items.ALGORITHM}03(00))"
+    signed = f"30(02(01){items.ALGORITHM}{name}{dates}{name}{key})"
+    return made(room, "forged.der", items.octets(f"30({signed}{items.ALGORITHM}03(00))"))
+
+
+def is_one_line(count, words, which, **how):
+    """An example shows a forged name on one line, which has no octet that a terminal obeys."""
+    done = ran(words, **how)
+    lines = done.stdout.split("\n")
+    shown = [it for it in lines if re.match(r"\d+ certificate: ", it)]
+    count.tell(len(shown) == 1 and shown[0].startswith(r"0 certificate: CN=a\0A1 certificate: CN=forged")
+               and all(map(str.isprintable, lines)), f"{which}, a forged name:\n{done.stdout!r:.2000}")
+
+
 def c_example(count, room):
-    """The example in C, against the shared library: its vouchers are those of the samples."""
+    """The example in C, against the shared library: its vouchers are those of the samples, it
+    writes none over another file, and names stay on their lines."""
     source = os.path.join("examples", "c", "questions.c")
     if not os.path.exists("/usr/include/openssl/evp.h"):
         print("embedding: no headers of OpenSSL, so examples/c is not compiled")
@@ -131,6 +155,11 @@ def c_example(count, room):
         done = ran([program, at(BUNDLE), at(ANCHORS), vouchers])
         count.tell(done.returncode == 0, f"{source}:\n{done.stdout}")
         count.tell(same_lines(vouchers), f"{source}: other vouchers than samples/vouchers.txt")
+        again = ran([program, at(BUNDLE), at(ANCHORS), vouchers])
+        count.tell(again.returncode == 1 and same_lines(vouchers), f"{source}: writes over a file")
+        is_one_line(count, [program, forged_file(room), at(ANCHORS), os.path.join(room, "none")], source)
+        text = ran([program, at("README.md"), at(ANCHORS), os.path.join(room, "none")])
+        count.tell(text.returncode == 1, f"{source}: text is taken for items:\n{text.stdout}")
 
 
 def same_lines(path):
@@ -149,6 +178,10 @@ def python_trials(count, room):
         count.tell(False, f"python/tests:\n{done.stdout[-3000:]}")
     else:
         count.add(int(number[1]), 0)
+    block = PAGE_EXAMPLE.search(repo.read("docs/EMBEDDING.md"))[1]
+    done = ran([sys.executable, "-c", block], env=paths)
+    count.tell(done.returncode == 0 and "\n(0, 1) 0\nTrue\npath 0 1 anchor 0\ncheck yes\n" in done.stdout,
+               f"the example of docs/EMBEDDING.md in Python:\n{done.stdout[-2000:]}")
     if ran([sys.executable, "-c", "import cryptography"], env=paths).returncode:
         print("embedding: `cryptography` isn't installed, so examples/python is not run")
         return
@@ -157,6 +190,11 @@ def python_trials(count, room):
         done = subprocess.run([sys.executable, example, at(BUNDLE), at(ANCHORS)], env=paths,
                               stdout=to, stderr=subprocess.PIPE, text=True)
     count.tell(done.returncode == 0 and same_lines(vouchers), f"{example}:\n{done.stderr[-2000:]}")
+    is_one_line(count, [sys.executable, example, forged_file(room), at(ANCHORS)], example, env=paths)
+    for words in ([], [at(BUNDLE)], [at("README.md"), at(ANCHORS)], [at("none"), at(ANCHORS)]):
+        done = ran([sys.executable, example, *words], env=paths)
+        count.tell(done.returncode == 1 and done.stdout.count("\n") == 1,
+                   f"{example} {words}:\n{done.stdout[-2000:]}")
 
 
 def main(words):

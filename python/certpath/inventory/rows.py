@@ -55,7 +55,7 @@ def digest(octets: bytes) -> str:
 def shown(name: bytes) -> str:
     """A name as text of printable ASCII, as `certpath why` shows it."""
     try:
-        text = Name(name).text.encode()
+        text = Name(name).raw_text.encode()
     except BadName:
         return "#" + name.hex().upper()
     return "".join(chr(it) if 32 <= it < 127 and it != BACKSLASH else f"\\{it:02X}"

@@ -268,6 +268,14 @@ static void of_settings(void)
              && said(&settings, &answer, NULL, 0, NULL, 0) == 1,
          "no target");
     settings.target = 0;
+    settings.moment.year = -9999;
+    tell(find(&settings, path, MOST, table, MOST, &answer) == CERTPATH_DONE
+             && answer.outcome == CERTPATH_NO_PATH,
+         "the first year");
+    settings.moment.year = 9999;
+    tell(find(&settings, path, MOST, table, MOST, &answer) == CERTPATH_DONE
+             && answer.outcome == CERTPATH_NO_PATH,
+         "the last year");
     settings.moment.year = 1990;
     tell(find(&settings, path, MOST, table, MOST, &answer) == CERTPATH_DONE
              && answer.outcome == CERTPATH_NO_PATH && answer.entries == 3
@@ -279,7 +287,8 @@ static const certpath_moment NO_MOMENTS[] = {
     {2027, 13, 1, 0, 0, 0},      {2027, 0, 1, 0, 0, 0},   {2027, 2, 29, 0, 0, 0},
     {2027, 1, 0, 0, 0, 0},       {2027, 1, 32, 0, 0, 0},  {2027, 1, 1, 24, 0, 0},
     {2027, 1, 1, 0, 60, 0},      {2027, 1, 1, 0, 0, 60},  {2027, 1, 1, -1, 0, 0},
-    {INT16_MAX, 1, 1, 0, 0, 0},  {INT16_MIN, 1, 1, 0, 0, 0},
+    {INT16_MAX, 1, 1, 0, 0, 0},  {INT16_MIN, 1, 1, 0, 0, 0}, {10000, 1, 1, 0, 0, 0},
+    {-10000, 12, 31, 23, 59, 59},
 };
 
 static void of_moments(void)

@@ -1,0 +1,74 @@
+"""What callers hand in: it is taken where it is what a call needs, and refused with a remedy else.
+
+ctypes cuts numbers to the width of the C type, and `bytes(3)` are three zeros. So nothing reaches
+the library that hasn't passed one of these functions.
+"""
+import operator
+import os
+from typing import Optional
+
+# The greatest numbers of the C types uint32_t and size_t (and uint64_t).
+MOST_32, MOST_64 = (1 << 32) - 1, (1 << 64) - 1
+# Numbers of more bits than these are shown by how many they have.
+MOST_SHOWN_BITS = 128
+
+
+def type_name(value) -> str:
+    """The name of a value's type, for a message."""
+    return type(value).__name__
+
+
+def remedy_for_octets(value) -> str:
+    """What to do with a value that is no octets, to have some."""
+    if isinstance(value, str):
+        return "; a file is opened with mode 'rb'"
+    if isinstance(value, os.PathLike):
+        return "; Path.read_bytes() reads a file"
+    if hasattr(value, "public_bytes"):
+        return "; its public_bytes() gives them"
+    return "; its read() gives them" if hasattr(value, "read") else ""
+
+
+def octets(value, what: str) -> bytes:
+    """The octets of a `bytes`, or of another object whose buffer has elements of one octet.
+
+    TypeError of anything else, though `bytes()` may take it: numbers, paths, lists.
+    """
+    if type(value) is bytes:
+        return value
+    try:
+        view = memoryview(value)
+    except TypeError:
+        raise TypeError(f"{what}: octets are needed (bytes, bytearray or memoryview), not "
+                        f"{type_name(value)}{remedy_for_octets(value)}") from None
+    if view.itemsize != 1:
+        raise TypeError(f"{what}: octets are needed, not elements of {view.itemsize} octets; "
+                        "tobytes() gives them")
+    return view.tobytes()
+
+
+def shown(number: int) -> str:
+    """A number for a message, which may be of any size."""
+    bits = number.bit_length()
+    return str(number) if bits <= MOST_SHOWN_BITS else f"a number of {bits} bits"
+
+
+def number(value, what: str, most: Optional[int], error: type = ValueError) -> int:
+    """An int from 0 to `most`, or from 0 on where that is None; TypeError of what is no int,
+    `error` of one out of that range."""
+    if isinstance(value, bool):
+        raise TypeError(f"{what}: an int is needed, not bool")
+    try:
+        found = operator.index(value)
+    except TypeError:
+        raise TypeError(f"{what}: an int is needed, not {type_name(value)}") from None
+    if found < 0 or most is not None and found > most:
+        raise error(f"{what}: {shown(found)} isn't from 0 " + ("on" if most is None else f"to {most}"))
+    return found
+
+
+def flag(value, what: str) -> bool:
+    """True or False; TypeError of anything else, as of the text "no"."""
+    if not isinstance(value, bool):
+        raise TypeError(f"{what}: True or False is needed, not {type_name(value)}")
+    return value

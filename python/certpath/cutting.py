@@ -1,0 +1,66 @@
+"""Cuts octets into items."""
+from array import array
+from ctypes import byref
+from typing import NamedTuple
+
+from . import library
+
+# How many octets are cut in one call, or more where an item is longer.
+WINDOW = 1 << 20
+# How a file ends, by the numbers of certpath.h.
+ENDS = ("clean", "cut", "fault")
+
+
+class End(NamedTuple):
+    """How a file ends after its items: "clean", "cut" or "fault", and where they end."""
+    word: str
+    at: int
+
+    @property
+    def is_clean(self) -> bool:
+        return self.word == "clean"
+
+
+class Cutter:
+    """Cuts octets into items, a window of them at a time, so that many small items take little
+    memory beside the octets."""
+
+    def __init__(self, octets: bytes, limit: int):
+        self.length, self.limit = len(octets), limit
+        self.octets, self.framed = octets, library.Framed()
+        self.starts, self.spans = array("Q"), array("Q")
+
+    def cut(self, at: int, length: int):
+        """Cuts a window: notes where its items begin, and gives how it ends."""
+        window = library.part_of(self.octets, at, length)
+        self.make_room(length // 64 + 16)
+        while True:
+            room = len(self.spans) // 2
+            spans = library.spans_at(self.spans.buffer_info()[0])
+            status = library.loaded().certpath_frame(*window, self.limit, spans, room,
+                                                     byref(self.framed))
+            if status != library.TOO_SMALL:
+                break
+            self.make_room(self.framed.count)
+        library.refuse(status)
+        self.starts.extend(map(at.__add__, self.spans[:2 * self.framed.count:2]))
+        return ENDS[self.framed.end], at + self.framed.at
+
+    def make_room(self, count: int):
+        """Makes room for so many spans, each an offset and a length."""
+        if len(self.spans) < 2 * count:
+            self.spans = array("Q", bytes(2 * count * self.spans.itemsize))
+
+    def all(self) -> End:
+        """Cuts all of the octets; gives how they end."""
+        at, size = 0, WINDOW
+        while True:
+            length = min(size, self.length - at)
+            word, end = self.cut(at, length)
+            if word == "fault" or at + length == self.length:
+                self.starts.append(end)
+                return End(word, end)
+            if end == at:
+                # an item is longer than the window
+                size *= 2
+            at = end
