@@ -25,7 +25,7 @@ import time
 sys.dont_write_bytecode = True
 sys.path.insert(0, os.path.dirname(os.path.dirname(os.path.abspath(__file__))))
 from program import repo
-from trials import synthetic
+from trials import scaling_intruder, synthetic
 from trials.count import Count
 
 ENTRIES, FEW = 20_000, 600
@@ -252,6 +252,21 @@ def trial(count, interpreter, room, entries):
     asked = Run(interpreter, few, os.path.join(room, "three"), "--demand-lists", "--no-why",
                 "--blocksize", "40000", "--workers", "2").wait()
     same_answers(count, few, rows_of(asked.out), few.answers("--demand-lists"))
+    strangers(count, interpreter, room)
+
+
+def strangers(count, interpreter, room):
+    """Nobody else talks to a run, which waits here for its vouchers."""
+    few = Whole(os.path.join(room, "few-more"), FEW, 46)
+    vouchers = os.path.join(room, "waiting")
+    os.mkfifo(vouchers)
+    run = Run(interpreter, few, os.path.join(room, "alone"), "--no-why", "--workers", "2",
+              "--vouchers", vouchers)
+    scaling_intruder.trial(count, interpreter, run)
+    with open(vouchers, "w", encoding="ascii"):
+        pass
+    run.wait()
+    count.tell(len(rows_of(run.out)) == few.log.entries, f"a run that was knocked at:\n{run.told}")
 
 
 def make(number, folder):

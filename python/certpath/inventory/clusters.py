@@ -1,0 +1,100 @@
+"""Where tasks run: processes of this machine, or a scheduler of Dask that is there already.
+
+Messages of Dask are pickles: whoever can send one to a scheduler or a worker runs code as its user.
+So processes of this machine talk by TLS, with a key that is made for the run and is in memory
+alone, and listen on the loopback. Nothing is served by HTTP.
+"""
+import logging
+import os
+import tempfile
+from contextlib import contextmanager
+from typing import Iterator, NamedTuple, Optional
+
+import dask
+from dask.distributed import Client, Nanny, Scheduler, Security, SpecCluster
+
+LOOPBACK = "127.0.0.1"
+TLS = "tls://"
+# Any port of the loopback. Dask's servers listen for HTTP whatever they are asked; without routes
+# they answer each request with 404.
+NO_HTTP = {"distributed.scheduler.http.routes": [], "distributed.worker.http.routes": []}
+ANY_PORT = f"{LOOPBACK}:0"
+# How long a scheduler is waited for.
+SECONDS = 15
+
+
+class Unreachable(Exception):
+    """There is no scheduler, it has no worker, or one of them was lost and the run with it."""
+
+
+class Refused(ValueError):
+    """Words that would let others run code on the workers, or that lack a key."""
+
+
+class Keys(NamedTuple):
+    """The files by which this process and a scheduler know each other, in PEM."""
+    authority: Optional[str]
+    """The certificate that has signed those of all."""
+    certificate: Optional[str]
+    key: Optional[str]
+
+
+def temporary_keys() -> Security:
+    """A key and its certificate for one run; Refused where they can't be made."""
+    try:
+        return Security.temporary()
+    except ImportError as error:
+        raise Unreachable(f"{error} (apt-get install python3-cryptography)") from error
+
+
+def cluster_of(workers: int, security: Security) -> SpecCluster:
+    """A scheduler in this process and so many processes that work, all on the loopback."""
+    shared = {"host": LOOPBACK, "protocol": TLS, "security": security, "dashboard": False,
+              "dashboard_address": ANY_PORT}
+    worker = {"cls": Nanny, "options": {**shared, "nthreads": 1, "memory_limit": 1.0 / workers,
+                                        "silence_logs": logging.CRITICAL}}
+    scheduler = {"cls": Scheduler, "options": {**shared, "port": 0}}
+    return SpecCluster(workers={number: worker for number in range(workers)}, worker=worker,
+                       scheduler=scheduler, security=security, silence_logs=logging.CRITICAL)
+
+
+@contextmanager
+def own_processes(workers: int) -> Iterator[Client]:
+    """A client of new processes of this machine, one for each core where `workers` is 0."""
+    # (what a worker puts on its disk is read back as pickles, so nobody else may write there)
+    with tempfile.TemporaryDirectory(prefix="inventory-") as scratch:
+        with dask.config.set({**NO_HTTP, "temporary-directory": scratch}), \
+                cluster_of(workers or os.cpu_count(), temporary_keys()) as cluster, \
+                Client(cluster) as client:
+            yield client
+
+
+def keys_of(keys: Keys) -> Security:
+    """The keys of files; those that aren't given are those of Dask's own configuration."""
+    given = {"tls_ca_file": keys.authority, "tls_client_cert": keys.certificate,
+             "tls_client_key": keys.key}
+    security = Security(require_encryption=True, **{it: file for it, file in given.items() if file})
+    if not (security.tls_ca_file and security.tls_client_cert):
+        raise Refused("tls:// needs --tls-ca-file, --tls-cert and --tls-key")
+    return security
+
+
+@contextmanager
+def of_scheduler(address: str, keys: Keys, insecure: bool) -> Iterator[Client]:
+    """A client of a scheduler that is there. Refused of an address without TLS, unless `insecure`."""
+    if not address.startswith(TLS) and not insecure:
+        raise Refused(f"--scheduler {address}: whoever reaches it runs code on its workers: use "
+                      f"{TLS}.., or --insecure where nobody else can reach it")
+    security = None if insecure and not address.startswith(TLS) else keys_of(keys)
+    try:
+        client = Client(address, security=security, timeout=SECONDS)
+    except (OSError, ValueError, TypeError) as error:
+        raise Unreachable(f"no scheduler at {address}: {said(error)}") from error
+    with client:
+        yield client
+
+
+def said(error: BaseException) -> str:
+    """The first line of what an error says."""
+    lines = str(error).splitlines() or [""]
+    return f"{type(error).__name__}: {lines[0]}"
