@@ -3,21 +3,28 @@
     cd python && python3 -m unittest
 """
 import csv
+import errno
+import gzip
+import io
 import json
 import os
+import shutil
 import tempfile
 import unittest
 from base64 import b64encode
 from datetime import datetime
+from unittest import mock
 
 import certpath
-from certpath.inventory import (blocks, index, logs, program, rows, running, shards, signatures,
-                                tables, work)
+from certpath.inventory import (anchors, blocks, files, index, inputs, jobs, logs, program,
+                                progress, ranges, reasons, records, rows, running, shards,
+                                signatures, tables, words, work, writing)
 from certpath.inventory.entries import Entry, Place
 from certpath.items import LIMIT
 
 TOP = os.path.join(os.path.dirname(os.path.abspath(__file__)), "..", "..")
-FRONT = b"\0\0" + bytes(8)
+MILLISECONDS, TIMESTAMP = 1_700_000_000_123, "2023-11-14T22:13:20.123"
+FRONT = b"\0\0" + MILLISECONDS.to_bytes(8, "big")
 NONE = b"\0\0\0"
 HERE = Place("log.json", 7)
 
@@ -34,7 +41,8 @@ def vector(length, octets):
 LEAF, MIDDLE, ROOT = map(sample, ("leaf.der", "intermediate.der", "root.der"))
 ROOT_FILE = os.path.join(TOP, "samples", "root.der")
 X509_LEAF = FRONT + b"\0\0" + vector(3, LEAF) + b"\0\0"
-PRECERT_LEAF = FRONT + b"\0\1" + bytes(32) + vector(3, b"\x30\0") + b"\0\0"
+KEY_HASH = bytes.fromhex(rows.key_digest(MIDDLE))
+PRECERT_LEAF = FRONT + b"\0\1" + KEY_HASH + vector(3, b"\x30\0") + b"\0\0"
 CHAIN = vector(3, vector(3, MIDDLE) + vector(3, ROOT))
 
 
@@ -62,12 +70,14 @@ class Logs(unittest.TestCase):
         return logs.read_entry(HERE, answer(leaf, extra))
 
     def test_certificates(self):
-        self.assertEqual(self.read(X509_LEAF, CHAIN), Entry(HERE, "x509_entry", LEAF, (MIDDLE, ROOT)))
+        self.assertEqual(self.read(X509_LEAF, CHAIN), Entry(HERE, "x509_entry", LEAF, (MIDDLE, ROOT),
+                                                            timestamp=TIMESTAMP))
         self.assertEqual(self.read(X509_LEAF, NONE).chain, ())
 
     def test_precertificates(self):
         found = self.read(PRECERT_LEAF, vector(3, LEAF) + CHAIN)
-        self.assertEqual(found, Entry(HERE, "precert_entry", LEAF, (MIDDLE, ROOT)))
+        self.assertEqual(found, Entry(HERE, "precert_entry", LEAF, (MIDDLE, ROOT),
+                                      timestamp=TIMESTAMP, issuer_key_hash=KEY_HASH))
 
     def test_every_cut(self):
         for length in range(len(X509_LEAF)):
@@ -89,6 +99,8 @@ class Logs(unittest.TestCase):
                 (FRONT + b"\0\2" + X509_LEAF[12:], CHAIN, "leaf_input: entry type 2"),
                 (X509_LEAF, CHAIN + b"\0", "extra_data: 1 octets too many"),
                 (X509_LEAF, vector(3, b"\0\0"), "extra_data: cut at octet 2"),
+                (b"\0\0" + b"\xff" * 8 + X509_LEAF[10:], CHAIN,
+                 "leaf_input: time stamp 18446744073709551615"),
                 (b"", CHAIN, "leaf_input: cut at octet 0")):
             self.assertEqual(self.read(leaf, extra).cause, cause)
 
@@ -108,11 +120,23 @@ class Logs(unittest.TestCase):
         found = [*logs.read_entries("log.json", text)]
         self.assertEqual([it.place for it in found], [("log.json", 0), ("log.json", 1)])
         self.assertEqual([it.end for it in found], ["", "fault"])
+        self.assertEqual([it.number for it in found], [None, None])
+        found = [*logs.read_entries("log.json", text, 1000)]
+        self.assertEqual([it.number for it in found], [1000, 1001])
+
+    def test_issuer_key_hash(self):
+        for chain, cause in (((MIDDLE, ROOT), ""), ((ROOT, MIDDLE), ""), ((ROOT, LEAF), rows.WRONG_HASH),
+                             ((ROOT, LEAF, MIDDLE), rows.WRONG_HASH), ((b"none",), rows.WRONG_HASH), ((), "")):
+            entry = Entry(HERE, "precert_entry", LEAF, chain, issuer_key_hash=KEY_HASH)
+            self.assertEqual(rows.read(entry, LIMIT).row.cause, cause)
+        self.assertEqual(rows.read(Entry(HERE, "x509_entry", LEAF, (ROOT,)), LIMIT).row.cause, "")
 
     def test_no_answers(self):
         for text, offset, cause in ((b'{"entries": [', 13, "not JSON: Expecting value"),
                                     (b'{"\xff"}', 2, "not JSON: not UTF-8"),
                                     (b'{"a": 1}', 0, "no answer to get-entries: KeyError 'entries'"),
+                                    (b'{"entries": []}', 0, "no answer to get-entries: Malformed "
+                                                            "entries: none"),
                                     (b'{"entries": 1}', 0, "no answer to get-entries: Malformed "
                                                            "entries: not a list")):
             found = [*logs.read_entries("log.json", text)]
@@ -121,13 +145,13 @@ class Logs(unittest.TestCase):
         self.assertEqual(len([*logs.read_entries("deep", b'{"a":' * 100000)]), 1)
 
 
-class Blocks(Room):
+class Files(Room):
     def spans(self, octets, blocksize):
         self.path = self.put("items.der", octets)
-        return blocks.spans_of(self.path, blocksize, LIMIT)
+        return files.spans_of(self.path, blocksize, LIMIT).spans
 
     def entries(self, spans):
-        return [it for block in blocks.blocks_of(spans, 1) for it in blocks.read_block(block, LIMIT)]
+        return [it for span in spans for it in files.read_octets(span, files.octets_of(span), LIMIT)]
 
     def test_every_size(self):
         octets = sample("bundle.der")
@@ -137,28 +161,118 @@ class Blocks(Room):
             spans = self.spans(octets, blocksize)
             self.assertEqual(self.entries(spans), whole)
             self.assertEqual([spans[0].begin, spans[-1].end], [0, len(octets)])
+            found = files.spans_of(self.path, blocksize, LIMIT)
+            self.assertEqual(found.sha256, files.digest(octets))
 
     def test_ends(self):
-        for more, end in ((b"\x30\x82", "cut"), (b"no item", "fault"), (LEAF[:-1], "cut")):
+        for more, end in ((b"\x30\x82", "cut"), (b"no item", "fault"), (LEAF[:-1], "cut"),
+                          (b"no item" + LEAF, "fault")):
             for blocksize in (100, 1000, 1 << 20):
                 found = self.entries(self.spans(LEAF + MIDDLE + more, blocksize))
                 self.assertEqual([it.octets for it in found], [LEAF, MIDDLE, b""])
                 self.assertEqual((found[-1].place.offset, found[-1].end), (len(LEAF + MIDDLE), end))
 
+    def test_kinds_of_files(self):
+        for octets, kind in ((b' \n{"entries": []}', (True, False)), (LEAF, (False, False)),
+                             (b"", (False, False)), (b"-----BEGIN", (False, False)),
+                             (gzip.compress(LEAF), (False, True))):
+            span = self.spans(octets, 100)[0]
+            self.assertEqual((span.is_answer, span.is_packed), kind)
+
+    def test_empty(self):
+        for octets in (b"", gzip.compress(b"")):
+            found = self.entries(self.spans(octets, 100))
+            self.assertEqual([(it.end, it.cause) for it in found], [("fault", files.EMPTY)])
+
+    def test_compressed(self):
+        text = json.dumps({"entries": [answer(X509_LEAF, CHAIN)]}).encode()
+        for octets, expected in ((gzip.compress(LEAF) + gzip.compress(MIDDLE), [LEAF, MIDDLE]),
+                                 (gzip.compress(text), [LEAF])):
+            self.assertEqual([it.octets for it in self.entries(self.spans(octets, 100))], expected)
+        for octets in (gzip.compress(LEAF)[:-1], gzip.compress(LEAF) + b"x", files.GZIP + LEAF):
+            found = self.entries(self.spans(octets, 100))
+            self.assertEqual([it.cause for it in found], ["it can't be unpacked: damaged or cut"])
+        with mock.patch.object(files, "MOST_UNPACKED", len(LEAF)):
+            self.assertEqual(files.unpacked(gzip.compress(LEAF)), LEAF)
+            with self.assertRaises(files.TooLarge):
+                files.unpacked(gzip.compress(LEAF) * 2)
+
+    def test_changes(self):
+        octets = LEAF + MIDDLE
+        for changed in (MIDDLE + LEAF, octets[:-1], octets + ROOT, b""):
+            spans = self.spans(octets, 100)
+            self.put("items.der", changed)
+            with self.assertRaises(files.Changed):
+                [*map(files.octets_of, spans)]
+
+    def test_no_file(self):
+        fifo = os.path.join(self.folder, "fifo")
+        os.mkfifo(fifo)
+        for path in (os.path.join(self.folder, "none"), self.folder, fifo):
+            with self.assertRaises(OSError):
+                files.spans_of(path, 100, LIMIT)
+
+    def test_ranges(self):
+        for name, by_names, expected in (
+                ("get-entries?start=5&end=9", False, (5, 9)), ("log-5-9.json.gz", True, (5, 9)),
+                ("0-999", True, (0, 999)), ("log-5-9.json", False, (None, None)),
+                ("0007.json", True, (None, None))):
+            self.assertEqual(files.range_of(f"/1-2/{name}", by_names), expected)
+        path = self.put("5-9.json", b"{}")
+        span = files.spans_of(path, 100, LIMIT, True).spans[0]
+        self.assertEqual((span.first, span.last), (5, 9))
+
     def test_groups(self):
-        spans = [blocks.Span(name, 0, size) for name, size in (("a", 3), ("b", 3), ("c", 9), ("d", 1))]
+        spans = [files.Span(name, 0, size, size) for name, size in (("a", 3), ("b", 3), ("c", 9), ("d", 1))]
         found = [[it.file for it in block.spans] for block in blocks.blocks_of(spans, 6)]
         self.assertEqual(found, [["a", "b"], ["c"], ["d"]])
+        few = blocks.blocks_of([files.Span("a", 0, 0, 0)] * (2 * blocks.MOST_SPANS + 1), 6)
+        self.assertEqual([len(it.spans) for it in few], [blocks.MOST_SPANS] * 2 + [1])
 
-    def test_kinds_of_files(self):
-        self.assertTrue(blocks.is_answer(self.put("a", b' \n{"entries": []}')))
-        for octets in (LEAF, b"", b"-----BEGIN"):
-            self.assertFalse(blocks.is_answer(self.put("b", octets)))
 
-    def test_lost_file(self):
-        block = blocks.Block(0, (blocks.Span(os.path.join(self.folder, "none"), 5, 9),))
-        found = [*blocks.read_block(block, LIMIT)]
-        self.assertEqual([(it.place.offset, it.end) for it in found], [(5, "fault")])
+class Inputs(Room):
+    def test_folders_and_lists(self):
+        os.makedirs(os.path.join(self.folder, "in", "b"))
+        for name in ("in/c", "in/b/x", "in/a"):
+            self.put(name, b"")
+        listed = self.put("list", b"in/c\n\nin/b\r\n")
+        before = os.getcwd()
+        self.addCleanup(os.chdir, before)
+        os.chdir(self.folder)
+        whole = [os.path.join(self.folder, "in", it) for it in ("a", "c", "b/x")]
+        self.assertEqual(inputs.listed(["in"]), whole)
+        self.assertEqual(inputs.listed([], [listed]), whole[1:])
+        self.assertEqual(inputs.listed(["none"]), [os.path.join(self.folder, "none")])
+        os.mkdir("empty")
+        for names, lists in ((["empty"], []), ([], []), ([], ["none"])):
+            with self.assertRaises(OSError):
+                inputs.listed(names, lists)
+
+
+class Ranges(unittest.TestCase):
+    def test_gaps(self):
+        for held, last, missing, twice in (
+                ([(0, 9), (10, 19)], 19, [], []), ([(10, 19), (0, 7)], None, [(8, 9)], []),
+                ([(0, 9), (5, 12), (6, 6)], 20, [(13, 20)], [(5, 9), (6, 6)]), ([], 5, [], [])):
+            found = ranges.covered([ranges.Range(*it) for it in held], last)
+            self.assertEqual(found, (missing, twice))
+        self.assertEqual([*map(str, (ranges.Range(3, 3), ranges.Range(3, 4)))], ["3", "3 to 4"])
+
+
+class Anchors(Room):
+    def test_amiss(self):
+        for octets, amiss in ((ROOT, ""), (ROOT + b"\x30\0", "1 of 2 items are certificates"),
+                              (ROOT + LEAF[:-1], f"the file ends with a cut at {len(ROOT)}"),
+                              (ROOT + b"x", f"the file ends with a fault at {len(ROOT)}")):
+            path = self.put("anchors", octets)
+            found = anchors.read(path, LIMIT).amiss(path)
+            self.assertEqual(found, amiss and f"anchors {path}: {amiss}")
+
+    def test_none_usable(self):
+        for octets, cause in ((b"", "empty"), (b"-----BEGIN CERTIFICATE-----\n", "PEM"),
+                              (b"\x30\0", "none of its items"), (sample("list.der"), "none of its")):
+            with self.assertRaisesRegex(anchors.BadAnchors, cause):
+                anchors.read(self.put("anchors", octets), LIMIT)
 
 
 class Rows(unittest.TestCase):
@@ -189,18 +303,23 @@ class Rows(unittest.TestCase):
     def test_names(self):
         attribute = bytes.fromhex("300e310c300a06035504030c03") + b"a\n\\"
         self.assertEqual(rows.shown(attribute), "CN=a\\0A\\5C")
+        attribute = bytes.fromhex("3010310e300c06035504030c05") + "ö\u202e".encode()
+        self.assertEqual(rows.shown(attribute), "CN=ö\\E2\\80\\AE")
         self.assertEqual((rows.shown(b"\x30\0"), rows.shown(b"\x02\x01")), ("(empty)", "#0201"))
 
     def test_chains(self):
         entry = Entry(HERE, "x509_entry", LEAF, (MIDDLE, ROOT))
-        found = [it.source for it in rows.with_chains([entry, entry])]
+        met = set()
+        found = [it.source for it in rows.with_chains([entry, entry], met)]
         self.assertEqual(found, ["x509_entry", "chain", "chain", "x509_entry"])
+        self.assertEqual(met, {*map(rows.digest, (MIDDLE, ROOT))})
 
 
 class Tables(Room):
     def test_csv(self):
         row = rows.read(Entry(Place("a,\n\udcff", 3), "item", LEAF), LIMIT).row
-        self.assertEqual(tables.write(self.folder, 4, [row, row], tables.CSV), 2)
+        path = tables.part(self.folder, 4, tables.CSV)
+        self.assertEqual(tables.write(path, [row, row], tables.CSV, self.folder), 2)
         self.assertEqual(os.listdir(self.folder), ["part-000004.csv"])
         with open(os.path.join(self.folder, "part-000004.csv"), encoding="utf-8",
                   errors="surrogateescape", newline="") as file:
@@ -214,8 +333,9 @@ class Tables(Room):
         except ImportError:
             self.skipTest("pyarrow isn't installed")
         row = rows.read(Entry(HERE, "item", LEAF), LIMIT).row
-        self.assertEqual(tables.write(self.folder, 0, [row], tables.PARQUET), 1)
-        self.assertEqual(tables.write(self.folder, 1, [], tables.PARQUET), 0)
+        for number, held in ((0, [row]), (1, [])):
+            path = tables.part(self.folder, number, tables.PARQUET)
+            self.assertEqual(tables.write(path, held, tables.PARQUET, self.folder), len(held))
         found = pyarrow.parquet.read_table(os.path.join(self.folder, "part-000000.parquet"))
         self.assertEqual(tuple(found.to_pylist()[0].values()), row)
 
@@ -278,7 +398,8 @@ class Indexed(Room):
             self.assertEqual(shard.items, self.items("root", "list", "intermediate", "leaf"))
             found = shards.answers(shard, asked)
             self.assertEqual([found[it].outcome for it in shard.items], ["path", "list", "path", "none"])
-            said = shards.reasons(opened, target, asked)
+            given = work.Settings(ROOT_FILE, datetime(2026, 12, 1))
+            said = reasons.Reasons(opened, asked, given).of([target])[target.item]
         middle, revoking = self.items("intermediate", "list")
         self.assertIn(f"at target to {middle} not linked: revoked by list {revoking}", said)
 
@@ -304,19 +425,92 @@ class Programs(Room):
             program.report(program.found(), program.PATHS, question)
 
 
+class Reasons(Room):
+    """Reasons of certificates of one name."""
+    NAME = bytes.fromhex("300e310c300a06035504030c03") + b"one"
+
+    def certificate(self, serial, extensions=b""):
+        """A certificate of the name that was issued under it, whose signature nobody vouches for."""
+        times = bytes.fromhex("301e170d") + b"260101000000Z" + b"\x17\x0d" + b"270101000000Z"
+        key = certpath.frame(LEAF)[0].public_key_bytes
+        algorithm = bytes.fromhex("300506032b6570")
+        signed = (b"\xa0\x03\x02\x01\x02" + b"\x02\x02" + (1000 + serial).to_bytes(2, "big") + algorithm
+                  + self.NAME + times + self.NAME + key + extensions)
+        whole = self.element(0x30, signed) + algorithm + b"\x03\x02\x00\x00"
+        return self.element(0x30, whole)
+
+    def element(self, tag, content):
+        length = len(content).to_bytes(2, "big")
+        return bytes([tag, 0x82]) + length + content if len(content) > 255 else (
+            bytes([tag, 0x81, len(content)]) if len(content) > 127 else bytes([tag, len(content)])) + content
+
+    def made(self, count):
+        path = os.path.join(self.folder, "index.sqlite")
+        index.create(path)
+        found = [self.certificate(it) for it in range(count)]
+        reads = [rows.read(Entry(HERE, "item", it), LIMIT) for it in found]
+        self.assertEqual({it.row.kind for it in reads}, {"cert"})
+        held = [index.Candidate(*it) for it in zip(reads, found)]
+        self.assertEqual(len([*index.add_issuers(path, held)]), count)
+        targets = [shards.Target(it.row.sha256, it.issuer, octets) for it, octets in zip(reads, found)]
+        return path, targets
+
+    def reasons(self, opened):
+        asked = shards.Asked(program.found(), ROOT_FILE, (rows.digest(ROOT),), [], {})
+        return reasons.Reasons(opened, asked, work.Settings(ROOT_FILE, datetime(2026, 12, 1)))
+
+    def test_together_and_alone(self):
+        path, targets = self.made(5)
+        with index.Index(path) as opened:
+            together = self.reasons(opened).of(targets)
+            alone = {it.item: self.reasons(opened).of([it])[it.item] for it in targets}
+        self.assertEqual(together, alone)
+        said = together[targets[4].item].split("; ")
+        self.assertEqual(said[:5], [f"at target to {it.item if it != targets[4] else 'target'} not linked: "
+                                    "no voucher" for it in targets])
+        self.assertEqual(said[5], f"at {targets[0].item} no issuer: no authority")
+        self.assertEqual((len(said), said[-1]), (21, ".. 9 further"))
+
+    def test_path_lengths(self):
+        """Where one of them matters, targets are asked about one by one."""
+        path, targets = self.made(3)
+        with index.Index(path) as opened:
+            held = self.reasons(opened)
+            bound = reasons.Told([reasons.obstacle_of("at 1 leads to an anchor with at most 0 below")])
+            with mock.patch.object(held, "told", return_value=bound) as told:
+                self.assertEqual(len(held.of(targets)), 3)
+            self.assertEqual([it.args[2] for it in told.call_args_list], [0, 1, 0, 1, 2])
+
+    def test_limit(self):
+        path, targets = self.made(5)
+        with index.Index(path) as opened:
+            with mock.patch.object(reasons, "MOST_STEPS", 5 * 30 - 1):
+                found = self.reasons(opened).of(targets[:1])
+            self.assertEqual([*found.values()],
+                             ["not asked: 30 pairs of a certificate and one of its issuer's name"])
+            held = self.reasons(opened)
+            held.left = 5 * 30
+            found = held.of(targets[:2])
+            self.assertEqual([it.startswith("not asked") for it in found.values()], [False, True])
+
+
 class Tasks(Room):
     """The tasks of a block, one after the other, without processes."""
 
     def job(self, **more):
         given = work.Settings(os.path.join(TOP, "samples", "root.der"), datetime(2026, 12, 1),
                               form=tables.CSV, **more)
-        job = running.job_of(os.path.join(self.folder, "table"), given)
+        out = os.path.join(self.folder, "table")
+        held = anchors.read(given.anchors, LIMIT)
+        job = work.Job(jobs.completed(given), out, held.items)
+        jobs.begin(job, out, {}, held)
         index.create(job.index)
         return job
 
     def block(self, *names):
         paths = [os.path.join(TOP, "samples", it) for it in names]
-        return blocks.Block(0, tuple(blocks.Span(it, 0, os.path.getsize(it)) for it in paths))
+        return blocks.Block(0, tuple(span for it in paths
+                                     for span in files.spans_of(it, 1 << 20, LIMIT).spans))
 
     def written(self, job):
         with open(os.path.join(job.out, "entries", "part-000000.csv"), encoding="utf-8") as file:
@@ -327,43 +521,69 @@ class Tasks(Room):
         survey = work.survey(block, job)
         self.assertEqual((survey.entries, len(survey.names)), (5, 2))
         self.assertEqual([it.place.offset for it in survey.faults], [0])
+        self.assertEqual(survey, work.survey(block, job))
         index.add_names(job.index, survey.names)
-        found = work.candidates(block, job)
+        found = work.candidates(block, job).candidates
         self.assertEqual([it.read.row.offset for it in found], [884, 1741, 2554])
         self.assertEqual(len([*index.add_issuers(job.index, found)]), 3)
         part = work.finish(block, job)
-        self.assertEqual(part, (5, {"none": 1, "path": 2, "list": 1, "fault": 1}, ""))
+        self.assertEqual(part, (5, {"none": 1, "path": 2, "list": 1, "fault": 1}, "", ()))
         rows_there = self.written(job)
         self.assertEqual([it["path"] for it in rows_there][1:3], ["", ""])
         self.assertIn("revoked by list", rows_there[0]["reasons"])
+        self.assertEqual(os.listdir(os.path.join(job.out, "entries")), ["part-000000.csv"])
 
     def test_trouble(self):
         job = self.job()
         block = self.block("bundle.der")
         work.survey(block, job)
-        job = job._replace(settings=job.settings._replace(program="/bin/false"))
-        part = work.finish(block, job)
+        bad = job._replace(settings=job.settings._replace(program="/bin/false"))
+        part = work.finish(block, bad)
         self.assertEqual((part.rows, part.outcomes), (4, {"fault": 3, "list": 1}))
         self.assertIn("its check doesn't say yes", part.trouble)
         self.assertEqual(self.written(job)[0]["reasons"], part.trouble)
+        self.assertEqual(work.finish(block, job).trouble, "")
 
     def test_lost(self):
         job, block = self.job(), self.block("bundle.der", "root.der")
         survey = work.lose(block, job, "no worker is left")
         self.assertEqual((survey.entries, len(survey.faults)), (2, 2))
         self.assertEqual(work.finish(block, job).rows, 2)
+        self.assertEqual(work.survey(block, job).entries, 5)
 
     def test_folder_in_use(self):
         self.job()
-        with self.assertRaises(running.CannotWrite):
+        with self.assertRaisesRegex(writing.CannotWrite, "--resume goes on"):
             self.job()
+
+    def test_parts(self):
+        """A part is begun in the folder of the work, and one that is cut leaves nothing."""
+        job = self.job()
+        path = tables.part(job.folder("entries"), 0, tables.CSV)
+        with self.assertRaises(ZeroDivisionError), writing.whole(path, job.work) as begun:
+            self.assertEqual(os.path.dirname(begun), job.work)
+            with open(begun, "w", encoding="ascii"):
+                raise ZeroDivisionError
+        self.assertEqual(os.listdir(job.folder("entries")), [])
+        self.assertFalse([it for it in os.listdir(job.work) if it.endswith(".begun")])
+
+    def test_full_disk(self):
+        job = self.job()
+        row = rows.read(Entry(HERE, "item", LEAF), LIMIT).row
+        full = OSError(errno.ENOSPC, os.strerror(errno.ENOSPC))
+        path = tables.part(job.folder("entries"), 0, tables.CSV)
+        with mock.patch.object(tables.csv, "writer", side_effect=full), \
+                self.assertRaisesRegex(writing.CannotWrite, "cannot write .*part-000000.csv: No space"):
+            tables.write(path, [row], tables.CSV, job.work)
+        with self.assertRaisesRegex(writing.CannotWrite, "cannot write .*: unable to open"):
+            index.add_names(os.path.join(self.folder, "none", "index"), ["a"])
 
     def test_faults(self):
         told = []
         faults = running.Faults(told.append)
         for number in range(7):
-            faults.add(work.Fault(Place("a", number), f"cut at octet {number}"))
-        self.assertEqual((faults.end(), len(told), told[-1]), (7, 6, ".. 2 further: cut at octet N"))
+            faults.add(work.Fault(Place("a", number), f"not base64 at octet {number}"))
+        self.assertEqual((faults.end(), len(told), told[-1]), (7, 6, ".. 2 further: not base64 at octet N"))
 
 
 class Held:
@@ -387,25 +607,31 @@ class Held:
 
 class Here:
     """In the place of a client of Dask: it runs tasks at once, and loses those of one name, of the
-    first block."""
+    first block. `between` is called before the tasks of each name."""
 
-    def __init__(self, lost=""):
-        self.lost = lost
+    def __init__(self, lost="", between=lambda name: None):
+        self.lost, self.between = lost, between
 
     def map(self, task, *columns, pure):
         assert not pure
+        self.between(task.__name__)
         return [Held(task, arguments, task.__name__ == self.lost and number == 0)
                 for number, arguments in enumerate(zip(*columns))]
+
+
+class Stopped(BaseException):
+    """As a signal ends a run."""
 
 
 class Runs(Room):
     FILES = ["bundle.der", "fullchain.pem", "leaf.der"]
 
-    def run_with(self, client, **more):
+    def run_with(self, client, names=None, resume=False, **more):
         self.told, self.out = [], os.path.join(self.folder, "table")
         given = {"anchors": ROOT_FILE, "at": datetime(2026, 12, 1), "form": tables.CSV, "blocksize": 1}
-        files = [os.path.join(TOP, "samples", it) for it in self.FILES]
-        return running.run(files, self.out, work.Settings(**{**given, **more}), client, self.told.append)
+        named = names or [os.path.join(TOP, "samples", it) for it in self.FILES]
+        return running.run(named, self.out, work.Settings(**{**given, **more}), client,
+                           self.told.append, resume)
 
     def rows(self):
         found = []
@@ -414,13 +640,36 @@ class Runs(Room):
                 found += csv.DictReader(file)
         return found
 
+    def table(self):
+        """All octets of the table."""
+        found = {}
+        for folder in ("entries", "issuers"):
+            for name in os.listdir(os.path.join(self.out, folder)):
+                with open(os.path.join(self.out, folder, name), "rb") as file:
+                    found[folder, name] = file.read()
+        return found
+
+    def record(self):
+        return jobs.load(os.path.join(self.out, "run.json"))
+
     def test_everything(self):
         done = self.run_with(Here())
-        self.assertEqual(done, (6, 6, 3, 6, 1, {"none": 2, "path": 2, "list": 1, "fault": 1}))
-        self.assertEqual(sorted(os.listdir(self.out)), ["entries", "issuers"])
+        self.assertEqual(done[:6], (6, 6, 3, 6, 1, {"none": 2, "path": 2, "list": 1, "fault": 1}))
+        self.assertEqual(sorted(os.listdir(self.out)), ["entries", "issuers", "run.json"])
         self.assertEqual([it["outcome"] or it["class"] for it in self.rows()],
                          ["none", "path", "path", "list", "fault", "none"])
-        self.assertEqual([it.partition(": ")[2] for it in self.told], [blocks.CAUSES["fault"]])
+        self.assertEqual([it.partition(": ")[2] for it in self.told], [files.CAUSES["fault"]])
+
+    def test_record(self):
+        done = self.run_with(Here(), vouchers=os.path.join(TOP, "samples", "vouchers.txt"))
+        record = self.record()
+        self.assertEqual([(it["file"], it["octets"], it["sha256"]) for it in record["inputs"]],
+                         [(os.path.realpath(os.path.join(TOP, "samples", it)), len(sample(it)), rows.digest(sample(it)))
+                          for it in self.FILES])
+        self.assertEqual(record["vouchers"]["sha256"], rows.digest(sample("vouchers.txt")))
+        self.assertEqual((record["anchors"]["sha256"], record["anchors"]["usable"]), (rows.digest(ROOT), 1))
+        self.assertEqual((record["status"], record["moment"]), (1, "2026-12-01T00:00:00"))
+        self.assertEqual(records.done_of(record), done)
 
     def test_given_vouchers(self):
         whole = self.run_with(Here(), blocksize=1 << 20, why=False,
@@ -443,13 +692,174 @@ class Runs(Room):
         self.assertEqual((done.entries, done.rows, done.outcomes["fault"]), (6, 6, 2))
         self.assertIn("no worker is left", self.rows()[0]["reasons"])
 
+    def test_given_up_blocks_again(self):
+        self.run_with(Here())
+        whole = self.table()
+        for lost in ("survey", "candidates", "finish"):
+            with self.subTest(lost=lost):
+                shutil.rmtree(self.out)
+                self.assertEqual(self.run_with(Here(lost)).unanswered, 1)
+                done = self.run_with(Here(), resume=True)
+                self.assertEqual((done.unanswered, self.table()), (0, whole))
+                self.assertFalse(os.path.exists(os.path.join(self.out, "work")))
+
+    def stop_at(self, stop):
+        """A run that is stopped before the tasks of a name, or after some of them."""
+        def between(name):
+            if name == stop:
+                raise Stopped
+        with self.assertRaises(Stopped):
+            self.run_with(Here(between=between))
+
+    def test_stopped_and_resumed(self):
+        self.run_with(Here())
+        whole = self.table()
+        for stop in ("cut", "survey", "candidates", "finish"):
+            with self.subTest(stop=stop):
+                shutil.rmtree(self.out)
+                self.stop_at(stop)
+                self.assertFalse(os.path.exists(os.path.join(self.out, "run.json")))
+                self.assertEqual(self.run_with(Here(), resume=True).rows, 6)
+                self.assertEqual(self.table(), whole)
+        self.assertEqual(self.run_with(None, resume=True).rows, 6)
+
+    def test_done_blocks_are_not_done_again(self):
+        self.stop_at("finish")
+        asked = []
+        with mock.patch.object(work, "read_span", side_effect=AssertionError):
+            self.run_with(Here(between=asked.append), resume=True)
+        self.assertEqual(asked, ["survey", "candidates", "finish"])
+
+    def test_another_run_is_not_resumed(self):
+        self.stop_at("survey")
+        for more, differing in (({"tries": 3}, "tries"), ({"at": datetime(2026, 12, 2)}, "at"),
+                                ({"why": False, "weak": True}, "weak, why"),
+                                ({"names": [ROOT_FILE]}, "files"),
+                                ({"anchors": os.path.join(TOP, "samples", "leaf.der")}, "anchors"),
+                                ({"vouchers": ROOT_FILE}, "vouchers")):
+            with self.assertRaisesRegex(running.Different, f"other {differing}$"):
+                self.run_with(Here(), resume=True, **more)
+        self.assertEqual(self.run_with(Here(), resume=True, at=None).rows, 6)
+
+    def test_two_runs_at_once(self):
+        def between(name):
+            if name == "survey":
+                with self.assertRaisesRegex(writing.CannotWrite, "another run works there"):
+                    self.run_with(Here(), resume=True)
+        self.run_with(Here(between=between))
+
+    def test_changed_files(self):
+        """A file that is written again between two passes gives rows that say so, and no answers."""
+        good = os.path.join(TOP, "samples", "bundle.der")
+        for pass_name, octets, outcomes in (
+                ("candidates", ROOT + LEAF, {"fault": 2, "none": 1, "path": 2, "list": 1}),
+                ("finish", LEAF, {"fault": 2, "none": 1, "path": 2, "list": 1}),
+                ("finish", LEAF + LEAF, {"fault": 2, "none": 1, "path": 2, "list": 1}),
+                ("survey", ROOT, {"fault": 1, "none": 1, "path": 2, "list": 1})):
+            with self.subTest(pass_name=pass_name, octets=len(octets)):
+                path = self.put("changing.der", LEAF + ROOT)
+                def between(name):
+                    if name == pass_name:
+                        self.put("changing.der", octets)
+                done = self.run_with(Here(between=between), [path, good], blocksize=1 << 20)
+                self.assertEqual(done.outcomes, outcomes)
+                self.assertEqual(done.changed, 2 if pass_name == "candidates" else 1)
+                self.assertEqual(self.record()["status"], 8)
+                self.assertTrue(any("the file changed while it was read" in it for it in self.told))
+                said = [it["reasons"] or it["cause"] for it in self.rows() if "changing" in it["file"]]
+                self.assertEqual({*said}, {"the file changed while it was read"})
+                shutil.rmtree(self.out)
+
+    def test_changed_chains(self):
+        """What an earlier file of the block has in its chains is known, though it changed."""
+        text = json.dumps({"entries": [answer(X509_LEAF, CHAIN)]}).encode()
+        paths = [self.put(it, text) for it in ("a.json", "b.json")]
+        def between(name):
+            if name == "finish":
+                self.put("a.json", b"{}")
+        done = self.run_with(Here(between=between), paths, blocksize=1 << 20)
+        self.assertEqual(done.outcomes, {"fault": 1, "path": 1})
+
+    def test_gaps(self):
+        text = json.dumps({"entries": [answer(X509_LEAF, CHAIN)] * 2}).encode()
+        paths = [self.put(f"get-entries?start={it}&end={it + 1}", text) for it in (0, 4, 5)]
+        done = self.run_with(Here(), paths)
+        self.assertEqual((done.missing, done.twice), (((2, 3),), ((5, 5),)))
+        self.assertEqual([it["log_index"] for it in self.rows()], ["0", "1", "4", "5", "5", "6"])
+        self.assertEqual(self.told, ["entries 2 to 3 of the log: in no file",
+                                     "entries 5 of the log: in several files"])
+        self.assertEqual(self.record()["status"], 1)
+
     def test_refusals(self):
         for more, error in (({"anchors": os.path.join(self.folder, "none")}, OSError),
+                            ({"anchors": os.path.join(TOP, "samples", "fullchain.pem")}, anchors.BadAnchors),
+                            ({"names": [os.path.join(self.folder, "none")]}, OSError),
                             ({"vouchers": ROOT_FILE}, signatures.BadLine),
+                            ({"vouchers": os.path.join(self.folder, "none")}, FileNotFoundError),
                             ({"program": self.folder}, program.Missing)):
             with self.subTest(more=more), self.assertRaises(error):
                 self.run_with(Here(), **more)
             self.assertFalse(os.path.isdir(self.out) and os.listdir(self.out))
+
+    def test_anchors_that_change(self):
+        path = self.put("anchors.der", ROOT)
+        done = self.run_with(Here(between=lambda name: self.put("anchors.der", LEAF)), anchors=path)
+        self.assertEqual(done.outcomes["path"], 2)
+
+
+class Shown(unittest.TestCase):
+    """What is shown while a run is on its way."""
+
+    def progress(self, is_terminal):
+        self.time, self.stream, self.there = 0.0, io.StringIO(), {"a", "b"}
+        self.stream.isatty = lambda: is_terminal
+        return progress.Progress(lambda: self.there, self.stream, lambda: self.time)
+
+    def test_lines(self):
+        shown = self.progress(False)
+        done = shown.begin("first pass", 1000)
+        self.time = 30.0
+        done.step(250, 600)
+        shown.look()
+        self.assertEqual(self.stream.getvalue(), "")
+        self.time = 60.0
+        shown.look()
+        self.assertRegex(self.stream.getvalue(), r"\Ainventory: first pass: 25%, 600 entries, "
+                                                 r"10 a second, 3 min left, until \d\d:\d\d\n\Z")
+
+    def test_terminal(self):
+        shown = self.progress(True)
+        shown.begin("second pass", 1000)
+        self.time = 1.0
+        shown.look()
+        shown.show("a fault")
+        self.assertEqual(self.stream.getvalue(), f"{progress.CLEAR}inventory: second pass: 0%, 0 entries, "
+                                                 f"0 a second{progress.CLEAR}a fault\n")
+
+    def test_lost_workers(self):
+        shown = self.progress(False)
+        shown.look()
+        self.there = {"b"}
+        shown.look()
+        self.assertEqual(self.stream.getvalue(), "inventory: 1 of the workers lost (a); 1 there; what "
+                                                 "they did is done again\n")
+
+    def test_lengths(self):
+        found = [*map(progress.length_of, (0, 89, 90, 7199, 7260))]
+        self.assertEqual(found, ["0 s", "89 s", "2 min", "2 h 0 min", "2 h 1 min"])
+
+
+class Words(unittest.TestCase):
+    def test_defaults(self):
+        read = words.parser().parse_args(["a", "--anchors", "b", "--out", "c"])
+        given = work.Settings(**{it: getattr(read, it) for it in work.Settings._fields})
+        self.assertEqual(given, work.Settings("b"))
+
+    def test_refused(self):
+        for given in (["--workers", "2", "--scheduler", "tls://a"], ["--tries", "0"], ["--at", "now"]):
+            with mock.patch("sys.stderr", io.StringIO()), self.assertRaises(SystemExit) as ended:
+                words.parser().parse_args(["a", "--anchors", "b", "--out", "c", *given])
+            self.assertEqual(ended.exception.code, 2)
 
 
 if __name__ == "__main__":

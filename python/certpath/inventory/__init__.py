@@ -10,7 +10,8 @@ Or `python3 -m certpath.inventory FILE.. --anchors FILE --out FOLDER`. docs/SCAL
 table. What is said of items is said by the proved library and program; all else only carries.
 Needs Dask (`dask` and `distributed`), and pyarrow for a table in Parquet.
 """
-from .running import CannotWrite, Done, run
+from .running import Done, run
 from .work import Settings
+from .writing import CannotWrite
 
 __all__ = ["CannotWrite", "Done", "Settings", "run"]

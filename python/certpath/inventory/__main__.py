@@ -1,39 +1,51 @@
 """The command line: `python3 -m certpath.inventory --help`."""
 import argparse
-import os
 import signal
 import sys
 import traceback
 from contextlib import contextmanager
-from typing import List, NamedTuple
+from typing import Callable, List, NamedTuple, Set
 
 from ..library import LibraryMissing, loaded
 from . import words as taken
-from .running import CannotWrite, Done, run
+from .anchors import BadAnchors
+from .jobs import Different, planned
 from .program import Missing
+from .progress import Progress
+from .records import status_of
+from .running import Done, Lost, passes
 from .signatures import BadLine
 from .work import Settings
+from .writing import CannotWrite
 
-(DONE, FAULTY, BAD_WORDS, CANNOT_READ, BAD_VOUCHERS, CANNOT_WRITE, UNREACHABLE, NOT_THERE,
- UNEXPECTED) = 0, 1, 2, 4, 5, 7, 9, 70, 71
+(BAD_WORDS, BAD_ANCHORS, CANNOT_READ, BAD_VOUCHERS, NO_MEMORY, CANNOT_WRITE, UNREACHABLE, NOT_THERE,
+ UNEXPECTED) = 2, 3, 4, 5, 6, 7, 9, 70, 71
 # What a shell says of a process that a signal ended.
 SIGNALLED = 128
 NO_DASK = ("it comes with `apt-get install python3-distributed python3-cryptography`, or "
            "`pip install 'dask[distributed]' cryptography`")
 
 
-def show(line: str):
+def shown(line: str) -> str:
     """A line for standard error, where control characters do no harm."""
-    shown = "".join(it if it.isprintable() else it.encode("unicode_escape", "backslashreplace").decode()
-                    for it in line)
-    print(shown, file=sys.stderr, flush=True)
+    return "".join(it if it.isprintable() else it.encode("unicode_escape", "backslashreplace").decode()
+                   for it in line)
+
+
+def show(line: str):
+    print(shown(line), file=sys.stderr, flush=True)
 
 
 def summary(done: Done) -> str:
     outcomes = ", ".join(f"{count} {word}" for word, count in sorted(done.outcomes.items()))
+    more = "".join(f", {count} {what}" for count, what in (
+        (done.changed, "changed files"), (len(done.missing), "gaps"),
+        (len(done.twice), "ranges in several files")) if count)
+    again = (f"\ninventory: {done.unanswered} blocks weren't answered; --resume tries them again"
+             if done.unanswered else "")
     return (f"inventory: {done.issuers} issuers and lists, {done.blocks} blocks, "
-            f"{done.faults} faults\n"
-            f"inventory: {done.entries} entries, {done.rows} rows ({outcomes})")
+            f"{done.faults} faults{more}\n"
+            f"inventory: {done.entries} entries, {done.rows} rows ({outcomes}){again}")
 
 
 class Ended(BaseException):
@@ -67,9 +79,11 @@ class Refusal(NamedTuple):
 
 def refusals() -> List[Refusal]:
     from . import clusters
-    return [Refusal(clusters.Refused, BAD_WORDS), Refusal(clusters.Unreachable, UNREACHABLE),
-            Refusal(BadLine, BAD_VOUCHERS), Refusal(CannotWrite, CANNOT_WRITE),
-            Refusal(Missing, NOT_THERE), Refusal(LibraryMissing, NOT_THERE),
+    return [Refusal(clusters.Refused, BAD_WORDS), Refusal(Different, BAD_WORDS),
+            Refusal(BadAnchors, BAD_ANCHORS), Refusal(BadLine, BAD_VOUCHERS),
+            Refusal(CannotWrite, CANNOT_WRITE), Refusal(clusters.Unreachable, UNREACHABLE),
+            Refusal(Lost, UNREACHABLE), Refusal(Missing, NOT_THERE),
+            Refusal(LibraryMissing, NOT_THERE), Refusal(MemoryError, NO_MEMORY),
             Refusal(OSError, CANNOT_READ)]
 
 
@@ -77,18 +91,36 @@ def made(words: argparse.Namespace) -> int:
     """Makes the table, and gives the status."""
     loaded()
     settings = Settings(**{it: getattr(words, it) for it in Settings._fields})
-    with client_of(words) as client:
-        done = run(words.files, words.out, settings, client, show)
+    with planned(words.files, words.out, settings, words.resume, words.lists) as plan:
+        if plan.finished is None:
+            with client_of(words) as client, Progress(workers_of(client)) as progress:
+                done = passes(plan, client, lambda line: progress.show(shown(line)), progress)
+        else:
+            show(f"inventory: {words.out} is finished")
+            done = passes(plan, None)
     print(summary(done))
-    return FAULTY if done.faults or done.entries != done.rows else DONE
+    return status_of(done)
 
 
-def status_of(error: BaseException) -> int:
+def workers_of(client) -> Callable[[], Set[str]]:
+    """What gives the addresses of the workers that are there."""
+    return lambda: {*client.scheduler_info()["workers"]}
+
+
+def said_of(error: BaseException) -> str:
+    """What an error that ends a run says."""
+    if isinstance(error, MemoryError):
+        return "out of memory"
+    if isinstance(error, OSError) and error.filename:
+        return f"cannot read {error.filename}" + (f": {error.strerror}" if error.strerror else "")
+    return str(error)
+
+
+def ended(error: BaseException) -> int:
     """Says why a run has ended, and gives the status."""
     for refusal in refusals():
         if isinstance(error, refusal.error):
-            is_file = isinstance(error, OSError) and error.filename
-            show(f"inventory: cannot read {error.filename}" if is_file else f"inventory: {error}")
+            show(f"inventory: {said_of(error)}")
             return refusal.status
     traceback.print_exception(type(error), error, error.__traceback__)
     show("inventory: an error of this command; please report it (SECURITY.md)")
@@ -106,11 +138,12 @@ def main(given: List[str]) -> int:
         signal.signal(number, end)
     try:
         return made(words)
-    except Ended as ended:
-        show(f"inventory: ended by {signal.Signals(ended.number).name}")
-        return SIGNALLED + ended.number
+    except Ended as signalled:
+        name = signal.Signals(signalled.number).name
+        show(f"inventory: ended by {name}; --resume goes on with what is done")
+        return SIGNALLED + signalled.number
     except Exception as error:  # whatever it is, it gets a status
-        return status_of(error)
+        return ended(error)
 
 
 if __name__ == "__main__":

@@ -66,9 +66,17 @@ def parser() -> argparse.ArgumentParser:
     made = argparse.ArgumentParser(prog="python3 -m certpath.inventory", allow_abbrev=False,
                                    description="Makes a table of certificates and of entries of "
                                    "transparency logs, on many processes (docs/SCALE.md).")
-    made.add_argument("files", nargs="+", metavar="FILE",
-                      help="items in DER, or an answer of a log to get-entries")
-    made.add_argument("--out", required=True, metavar="FOLDER", help="a new or empty folder")
+    made.add_argument("files", nargs="*", metavar="FILE",
+                      help="items in DER, an answer of a log to get-entries, either of them "
+                      "compressed by gzip, or a folder of such files")
+    made.add_argument("--files-from", dest="lists", action="append", default=[], metavar="FILE",
+                      help="further files, a name a line; - for standard input")
+    made.add_argument("--ranges", action="store_true",
+                      help="names of answers end with the log's numbers of their entries, as 0-999")
+    made.add_argument("--out", required=True, metavar="FOLDER",
+                      help="a new or empty folder, or that of the run to --resume")
+    made.add_argument("--resume", action="store_true",
+                      help="go on with a run that has ended early, asked for by equal words")
     made.add_argument("--format", dest="form", choices=[*WRITERS], default="", help="of the table")
     add_judging(made)
     add_running(made)
