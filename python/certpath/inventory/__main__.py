@@ -128,7 +128,7 @@ def ended(error: BaseException) -> int:
 
 
 def main(given: List[str]) -> int:
-    words = taken.parser().parse_args(given)
+    words = taken.parser().parse_intermixed_args(given)
     try:
         import dask.distributed  # noqa: F401
     except ImportError as error:
