@@ -20,7 +20,7 @@ import time
 
 sys.dont_write_bytecode = True
 sys.path.insert(0, os.path.dirname(os.path.dirname(os.path.abspath(__file__))))
-from trials import scaling_ends, scaling_intruder, synthetic
+from trials import scaling_ends, scaling_intruder, scaling_scheduler, synthetic
 from trials.count import Count
 from trials.scaling_runs import PROGRAM, Run, digest, octets_at, octets_of, rows_of, with_dask
 
@@ -159,6 +159,7 @@ def trial(count, interpreter, room, entries):
     same_answers(count, few, rows_of(asked.out), few.answers("--demand-lists"))
     strangers(count, interpreter, room)
     scaling_ends.trial(count, interpreter, few, room)
+    scaling_scheduler.trial(count, interpreter, few, room)
 
 
 def strangers(count, interpreter, room):

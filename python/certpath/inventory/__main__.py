@@ -1,5 +1,6 @@
 """The command line: `python3 -m certpath.inventory --help`."""
 import argparse
+import logging
 import signal
 import sys
 import traceback
@@ -65,7 +66,7 @@ def client_of(words: argparse.Namespace):
     """The client that the words ask for."""
     from . import clusters
     keys = clusters.Keys(words.tls_ca_file, words.tls_cert, words.tls_key)
-    opened = (clusters.of_scheduler(words.scheduler, keys, words.insecure) if words.scheduler
+    opened = (clusters.of_scheduler(words.scheduler, keys, words.insecure, show) if words.scheduler
               else clusters.own_processes(words.workers))
     with opened as client:
         yield client
@@ -134,6 +135,8 @@ def main(given: List[str]) -> int:
     except ImportError as error:
         show(f"inventory: {error}; {NO_DASK}")
         return NOT_THERE
+    # (Dask writes tracebacks of connections that end, and what matters of these is said here)
+    logging.disable(logging.CRITICAL)
     for number in (signal.SIGINT, signal.SIGTERM):
         signal.signal(number, end)
     try:

@@ -8,10 +8,13 @@ import logging
 import os
 import tempfile
 from contextlib import contextmanager
-from typing import Iterator, NamedTuple, Optional
+from typing import Callable, Iterator, NamedTuple, Optional
 
 import dask
 from dask.distributed import Client, Nanny, Scheduler, Security, SpecCluster
+from dask.distributed import TimeoutError as DaskTimeoutError
+
+from .probe import fingerprint
 
 LOOPBACK = "127.0.0.1"
 TLS = "tls://"
@@ -21,6 +24,8 @@ NO_HTTP = {"distributed.scheduler.http.routes": [], "distributed.worker.http.rou
 ANY_PORT = f"{LOOPBACK}:0"
 # How long a scheduler is waited for.
 SECONDS = 15
+# How long its first worker is.
+WAIT = 600
 
 
 class Unreachable(Exception):
@@ -76,21 +81,50 @@ def keys_of(keys: Keys) -> Security:
     security = Security(require_encryption=True, **{it: file for it, file in given.items() if file})
     if not (security.tls_ca_file and security.tls_client_cert):
         raise Refused("tls:// needs --tls-ca-file, --tls-cert and --tls-key")
+    for file in filter(None, keys):
+        with open(file, "rb"):
+            pass
     return security
 
 
+def wait_for_workers(client: Client, address: str, show: Callable[[str], None]):
+    """Waits until a scheduler has a worker."""
+    if client.scheduler_info()["workers"]:
+        return
+    show(f"inventory: {address} has no worker; waiting for one, {WAIT // 60} min at most "
+         f"(dask worker {address} ..)")
+    try:
+        client.wait_for_workers(1, timeout=WAIT)
+    except (TimeoutError, DaskTimeoutError) as error:
+        raise Unreachable(f"{address} has no worker") from error
+
+
+def compare(client: Client):
+    """Unreachable where a worker hasn't the package and the library of this process."""
+    own = fingerprint()
+    for address, found in sorted(client.run(fingerprint, on_error="return").items()):
+        if isinstance(found, BaseException):
+            raise Unreachable(f"the worker at {address} hasn't the package certpath: {said(found)}")
+        if found != own:
+            raise Unreachable(f"the worker at {address} has another version of the package certpath")
+
+
 @contextmanager
-def of_scheduler(address: str, keys: Keys, insecure: bool) -> Iterator[Client]:
+def of_scheduler(address: str, keys: Keys, insecure: bool,
+                 show: Callable[[str], None]) -> Iterator[Client]:
     """A client of a scheduler that is there. Refused of an address without TLS, unless `insecure`."""
-    if not address.startswith(TLS) and not insecure:
+    has_tls = address.startswith(TLS)
+    if not has_tls and not insecure:
         raise Refused(f"--scheduler {address}: whoever reaches it runs code on its workers: use "
                       f"{TLS}.., or --insecure where nobody else can reach it")
-    security = None if insecure and not address.startswith(TLS) else keys_of(keys)
+    security = keys_of(keys) if has_tls else None
     try:
         client = Client(address, security=security, timeout=SECONDS)
     except (OSError, ValueError, TypeError) as error:
         raise Unreachable(f"no scheduler at {address}: {said(error)}") from error
     with client:
+        wait_for_workers(client, address, show)
+        compare(client)
         yield client
 
 

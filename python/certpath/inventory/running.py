@@ -25,7 +25,7 @@ FILES_OF_TASK = 500
 
 
 class Lost(Exception):
-    """The scheduler was lost, and the run with it."""
+    """The scheduler was lost, or a worker can't work, and the run ends."""
 
 
 class Done(NamedTuple):
@@ -86,19 +86,13 @@ class Run:
 
     def results(self, task: Callable, each: Iterable, *rest) -> Iterator[tuple]:
         """What a task gives of each argument, in their order: the argument, the result, and the
-        error in the place of a result. What was given is dropped. An error that would be one of
-        each further task ends the run."""
+        error in the place of a result. What was given is dropped."""
         each = [*each]
         futures = self.client.map(task, each, *([it] * len(each) for it in rest), pure=False)
         futures.reverse()
         for argument in each:
             future = futures.pop()
-            error = future.exception()
-            if isinstance(error, CancelledError):
-                raise Lost("the scheduler was lost")
-            if isinstance(error, CannotWrite):
-                raise error
-            yield argument, None if error else future.result(), error
+            yield (argument, *given(future))
 
     def shown(self, name: str, results: Iterable[tuple], entries: Callable) -> Iterator[tuple]:
         """Results of blocks, whose progress is shown."""
@@ -208,6 +202,21 @@ class Run:
                     self.faults.counts, self.faults.changed, len(self.unanswered), missing, twice)
         records.write(self.plan, state, self.blocks, self.surveys, done)
         return done
+
+
+def given(future) -> tuple:
+    """What a task gave, and its error. Lost and CannotWrite of an error that would be one of each
+    further task."""
+    try:
+        error = future.exception()
+        result = None if error else future.result()
+    except CancelledError as cancelled:
+        raise Lost("the scheduler was lost; --resume goes on with what is done") from cancelled
+    if isinstance(error, CannotWrite):
+        raise error
+    if isinstance(error, ImportError):
+        raise Lost(f"a worker hasn't the package certpath: {said_of(error)}") from error
+    return result, error
 
 
 def said_of(error: BaseException) -> str:
