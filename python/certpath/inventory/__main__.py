@@ -122,7 +122,9 @@ def ended(error: BaseException) -> int:
     for refusal in refusals():
         if isinstance(error, refusal.error):
             show(f"inventory: {said_of(error)}")
-            return refusal.status
+            # (of Dask are errors of connections, which name no file)
+            is_lost = isinstance(error, OSError) and not error.filename
+            return UNREACHABLE if is_lost else refusal.status
     traceback.print_exception(type(error), error, error.__traceback__)
     show("inventory: an error of this command; please report it (SECURITY.md)")
     return UNEXPECTED

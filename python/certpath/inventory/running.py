@@ -210,8 +210,8 @@ def given(future) -> tuple:
     try:
         error = future.exception()
         result = None if error else future.result()
-    except CancelledError as cancelled:
-        raise Lost("the scheduler was lost; --resume goes on with what is done") from cancelled
+    except (CancelledError, OSError) as lost:
+        raise Lost("the scheduler was lost; --resume goes on with what is done") from lost
     if isinstance(error, CannotWrite):
         raise error
     if isinstance(error, ImportError):
