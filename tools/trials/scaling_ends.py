@@ -3,8 +3,10 @@ changes or can't be written. Part of `scaling.py`."""
 import os
 import resource
 import signal
+import sqlite3
 import subprocess
 import time
+from contextlib import closing
 
 from program import repo
 from trials import synthetic
@@ -35,8 +37,14 @@ def resumed(count, interpreter, whole, one, given, room):
     count.tell(last.said == one.said, f"resumed: {last.said}\n{last.told[-2000:]}")
     count.tell(octets_of(out) == octets_of(one.out), "another table where the run was gone on with")
     count.tell(sorted(os.listdir(out)) == ["entries", "issuers", "run.json"], f"{os.listdir(out)}")
-    again = Run(interpreter, whole, out, *words).wait()
+    database = os.path.join(room, "resumed.sqlite")
+    again = Run(interpreter, whole, out, *words, "--sqlite", database).wait()
     count.tell(again.said == one.said and "is finished" in again.told, f"finished: {again.told}")
+    with closing(sqlite3.connect(database)) as opened:
+        found = opened.execute('SELECT sha256, outcome FROM entries ORDER BY file, "offset"')
+        expected = sorted(rows_of(out), key=lambda it: (it["file"], int(it["offset"])))
+        count.tell(found.fetchall() == [(it["sha256"] or None, it["outcome"] or None) for it in expected],
+                   "the database differs from the table")
 
 
 def changed(count, interpreter, few, room):

@@ -8,6 +8,7 @@ from contextlib import contextmanager
 from typing import Callable, List, NamedTuple, Set
 
 from ..library import LibraryMissing, loaded
+from . import databases
 from . import words as taken
 from .anchors import BadAnchors
 from .jobs import Different, planned
@@ -92,6 +93,8 @@ def made(words: argparse.Namespace) -> int:
     """Makes the table, and gives the status."""
     loaded()
     settings = Settings(**{it: getattr(words, it) for it in Settings._fields})
+    if words.sqlite and not words.resume:
+        databases.tested(words.sqlite)
     with planned(words.files, words.out, settings, words.resume, words.lists) as plan:
         if plan.finished is None:
             with client_of(words) as client, Progress(workers_of(client)) as progress:
@@ -99,6 +102,8 @@ def made(words: argparse.Namespace) -> int:
         else:
             show(f"inventory: {words.out} is finished")
             done = passes(plan, None)
+    if words.sqlite:
+        databases.write(words.out, words.sqlite)
     print(summary(done))
     return status_of(done)
 

@@ -1,7 +1,6 @@
 """Files: how they are cut into spans, and the entries of a span. A file that isn't any more what it
 was when it was cut is never taken for it."""
 import errno
-import gzip
 import hashlib
 import os
 import re

@@ -11,7 +11,7 @@ from .files import Cut
 from .jobs import Different, Plan, State, planned
 from .progress import Silent
 from .ranges import Range, covered
-from .work import ISSUERS, WORK, Fault, Job, Part, Settings, Survey
+from .work import ISSUERS, WORK, Fault, Part, Settings, Survey
 from .writing import CannotWrite
 
 if TYPE_CHECKING:
