@@ -30,8 +30,8 @@ NO_DASK = ("it comes with `apt-get install python3-distributed python3-cryptogra
 
 def shown(line: str) -> str:
     """A line for standard error, where control characters do no harm."""
-    return "".join(it if it.isprintable() else it.encode("unicode_escape", "backslashreplace").decode()
-                   for it in line)
+    return "".join(it if it.isprintable()
+                   else it.encode("unicode_escape", "backslashreplace").decode() for it in line)
 
 
 def show(line: str):

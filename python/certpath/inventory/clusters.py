@@ -106,13 +106,14 @@ def compare(client: Client):
         if isinstance(found, BaseException):
             raise Unreachable(f"the worker at {address} hasn't the package certpath: {said(found)}")
         if found != own:
-            raise Unreachable(f"the worker at {address} has another version of the package certpath")
+            raise Unreachable(f"the worker at {address} has another version of certpath")
 
 
 @contextmanager
 def of_scheduler(address: str, keys: Keys, insecure: bool,
                  show: Callable[[str], None]) -> Iterator[Client]:
-    """A client of a scheduler that is there. Refused of an address without TLS, unless `insecure`."""
+    """A client of a scheduler that is there. Refused of an address without TLS, unless `insecure`;
+    Unreachable."""
     has_tls = address.startswith(TLS)
     if not has_tls and not insecure:
         raise Refused(f"--scheduler {address}: whoever reaches it runs code on its workers: use "

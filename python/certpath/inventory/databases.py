@@ -10,7 +10,8 @@ from .work import ENTRIES, ISSUERS
 from .writing import CannotWrite, told, whole
 
 NUMBERS = ("offset", "log_index", "length")
-INDEXED = ("sha256", "subject", "issuer", "serial", "key_sha256", "not_after", "outcome", "log_index")
+INDEXED = ("sha256", "subject", "issuer", "serial", "key_sha256", "not_after", "outcome",
+           "log_index")
 
 
 def tested(path: str):
@@ -44,7 +45,8 @@ def rows(folder: str) -> Iterator[List]:
 
 def fill(opened: sqlite3.Connection, out: str):
     """Writes both tables, their indexes, and the record of the run."""
-    columns = ", ".join(f'"{it}" {"INTEGER" if it in NUMBERS else "TEXT"}' for it in tables.HEADINGS)
+    kinds = ((it, "INTEGER" if it in NUMBERS else "TEXT") for it in tables.HEADINGS)
+    columns = ", ".join(f'"{heading}" {kind}' for heading, kind in kinds)
     places = ", ".join("?" * len(tables.HEADINGS))
     for name in (ENTRIES, ISSUERS):
         opened.execute(f"CREATE TABLE {name} ({columns})")

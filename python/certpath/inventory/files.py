@@ -104,7 +104,8 @@ def octets_of(span: Span) -> bytes:
 
 
 def range_of(file: str, by_names: bool) -> tuple:
-    """The log's numbers of an answer's first and last entry, by its name; none where it has none."""
+    """The log's numbers of an answer's first and last entry, by its name. None twice
+    where the name has none."""
     name = os.path.basename(file)
     found = REQUEST.search(name) or (RANGE.search(name) if by_names else None)
     return (int(found[1]), int(found[2])) if found else (None, None)

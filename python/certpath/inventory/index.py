@@ -13,7 +13,8 @@ from .writing import CannotWrite, told
 SCHEMA = """
 CREATE TABLE names (name TEXT PRIMARY KEY) WITHOUT ROWID;
 CREATE TABLE vouchers (item TEXT, key TEXT, PRIMARY KEY (item, key)) WITHOUT ROWID;
-CREATE TABLE issuers (rank INTEGER PRIMARY KEY, item TEXT UNIQUE, name TEXT, issuer TEXT, octets BLOB);
+CREATE TABLE issuers (
+    rank INTEGER PRIMARY KEY, item TEXT UNIQUE, name TEXT, issuer TEXT, octets BLOB);
 CREATE INDEX by_name ON issuers (name);
 """
 
@@ -107,7 +108,8 @@ class Index:
 
     def keys_for(self, item: str) -> List[str]:
         """The digests of the keys that vouch for an item."""
-        found = self._opened.execute("SELECT key FROM vouchers WHERE item = ? ORDER BY key", (item,))
+        found = self._opened.execute(
+            "SELECT key FROM vouchers WHERE item = ? ORDER BY key", (item,))
         return [key for key, in found]
 
     def under(self, name: str) -> List[Issuer]:

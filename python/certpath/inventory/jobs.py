@@ -85,7 +85,7 @@ def state_of(job: Job) -> Optional[State]:
 def store_state(job: Job, state: State):
     with whole(os.path.join(job.work, STATE), job.work) as begun, \
             open(begun, "w", encoding="ascii") as file:
-        json.dump(state, file)
+        file.write(json.dumps(state))
 
 
 def new_folders(job: Job, out: str):

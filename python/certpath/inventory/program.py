@@ -31,7 +31,8 @@ class Question(NamedTuple):
 
 
 def found(given: str = "") -> str:
-    """The path of the program: the one that is given, the one beside the library, one on the path."""
+    """The path of the program: the one that is given, or the one beside the library, or one on the
+    path."""
     if given:
         places = [given]
     else:

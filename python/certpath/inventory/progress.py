@@ -33,7 +33,8 @@ class Pass:
     def line(self, now: datetime) -> str:
         took = max(self.clock() - self.begun, 0.001)
         part = self.done / self.octets if self.octets else 1.0
-        said = f"{self.name}: {part:.0%}, {self.entries} entries, {self.entries / took:.0f} a second"
+        pace = self.entries / took
+        said = f"{self.name}: {part:.0%}, {self.entries} entries, {pace:.0f} a second"
         if not 0 < part < 1:
             return said
         left = took / part - took
@@ -93,8 +94,9 @@ class Progress:
         lost = self.known - there
         self.known = there
         if lost:
-            self.show(f"inventory: {len(lost)} of the workers lost ({', '.join(sorted(lost)[:3])}); "
-                      f"{len(there)} there; what they did is done again")
+            first = ", ".join(sorted(lost)[:3])
+            self.show(f"inventory: {len(lost)} of the workers lost ({first}); {len(there)} there; "
+                      "what they did is done again")
         if self.now is not None and self.clock() - self.last >= self.every:
             self.last = self.clock()
             self.tell(self.now.line(datetime.now()))

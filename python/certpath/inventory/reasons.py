@@ -10,10 +10,10 @@ from .program import YES, Failed
 from .shards import Asked, Shard, Target, shard_of
 from .signatures import text
 
-# Lines of a report on what stands in the way; those that say `linked`, or only a name, are left out.
+# Lines of a report on what stands in the way; those that say `linked` or only a name are left out.
 OBSTACLE = re.compile(r"(at|list) (\d+)(?: to (anchor )?(\d+))? "
-                      r"(not usable: .*|no issuer: .*|not linked: .*|not used: .*|no issuer here: .*|"
-                      r"leads to an anchor with at most \d+ below)")
+                      r"(not usable: .*|no issuer: .*|not linked: .*|not used: .*|"
+                      r"no issuer here: .*|leads to an anchor with at most \d+ below)")
 REVOKED = re.compile(r"revoked by list (\d+)$")
 AT, NO_ISSUER, LEADS = "at", "no issuer: ", "leads to an anchor"
 # How many obstacles of an item stand in the table, at most.
@@ -102,7 +102,7 @@ class Reasons:
             yield it.item, self.alone(it, pairs)
 
     def pairs(self, name: str) -> int:
-        """How many pairs `why` looks at, about: each certificate with those of its issuer's name."""
+        """How many pairs `why` looks at, about: each certificate and those of its issuer's name."""
         names = [name, *(it.issuer for it in self.index.closure([name]))]
         return sum(len(self.index.under(it)) for it in names)
 

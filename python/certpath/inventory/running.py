@@ -156,7 +156,8 @@ class Run:
         """Makes the index and the table of issuers, and gives how many there are."""
         new = [it.read.row for it in index.add_issuers(self.job.index, [*self.candidates()])]
         form = self.job.settings.form
-        return tables.write(tables.part(self.job.folder(ISSUERS), 0, form), new, form, self.job.work)
+        path = tables.part(self.job.folder(ISSUERS), 0, form)
+        return tables.write(path, new, form, self.job.work)
 
     def answers(self) -> Part:
         """The second pass: how many rows are there, and with which outcomes. The rows of a shard
@@ -230,8 +231,8 @@ def at_front(block: Block, cause: str) -> Fault:
 
 def passes(plan: Plan, client: 'Client', show: Callable[[str], None] = lambda line: None,
            progress=None) -> Done:
-    """Makes the table that is planned, or what is missing of it. What was kept between the passes is
-    removed, unless `resume` can try something again."""
+    """Makes the table that is planned, or what is missing of it. What was kept between the passes
+    is removed, unless `resume` can try something again."""
     if plan.finished is not None:
         return records.done_of(plan.finished)
     amiss = plan.anchors.amiss(plan.job.settings.anchors)
@@ -245,8 +246,8 @@ def passes(plan: Plan, client: 'Client', show: Callable[[str], None] = lambda li
 
 def run(files: List[str], out: str, settings: Settings, client: 'Client',
         show: Callable[[str], None] = lambda line: None, resume: bool = False) -> Done:
-    """Makes the table of some files, or of all in some folders, in the folder `out`, which is new or
-    empty, or with `resume` holds a run that has ended early.
+    """Makes the table of some files, or of all in some folders, in the folder `out`, which is new
+    or empty, or with `resume` holds a run that has ended early.
 
     `show` is given a line for each fault. OSError where a file can't be read, signatures.BadLine
     of the vouchers, anchors.BadAnchors, CannotWrite of the folder, program.Missing, jobs.Different

@@ -33,7 +33,8 @@ def given(index: Index, items: List[str]) -> Dict[str, List[str]]:
     return {it: index.keys_for(it) for it in items}
 
 
-def verified(bundle: bytes, anchors: bytes, limit: int, weak: bool, tries: int) -> Dict[str, List[str]]:
+def verified(bundle: bytes, anchors: bytes, limit: int, weak: bool,
+             tries: int) -> Dict[str, List[str]]:
     """The same of the keys that OpenSSL verifies the items' signatures by."""
     items, trusted, judge = frame(bundle, limit), frame(anchors, limit), openssl.Judge(tries=tries)
     holders = {name: judge.holders([it.certificate(items, trusted) for it in found])

@@ -52,14 +52,15 @@ def add_running(made: argparse.ArgumentParser):
     where.add_argument("--workers", type=at_least_one, default=0, metavar="N",
                        help="processes on this machine; one for each core")
     where.add_argument("--scheduler", metavar="ADDRESS", help="of Dask, as tls://10.0.0.1:8786")
-    made.add_argument("--tls-ca-file", metavar="FILE", help="who signed the scheduler's certificate")
+    made.add_argument("--tls-ca-file", metavar="FILE", help="who signed its certificate")
     made.add_argument("--tls-cert", metavar="FILE", help="the certificate that is shown to it")
     made.add_argument("--tls-key", metavar="FILE", help="its key")
     made.add_argument("--insecure", action="store_true",
-                      help="take a scheduler without TLS: whoever reaches it runs code on its workers")
+                      help="take one without TLS: whoever reaches it runs code on its workers")
     made.add_argument("--blocksize", type=at_least_one, default=BLOCKSIZE, metavar="N",
                       help="octets of a block, about")
-    made.add_argument("--program", default="", metavar="FILE", help="certpath, where it isn't found")
+    made.add_argument("--program", default="", metavar="FILE",
+                      help="certpath, where it isn't found")
 
 
 def parser() -> argparse.ArgumentParser:

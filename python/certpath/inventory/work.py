@@ -141,7 +141,7 @@ def done_file(block: Block, job: Job) -> str:
 
 def save(value, path: str, job: Job):
     with whole(path, job.work) as begun, open(begun, "w", encoding="ascii") as file:
-        json.dump(value, file)
+        file.write(json.dumps(value))
 
 
 def saved(block: Block, job: Job) -> Kept:
