@@ -33,6 +33,8 @@ PATH = re.compile(r"\d+ path \d+ ?([\d ]*?) ?anchor (\d+)")
 OBSTACLE = re.compile(r"not usable|no issuer|not linked|not used|leads to an anchor")
 # How many certificates without a path are asked about over everything, too.
 WHYS = 5
+# Workers are looked after each second, so no two are killed within this time.
+LOOKS = 3
 
 
 class Whole:
@@ -149,7 +151,9 @@ def trial(count, interpreter, room, entries):
     killed = Run(interpreter, whole, os.path.join(room, "two"), *given, "--workers", "2")
     for pattern in (("work", "0*.json"), ("entries", "*.csv")):
         count.tell(killed.kill_a_worker(pattern), f"no worker to be killed at {pattern[0]}")
+        time.sleep(LOOKS)
     killed.wait()
+    count.tell("of the workers lost" in killed.told, f"no word of lost workers: {killed.told}")
     count.tell(octets_of(one.out) == octets_of(killed.out),
                f"another table by two processes, of which each was killed once:\n{killed.told[-3000:]}")
     scaling_ends.resumed(count, interpreter, whole, one, given, room)

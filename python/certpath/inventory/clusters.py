@@ -6,12 +6,13 @@ alone, and listen on the loopback. Nothing is served by HTTP.
 """
 import logging
 import os
+import signal
 import tempfile
 from contextlib import contextmanager
 from typing import Callable, Iterator, NamedTuple, Optional
 
 import dask
-from dask.distributed import Client, Nanny, Scheduler, Security, SpecCluster
+from dask.distributed import Client, Nanny, Scheduler, Security, SpecCluster, Worker
 from dask.distributed import TimeoutError as DaskTimeoutError
 
 from .probe import fingerprint
@@ -44,6 +45,15 @@ class Keys(NamedTuple):
     key: Optional[str]
 
 
+class OwnWorker(Worker):
+    """A worker of this machine. The interrupt that a terminal sends to all processes of a command
+    is for the one that was started by hand: that ends the others."""
+
+    def __init__(self, *words, **more):
+        signal.signal(signal.SIGINT, signal.SIG_IGN)
+        super().__init__(*words, **more)
+
+
 def temporary_keys() -> Security:
     """A key and its certificate for one run; Refused where they can't be made."""
     try:
@@ -56,8 +66,9 @@ def cluster_of(workers: int, security: Security) -> SpecCluster:
     """A scheduler in this process and so many processes that work, all on the loopback."""
     shared = {"host": LOOPBACK, "protocol": TLS, "security": security, "dashboard": False,
               "dashboard_address": ANY_PORT}
-    worker = {"cls": Nanny, "options": {**shared, "nthreads": 1, "memory_limit": 1.0 / workers,
-                                        "silence_logs": logging.CRITICAL}}
+    options = {**shared, "nthreads": 1, "memory_limit": 1.0 / workers, "worker_class": OwnWorker,
+               "silence_logs": logging.CRITICAL}
+    worker = {"cls": Nanny, "options": options}
     scheduler = {"cls": Scheduler, "options": {**shared, "port": 0}}
     return SpecCluster(workers={number: worker for number in range(workers)}, worker=worker,
                        scheduler=scheduler, security=security, silence_logs=logging.CRITICAL)

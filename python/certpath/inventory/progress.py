@@ -7,6 +7,8 @@ from typing import Callable, Set
 
 # On a terminal a line is shown again after so many seconds, elsewhere a line is written.
 OFTEN, SELDOM = 1.0, 60.0
+# So long the thread is waited for in the end, in seconds.
+PATIENCE = 5.0
 # Goes back to the begin of a line, and clears it.
 CLEAR = "\r\x1b[K"
 
@@ -64,12 +66,13 @@ class Progress:
         self.thread = threading.Thread(target=self.watch, daemon=True)
 
     def __enter__(self):
+        self.known = self.workers()
         self.thread.start()
         return self
 
     def __exit__(self, *_):
         self.ended.set()
-        self.thread.join()
+        self.thread.join(PATIENCE)
         self.clear()
 
     def begin(self, name: str, octets: int) -> Pass:
@@ -90,7 +93,10 @@ class Progress:
 
     def look(self):
         """Says which workers were lost since the last look, and how far the pass is."""
-        there = self.workers()
+        try:
+            there = self.workers()
+        except Exception:  # (a scheduler that is lost ends the run; here nothing is known of it)
+            return
         lost = self.known - there
         self.known = there
         if lost:
