@@ -15,7 +15,7 @@ from unittest import mock
 
 import certpath
 from certpath.inventory import (anchors, blocks, files, index, inputs, logs, program, progress,
-                                ranges, reasons, rows, shards, signatures, tables, words, work)
+                                ranges, reasons, rows, shards, signatures, tables, trees, words, work)
 from certpath.inventory.entries import Entry, Place
 from certpath.items import LIMIT
 
@@ -254,6 +254,45 @@ class Ranges(unittest.TestCase):
             found = ranges.covered([ranges.Range(*it) for it in held], last)
             self.assertEqual(found, (missing, twice))
         self.assertEqual([*map(str, (ranges.Range(3, 3), ranges.Range(3, 4)))], ["3", "3 to 4"])
+
+
+class Trees(unittest.TestCase):
+    """The roots are those of the examples that Certificate Transparency's own code has."""
+    LEAVES = [bytes.fromhex(it) for it in (
+        "", "00", "10", "2021", "3031", "40414243", "5051525354555657", "606162636465666768696a6b6c6d6e6f")]
+    ROOTS = ["e3b0c44298fc1c149afbf4c8996fb92427ae41e4649b934ca495991b7852b855",
+             "6e340b9cffb37a989ca544e6bb780a2c78901d3fb33738768511a30617afa01d",
+             "fac54203e7cc696cf0dfcb42c92a1d9dbaf70ad9e621f4bd8d98662f00e3c125",
+             "aeb6bcfe274b70a14fb067a5e5578264db0fa9b51af5e0ba159158f329e06e77",
+             "d37ee418976dd95753c1c73862b9398fa2a2cf9b4ff0fdfe8b30cd95209614b7",
+             "4e3bbb1f7b478dcfe71fb631631519a3bca12c9aefca1612bfce4c13a86264d4",
+             "76e67dadbcdf1e10e1b74ddc608abd2f98dfb16fbce75277b5232a127f2087ef",
+             "ddb89be403809e325750d3d263cd78929c2942b7942a34b77e122c9594a74c8c",
+             "5dc9da79a70659a9ad559cb701ded9a2ab9d823aad2f4960cfe370eff4604328"]
+
+    def test_every_cutting(self):
+        hashes = [*map(trees.leaf_hash, self.LEAVES)]
+        for size, root in enumerate(self.ROOTS):
+            for one in range(size + 1):
+                for other in range(one, size + 1):
+                    parts = [(0, one), (one, other), (other, size)]
+                    found = [tree for begin, end in parts[::-1]
+                             for tree in trees.of_leaves(begin, hashes[begin:end], size)]
+                    self.assertEqual(trees.root_of(trees.joined(found).row, size), root)
+                    self.assertEqual(trees.compared(found, trees.TreeHead(size, root)), "")
+
+    def test_holes_and_doubles(self):
+        hashes = [*map(trees.leaf_hash, self.LEAVES)]
+        for missing in range(8):
+            leaves = [None if it == missing else leaf for it, leaf in enumerate(hashes)]
+            self.assertIsNone(trees.root_of(trees.of_leaves(0, leaves, 8), 8))
+        head, whole = trees.TreeHead(8, self.ROOTS[8]), trees.of_leaves(0, hashes, 8)
+        self.assertEqual(trees.compared(whole + whole, head), "")
+        for begin, end in ((4, 6), (0, 1), (7, 8), (2, 4)):
+            doubled = whole + trees.of_leaves(begin, hashes[begin:end], 8)
+            self.assertIn("several files", trees.compared(doubled, head))
+        halves = trees.of_leaves(0, hashes[:6], 8) + trees.of_leaves(4, hashes[4:], 8)
+        self.assertIn("several files", trees.compared(halves, head))
 
 
 class Anchors(Room):

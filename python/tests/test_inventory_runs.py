@@ -9,12 +9,13 @@ import os
 import shutil
 import sqlite3
 import unittest
+from base64 import b64decode, b64encode
 from contextlib import closing
 from datetime import datetime
 from unittest import mock
 
 from certpath.inventory import (anchors, blocks, databases, files, index, jobs, program, records, rows,
-                                running, signatures, tables, work, writing)
+                                running, signatures, tables, trees, work, writing)
 from certpath.inventory.entries import Entry, Place
 from certpath.items import LIMIT
 
@@ -327,6 +328,32 @@ class Runs(Room):
             with self.subTest(more=more), self.assertRaises(error):
                 self.run_with(Here(), **more)
             self.assertFalse(os.path.isdir(self.out) and os.listdir(self.out))
+
+    def test_tree_head(self):
+        """Entries in two answers and their tree; then with a hole, another root, and a smaller tree."""
+        entries = [answer(X509_LEAF[:-2] + b"\0\2" + number.to_bytes(2, "big"), CHAIN) for number in range(5)]
+        leaves = [trees.leaf_hash(b64decode(it["leaf_input"])) for it in entries]
+        for spoilt, size, root, expected in (
+                (None, 5, leaves, ""), (None, 3, leaves[:3], ""), (None, 0, [], ""),
+                (None, 4, leaves[1:], "the tree of the entries has another root"),
+                (1, 5, leaves, "4 of its 5 entries were read, by their numbers in the log"),
+                (None, 6, leaves + leaves[:1], "5 of its 6 entries were read, by their numbers in the log")):
+            given = [{} if number == spoilt else it for number, it in enumerate(entries)]
+            names = [self.put(f"log?start={begin}&end={begin + len(part) - 1}",
+                              json.dumps({"entries": part}).encode())
+                     for begin, part in ((2, given[2:]), (0, given[:2]))]
+            hashed = trees.root_of(trees.of_leaves(0, root, len(root)), len(root))
+            head = self.put("sth.json", json.dumps({"tree_size": size, "sha256_root_hash": b64encode(
+                bytes.fromhex(hashed)).decode()}).encode())
+            done = self.run_with(Here(), names, tree_head=head)
+            self.assertEqual((done.tree, self.record()["status"]), (expected, 1 if expected or spoilt else 0))
+            shutil.rmtree(self.out)
+
+    def test_no_tree_head(self):
+        for octets in (b"", b"[]", b'{"tree_size": 1}', b'{"tree_size": 1, "sha256_root_hash": "AAAA"}',
+                       b'{"tree_size": true, "sha256_root_hash": "' + b64encode(bytes(32)) + b'"}'):
+            with self.assertRaises(trees.BadTreeHead):
+                self.run_with(Here(), tree_head=self.put("sth.json", octets))
 
     def test_database(self):
         self.run_with(Here(), why=False)

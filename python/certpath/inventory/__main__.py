@@ -17,11 +17,12 @@ from .progress import Progress
 from .records import status_of
 from .running import Done, Lost, passes
 from .signatures import BadLine
+from .trees import BadTreeHead
 from .work import Settings
 from .writing import CannotWrite
 
-(BAD_WORDS, BAD_ANCHORS, CANNOT_READ, BAD_VOUCHERS, NO_MEMORY, CANNOT_WRITE, UNREACHABLE, NOT_THERE,
- UNEXPECTED) = 2, 3, 4, 5, 6, 7, 9, 70, 71
+(BAD_WORDS, BAD_ANCHORS, CANNOT_READ, BAD_VOUCHERS, NO_MEMORY, CANNOT_WRITE, UNREACHABLE,
+ BAD_TREE_HEAD, NOT_THERE, UNEXPECTED) = 2, 3, 4, 5, 6, 7, 9, 10, 70, 71
 # What a shell says of a process that a signal ended.
 SIGNALLED = 128
 NO_DASK = ("it comes with `apt-get install python3-distributed python3-cryptography`, or "
@@ -82,7 +83,7 @@ class Refusal(NamedTuple):
 def refusals() -> List[Refusal]:
     from . import clusters
     return [Refusal(clusters.Refused, BAD_WORDS), Refusal(Different, BAD_WORDS),
-            Refusal(BadAnchors, BAD_ANCHORS), Refusal(BadLine, BAD_VOUCHERS),
+            Refusal(BadTreeHead, BAD_TREE_HEAD), Refusal(BadAnchors, BAD_ANCHORS), Refusal(BadLine, BAD_VOUCHERS),
             Refusal(CannotWrite, CANNOT_WRITE), Refusal(clusters.Unreachable, UNREACHABLE),
             Refusal(Lost, UNREACHABLE), Refusal(Missing, NOT_THERE),
             Refusal(LibraryMissing, NOT_THERE), Refusal(MemoryError, NO_MEMORY),

@@ -29,6 +29,9 @@ class Entry(NamedTuple):
     """Its number in the log, where that is known."""
     timestamp: str = ""
     """When the log took it, in UTC; empty where that isn't known."""
+    leaf_hash: Optional[str] = None
+    """The hash of its leaf in the log's tree, in hex; None where its number isn't known or the leaf
+    can't be read."""
     issuer_key_hash: bytes = b""
     """Of a precertificate the digest of its issuer's key, as the log's tree has it."""
 

@@ -9,7 +9,7 @@ from contextlib import contextmanager
 from datetime import datetime, timezone
 from typing import Iterator, List, NamedTuple, Optional
 
-from . import anchors, inputs, program, tables
+from . import anchors, inputs, program, tables, trees
 from .files import Cut, Span
 from .work import ENTRIES, ISSUERS, WORK, Job, Settings
 from .writing import CannotWrite, told, whole
@@ -17,7 +17,7 @@ from .writing import CannotWrite, told, whole
 JOB, STATE, RECORD, LOCK = "job.json", "state.json", "run.json", "lock"
 MOMENT = "%Y-%m-%dT%H:%M:%S"
 # What may differ between a run and one that goes on with it.
-FREE = ("program", "at", "anchors", "vouchers")
+FREE = ("program", "at", "anchors", "vouchers", "tree_head")
 
 
 class Different(ValueError):
@@ -36,6 +36,8 @@ class Plan(NamedTuple):
     job: Job
     files: List[str]
     anchors: anchors.Anchors
+    head: Optional[trees.TreeHead]
+    """The tree head with which the log's entries are compared; None where there is none."""
     begun: str
     """When the first of its runs began, in UTC."""
     state: Optional[State]
@@ -54,12 +56,13 @@ def completed(settings: Settings) -> Settings:
         form=settings.form or tables.default_format(), program=program.found(settings.program))
 
 
-def asked(settings: Settings, files: List[str], held: anchors.Anchors) -> dict:
+def asked(settings: Settings, files: List[str], held: anchors.Anchors,
+          head: Optional[trees.TreeHead]) -> dict:
     """What has to be equal where a run is gone on with."""
     names = hashlib.sha256("\0".join(files).encode(errors="surrogateescape")).hexdigest()
     words = {it: value for it, value in settings._asdict().items() if it not in FREE}
     return {**words, "vouchers": settings.vouchers is not None, "anchors": held.sha256,
-            "files": names}
+            "files": names, "tree_head": head and [*head]}
 
 
 def load(path: str):
@@ -148,11 +151,12 @@ def planned(names: List[str], out: str, settings: Settings, resume: bool = False
     """
     files = inputs.listed(names, lists)
     held = anchors.read(settings.anchors, settings.limit)
-    job = Job(completed(settings), os.path.abspath(out), held.items)
-    words = asked(job.settings, files, held)
+    head = trees.read(settings.tree_head) if settings.tree_head else None
+    job = Job(completed(settings), os.path.abspath(out), held.items, head.size if head else 0)
+    words = asked(job.settings, files, held, head)
     record = os.path.join(job.out, RECORD)
     if resume and os.path.exists(record) and not os.path.exists(job.work):
-        yield Plan(job, files, held, "", None, load(record))
+        yield Plan(job, files, held, head, "", None, load(record))
         return
     if resume and os.path.exists(os.path.join(job.work, JOB)):
         job, begun = gone_on(job, words, settings.at)
@@ -160,7 +164,7 @@ def planned(names: List[str], out: str, settings: Settings, resume: bool = False
         begun = begin(job, out, words, held)
     with locked(job):
         try:
-            yield Plan(job, files, held, begun, state_of(job), None)
+            yield Plan(job, files, held, head, begun, state_of(job), None)
         except BaseException:
             if not os.path.exists(os.path.join(job.work, STATE)):
                 remove(job, ENTRIES, ISSUERS, WORK)

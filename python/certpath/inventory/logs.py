@@ -6,6 +6,7 @@ from base64 import b64decode
 from datetime import datetime, timedelta
 from typing import Iterator, NamedTuple, Optional, Tuple
 
+from . import trees
 from .entries import FAULT, Entry, Place, unread
 
 VERSION_1, TIMESTAMPED_ENTRY = 0, 0
@@ -104,12 +105,16 @@ def decoded(entry, field: str) -> Octets:
 
 def read_entry(place: Place, entry, number: Optional[int] = None) -> Entry:
     """One entry. Where the certificate is there and the chain isn't, the certificate is kept."""
+    leaf_hash = None
     try:
-        leaf = read_leaf(decoded(entry, FIELDS[0]))
+        octets = decoded(entry, FIELDS[0])
+        leaf_hash = None if number is None else trees.leaf_hash(octets.octets)
+        leaf = read_leaf(octets)
     except Malformed as error:
-        return unread(place, str(error))._replace(number=number)
+        return unread(place, str(error))._replace(number=number, leaf_hash=leaf_hash)
     found = Entry(place, leaf.source, b"" if leaf.source == PRECERT else leaf.certificate,
-                  number=number, timestamp=leaf.timestamp, issuer_key_hash=leaf.issuer_key_hash)
+                  number=number, timestamp=leaf.timestamp, leaf_hash=leaf_hash,
+                  issuer_key_hash=leaf.issuer_key_hash)
     try:
         extra = decoded(entry, FIELDS[1])
         # (a PrecertChainEntry begins with the precertificate, an X509ChainEntry with the chain)

@@ -19,7 +19,7 @@ def status_of(done) -> int:
     """The exit status of a run that has made a table."""
     if done.changed:
         return CHANGED
-    amiss = done.faults or done.missing or done.entries != done.rows
+    amiss = done.faults or done.missing or done.tree or done.entries != done.rows
     return FAULTY if amiss else DONE
 
 
@@ -48,7 +48,8 @@ def inputs(state: State, blocks: List[Block], surveys: List[Survey]) -> Iterator
 
 def options(plan: Plan) -> dict:
     given = plan.job.settings._asdict()
-    return {it: value for it, value in given.items() if it not in ("anchors", "vouchers", "at")}
+    return {it: value for it, value in given.items()
+            if it not in ("anchors", "vouchers", "at", "tree_head")}
 
 
 def write(plan: Plan, state: State, blocks: List[Block], surveys: List[Survey], done):
@@ -61,6 +62,7 @@ def write(plan: Plan, state: State, blocks: List[Block], surveys: List[Survey], 
         "options": options(plan),
         "anchors": {"file": given.anchors, "sha256": held.sha256, "items": len(held.items),
                     "usable": held.usable, "end": held.end or "clean"},
+        "tree_head": plan.head and plan.head._asdict(),
         "vouchers": given.vouchers and {"file": given.vouchers, "sha256": state.vouchers},
         "done": done._asdict(),
         "inputs": [*inputs(state, blocks, surveys)],

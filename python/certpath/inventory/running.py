@@ -4,7 +4,7 @@ import re
 from concurrent.futures import CancelledError
 from typing import TYPE_CHECKING, Callable, Dict, Iterable, Iterator, List, NamedTuple, Tuple
 
-from . import index, jobs, records, signatures, tables, work
+from . import index, jobs, records, signatures, tables, trees, work
 from .blocks import Block, blocks_of
 from .entries import Place
 from .files import Cut
@@ -51,6 +51,9 @@ class Done(NamedTuple):
     """Which entries of the log are in no answer, where their ranges are known."""
     twice: Tuple[Range, ...] = ()
     """Which are in several."""
+    tree: str = ""
+    """What is wrong where the entries aren't those of the tree head; empty where they are, or none is
+    given."""
 
 
 class Faults:
@@ -191,6 +194,16 @@ class Run:
                 self.show(f".. {len(which) - MOST_SHOWN} further ranges: {word}")
         return tuple(found.missing), tuple(found.twice)
 
+    def tree(self) -> str:
+        """Compares the entries with the tree head, if there is one, and says what comes out."""
+        head = self.plan.head
+        if head is None:
+            return ""
+        wrong = trees.compared((it for survey in self.surveys for it in survey.trees), head)
+        self.show(f"tree head of {head.size} entries: "
+                  f"{wrong or 'each of them is there, and the root is equal'}")
+        return wrong
+
     def all(self) -> Done:
         state = self.begin()
         spans = (span for it in state.cuts for span in it.spans)
@@ -200,7 +213,8 @@ class Run:
         part = self.answers()
         missing, twice = self.ranges()
         done = Done(entries, part.rows, issuers, len(self.blocks), self.faults.end(), part.outcomes,
-                    self.faults.counts, self.faults.changed, len(self.unanswered), missing, twice)
+                    self.faults.counts, self.faults.changed, len(self.unanswered), missing, twice,
+                    self.tree())
         records.write(self.plan, state, self.blocks, self.surveys, done)
         return done
 

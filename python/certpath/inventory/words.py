@@ -74,6 +74,9 @@ def parser() -> argparse.ArgumentParser:
                       help="further files, a name a line; - for standard input")
     made.add_argument("--ranges", action="store_true",
                       help="names of answers end with the log's numbers of their entries, as 0-999")
+    made.add_argument("--tree-head", default="", metavar="FILE",
+                      help="compare all entries with a log's answer to get-sth; its signature isn't "
+                      "looked at")
     made.add_argument("--out", required=True, metavar="FOLDER",
                       help="a new or empty folder, or that of the run to --resume")
     made.add_argument("--resume", action="store_true",

@@ -15,6 +15,7 @@ from .program import Failed
 from .reasons import Reasons
 from .rows import CERT, LIST, Read, Row, moment, read, with_chains
 from .shards import NONE, Answer, Asked, Target, answers, shard_of
+from .trees import Subtree, of_leaves
 from .writing import told, whole
 
 ENTRIES, ISSUERS, WORK = "entries", "issuers", "work"
@@ -36,6 +37,8 @@ class Settings(NamedTuple):
     limit: int = LIMIT
     why: bool = True
     blocksize: int = BLOCKSIZE
+    tree_head: str = ""
+    """The file of a log's tree head, with which the entries are compared; empty for none."""
     ranges: bool = False
     """Whether the names of answers end with the numbers of their first and last entry."""
     form: str = ""
@@ -50,6 +53,8 @@ class Job(NamedTuple):
     out: str
     anchors: Tuple[str, ...] = ()
     """The digests of the anchors, by position."""
+    tree_size: int = 0
+    """How many entries the tree has with which they are compared; 0 where there is none."""
     index_digest: str = ""
     """Of all that is in the index, once it is made."""
 
@@ -84,6 +89,8 @@ class SpanReads(NamedTuple):
     """The digest of the octets that were read; empty where they couldn't be."""
     reads: List[Read]
     is_change: bool = False
+    trees: Tuple[Subtree, ...] = ()
+    """Of entries of a log whose tree is compared."""
 
 
 class Kept(NamedTuple):
@@ -107,6 +114,7 @@ class Survey(NamedTuple):
     """Of the octets of each span."""
     counts: Tuple[int, ...]
     """How many entries of each span have a number in the log."""
+    trees: Tuple[Subtree, ...]
 
 
 class Found(NamedTuple):
@@ -147,15 +155,16 @@ def save(value, path: str, job: Job):
 def saved(block: Block, job: Job) -> Kept:
     with open(kept_file(block, job), encoding="ascii") as file:
         spans, lost = json.load(file)
-    return Kept([SpanReads(sha256, [Read(Row(*row), *names) for row, *names in reads], is_change)
-                 for sha256, reads, is_change in spans], lost)
+    return Kept([SpanReads(sha256, [Read(Row(*row), *names) for row, *names in reads], is_change,
+                           tuple(Subtree(*it) for it in trees))
+                 for sha256, reads, is_change, trees in spans], lost)
 
 
 def fault_row(place: Place, cause: str) -> Read:
     return Read(Row(*place, "", "", "", 0, FAULT, cause=cause))
 
 
-def read_span(span: Span, met: Set[str], limit: int) -> SpanReads:
+def read_span(span: Span, met: Set[str], limit: int, tree_size: int = 0) -> SpanReads:
     """What stands in a span; one row that says so where it can't be read."""
     place = Place(span.file, span.begin)
     try:
@@ -164,8 +173,10 @@ def read_span(span: Span, met: Set[str], limit: int) -> SpanReads:
         return SpanReads("", [fault_row(place, str(error))], True)
     except OSError as error:
         return SpanReads("", [fault_row(place, f"cannot read: {error.strerror}")])
-    entries = with_chains(read_octets(span, octets, limit), met)
-    return SpanReads(span.sha256 or digest(octets), [read(it, limit) for it in entries])
+    entries = [*read_octets(span, octets, limit)]
+    reads = [read(it, limit) for it in with_chains(entries, met)]
+    trees = of_leaves(span.first or 0, (it.leaf_hash for it in entries), tree_size)
+    return SpanReads(span.sha256 or digest(octets), reads, False, tuple(trees))
 
 
 def own(reads: List[Read]) -> List[Row]:
@@ -179,7 +190,9 @@ def survey_of(kept: Kept) -> Survey:
     rows = [own(it.reads) for it in kept.spans]
     counts = tuple(sum(bool(row.log_index) for row in it) for it in rows)
     names = frozenset(it.issuer for it in kept.reads if it.row.kind == CERT)
-    return Survey(sum(map(len, rows)), names, faults, tuple(it.sha256 for it in kept.spans), counts)
+    trees = tuple(tree for it in kept.spans for tree in it.trees)
+    return Survey(sum(map(len, rows)), names, faults, tuple(it.sha256 for it in kept.spans), counts,
+                  trees)
 
 
 def survey(block: Block, job: Job) -> Survey:
@@ -190,7 +203,8 @@ def survey(block: Block, job: Job) -> Survey:
         if not kept.lost:
             return survey_of(kept)
     met: Set[str] = set()
-    return keep(block, job, Kept([read_span(it, met, job.settings.limit) for it in block.spans]))
+    return keep(block, job, Kept([read_span(it, met, job.settings.limit, job.tree_size)
+                                  for it in block.spans]))
 
 
 def keep(block: Block, job: Job, kept: Kept) -> Survey:
