@@ -111,7 +111,7 @@ def made(words: argparse.Namespace) -> int:
 
 def workers_of(client) -> Callable[[], Set[str]]:
     """What gives the addresses of the workers that are there."""
-    return lambda: {*client.scheduler_info()["workers"]}
+    return lambda: {*client.nthreads()}
 
 
 def said_of(error: BaseException) -> str:

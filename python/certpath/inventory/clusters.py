@@ -100,7 +100,7 @@ def keys_of(keys: Keys) -> Security:
 
 def wait_for_workers(client: Client, address: str, show: Callable[[str], None]):
     """Waits until a scheduler has a worker."""
-    if client.scheduler_info()["workers"]:
+    if client.nthreads():
         return
     show(f"inventory: {address} has no worker; waiting for one, {WAIT // 60} min at most "
          f"(dask worker {address} ..)")

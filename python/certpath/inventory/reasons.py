@@ -1,7 +1,7 @@
 """What stands in the way of paths: reports of the library's `why`, by digests."""
 import re
 from itertools import chain, islice
-from typing import Dict, Iterable, Iterator, List, NamedTuple, Optional, Tuple
+from typing import Callable, Dict, Iterable, Iterator, List, NamedTuple, Optional, Tuple
 
 from .. import reports
 from ..items import Items, frame
@@ -20,7 +20,7 @@ AT, NO_ISSUER, LEADS = "at", "no issuer: ", "leads to an anchor"
 MOST_REASONS = 20
 # `why` goes over all items of a bundle for each pair of a certificate and one of its issuer's name.
 # A report of more steps isn't asked for, nor any more of a block that has taken so many.
-MOST_STEPS, MOST_OF_BLOCK = 10_000_000, 200_000_000
+MOST_STEPS, MOST_OF_BLOCK = 50_000_000, 200_000_000
 
 
 class Obstacle(NamedTuple):
@@ -43,33 +43,44 @@ def obstacle_of(line: str) -> Optional[Obstacle]:
     return Obstacle(what, int(at), bool(anchor), None if to is None else int(to), said)
 
 
-class Told(NamedTuple):
+class Told:
     """The obstacles that a report has, in the order of its lines."""
-    obstacles: List[Obstacle]
+
+    def __init__(self, obstacles: List[Obstacle]):
+        self.obstacles = obstacles
+        self._own: Dict[int, List[Obstacle]] = {}
+        for it in obstacles:
+            if it.what == AT:
+                self._own.setdefault(it.at, []).append(it)
+
+    def own(self, position: int) -> List[Obstacle]:
+        """Those of the certificate at a position."""
+        return self._own.get(position, [])
+
+    def others(self, position: int) -> Iterator[Obstacle]:
+        """All but those of the certificate at a position."""
+        return (it for it in self.obstacles if it.what != AT or it.at != position)
 
     @property
     def has_bound(self) -> bool:
         """Whether a path length stands in the way of something."""
         return any(it.said.startswith(LEADS) for it in self.obstacles)
 
-    def column(self, position: int, name) -> str:
+    def column(self, position: int, name: Callable[[Obstacle], str]) -> str:
         """The column of the certificate at a position: first what stands in its own way. That it is
         no issuer is not said of a target."""
-        found = [it for it in self.obstacles if it.at != position or it.what != AT
-                 or not it.said.startswith(NO_ISSUER)]
-        own = (it for it in found if it.what == AT and it.at == position)
-        others = (it for it in found if it.what != AT or it.at != position)
-        lines = [*map(name, islice(chain(own, others), MOST_REASONS))]
-        more = [f".. {len(found) - MOST_REASONS} further"] if len(found) > MOST_REASONS else []
+        own = [it for it in self.own(position) if not it.said.startswith(NO_ISSUER)]
+        count = len(self.obstacles) - len(self.own(position)) + len(own)
+        lines = [*map(name, islice(chain(own, self.others(position)), MOST_REASONS))]
+        more = [f".. {count - MOST_REASONS} further"] if count > MOST_REASONS else []
         return "; ".join(lines + more)
 
 
 def without_target(one: Told, position: int, other: Told) -> Told:
     """The obstacles of the certificates of a bundle as if none were the target, by reports for the
     one at a position and for another one, which both reach all of them."""
-    at_target = [it for it in other.obstacles if it.what == AT and it.at == position]
-    rest = [it for it in one.obstacles if it.what != AT or it.at != position]
-    return Told(sorted(at_target + rest, key=lambda it: (it.what != AT, it.at)))
+    found = [*other.own(position), *one.others(position)]
+    return Told(sorted(found, key=lambda it: (it.what != AT, it.at)))
 
 
 class Reasons:
@@ -148,7 +159,7 @@ class Reasons:
             raise Failed("certpath_why: its check doesn't say yes")
         return Told([*filter(None, map(obstacle_of, lines))])
 
-    def naming(self, shard: Shard, target: str):
+    def naming(self, shard: Shard, target: str) -> Callable[[Obstacle], str]:
         """What makes a line of an obstacle, with digests in the place of positions."""
         def item(position: int) -> str:
             found = shard.items[position]
