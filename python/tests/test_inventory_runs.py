@@ -269,6 +269,19 @@ class Runs(Room):
                 self.run_with(Here(), resume=True, **more)
         self.assertEqual(self.run_with(Here(), resume=True, at=None).rows, 6)
 
+    def test_killed_before_anything_was_noted(self):
+        os.makedirs(os.path.join(self.folder, "table", "work"))
+        with self.assertRaises(writing.CannotWrite):
+            self.run_with(Here())
+        self.assertEqual(self.run_with(Here(), resume=True).rows, 6)
+
+    def test_no_record_of_what_is_gone_on_with(self):
+        self.run_with(Here("finish"))
+        def between(name):
+            self.assertFalse(os.path.exists(os.path.join(self.out, "run.json")))
+        self.run_with(Here(between=between), resume=True)
+        self.assertEqual(self.record()["done"]["unanswered"], 0)
+
     def test_two_runs_at_once(self):
         def between(name):
             if name == "survey":

@@ -1,6 +1,7 @@
 """The command line: `python3 -m certpath.inventory --help`."""
 import argparse
 import logging
+import os
 import signal
 import sys
 import traceback
@@ -49,6 +50,16 @@ def summary(done: Done) -> str:
     return (f"inventory: {done.issuers} issuers and lists, {done.blocks} blocks, "
             f"{done.faults} faults{more}\n"
             f"inventory: {done.entries} entries, {done.rows} rows ({outcomes}){again}")
+
+
+def say(text: str):
+    """Prints a text; CannotWrite where standard output fails."""
+    try:
+        print(text, flush=True)
+    except OSError as error:
+        # (what is left in the buffer would be tried again when the process ends)
+        os.dup2(os.open(os.devnull, os.O_WRONLY), sys.stdout.fileno())
+        raise CannotWrite(f"cannot write: {error.strerror}") from error
 
 
 class Ended(BaseException):
@@ -105,7 +116,7 @@ def made(words: argparse.Namespace) -> int:
             done = passes(plan, None)
     if words.sqlite:
         databases.write(words.out, words.sqlite)
-    print(summary(done))
+    say(summary(done))
     return status_of(done)
 
 

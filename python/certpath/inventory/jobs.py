@@ -103,6 +103,13 @@ def new_folders(job: Job, out: str):
             os.mkdir(job.folder(name))
 
 
+def is_bare(job: Job) -> bool:
+    """Whether a run has ended before it was written down what it was asked for."""
+    return (os.path.isdir(job.work) and not os.path.exists(os.path.join(job.work, JOB))
+            and not any(os.path.isdir(it) and os.listdir(it)
+                        for it in map(job.folder, (ENTRIES, ISSUERS))))
+
+
 def begin(job: Job, out: str, words: dict, held: anchors.Anchors) -> str:
     """Begins a run in a new folder; gives the time of that."""
     new_folders(job, out)
@@ -117,13 +124,16 @@ def begin(job: Job, out: str, words: dict, held: anchors.Anchors) -> str:
 def gone_on(job: Job, words: dict, at: Optional[datetime]) -> tuple:
     """The job of a run that has ended early, with its moment, and when it began. Different where it
     was asked for something else."""
-    before = load(os.path.join(job.work, JOB))
+    before, record = load(os.path.join(job.work, JOB)), os.path.join(job.out, RECORD)
     differing = sorted(it for it in words if before["asked"].get(it) != words[it])
     moment = datetime.strptime(before["at"], MOMENT)
     if at is not None and job.settings.at != moment:
         differing.append("at")
     if differing:
         raise Different(f"{job.out} holds a run that was asked for other {', '.join(differing)}")
+    with told(record):
+        if os.path.exists(record):
+            os.remove(record)
     return job._replace(settings=job.settings._replace(at=moment)), before["begun"]
 
 
@@ -161,6 +171,8 @@ def planned(names: List[str], out: str, settings: Settings, resume: bool = False
     if resume and os.path.exists(os.path.join(job.work, JOB)):
         job, begun = gone_on(job, words, settings.at)
     else:
+        if resume and is_bare(job):
+            remove(job, WORK, ENTRIES, ISSUERS)
         begun = begin(job, out, words, held)
     with locked(job):
         try:
