@@ -30,7 +30,7 @@ class Tasks(Room):
                               form=tables.CSV, **more)
         out = os.path.join(self.folder, "table")
         held = anchors.read(given.anchors, LIMIT)
-        job = work.Job(jobs.completed(given), out, held.items)
+        job = work.Job(jobs.completed(given), out)
         jobs.begin(job, out, {}, held)
         index.create(job.index)
         return job

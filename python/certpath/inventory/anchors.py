@@ -14,8 +14,8 @@ class BadAnchors(ValueError):
 class Anchors(NamedTuple):
     """A file of anchors, as it was read once for the whole run."""
     octets: bytes
-    items: Tuple[str, ...]
-    """The digests of its items, in hex, by position."""
+    items: int
+    """How many items it has."""
     usable: int
     """How many of them are certificates: no other one can end a path."""
     end: str
@@ -27,10 +27,16 @@ class Anchors(NamedTuple):
 
     def amiss(self, path: str) -> str:
         """What is wrong with them, as a line; empty where nothing is."""
-        causes = [f"{self.usable} of {len(self.items)} items are certificates"] \
-            if self.usable < len(self.items) else []
+        causes = [f"{self.usable} of {self.items} items are certificates"] \
+            if self.usable < self.items else []
         causes += [f"the file ends with a {self.end}"] if self.end else []
         return f"anchors {path}: {'; '.join(causes)}" if causes else ""
+
+
+def digests_of(octets: bytes, limit: int) -> Tuple[str, ...]:
+    """The digests of the items of a file, in hex, by position."""
+    items = frame(octets, limit)
+    return tuple(digest(items.octets(it)) for it in range(len(items)))
 
 
 def read(path: str, limit: int) -> Anchors:
@@ -42,7 +48,7 @@ def read(path: str, limit: int) -> Anchors:
     if not usable:
         raise BadAnchors(f"anchors {path}: {why_none(octets)}")
     end = "" if items.end.is_clean else f"{items.end.word} at {items.end.at}"
-    return Anchors(octets, tuple(digest(items.octets(it)) for it in range(len(items))), usable, end)
+    return Anchors(octets, len(items), usable, end)
 
 
 def why_none(octets: bytes) -> str:

@@ -162,7 +162,7 @@ def planned(names: List[str], out: str, settings: Settings, resume: bool = False
     files = inputs.listed(names, lists)
     held = anchors.read(settings.anchors, settings.limit)
     head = trees.read(settings.tree_head) if settings.tree_head else None
-    job = Job(completed(settings), os.path.abspath(out), held.items, head.size if head else 0)
+    job = Job(completed(settings), os.path.abspath(out), head.size if head else 0)
     words = asked(job.settings, files, held, head)
     record = os.path.join(job.out, RECORD)
     if resume and os.path.exists(record) and not os.path.exists(job.work):

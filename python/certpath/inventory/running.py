@@ -138,7 +138,7 @@ class Run:
                 found = work.lose(block, self.job, f"not read: {said_of(error)}")
                 self.unanswered.add(block.number)
             names |= found.names
-            self.surveys.append(found._replace(names=frozenset()))
+            self.surveys.append(found._replace(names=frozenset(), faults=()))
             for fault in found.faults:
                 self.faults.add(fault)
         index.add_names(self.job.index, names)

@@ -7,6 +7,7 @@ from typing import Dict, FrozenSet, Iterator, List, NamedTuple, Optional, Set, T
 from .. import library, openssl
 from ..items import LIMIT
 from . import signatures, tables
+from .anchors import digests_of
 from .blocks import BLOCKSIZE, Block
 from .entries import CHAIN, FAULT, Place
 from .files import Changed, Cut, Span, digest, octets_of, read_octets, spans_of
@@ -51,8 +52,6 @@ class Job(NamedTuple):
     """What every task is given: settings without defaults, and the folder of the table."""
     settings: Settings
     out: str
-    anchors: Tuple[str, ...] = ()
-    """The digests of the anchors, by position."""
     tree_size: int = 0
     """How many entries the tree has with which they are compared; 0 where there is none."""
     index_digest: str = ""
@@ -292,7 +291,7 @@ def asked_of(index: Index, targets: List[Target], job: Job) -> Asked:
         keys = signatures.verified(shard.bundle, anchors, given.limit, given.weak, given.tries)
     words = ["--at", moment(given.at), "--limit", str(given.limit)]
     words += ["--demand-lists"] if given.demand_lists else []
-    return Asked(given.program, job.anchor_file, job.anchors, words, keys)
+    return Asked(given.program, job.anchor_file, digests_of(anchors, given.limit), words, keys)
 
 
 def is_target(read_before: Read) -> bool:
