@@ -20,7 +20,8 @@ import time
 
 sys.dont_write_bytecode = True
 sys.path.insert(0, os.path.dirname(os.path.dirname(os.path.abspath(__file__))))
-from trials import scaling_ends, scaling_intruder, scaling_scheduler, synthetic
+from trials import (scaling_apart, scaling_ends, scaling_intruder, scaling_scheduler,
+                    synthetic)
 from trials.count import Count
 from trials.scaling_runs import PROGRAM, Run, digest, octets_at, octets_of, rows_of, with_dask
 
@@ -164,6 +165,7 @@ def trial(count, interpreter, room, entries):
     strangers(count, interpreter, room)
     scaling_ends.trial(count, interpreter, few, room)
     scaling_scheduler.trial(count, interpreter, few, room)
+    scaling_apart.trial(count, interpreter, room)
 
 
 def strangers(count, interpreter, room):
