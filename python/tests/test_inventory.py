@@ -321,6 +321,7 @@ class Rows(unittest.TestCase):
                          ("cert", str(item.subject), str(item.issuer)))
         self.assertEqual((found.serial, found.not_before), ("03", "2026-11-22T00:00:00"))
         self.assertEqual(found.key_sha256, rows.digest(item.public_key_bytes))
+        self.assertEqual((found.algorithm, self.row(sample("list.der")).algorithm), ("2a864886f70d01010b",) * 2)
         self.assertEqual(found.sha256, rows.digest(LEAF))
 
     def test_lists(self):

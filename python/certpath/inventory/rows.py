@@ -31,6 +31,7 @@ class Row(NamedTuple):
     not_after: str = ""
     serial: str = ""
     key_sha256: str = ""
+    algorithm: str = ""
     outcome: str = ""
     path: str = ""
     anchor: str = ""
@@ -98,7 +99,7 @@ def serial(number: int) -> str:
 def read_fields(row: Row, item: Item) -> Read:
     """The columns of a certificate or a list, and what it may be linked by."""
     issuer = item.issuer.public_bytes()
-    row = row._replace(issuer=shown(issuer))
+    row = row._replace(issuer=shown(issuer), algorithm=item.signature_algorithm.hex())
     if not isinstance(item, Certificate):
         return Read(row._replace(not_before=moment(item.last_update_utc),
                                  not_after=moment(item.next_update_utc)), "", digest(issuer))
