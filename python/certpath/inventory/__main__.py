@@ -26,6 +26,7 @@ from .writing import CannotWrite
  BAD_TREE_HEAD, NOT_THERE, UNEXPECTED) = 2, 3, 4, 5, 6, 7, 9, 10, 70, 71
 # What a shell says of a process that a signal ended.
 SIGNALLED = 128
+ENDING = (signal.SIGINT, signal.SIGTERM)
 NO_DASK = ("it comes with `apt-get install python3-distributed python3-cryptography`, or "
            "`pip install 'dask[distributed]' cryptography`")
 
@@ -70,7 +71,14 @@ class Ended(BaseException):
         self.number = number
 
 
+def end_at_once(number: int, _):
+    os._exit(SIGNALLED + number)
+
+
 def end(number: int, _):
+    """Ends the run; a second signal ends the process wherever it is."""
+    for it in ENDING:
+        signal.signal(it, end_at_once)
     raise Ended(number)
 
 
@@ -94,8 +102,9 @@ class Refusal(NamedTuple):
 def refusals() -> List[Refusal]:
     from . import clusters
     return [Refusal(clusters.Refused, BAD_WORDS), Refusal(Different, BAD_WORDS),
-            Refusal(BadTreeHead, BAD_TREE_HEAD), Refusal(BadAnchors, BAD_ANCHORS), Refusal(BadLine, BAD_VOUCHERS),
-            Refusal(CannotWrite, CANNOT_WRITE), Refusal(clusters.Unreachable, UNREACHABLE),
+            Refusal(BadAnchors, BAD_ANCHORS), Refusal(BadTreeHead, BAD_TREE_HEAD),
+            Refusal(BadLine, BAD_VOUCHERS), Refusal(CannotWrite, CANNOT_WRITE),
+            Refusal(clusters.Unreachable, UNREACHABLE),
             Refusal(Lost, UNREACHABLE), Refusal(Missing, NOT_THERE),
             Refusal(LibraryMissing, NOT_THERE), Refusal(MemoryError, NO_MEMORY),
             Refusal(OSError, CANNOT_READ)]
@@ -151,12 +160,15 @@ def main(given: List[str]) -> int:
     words = taken.parser().parse_intermixed_args(given)
     try:
         import dask.distributed  # noqa: F401
+        if not words.scheduler:
+            # (it makes the key of the run)
+            import cryptography  # noqa: F401
     except ImportError as error:
         show(f"inventory: {error}; {NO_DASK}")
         return NOT_THERE
     # (Dask writes tracebacks of connections that end, and what matters of these is said here)
     logging.disable(logging.CRITICAL)
-    for number in (signal.SIGINT, signal.SIGTERM):
+    for number in ENDING:
         signal.signal(number, end)
     try:
         return made(words)

@@ -54,14 +54,6 @@ class OwnWorker(Worker):
         super().__init__(*words, **more)
 
 
-def temporary_keys() -> Security:
-    """A key and its certificate for one run; Refused where they can't be made."""
-    try:
-        return Security.temporary()
-    except ImportError as error:
-        raise Unreachable(f"{error} (apt-get install python3-cryptography)") from error
-
-
 def cluster_of(workers: int, security: Security) -> SpecCluster:
     """A scheduler in this process and so many processes that work, all on the loopback."""
     shared = {"host": LOOPBACK, "protocol": TLS, "security": security, "dashboard": False,
@@ -80,7 +72,7 @@ def own_processes(workers: int) -> Iterator[Client]:
     # (what a worker puts on its disk is read back as pickles, so nobody else may write there)
     with tempfile.TemporaryDirectory(prefix="inventory-") as scratch:
         with dask.config.set({**NO_HTTP, "temporary-directory": scratch}), \
-                cluster_of(workers or os.cpu_count(), temporary_keys()) as cluster, \
+                cluster_of(workers or os.cpu_count(), Security.temporary()) as cluster, \
                 Client(cluster) as client:
             yield client
 
