@@ -3,21 +3,25 @@
     cd python && python3 -m unittest
 """
 import csv
+import gzip
+import io
 import json
 import os
 import tempfile
 import unittest
 from base64 import b64encode
 from datetime import datetime
+from unittest import mock
 
 import certpath
-from certpath.inventory import (blocks, index, logs, program, rows, running, shards, signatures,
-                                tables, work)
+from certpath.inventory import (anchors, blocks, files, index, inputs, logs, program, progress,
+                                ranges, reasons, rows, shards, signatures, tables, trees, words, work)
 from certpath.inventory.entries import Entry, Place
 from certpath.items import LIMIT
 
 TOP = os.path.join(os.path.dirname(os.path.abspath(__file__)), "..", "..")
-FRONT = b"\0\0" + bytes(8)
+MILLISECONDS, TIMESTAMP = 1_700_000_000_123, "2023-11-14T22:13:20.123"
+FRONT = b"\0\0" + MILLISECONDS.to_bytes(8, "big")
 NONE = b"\0\0\0"
 HERE = Place("log.json", 7)
 
@@ -34,7 +38,8 @@ def vector(length, octets):
 LEAF, MIDDLE, ROOT = map(sample, ("leaf.der", "intermediate.der", "root.der"))
 ROOT_FILE = os.path.join(TOP, "samples", "root.der")
 X509_LEAF = FRONT + b"\0\0" + vector(3, LEAF) + b"\0\0"
-PRECERT_LEAF = FRONT + b"\0\1" + bytes(32) + vector(3, b"\x30\0") + b"\0\0"
+KEY_HASH = bytes.fromhex(rows.key_digest(MIDDLE))
+PRECERT_LEAF = FRONT + b"\0\1" + KEY_HASH + vector(3, b"\x30\0") + b"\0\0"
 CHAIN = vector(3, vector(3, MIDDLE) + vector(3, ROOT))
 
 
@@ -62,12 +67,14 @@ class Logs(unittest.TestCase):
         return logs.read_entry(HERE, answer(leaf, extra))
 
     def test_certificates(self):
-        self.assertEqual(self.read(X509_LEAF, CHAIN), Entry(HERE, "x509_entry", LEAF, (MIDDLE, ROOT)))
+        self.assertEqual(self.read(X509_LEAF, CHAIN), Entry(HERE, "x509_entry", LEAF, (MIDDLE, ROOT),
+                                                            timestamp=TIMESTAMP))
         self.assertEqual(self.read(X509_LEAF, NONE).chain, ())
 
     def test_precertificates(self):
         found = self.read(PRECERT_LEAF, vector(3, LEAF) + CHAIN)
-        self.assertEqual(found, Entry(HERE, "precert_entry", LEAF, (MIDDLE, ROOT)))
+        self.assertEqual(found, Entry(HERE, "precert_entry", LEAF, (MIDDLE, ROOT),
+                                      timestamp=TIMESTAMP, issuer_key_hash=KEY_HASH))
 
     def test_every_cut(self):
         for length in range(len(X509_LEAF)):
@@ -89,6 +96,8 @@ class Logs(unittest.TestCase):
                 (FRONT + b"\0\2" + X509_LEAF[12:], CHAIN, "leaf_input: entry type 2"),
                 (X509_LEAF, CHAIN + b"\0", "extra_data: 1 octets too many"),
                 (X509_LEAF, vector(3, b"\0\0"), "extra_data: cut at octet 2"),
+                (b"\0\0" + b"\xff" * 8 + X509_LEAF[10:], CHAIN,
+                 "leaf_input: time stamp 18446744073709551615"),
                 (b"", CHAIN, "leaf_input: cut at octet 0")):
             self.assertEqual(self.read(leaf, extra).cause, cause)
 
@@ -108,11 +117,23 @@ class Logs(unittest.TestCase):
         found = [*logs.read_entries("log.json", text)]
         self.assertEqual([it.place for it in found], [("log.json", 0), ("log.json", 1)])
         self.assertEqual([it.end for it in found], ["", "fault"])
+        self.assertEqual([it.number for it in found], [None, None])
+        found = [*logs.read_entries("log.json", text, 1000)]
+        self.assertEqual([it.number for it in found], [1000, 1001])
+
+    def test_issuer_key_hash(self):
+        for chain, cause in (((MIDDLE, ROOT), ""), ((ROOT, MIDDLE), ""), ((ROOT, LEAF), rows.WRONG_HASH),
+                             ((ROOT, LEAF, MIDDLE), rows.WRONG_HASH), ((b"none",), rows.WRONG_HASH), ((), "")):
+            entry = Entry(HERE, "precert_entry", LEAF, chain, issuer_key_hash=KEY_HASH)
+            self.assertEqual(rows.read(entry, LIMIT).row.cause, cause)
+        self.assertEqual(rows.read(Entry(HERE, "x509_entry", LEAF, (ROOT,)), LIMIT).row.cause, "")
 
     def test_no_answers(self):
         for text, offset, cause in ((b'{"entries": [', 13, "not JSON: Expecting value"),
                                     (b'{"\xff"}', 2, "not JSON: not UTF-8"),
                                     (b'{"a": 1}', 0, "no answer to get-entries: KeyError 'entries'"),
+                                    (b'{"entries": []}', 0, "no answer to get-entries: Malformed "
+                                                            "entries: none"),
                                     (b'{"entries": 1}', 0, "no answer to get-entries: Malformed "
                                                            "entries: not a list")):
             found = [*logs.read_entries("log.json", text)]
@@ -121,13 +142,13 @@ class Logs(unittest.TestCase):
         self.assertEqual(len([*logs.read_entries("deep", b'{"a":' * 100000)]), 1)
 
 
-class Blocks(Room):
+class Files(Room):
     def spans(self, octets, blocksize):
         self.path = self.put("items.der", octets)
-        return blocks.spans_of(self.path, blocksize, LIMIT)
+        return files.spans_of(self.path, blocksize, LIMIT).spans
 
     def entries(self, spans):
-        return [it for block in blocks.blocks_of(spans, 1) for it in blocks.read_block(block, LIMIT)]
+        return [it for span in spans for it in files.read_octets(span, files.octets_of(span), LIMIT)]
 
     def test_every_size(self):
         octets = sample("bundle.der")
@@ -137,28 +158,157 @@ class Blocks(Room):
             spans = self.spans(octets, blocksize)
             self.assertEqual(self.entries(spans), whole)
             self.assertEqual([spans[0].begin, spans[-1].end], [0, len(octets)])
+            found = files.spans_of(self.path, blocksize, LIMIT)
+            self.assertEqual(found.sha256, files.digest(octets))
 
     def test_ends(self):
-        for more, end in ((b"\x30\x82", "cut"), (b"no item", "fault"), (LEAF[:-1], "cut")):
+        for more, end in ((b"\x30\x82", "cut"), (b"no item", "fault"), (LEAF[:-1], "cut"),
+                          (b"no item" + LEAF, "fault")):
             for blocksize in (100, 1000, 1 << 20):
                 found = self.entries(self.spans(LEAF + MIDDLE + more, blocksize))
                 self.assertEqual([it.octets for it in found], [LEAF, MIDDLE, b""])
                 self.assertEqual((found[-1].place.offset, found[-1].end), (len(LEAF + MIDDLE), end))
 
+    def test_kinds_of_files(self):
+        for octets, kind in ((b' \n{"entries": []}', (True, False)), (LEAF, (False, False)),
+                             (b"", (False, False)), (b"-----BEGIN", (False, False)),
+                             (gzip.compress(LEAF), (False, True))):
+            span = self.spans(octets, 100)[0]
+            self.assertEqual((span.is_answer, span.is_packed), kind)
+
+    def test_empty(self):
+        for octets in (b"", gzip.compress(b"")):
+            found = self.entries(self.spans(octets, 100))
+            self.assertEqual([(it.end, it.cause) for it in found], [("fault", files.EMPTY)])
+
+    def test_compressed(self):
+        text = json.dumps({"entries": [answer(X509_LEAF, CHAIN)]}).encode()
+        for octets, expected in ((gzip.compress(LEAF) + gzip.compress(MIDDLE), [LEAF, MIDDLE]),
+                                 (gzip.compress(text), [LEAF])):
+            self.assertEqual([it.octets for it in self.entries(self.spans(octets, 100))], expected)
+        for octets in (gzip.compress(LEAF)[:-1], gzip.compress(LEAF) + b"x", files.GZIP + LEAF):
+            found = self.entries(self.spans(octets, 100))
+            self.assertEqual([it.cause for it in found], ["it can't be unpacked: damaged or cut"])
+        with mock.patch.object(files, "MOST_UNPACKED", len(LEAF)):
+            self.assertEqual(files.unpacked(gzip.compress(LEAF)), LEAF)
+            with self.assertRaises(files.TooLarge):
+                files.unpacked(gzip.compress(LEAF) * 2)
+
+    def test_changes(self):
+        octets = LEAF + MIDDLE
+        for changed in (MIDDLE + LEAF, octets[:-1], octets + ROOT, b""):
+            spans = self.spans(octets, 100)
+            self.put("items.der", changed)
+            with self.assertRaises(files.Changed):
+                [*map(files.octets_of, spans)]
+
+    def test_no_file(self):
+        fifo = os.path.join(self.folder, "fifo")
+        os.mkfifo(fifo)
+        for path in (os.path.join(self.folder, "none"), self.folder, fifo):
+            with self.assertRaises(OSError):
+                files.spans_of(path, 100, LIMIT)
+
+    def test_ranges(self):
+        for name, by_names, expected in (
+                ("get-entries?start=5&end=9", False, (5, 9)), ("log-5-9.json.gz", True, (5, 9)),
+                ("0-999", True, (0, 999)), ("log-5-9.json", False, (None, None)),
+                ("0007.json", True, (None, None))):
+            self.assertEqual(files.range_of(f"/1-2/{name}", by_names), expected)
+        path = self.put("5-9.json", b"{}")
+        span = files.spans_of(path, 100, LIMIT, True).spans[0]
+        self.assertEqual((span.first, span.last), (5, 9))
+
     def test_groups(self):
-        spans = [blocks.Span(name, 0, size) for name, size in (("a", 3), ("b", 3), ("c", 9), ("d", 1))]
+        spans = [files.Span(name, 0, size, size) for name, size in (("a", 3), ("b", 3), ("c", 9), ("d", 1))]
         found = [[it.file for it in block.spans] for block in blocks.blocks_of(spans, 6)]
         self.assertEqual(found, [["a", "b"], ["c"], ["d"]])
+        few = blocks.blocks_of([files.Span("a", 0, 0, 0)] * (2 * blocks.MOST_SPANS + 1), 6)
+        self.assertEqual([len(it.spans) for it in few], [blocks.MOST_SPANS] * 2 + [1])
 
-    def test_kinds_of_files(self):
-        self.assertTrue(blocks.is_answer(self.put("a", b' \n{"entries": []}')))
-        for octets in (LEAF, b"", b"-----BEGIN"):
-            self.assertFalse(blocks.is_answer(self.put("b", octets)))
 
-    def test_lost_file(self):
-        block = blocks.Block(0, (blocks.Span(os.path.join(self.folder, "none"), 5, 9),))
-        found = [*blocks.read_block(block, LIMIT)]
-        self.assertEqual([(it.place.offset, it.end) for it in found], [(5, "fault")])
+class Inputs(Room):
+    def test_folders_and_lists(self):
+        os.makedirs(os.path.join(self.folder, "in", "b"))
+        for name in ("in/c", "in/b/x", "in/a"):
+            self.put(name, b"")
+        listed = self.put("list", b"in/c\n\nin/b\r\n")
+        before = os.getcwd()
+        self.addCleanup(os.chdir, before)
+        os.chdir(self.folder)
+        whole = [os.path.join(self.folder, "in", it) for it in ("a", "c", "b/x")]
+        self.assertEqual(inputs.listed(["in"]), whole)
+        self.assertEqual(inputs.listed([], [listed]), whole[1:])
+        self.assertEqual(inputs.listed(["none"]), [os.path.join(self.folder, "none")])
+        os.mkdir("empty")
+        for names, lists in ((["empty"], []), ([], []), ([], ["none"])):
+            with self.assertRaises(OSError):
+                inputs.listed(names, lists)
+
+
+class Ranges(unittest.TestCase):
+    def test_gaps(self):
+        for held, last, missing, twice in (
+                ([(0, 9), (10, 19)], 19, [], []), ([(10, 19), (0, 7)], None, [(8, 9)], []),
+                ([(0, 9), (5, 12), (6, 6)], 20, [(13, 20)], [(5, 9), (6, 6)]), ([], 5, [], [])):
+            found = ranges.covered([ranges.Range(*it) for it in held], last)
+            self.assertEqual(found, (missing, twice))
+        self.assertEqual([*map(str, (ranges.Range(3, 3), ranges.Range(3, 4)))], ["3", "3 to 4"])
+
+
+class Trees(unittest.TestCase):
+    """The roots are those of the examples that Certificate Transparency's own code has."""
+    LEAVES = [bytes.fromhex(it) for it in (
+        "", "00", "10", "2021", "3031", "40414243", "5051525354555657", "606162636465666768696a6b6c6d6e6f")]
+    ROOTS = ["e3b0c44298fc1c149afbf4c8996fb92427ae41e4649b934ca495991b7852b855",
+             "6e340b9cffb37a989ca544e6bb780a2c78901d3fb33738768511a30617afa01d",
+             "fac54203e7cc696cf0dfcb42c92a1d9dbaf70ad9e621f4bd8d98662f00e3c125",
+             "aeb6bcfe274b70a14fb067a5e5578264db0fa9b51af5e0ba159158f329e06e77",
+             "d37ee418976dd95753c1c73862b9398fa2a2cf9b4ff0fdfe8b30cd95209614b7",
+             "4e3bbb1f7b478dcfe71fb631631519a3bca12c9aefca1612bfce4c13a86264d4",
+             "76e67dadbcdf1e10e1b74ddc608abd2f98dfb16fbce75277b5232a127f2087ef",
+             "ddb89be403809e325750d3d263cd78929c2942b7942a34b77e122c9594a74c8c",
+             "5dc9da79a70659a9ad559cb701ded9a2ab9d823aad2f4960cfe370eff4604328"]
+
+    def test_every_cutting(self):
+        hashes = [*map(trees.leaf_hash, self.LEAVES)]
+        for size, root in enumerate(self.ROOTS):
+            for one in range(size + 1):
+                for other in range(one, size + 1):
+                    parts = [(0, one), (one, other), (other, size)]
+                    found = [tree for begin, end in parts[::-1]
+                             for tree in trees.of_leaves(begin, hashes[begin:end], size)]
+                    self.assertEqual(trees.root_of(trees.joined(found).row, size), root)
+                    self.assertEqual(trees.compared(found, trees.TreeHead(size, root)), "")
+
+    def test_holes_and_doubles(self):
+        hashes = [*map(trees.leaf_hash, self.LEAVES)]
+        for missing in range(8):
+            leaves = [None if it == missing else leaf for it, leaf in enumerate(hashes)]
+            self.assertIsNone(trees.root_of(trees.of_leaves(0, leaves, 8), 8))
+        head, whole = trees.TreeHead(8, self.ROOTS[8]), trees.of_leaves(0, hashes, 8)
+        self.assertEqual(trees.compared(whole + whole, head), "")
+        for begin, end in ((4, 6), (0, 1), (7, 8), (2, 4)):
+            doubled = whole + trees.of_leaves(begin, hashes[begin:end], 8)
+            self.assertIn("several files", trees.compared(doubled, head))
+        halves = trees.of_leaves(0, hashes[:6], 8) + trees.of_leaves(4, hashes[4:], 8)
+        self.assertIn("several files", trees.compared(halves, head))
+
+
+class Anchors(Room):
+    def test_amiss(self):
+        for octets, amiss in ((ROOT, ""), (ROOT + b"\x30\0", "1 of 2 items are certificates"),
+                              (ROOT + LEAF[:-1], f"the file ends with a cut at {len(ROOT)}"),
+                              (ROOT + b"x", f"the file ends with a fault at {len(ROOT)}")):
+            path = self.put("anchors", octets)
+            found = anchors.read(path, LIMIT).amiss(path)
+            self.assertEqual(found, amiss and f"anchors {path}: {amiss}")
+
+    def test_none_usable(self):
+        for octets, cause in ((b"", "empty"), (b"-----BEGIN CERTIFICATE-----\n", "PEM"),
+                              (b"\x30\0", "none of its items"), (sample("list.der"), "none of its")):
+            with self.assertRaisesRegex(anchors.BadAnchors, cause):
+                anchors.read(self.put("anchors", octets), LIMIT)
 
 
 class Rows(unittest.TestCase):
@@ -171,6 +321,7 @@ class Rows(unittest.TestCase):
                          ("cert", str(item.subject), str(item.issuer)))
         self.assertEqual((found.serial, found.not_before), ("03", "2026-11-22T00:00:00"))
         self.assertEqual(found.key_sha256, rows.digest(item.public_key_bytes))
+        self.assertEqual((found.algorithm, self.row(sample("list.der")).algorithm), ("2a864886f70d01010b",) * 2)
         self.assertEqual(found.sha256, rows.digest(LEAF))
 
     def test_lists(self):
@@ -189,18 +340,23 @@ class Rows(unittest.TestCase):
     def test_names(self):
         attribute = bytes.fromhex("300e310c300a06035504030c03") + b"a\n\\"
         self.assertEqual(rows.shown(attribute), "CN=a\\0A\\5C")
+        attribute = bytes.fromhex("3010310e300c06035504030c05") + "ö\u202e".encode()
+        self.assertEqual(rows.shown(attribute), "CN=ö\\E2\\80\\AE")
         self.assertEqual((rows.shown(b"\x30\0"), rows.shown(b"\x02\x01")), ("(empty)", "#0201"))
 
     def test_chains(self):
         entry = Entry(HERE, "x509_entry", LEAF, (MIDDLE, ROOT))
-        found = [it.source for it in rows.with_chains([entry, entry])]
+        met = set()
+        found = [it.source for it in rows.with_chains([entry, entry], met)]
         self.assertEqual(found, ["x509_entry", "chain", "chain", "x509_entry"])
+        self.assertEqual(met, {*map(rows.digest, (MIDDLE, ROOT))})
 
 
 class Tables(Room):
     def test_csv(self):
         row = rows.read(Entry(Place("a,\n\udcff", 3), "item", LEAF), LIMIT).row
-        self.assertEqual(tables.write(self.folder, 4, [row, row], tables.CSV), 2)
+        path = tables.part(self.folder, 4, tables.CSV)
+        self.assertEqual(tables.write(path, [row, row], tables.CSV, self.folder), 2)
         self.assertEqual(os.listdir(self.folder), ["part-000004.csv"])
         with open(os.path.join(self.folder, "part-000004.csv"), encoding="utf-8",
                   errors="surrogateescape", newline="") as file:
@@ -214,8 +370,9 @@ class Tables(Room):
         except ImportError:
             self.skipTest("pyarrow isn't installed")
         row = rows.read(Entry(HERE, "item", LEAF), LIMIT).row
-        self.assertEqual(tables.write(self.folder, 0, [row], tables.PARQUET), 1)
-        self.assertEqual(tables.write(self.folder, 1, [], tables.PARQUET), 0)
+        for number, held in ((0, [row]), (1, [])):
+            path = tables.part(self.folder, number, tables.PARQUET)
+            self.assertEqual(tables.write(path, held, tables.PARQUET, self.folder), len(held))
         found = pyarrow.parquet.read_table(os.path.join(self.folder, "part-000000.parquet"))
         self.assertEqual(tuple(found.to_pylist()[0].values()), row)
 
@@ -278,7 +435,8 @@ class Indexed(Room):
             self.assertEqual(shard.items, self.items("root", "list", "intermediate", "leaf"))
             found = shards.answers(shard, asked)
             self.assertEqual([found[it].outcome for it in shard.items], ["path", "list", "path", "none"])
-            said = shards.reasons(opened, target, asked)
+            given = work.Settings(ROOT_FILE, datetime(2026, 12, 1))
+            said = reasons.Reasons(opened, asked, given).of([target])[target.item]
         middle, revoking = self.items("intermediate", "list")
         self.assertIn(f"at target to {middle} not linked: revoked by list {revoking}", said)
 
@@ -304,152 +462,128 @@ class Programs(Room):
             program.report(program.found(), program.PATHS, question)
 
 
-class Tasks(Room):
-    """The tasks of a block, one after the other, without processes."""
+class Reasons(Room):
+    """Reasons of certificates of one name."""
+    NAME = bytes.fromhex("300e310c300a06035504030c03") + b"one"
 
-    def job(self, **more):
-        given = work.Settings(os.path.join(TOP, "samples", "root.der"), datetime(2026, 12, 1),
-                              form=tables.CSV, **more)
-        job = running.job_of(os.path.join(self.folder, "table"), given)
-        index.create(job.index)
-        return job
+    def certificate(self, serial, extensions=b""):
+        """A certificate of the name that was issued under it, whose signature nobody vouches for."""
+        times = bytes.fromhex("301e170d") + b"260101000000Z" + b"\x17\x0d" + b"270101000000Z"
+        key = certpath.frame(LEAF)[0].public_key_bytes
+        algorithm = bytes.fromhex("300506032b6570")
+        signed = (b"\xa0\x03\x02\x01\x02" + b"\x02\x02" + (1000 + serial).to_bytes(2, "big") + algorithm
+                  + self.NAME + times + self.NAME + key + extensions)
+        whole = self.element(0x30, signed) + algorithm + b"\x03\x02\x00\x00"
+        return self.element(0x30, whole)
 
-    def block(self, *names):
-        paths = [os.path.join(TOP, "samples", it) for it in names]
-        return blocks.Block(0, tuple(blocks.Span(it, 0, os.path.getsize(it)) for it in paths))
+    def element(self, tag, content):
+        length = len(content).to_bytes(2, "big")
+        return bytes([tag, 0x82]) + length + content if len(content) > 255 else (
+            bytes([tag, 0x81, len(content)]) if len(content) > 127 else bytes([tag, len(content)])) + content
 
-    def written(self, job):
-        with open(os.path.join(job.out, "entries", "part-000000.csv"), encoding="utf-8") as file:
-            return [*csv.DictReader(file)]
+    def made(self, count):
+        path = os.path.join(self.folder, "index.sqlite")
+        index.create(path)
+        found = [self.certificate(it) for it in range(count)]
+        reads = [rows.read(Entry(HERE, "item", it), LIMIT) for it in found]
+        self.assertEqual({it.row.kind for it in reads}, {"cert"})
+        held = [index.Candidate(*it) for it in zip(reads, found)]
+        self.assertEqual(len([*index.add_issuers(path, held)]), count)
+        targets = [shards.Target(it.row.sha256, it.issuer, octets) for it, octets in zip(reads, found)]
+        return path, targets
 
-    def test_passes(self):
-        job, block = self.job(), self.block("bundle.der", "fullchain.pem")
-        survey = work.survey(block, job)
-        self.assertEqual((survey.entries, len(survey.names)), (5, 2))
-        self.assertEqual([it.place.offset for it in survey.faults], [0])
-        index.add_names(job.index, survey.names)
-        found = work.candidates(block, job)
-        self.assertEqual([it.read.row.offset for it in found], [884, 1741, 2554])
-        self.assertEqual(len([*index.add_issuers(job.index, found)]), 3)
-        part = work.finish(block, job)
-        self.assertEqual(part, (5, {"none": 1, "path": 2, "list": 1, "fault": 1}, ""))
-        rows_there = self.written(job)
-        self.assertEqual([it["path"] for it in rows_there][1:3], ["", ""])
-        self.assertIn("revoked by list", rows_there[0]["reasons"])
+    def reasons(self, opened):
+        asked = shards.Asked(program.found(), ROOT_FILE, (rows.digest(ROOT),), [], {})
+        return reasons.Reasons(opened, asked, work.Settings(ROOT_FILE, datetime(2026, 12, 1)))
 
-    def test_trouble(self):
-        job = self.job()
-        block = self.block("bundle.der")
-        work.survey(block, job)
-        job = job._replace(settings=job.settings._replace(program="/bin/false"))
-        part = work.finish(block, job)
-        self.assertEqual((part.rows, part.outcomes), (4, {"fault": 3, "list": 1}))
-        self.assertIn("its check doesn't say yes", part.trouble)
-        self.assertEqual(self.written(job)[0]["reasons"], part.trouble)
+    def test_together_and_alone(self):
+        path, targets = self.made(5)
+        with index.Index(path) as opened:
+            together = self.reasons(opened).of(targets)
+            alone = {it.item: self.reasons(opened).of([it])[it.item] for it in targets}
+        self.assertEqual(together, alone)
+        said = together[targets[4].item].split("; ")
+        self.assertEqual(said[:5], [f"at target to {it.item if it != targets[4] else 'target'} not linked: "
+                                    "no voucher" for it in targets])
+        self.assertEqual(said[5], f"at {targets[0].item} no issuer: no authority")
+        self.assertEqual((len(said), said[-1]), (21, ".. 9 further"))
 
-    def test_lost(self):
-        job, block = self.job(), self.block("bundle.der", "root.der")
-        survey = work.lose(block, job, "no worker is left")
-        self.assertEqual((survey.entries, len(survey.faults)), (2, 2))
-        self.assertEqual(work.finish(block, job).rows, 2)
+    def test_path_lengths(self):
+        """Where one of them matters, targets are asked about one by one."""
+        path, targets = self.made(3)
+        with index.Index(path) as opened:
+            held = self.reasons(opened)
+            bound = reasons.Told([reasons.obstacle_of("at 1 leads to an anchor with at most 0 below")])
+            with mock.patch.object(held, "told", return_value=bound) as told:
+                self.assertEqual(len(held.of(targets)), 3)
+            self.assertEqual([it.args[2] for it in told.call_args_list], [0, 1, 0, 1, 2])
 
-    def test_folder_in_use(self):
-        self.job()
-        with self.assertRaises(running.CannotWrite):
-            self.job()
-
-    def test_faults(self):
-        told = []
-        faults = running.Faults(told.append)
-        for number in range(7):
-            faults.add(work.Fault(Place("a", number), f"cut at octet {number}"))
-        self.assertEqual((faults.end(), len(told), told[-1]), (7, 6, ".. 2 further: cut at octet N"))
-
-
-class Held:
-    """What a task gave or raised, as a future of Dask shows it."""
-
-    def __init__(self, task, arguments, is_lost):
-        self.error = self.value = None
-        try:
-            if is_lost:
-                raise RuntimeError("no worker is left")
-            self.value = task(*arguments)
-        except Exception as error:  # as Dask does, whatever it is
-            self.error = error
-
-    def exception(self):
-        return self.error
-
-    def result(self):
-        return self.value
+    def test_limit(self):
+        path, targets = self.made(5)
+        with index.Index(path) as opened:
+            with mock.patch.object(reasons, "MOST_STEPS", 5 * 30 - 1):
+                found = self.reasons(opened).of(targets[:1])
+            self.assertEqual([*found.values()],
+                             ["not asked: 30 pairs of a certificate and one of its issuer's name"])
+            held = self.reasons(opened)
+            held.left = 5 * 30
+            found = held.of(targets[:2])
+            self.assertEqual([it.startswith("not asked") for it in found.values()], [False, True])
 
 
-class Here:
-    """In the place of a client of Dask: it runs tasks at once, and loses those of one name, of the
-    first block."""
+class Shown(unittest.TestCase):
+    """What is shown while a run is on its way."""
 
-    def __init__(self, lost=""):
-        self.lost = lost
+    def progress(self, is_terminal):
+        self.time, self.stream, self.there = 0.0, io.StringIO(), {"a", "b"}
+        self.stream.isatty = lambda: is_terminal
+        return progress.Progress(lambda: self.there, self.stream, lambda: self.time)
 
-    def map(self, task, *columns, pure):
-        assert not pure
-        return [Held(task, arguments, task.__name__ == self.lost and number == 0)
-                for number, arguments in enumerate(zip(*columns))]
+    def test_lines(self):
+        shown = self.progress(False)
+        done = shown.begin("first pass", 1000)
+        self.time = 30.0
+        done.step(250, 600)
+        shown.look()
+        self.assertEqual(self.stream.getvalue(), "")
+        self.time = 60.0
+        shown.look()
+        self.assertRegex(self.stream.getvalue(), r"\Ainventory: first pass: 25%, 600 entries, "
+                                                 r"10 a second, 3 min left, until \d\d:\d\d\n\Z")
+
+    def test_terminal(self):
+        shown = self.progress(True)
+        shown.begin("second pass", 1000)
+        self.time = 1.0
+        shown.look()
+        shown.show("a fault")
+        self.assertEqual(self.stream.getvalue(), f"{progress.CLEAR}inventory: second pass: 0%, 0 entries, "
+                                                 f"0 a second{progress.CLEAR}a fault\n")
+
+    def test_lost_workers(self):
+        shown = self.progress(False)
+        shown.look()
+        self.there = {"b"}
+        shown.look()
+        self.assertEqual(self.stream.getvalue(), "inventory: 1 of the workers lost (a); 1 there; what "
+                                                 "they did is done again\n")
+
+    def test_lengths(self):
+        found = [*map(progress.length_of, (0, 89, 90, 7199, 7260))]
+        self.assertEqual(found, ["0 s", "89 s", "2 min", "2 h 0 min", "2 h 1 min"])
 
 
-class Runs(Room):
-    FILES = ["bundle.der", "fullchain.pem", "leaf.der"]
+class Words(unittest.TestCase):
+    def test_defaults(self):
+        read = words.parser().parse_args(["a", "--anchors", "b", "--out", "c"])
+        given = work.Settings(**{it: getattr(read, it) for it in work.Settings._fields})
+        self.assertEqual(given, work.Settings("b"))
 
-    def run_with(self, client, **more):
-        self.told, self.out = [], os.path.join(self.folder, "table")
-        given = {"anchors": ROOT_FILE, "at": datetime(2026, 12, 1), "form": tables.CSV, "blocksize": 1}
-        files = [os.path.join(TOP, "samples", it) for it in self.FILES]
-        return running.run(files, self.out, work.Settings(**{**given, **more}), client, self.told.append)
-
-    def rows(self):
-        found = []
-        for name in sorted(os.listdir(os.path.join(self.out, "entries"))):
-            with open(os.path.join(self.out, "entries", name), encoding="utf-8") as file:
-                found += csv.DictReader(file)
-        return found
-
-    def test_everything(self):
-        done = self.run_with(Here())
-        self.assertEqual(done, (6, 6, 3, 6, 1, {"none": 2, "path": 2, "list": 1, "fault": 1}))
-        self.assertEqual(sorted(os.listdir(self.out)), ["entries", "issuers"])
-        self.assertEqual([it["outcome"] or it["class"] for it in self.rows()],
-                         ["none", "path", "path", "list", "fault", "none"])
-        self.assertEqual([it.partition(": ")[2] for it in self.told], [blocks.CAUSES["fault"]])
-
-    def test_given_vouchers(self):
-        whole = self.run_with(Here(), blocksize=1 << 20, why=False,
-                              vouchers=os.path.join(TOP, "samples", "vouchers.txt"))
-        self.assertEqual(whole.outcomes, {"none": 2, "path": 2, "list": 1, "fault": 1})
-        self.assertEqual([it["reasons"] for it in self.rows()], [""] * 6)
-
-    def test_lost_in_the_first_pass(self):
-        done = self.run_with(Here("survey"))
-        self.assertEqual((done.entries, done.rows, done.faults), (6, 6, 2))
-        self.assertEqual(self.rows()[0]["cause"], "not read: RuntimeError: no worker is left")
-
-    def test_lost_issuers(self):
-        done = self.run_with(Here("candidates"))
-        self.assertEqual((done.rows, done.issuers, done.faults), (6, 3, 2))
-        self.assertTrue(any("its issuers are left out" in it for it in self.told))
-
-    def test_lost_in_the_second_pass(self):
-        done = self.run_with(Here("finish"))
-        self.assertEqual((done.entries, done.rows, done.outcomes["fault"]), (6, 6, 2))
-        self.assertIn("no worker is left", self.rows()[0]["reasons"])
-
-    def test_refusals(self):
-        for more, error in (({"anchors": os.path.join(self.folder, "none")}, OSError),
-                            ({"vouchers": ROOT_FILE}, signatures.BadLine),
-                            ({"program": self.folder}, program.Missing)):
-            with self.subTest(more=more), self.assertRaises(error):
-                self.run_with(Here(), **more)
-            self.assertFalse(os.path.isdir(self.out) and os.listdir(self.out))
+    def test_refused(self):
+        for given in (["--workers", "2", "--scheduler", "tls://a"], ["--tries", "0"], ["--at", "now"]):
+            with mock.patch("sys.stderr", io.StringIO()), self.assertRaises(SystemExit) as ended:
+                words.parser().parse_args(["a", "--anchors", "b", "--out", "c", *given])
+            self.assertEqual(ended.exception.code, 2)
 
 
 if __name__ == "__main__":

@@ -9,14 +9,10 @@ killed.
 
 Without Dask nothing is tried. Prints `N passed, M failed` in the end.
 """
-import csv
-import glob
-import hashlib
 import json
 import os
 import re
 import shutil
-import signal
 import subprocess
 import sys
 import tempfile
@@ -24,38 +20,22 @@ import time
 
 sys.dont_write_bytecode = True
 sys.path.insert(0, os.path.dirname(os.path.dirname(os.path.abspath(__file__))))
-from program import repo
-from trials import synthetic
+from trials import (scaling_apart, scaling_ends, scaling_intruder, scaling_scheduler,
+                    synthetic)
 from trials.count import Count
+from trials.scaling_runs import PROGRAM, Run, digest, octets_at, octets_of, rows_of, with_dask
 
 ENTRIES, FEW = 20_000, 600
 # Blocks for the trial are small, so that there are some for each process.
 BLOCKSIZE = "1000000"
-INTERPRETERS = [sys.executable, "/usr/bin/python3"]
-PROGRAM = os.path.join(repo.TOP, "dist", "certpath")
 SUMMARY = re.compile(r"inventory: (\d+) entries, (\d+) rows \((.*)\)")
 COUNTS = re.compile(r"inventory: (\d+) issuers and lists, (\d+) blocks, (\d+) faults")
 PATH = re.compile(r"\d+ path \d+ ?([\d ]*?) ?anchor (\d+)")
 OBSTACLE = re.compile(r"not usable|no issuer|not linked|not used|leads to an anchor")
-SECONDS, SHORT = 600, 0.01
 # How many certificates without a path are asked about over everything, too.
 WHYS = 5
-
-
-def with_dask():
-    """An interpreter that has Dask; none where there is none."""
-    for interpreter in INTERPRETERS:
-        words = [interpreter, "-c", "import distributed"]
-        try:
-            if subprocess.run(words, stdin=subprocess.DEVNULL, stderr=subprocess.DEVNULL).returncode == 0:
-                return interpreter
-        except OSError:
-            continue
-    return None
-
-
-def digest(octets):
-    return hashlib.sha256(octets).hexdigest()
+# Workers are looked after each second, so no two are killed within this time.
+LOOKS = 3
 
 
 class Whole:
@@ -110,86 +90,6 @@ class Whole:
         line = re.sub(r"^at (\d+) to (\d+)", lambda it: f"at {item(it[1])} to {item(it[2])}", line)
         line = re.sub(r"^(at|list) (\d+) ", lambda it: f"{it[1]} {item(it[2])} ", line)
         return re.sub(r"revoked by list (\d+)$", lambda it: f"revoked by list {item(it[1])}", line)
-
-
-class Run:
-    """A run of the command line, which may be disturbed."""
-
-    def __init__(self, interpreter, whole_or_log, out, *words):
-        log = getattr(whole_or_log, "log", whole_or_log)
-        self.out = out
-        paths = {**os.environ, "PYTHONPATH": os.path.join(repo.TOP, "python"),
-                 "PYTHONDONTWRITEBYTECODE": "1"}
-        self.process = subprocess.Popen(
-            [interpreter, "-m", "certpath.inventory", *log.files, "--anchors", log.anchors, "--out",
-             out, "--at", synthetic.MOMENT, "--program", PROGRAM, "--format", "csv", *words],
-            env=paths, stdin=subprocess.DEVNULL, stdout=subprocess.PIPE, stderr=subprocess.PIPE,
-            text=True)
-        self.said = self.told = ""
-
-    def wait(self):
-        try:
-            self.said, self.told = self.process.communicate(timeout=SECONDS)
-        except subprocess.TimeoutExpired:
-            self.process.kill()
-            self.said, self.told = self.process.communicate()
-            self.told += f"\nended after {SECONDS} s"
-        return self
-
-    def workers(self):
-        """The numbers of the processes that this run's Dask has started to work."""
-        children = []
-        for path in glob.glob(f"/proc/{self.process.pid}/task/*/children"):
-            children += map(int, octets_at(path).split())
-        # (a worker of Dask has threads; the process of Python that frees what children leave has one)
-        return [it for it in children if threads_of(it) > 1]
-
-    def kill_a_worker(self, pattern):
-        """Kills a worker when a file of this kind is there; whether there was one to kill."""
-        until = time.monotonic() + SECONDS
-        while self.process.poll() is None and time.monotonic() < until:
-            workers = self.workers()
-            if workers and glob.glob(os.path.join(self.out, *pattern)):
-                os.kill(workers[0], signal.SIGKILL)
-                return True
-            time.sleep(SHORT)
-        return False
-
-
-def threads_of(process):
-    """How many threads a process has; none where it has ended."""
-    found = re.search(rb"Threads:\s+(\d+)", octets_at(f"/proc/{process}/status"))
-    return int(found[1]) if found else 0
-
-
-def octets_at(path):
-    """The octets of a file of /proc; none where the process has ended."""
-    try:
-        with open(path, "rb") as file:
-            return file.read()
-    except OSError:
-        return b""
-
-
-def parts(out, table):
-    return sorted(glob.glob(os.path.join(out, table, "*.csv")))
-
-
-def octets_of(out):
-    """All that a run has written, by the names of the files."""
-    found = {}
-    for path in parts(out, "entries") + parts(out, "issuers"):
-        with open(path, "rb") as file:
-            found[os.path.relpath(path, out)] = file.read()
-    return found
-
-
-def rows_of(out, table="entries"):
-    rows = []
-    for path in parts(out, table):
-        with open(path, encoding="utf-8", newline="") as file:
-            rows += csv.DictReader(file)
-    return rows
 
 
 def same_answers(count, whole, rows, answers):
@@ -250,15 +150,36 @@ def trial(count, interpreter, room, entries):
     same_reasons(count, whole, rows)
     issuers_are_there(count, one.out, rows)
     killed = Run(interpreter, whole, os.path.join(room, "two"), *given, "--workers", "2")
-    for pattern in (("work", "*.json"), ("entries", "*.csv")):
+    for pattern in (("work", "0*.json"), ("entries", "*.csv")):
         count.tell(killed.kill_a_worker(pattern), f"no worker to be killed at {pattern[0]}")
+        time.sleep(LOOKS)
     killed.wait()
+    count.tell("of the workers lost" in killed.told, f"no word of lost workers: {killed.told}")
     count.tell(octets_of(one.out) == octets_of(killed.out),
                f"another table by two processes, of which each was killed once:\n{killed.told[-3000:]}")
+    scaling_ends.resumed(count, interpreter, whole, one, given, room)
     few = Whole(os.path.join(room, "few"), FEW, 45)
     asked = Run(interpreter, few, os.path.join(room, "three"), "--demand-lists", "--no-why",
                 "--blocksize", "40000", "--workers", "2").wait()
     same_answers(count, few, rows_of(asked.out), few.answers("--demand-lists"))
+    strangers(count, interpreter, room)
+    scaling_ends.trial(count, interpreter, few, room)
+    scaling_scheduler.trial(count, interpreter, few, room)
+    scaling_apart.trial(count, interpreter, room)
+
+
+def strangers(count, interpreter, room):
+    """Nobody else talks to a run, which waits here for its vouchers."""
+    few = Whole(os.path.join(room, "few-more"), FEW, 46)
+    vouchers = os.path.join(room, "waiting")
+    os.mkfifo(vouchers)
+    run = Run(interpreter, few, os.path.join(room, "alone"), "--no-why", "--workers", "2",
+              "--vouchers", vouchers)
+    scaling_intruder.trial(count, interpreter, run)
+    with open(vouchers, "w", encoding="ascii"):
+        pass
+    run.wait()
+    count.tell(len(rows_of(run.out)) == few.log.entries, f"a run that was knocked at:\n{run.told}")
 
 
 def make(number, folder):

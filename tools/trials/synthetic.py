@@ -167,13 +167,14 @@ def vector(length: int, octets: bytes) -> bytes:
     return len(octets).to_bytes(length, "big") + octets
 
 
-def answer_of(made: Made, chain: tuple, is_precertificate: bool) -> dict:
+def answer_of(made: Made, issuer: Authority, chain: tuple, is_precertificate: bool) -> dict:
     """An entry of an answer (RFC 6962, 3.4 and 4.6)."""
     front = b"\0\0" + (1700000000000).to_bytes(8, "big") + int(is_precertificate).to_bytes(2, "big")
     links = vector(3, b"".join(vector(3, it.octets) for it in chain))
     if is_precertificate:
         # (of the TBSCertificate that a log has there nothing is read but its length)
-        leaf_input = front + bytes(32) + vector(3, b"\x30\x00") + vector(2, b"")
+        key_hash = hashlib.sha256(issuer.public).digest()
+        leaf_input = front + key_hash + vector(3, b"\x30\x00") + vector(2, b"")
         extra_data = vector(3, made.octets) + links
     else:
         leaf_input, extra_data = front + vector(3, made.octets) + vector(2, b""), links
@@ -226,7 +227,7 @@ class Log:
             made = leaf(self.chance, self.chance.randrange(1 << 20), issuer, is_precertificate)
             chain = self.authorities.chain(issuer)
             entry = Entry(made, chain, None, is_precertificate)
-            answer = answer_of(made, chain, is_precertificate)
+            answer = answer_of(made, issuer, chain, is_precertificate)
             is_faulty = at % FAULTY == FAULTY - 1
             self.faults += is_faulty
             yield spoilt(self.faults % KINDS, answer, entry) if is_faulty else entry._replace(answer=answer)

@@ -6,11 +6,15 @@
     with Client() as client:
         done = inventory.run(["log.json"], "table", inventory.Settings(anchors="roots.der"), client)
 
+    inventory.write_sqlite("table", "table.sqlite")
+
 Or `python3 -m certpath.inventory FILE.. --anchors FILE --out FOLDER`. docs/SCALE.md describes the
 table. What is said of items is said by the proved library and program; all else only carries.
 Needs Dask (`dask` and `distributed`), and pyarrow for a table in Parquet.
 """
-from .running import CannotWrite, Done, run
+from .databases import write as write_sqlite
+from .running import Done, run
 from .work import Settings
+from .writing import CannotWrite
 
-__all__ = ["CannotWrite", "Done", "Settings", "run"]
+__all__ = ["CannotWrite", "Done", "Settings", "run", "write_sqlite"]

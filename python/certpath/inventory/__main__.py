@@ -2,140 +2,182 @@
 import argparse
 import logging
 import os
+import signal
 import sys
+import traceback
 from contextlib import contextmanager
-from datetime import datetime
-from typing import List, NamedTuple
+from typing import Callable, List, NamedTuple, Set
 
-from ..items import LIMIT
 from ..library import LibraryMissing, loaded
-from ..openssl import MOST_TRIES
+from . import databases
+from . import words as taken
+from .anchors import BadAnchors
+from .jobs import Different, planned
+from .program import Missing
+from .progress import Progress
+from .records import status_of
+from .running import Done, Lost, passes
+from .signatures import BadLine
+from .trees import BadTreeHead
+from .work import Settings
+from .writing import CannotWrite
 
-DONE, FAULTY, CANNOT_READ, BAD_VOUCHERS, CANNOT_WRITE, NOT_THERE = 0, 1, 4, 5, 7, 70
-
-try:
-    import dask
-    from dask.distributed import Client, LocalCluster
-    from . import running
-    from .blocks import BLOCKSIZE
-    from .program import Missing
-    from .signatures import BadLine
-    from .tables import WRITERS
-    from .work import Settings
-except ImportError as error:
-    print(f"inventory: {error}; it comes with `apt-get install python3-distributed`, or "
-          "`pip install 'dask[distributed]'`", file=sys.stderr)
-    sys.exit(NOT_THERE)
-
-LARGEST = 4294967295
-
-
-def number(text: str) -> int:
-    """A number as `certpath` takes it."""
-    if not text.isascii() or not text.isdigit() or int(text) > LARGEST:
-        raise argparse.ArgumentTypeError(f"bad number: {text}")
-    return int(text)
+(BAD_WORDS, BAD_ANCHORS, CANNOT_READ, BAD_VOUCHERS, NO_MEMORY, CANNOT_WRITE, UNREACHABLE,
+ BAD_TREE_HEAD, NOT_THERE, UNEXPECTED) = 2, 3, 4, 5, 6, 7, 9, 10, 70, 71
+# What a shell says of a process that a signal ended.
+SIGNALLED = 128
+ENDING = (signal.SIGINT, signal.SIGTERM)
+NO_DASK = ("it comes with `apt-get install python3-distributed python3-cryptography`, or "
+           "`pip install 'dask[distributed]' cryptography`")
 
 
-def at_least_one(text: str) -> int:
-    if number(text) == 0:
-        raise argparse.ArgumentTypeError(f"bad number: {text}")
-    return number(text)
-
-
-def moment(text: str) -> datetime:
-    try:
-        return datetime.strptime(text, "%Y-%m-%dT%H:%M:%S")
-    except ValueError:
-        raise argparse.ArgumentTypeError(f"bad moment: {text}") from None
-
-
-def parser() -> argparse.ArgumentParser:
-    made = argparse.ArgumentParser(prog="python3 -m certpath.inventory", allow_abbrev=False,
-                                   description="Makes a table of certificates and of entries of "
-                                   "transparency logs, on many processes (docs/SCALE.md).")
-    made.add_argument("files", nargs="+", metavar="FILE",
-                      help="items in DER, or an answer of a log to get-entries")
-    made.add_argument("--anchors", required=True, metavar="FILE", help="trust anchors, in DER")
-    made.add_argument("--out", required=True, metavar="FOLDER", help="a new or empty folder")
-    made.add_argument("--at", type=moment, metavar="YYYY-MM-DDTHH:MM:SS", help="in UTC; now")
-    made.add_argument("--vouchers", metavar="FILE", help="is believed; else OpenSSL verifies")
-    made.add_argument("--weak", action="store_true", help="accept MD5, SHA-1 and short keys")
-    made.add_argument("--tries", type=at_least_one, default=MOST_TRIES, metavar="N",
-                      help="keys that are tried for an item, at most")
-    made.add_argument("--demand-lists", action="store_true",
-                      help="each certificate needs a revocation list that is used")
-    made.add_argument("--limit", type=number, default=LIMIT, metavar="N",
-                      help="the most content octets of an item")
-    made.add_argument("--no-why", dest="why", action="store_false",
-                      help="don't say what stands in the way of a path")
-    where = made.add_mutually_exclusive_group()
-    where.add_argument("--workers", type=at_least_one, metavar="N",
-                       help="processes on this machine; one for each core")
-    where.add_argument("--scheduler", metavar="ADDRESS", help="of Dask, as tcp://10.0.0.1:8786")
-    made.add_argument("--blocksize", type=at_least_one, default=BLOCKSIZE, metavar="N",
-                      help="octets of a block, about")
-    made.add_argument("--format", dest="form", choices=[*WRITERS], default="", help="of the table")
-    made.add_argument("--program", default="", metavar="FILE", help="certpath, where it isn't found")
-    return made
-
-
-@contextmanager
-def client_of(workers: int, scheduler: str):
-    """A client of a scheduler that is there, or of processes of this machine."""
-    if scheduler:
-        with Client(scheduler) as client:
-            yield client
-        return
-    with LocalCluster(n_workers=workers or os.cpu_count(), threads_per_worker=1, processes=True,
-                      dashboard_address=None, silence_logs=logging.CRITICAL) as cluster:
-        with Client(cluster) as client:
-            yield client
-
-
-def summary(done: running.Done) -> str:
-    outcomes = ", ".join(f"{count} {word}" for word, count in sorted(done.outcomes.items()))
-    return (f"inventory: {done.issuers} issuers and lists, {done.blocks} blocks, "
-            f"{done.faults} faults\n"
-            f"inventory: {done.entries} entries, {done.rows} rows ({outcomes})")
+def shown(line: str) -> str:
+    """A line for standard error, where control characters do no harm."""
+    return "".join(it if it.isprintable()
+                   else it.encode("unicode_escape", "backslashreplace").decode() for it in line)
 
 
 def show(line: str):
-    """A line for standard error, where control characters do no harm."""
-    shown = "".join(it if it.isprintable() else it.encode("unicode_escape", "backslashreplace").decode()
-                    for it in line)
-    print(shown, file=sys.stderr)
+    print(shown(line), file=sys.stderr, flush=True)
 
 
-class Refused(NamedTuple):
+def summary(done: Done) -> str:
+    outcomes = ", ".join(f"{count} {word}" for word, count in sorted(done.outcomes.items()))
+    more = "".join(f", {count} {what}" for count, what in (
+        (done.changed, "changed files"), (len(done.missing), "gaps"),
+        (len(done.twice), "ranges in several files")) if count)
+    again = (f"\ninventory: {done.unanswered} blocks weren't answered; --resume tries them again"
+             if done.unanswered else "")
+    return (f"inventory: {done.issuers} issuers and lists, {done.blocks} blocks, "
+            f"{done.faults} faults{more}\n"
+            f"inventory: {done.entries} entries, {done.rows} rows ({outcomes}){again}")
+
+
+def say(text: str):
+    """Prints a text; CannotWrite where standard output fails."""
+    try:
+        print(text, flush=True)
+    except OSError as error:
+        # (what is left in the buffer would be tried again when the process ends)
+        os.dup2(os.open(os.devnull, os.O_WRONLY), sys.stdout.fileno())
+        raise CannotWrite(f"cannot write: {error.strerror}") from error
+
+
+class Ended(BaseException):
+    """A signal ends the process."""
+
+    def __init__(self, number: int):
+        super().__init__(number)
+        self.number = number
+
+
+def end_at_once(number: int, _):
+    os._exit(SIGNALLED + number)
+
+
+def end(number: int, _):
+    """Ends the run; a second signal ends the process wherever it is."""
+    for it in ENDING:
+        signal.signal(it, end_at_once)
+    raise Ended(number)
+
+
+@contextmanager
+def client_of(words: argparse.Namespace):
+    """The client that the words ask for."""
+    from . import clusters
+    keys = clusters.Keys(words.tls_ca_file, words.tls_cert, words.tls_key)
+    opened = (clusters.of_scheduler(words.scheduler, keys, words.insecure, show) if words.scheduler
+              else clusters.own_processes(words.workers))
+    with opened as client:
+        yield client
+
+
+class Refusal(NamedTuple):
     """Which errors end a run, and the status that each gives."""
     error: type
     status: int
 
 
-REFUSALS = [Refused(BadLine, BAD_VOUCHERS), Refused(running.CannotWrite, CANNOT_WRITE),
-            Refused(Missing, NOT_THERE), Refused(LibraryMissing, NOT_THERE),
-            Refused(OSError, CANNOT_READ)]
+def refusals() -> List[Refusal]:
+    from . import clusters
+    return [Refusal(clusters.Refused, BAD_WORDS), Refusal(Different, BAD_WORDS),
+            Refusal(BadAnchors, BAD_ANCHORS), Refusal(BadTreeHead, BAD_TREE_HEAD),
+            Refusal(BadLine, BAD_VOUCHERS), Refusal(CannotWrite, CANNOT_WRITE),
+            Refusal(clusters.Unreachable, UNREACHABLE),
+            Refusal(Lost, UNREACHABLE), Refusal(Missing, NOT_THERE),
+            Refusal(LibraryMissing, NOT_THERE), Refusal(MemoryError, NO_MEMORY),
+            Refusal(OSError, CANNOT_READ)]
 
 
-def run(words: argparse.Namespace) -> int:
+def made(words: argparse.Namespace) -> int:
+    """Makes the table, and gives the status."""
     loaded()
     settings = Settings(**{it: getattr(words, it) for it in Settings._fields})
-    scratch = {"temporary-directory": os.environ.get("TMPDIR", "/tmp")}
-    with dask.config.set(scratch), client_of(words.workers, words.scheduler) as client:
-        done = running.run(words.files, words.out, settings, client, show)
-    print(summary(done))
-    return FAULTY if done.faults or done.entries != done.rows else DONE
+    if words.sqlite and not words.resume:
+        databases.tested(words.sqlite)
+    with planned(words.files, words.out, settings, words.resume, words.lists) as plan:
+        if plan.finished is None:
+            with client_of(words) as client, Progress(workers_of(client)) as progress:
+                done = passes(plan, client, lambda line: progress.show(shown(line)), progress)
+        else:
+            show(f"inventory: {words.out} is finished")
+            done = passes(plan, None)
+    if words.sqlite:
+        databases.write(words.out, words.sqlite)
+    say(summary(done))
+    return status_of(done)
 
 
-def main(words: List[str]) -> int:
-    read = parser().parse_args(words)
+def workers_of(client) -> Callable[[], Set[str]]:
+    """What gives the addresses of the workers that are there."""
+    return lambda: {*client.nthreads()}
+
+
+def said_of(error: BaseException) -> str:
+    """What an error that ends a run says."""
+    if isinstance(error, MemoryError):
+        return "out of memory"
+    if isinstance(error, OSError) and error.filename:
+        return f"cannot read {error.filename}" + (f": {error.strerror}" if error.strerror else "")
+    return str(error)
+
+
+def ended(error: BaseException) -> int:
+    """Says why a run has ended, and gives the status."""
+    for refusal in refusals():
+        if isinstance(error, refusal.error):
+            show(f"inventory: {said_of(error)}")
+            # (of Dask are errors of connections, which name no file)
+            is_lost = isinstance(error, OSError) and not error.filename
+            return UNREACHABLE if is_lost else refusal.status
+    traceback.print_exception(type(error), error, error.__traceback__)
+    show("inventory: an error of this command; please report it (SECURITY.md)")
+    return UNEXPECTED
+
+
+def main(given: List[str]) -> int:
+    words = taken.parser().parse_intermixed_args(given)
     try:
-        return run(read)
-    except tuple(it.error for it in REFUSALS) as error:
-        named = f"cannot read {error.filename}" if isinstance(error, OSError) else error
-        show(f"inventory: {named}")
-        return next(it.status for it in REFUSALS if isinstance(error, it.error))
+        import dask.distributed  # noqa: F401
+        if not words.scheduler:
+            # (it makes the key of the run)
+            import cryptography  # noqa: F401
+    except ImportError as error:
+        show(f"inventory: {error}; {NO_DASK}")
+        return NOT_THERE
+    # (Dask writes tracebacks of connections that end, and what matters of these is said here)
+    logging.disable(logging.CRITICAL)
+    for number in ENDING:
+        signal.signal(number, end)
+    try:
+        return made(words)
+    except Ended as signalled:
+        name = signal.Signals(signalled.number).name
+        show(f"inventory: ended by {name}; --resume goes on with what is done")
+        return SIGNALLED + signalled.number
+    except Exception as error:  # whatever it is, it gets a status
+        return ended(error)
 
 
 if __name__ == "__main__":

@@ -1,5 +1,5 @@
 """Entries: what a file holds one after another, and where."""
-from typing import NamedTuple, Tuple
+from typing import NamedTuple, Optional, Tuple
 
 ITEM, CHAIN = "item", "chain"
 CUT, FAULT = "cut", "fault"
@@ -25,6 +25,15 @@ class Entry(NamedTuple):
     """"cut" or "fault" where no octets could be cut out."""
     cause: str = ""
     """What is wrong with the entry, or with its chain."""
+    number: Optional[int] = None
+    """Its number in the log, where that is known."""
+    timestamp: str = ""
+    """When the log took it, in UTC; empty where that isn't known."""
+    leaf_hash: Optional[str] = None
+    """The hash of its leaf in the log's tree, in hex; None where its number isn't known or the leaf
+    can't be read."""
+    issuer_key_hash: bytes = b""
+    """Of a precertificate the digest of its issuer's key, as the log's tree has it."""
 
 
 def unread(place: Place, cause: str, end: str = FAULT) -> Entry:

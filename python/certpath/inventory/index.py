@@ -1,16 +1,20 @@
 """The index of a whole log, in a file that all workers read: which names issue something, who may
 issue under them, and which keys vouch for which items."""
+import hashlib
+import os
 import sqlite3
-from contextlib import closing
+from contextlib import closing, contextmanager
 from typing import Iterable, Iterator, List, NamedTuple
 from urllib.parse import quote
 
 from .rows import Read
+from .writing import CannotWrite, told
 
 SCHEMA = """
 CREATE TABLE names (name TEXT PRIMARY KEY) WITHOUT ROWID;
 CREATE TABLE vouchers (item TEXT, key TEXT, PRIMARY KEY (item, key)) WITHOUT ROWID;
-CREATE TABLE issuers (rank INTEGER PRIMARY KEY, item TEXT UNIQUE, name TEXT, issuer TEXT, octets BLOB);
+CREATE TABLE issuers (
+    rank INTEGER PRIMARY KEY, item TEXT UNIQUE, name TEXT, issuer TEXT, octets BLOB);
 CREATE INDEX by_name ON issuers (name);
 """
 
@@ -32,33 +36,56 @@ class Candidate(NamedTuple):
     octets: bytes
 
 
+@contextmanager
+def writing(path: str) -> Iterator[sqlite3.Connection]:
+    """The index, to be written; CannotWrite where it can't be."""
+    try:
+        with closing(sqlite3.connect(path)) as opened, opened:
+            yield opened
+    except sqlite3.Error as error:
+        raise CannotWrite(f"cannot write {path}: {error}") from error
+
+
 def create(path: str):
-    with closing(sqlite3.connect(path)) as opened, opened:
+    """A new index, in the place of one that is there."""
+    with told(path):
+        if os.path.exists(path):
+            os.remove(path)
+    with writing(path) as opened:
         opened.executescript(SCHEMA)
 
 
 def add_names(path: str, names: Iterable[str]):
     """The names under which something was issued."""
-    with closing(sqlite3.connect(path)) as opened, opened:
+    with writing(path) as opened:
         opened.executemany("INSERT OR IGNORE INTO names VALUES (?)", ((it,) for it in names))
 
 
 def add_vouchers(path: str, lines: Iterable[str]):
     """Lines of a voucher file: the digests of a key and of an item."""
     pairs = (line.lower().split() for line in lines)
-    with closing(sqlite3.connect(path)) as opened, opened:
+    with writing(path) as opened:
         opened.executemany("INSERT OR IGNORE INTO vouchers (key, item) VALUES (?, ?)", pairs)
 
 
 def add_issuers(path: str, candidates: Iterable[Candidate]) -> Iterator[Candidate]:
     """Adds candidates in the order in which they come, and gives those that are new."""
-    with closing(sqlite3.connect(path)) as opened, opened:
+    with writing(path) as opened:
         for it in candidates:
             added = opened.execute(
                 "INSERT OR IGNORE INTO issuers (item, name, issuer, octets) VALUES (?, ?, ?, ?)",
                 (it.read.row.sha256, it.read.name, it.read.issuer, it.octets))
             if added.rowcount:
                 yield it
+
+
+def digest_of(path: str) -> str:
+    """The digest of all issuers and lists, in their order: where it is equal, so are answers."""
+    summed = hashlib.sha256()
+    with closing(sqlite3.connect(path)) as opened:
+        for item, in opened.execute("SELECT item FROM issuers ORDER BY rank"):
+            summed.update(bytes.fromhex(item))
+    return summed.hexdigest()
 
 
 class Index:
@@ -81,7 +108,8 @@ class Index:
 
     def keys_for(self, item: str) -> List[str]:
         """The digests of the keys that vouch for an item."""
-        found = self._opened.execute("SELECT key FROM vouchers WHERE item = ? ORDER BY key", (item,))
+        found = self._opened.execute(
+            "SELECT key FROM vouchers WHERE item = ? ORDER BY key", (item,))
         return [key for key, in found]
 
     def under(self, name: str) -> List[Issuer]:

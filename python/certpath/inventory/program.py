@@ -1,4 +1,4 @@
-"""The proved program: `certpath paths` and `certpath why` on files that are made for the run."""
+"""The proved program: `certpath paths` on files that are made for the run."""
 import os
 import shutil
 import subprocess
@@ -8,9 +8,9 @@ from typing import Iterator, List, NamedTuple
 from ..library import FOLDERS
 
 NAME = "certpath"
-PATHS, WHY = "paths", "why"
-# By the command: with these exit statuses a report was printed.
-ANSWERED = {PATHS: (0, 1), WHY: (0, 1, 3)}
+PATHS = "paths"
+# With these exit statuses a report was printed.
+ANSWERED = (0, 1)
 YES = "check yes"
 
 
@@ -31,7 +31,8 @@ class Question(NamedTuple):
 
 
 def found(given: str = "") -> str:
-    """The path of the program: the one that is given, the one beside the library, one on the path."""
+    """The path of the program: the one that is given, or the one beside the library, or one on the
+    path."""
     if given:
         places = [given]
     else:
@@ -62,7 +63,7 @@ def report(program: str, command: str, question: Question) -> List[str]:
                              stdout=subprocess.PIPE, stderr=subprocess.PIPE, check=False,
                              pass_fds=(bundle, vouchers))
     lines = ran.stdout.decode(errors="replace").splitlines()
-    if ran.returncode not in ANSWERED[command]:
+    if ran.returncode not in ANSWERED:
         said = ran.stderr.decode(errors="replace").strip()
         raise Failed(f"certpath {command} ended with status {ran.returncode}: {said}")
     if YES not in lines:

@@ -1,26 +1,31 @@
 """Runs the tasks of all blocks by Dask, one pass after the other."""
-import os
+import hashlib
 import re
-import shutil
-from datetime import datetime, timezone
+from concurrent.futures import CancelledError
 from typing import TYPE_CHECKING, Callable, Dict, Iterable, Iterator, List, NamedTuple, Tuple
 
-from ..items import frame
-from . import index, program, signatures, tables, work
-from .blocks import Block, blocks_of, spans_of
+from . import index, jobs, records, signatures, tables, trees, work
+from .blocks import Block, blocks_of
 from .entries import Place
-from .work import ENTRIES, ISSUERS, WORK, Fault, Job, Part, Settings, Survey
+from .files import Cut
+from .jobs import Different, Plan, State, planned
+from .progress import Silent
+from .ranges import Range, covered
+from .work import ISSUERS, WORK, Fault, Part, Settings, Survey
+from .writing import CannotWrite
 
 if TYPE_CHECKING:
     from dask.distributed import Client
 
 # Of faults that differ in numbers alone so many are shown one by one.
 MOST_SHOWN = 5
-NUMBER = re.compile(r"\d+")
+NUMBER = re.compile(r"\b\d+\b")
+# So many files are cut by one task.
+FILES_OF_TASK = 500
 
 
-class CannotWrite(Exception):
-    """The folder of the table can't be made, or holds something."""
+class Lost(Exception):
+    """The scheduler was lost, or a worker can't work, and the run ends."""
 
 
 class Done(NamedTuple):
@@ -36,17 +41,31 @@ class Done(NamedTuple):
     """How many entries have a fault, and shards that couldn't be answered."""
     outcomes: Dict[str, int]
     """How many rows have which outcome, or which class where they have none."""
+    kinds: Dict[str, int]
+    """How many faults there are of each kind."""
+    changed: int = 0
+    """How often a file wasn't any more what it was."""
+    unanswered: int = 0
+    """How many blocks couldn't be read or answered; `resume` tries these again."""
+    missing: Tuple[Range, ...] = ()
+    """Which entries of the log are in no answer, where their ranges are known."""
+    twice: Tuple[Range, ...] = ()
+    """Which are in several."""
+    tree: str = ""
+    """What is wrong where the entries aren't those of the tree head; empty where they are, or none is
+    given."""
 
 
 class Faults:
     """Counts faults, and shows the first of each kind."""
 
     def __init__(self, show: Callable[[str], None]):
-        self.show, self.counts = show, {}
+        self.show, self.counts, self.changed = show, {}, 0
 
     def add(self, fault: Fault):
         kind = NUMBER.sub("N", fault.cause)
         self.counts[kind] = self.counts.get(kind, 0) + 1
+        self.changed += fault.is_change
         if self.counts[kind] <= MOST_SHOWN:
             self.show(f"{fault.place.file} {fault.place.offset}: {fault.cause}")
 
@@ -58,62 +77,165 @@ class Faults:
         return sum(self.counts.values())
 
 
-def job_of(out: str, settings: Settings) -> Job:
-    """The job, with all that is left open chosen, and its folders made."""
-    at = settings.at or datetime.now(timezone.utc)
-    at = at.astimezone(timezone.utc) if at.tzinfo else at
-    vouchers = settings.vouchers and os.path.abspath(settings.vouchers)
-    settings = settings._replace(
-        at=at.replace(microsecond=0), anchors=os.path.abspath(settings.anchors), vouchers=vouchers,
-        form=settings.form or tables.default_format(), program=program.found(settings.program))
-    job = Job(settings, os.path.abspath(out))
+class Run:
+    """The passes of one run."""
+
+    def __init__(self, plan: Plan, client: 'Client', show: Callable[[str], None], progress):
+        self.plan, self.job, self.client = plan, plan.job, client
+        self.show, self.progress, self.faults = show, progress, Faults(show)
+        self.blocks: List[Block] = []
+        self.surveys: List[Survey] = []
+        self.unanswered = set()
+
+    def results(self, task: Callable, each: Iterable, *rest) -> Iterator[tuple]:
+        """What a task gives of each argument, in their order: the argument, the result, and the
+        error in the place of a result. What was given is dropped."""
+        each = [*each]
+        futures = self.client.map(task, each, *([it] * len(each) for it in rest), pure=False)
+        futures.reverse()
+        for argument in each:
+            future = futures.pop()
+            yield (argument, *given(future))
+
+    def shown(self, name: str, results: Iterable[tuple], entries: Callable) -> Iterator[tuple]:
+        """Results of blocks, whose progress is shown."""
+        shown = self.progress.begin(name, sum(it.length for it in self.blocks))
+        for block, result, error in results:
+            shown.step(block.length, 0 if error else entries(result))
+            yield block, result, error
+
+    def cut(self) -> List[Cut]:
+        """All files as they are cut; OSError where one can't be read."""
+        files = self.plan.files
+        groups = [files[it:it + FILES_OF_TASK] for it in range(0, len(files), FILES_OF_TASK)]
+        found = []
+        for _, cuts, error in self.results(work.cut, groups, self.job):
+            if error:
+                raise error
+            found += cuts
+        return found
+
+    def begin(self) -> State:
+        """Reads the vouchers and cuts the files, or takes what a run before has found."""
+        index.create(self.job.index)
+        vouchers, given = hashlib.sha256(), self.job.settings.vouchers
+        if given is not None:
+            index.add_vouchers(self.job.index, signatures.lines_of(given, vouchers.update))
+        read, state = vouchers.hexdigest() if given is not None else "", self.plan.state
+        if state is None:
+            state = State(read, self.cut())
+            jobs.store_state(self.job, state)
+        if state.vouchers != read:
+            raise Different(f"{self.job.out} holds a run that was asked for other vouchers")
+        return state
+
+    def survey(self) -> int:
+        """The first pass: how many entries there are. A block that can't be read is one with a
+        fault."""
+        results, names = self.results(work.survey, self.blocks, self.job), set()
+        for block, found, error in self.shown("first pass", results, lambda it: it.entries):
+            if error:
+                found = work.lose(block, self.job, f"not read: {said_of(error)}")
+                self.unanswered.add(block.number)
+            names |= found.names
+            self.surveys.append(found._replace(names=frozenset(), faults=()))
+            for fault in found.faults:
+                self.faults.add(fault)
+        index.add_names(self.job.index, names)
+        return sum(it.entries for it in self.surveys)
+
+    def candidates(self) -> Iterator[index.Candidate]:
+        """What may issue or revoke, in the order of everything."""
+        for block, found, error in self.results(work.candidates, self.blocks, self.job):
+            if error:
+                self.unanswered.add(block.number)
+                self.faults.add(at_front(block, f"its issuers are left out: {said_of(error)}"))
+                continue
+            for fault in found.changed:
+                self.faults.add(fault)
+            yield from found.candidates
+
+    def issuers(self) -> int:
+        """Makes the index and the table of issuers, and gives how many there are."""
+        new = [it.read.row for it in index.add_issuers(self.job.index, [*self.candidates()])]
+        form = self.job.settings.form
+        path = tables.part(self.job.folder(ISSUERS), 0, form)
+        return tables.write(path, new, form, self.job.work)
+
+    def answers(self) -> Part:
+        """The second pass: how many rows are there, and with which outcomes. The rows of a shard
+        that can't be answered are written without answers."""
+        job = self.job._replace(index_digest=index.digest_of(self.job.index))
+        rows, outcomes = 0, {}
+        results = self.results(work.finish, self.blocks, job)
+        for block, part, error in self.shown("second pass", results, lambda it: it.rows):
+            part = work.unanswered(block, job, said_of(error)) if error else part
+            rows += part.rows
+            for word, count in part.outcomes.items():
+                outcomes[word] = outcomes.get(word, 0) + count
+            if part.trouble:
+                self.unanswered.add(block.number)
+                self.faults.add(at_front(block, f"not answered: {part.trouble}"))
+            for fault in part.changed:
+                self.faults.add(fault)
+        return Part(rows, outcomes)
+
+    def ranges(self) -> Tuple[Tuple[Range, ...], Tuple[Range, ...]]:
+        """Which entries of the log are in no answer, and which in several."""
+        spans = [it for block in self.blocks for it in block.spans]
+        counts = [it for survey in self.surveys for it in survey.counts]
+        known = [(it, count) for it, count in zip(spans, counts) if it.first is not None]
+        held = [Range(it.first, it.first + count - 1) for it, count in known if count]
+        found = covered(held, max((it.last for it, _ in known), default=None))
+        for word, which in (("in no file", found.missing), ("in several files", found.twice)):
+            for it in which[:MOST_SHOWN]:
+                self.show(f"entries {it} of the log: {word}")
+            if len(which) > MOST_SHOWN:
+                self.show(f".. {len(which) - MOST_SHOWN} further ranges: {word}")
+        return tuple(found.missing), tuple(found.twice)
+
+    def tree(self) -> str:
+        """Compares the entries with the tree head, if there is one, and says what comes out."""
+        head = self.plan.head
+        if head is None:
+            return ""
+        wrong = trees.compared((it for survey in self.surveys for it in survey.trees), head)
+        self.show(f"tree head of {head.size} entries: "
+                  f"{wrong or 'each of them is there, and the root is equal'}")
+        return wrong
+
+    def all(self) -> Done:
+        state = self.begin()
+        spans = (span for it in state.cuts for span in it.spans)
+        self.blocks = blocks_of(spans, self.job.settings.blocksize)
+        entries = self.survey()
+        issuers = self.issuers()
+        part = self.answers()
+        missing, twice = self.ranges()
+        done = Done(entries, part.rows, issuers, len(self.blocks), self.faults.end(), part.outcomes,
+                    self.faults.counts, self.faults.changed, len(self.unanswered), missing, twice,
+                    self.tree())
+        records.write(self.plan, state, self.blocks, self.surveys, done)
+        return done
+
+
+def given(future) -> tuple:
+    """What a task gave, and its error. Lost and CannotWrite of an error that would be one of each
+    further task."""
     try:
-        os.makedirs(job.out, exist_ok=True)
-        if os.listdir(job.out):
-            raise CannotWrite(f"{out} isn't empty")
-        for name in (ENTRIES, ISSUERS, WORK):
-            os.mkdir(job.folder(name))
-    except OSError as error:
-        raise CannotWrite(f"cannot write {out}: {error.strerror}") from error
-    return job
-
-
-def results(client: 'Client', task: Callable, each: Iterable, *rest) -> Iterator[tuple]:
-    """What a task gives of each argument, in their order: the argument, the result, and the error
-    in the place of a result. What was given is dropped."""
-    each = [*each]
-    futures = client.map(task, each, *([it] * len(each) for it in rest), pure=False)
-    futures.reverse()
-    for argument in each:
-        future = futures.pop()
         error = future.exception()
-        yield argument, None if error else future.result(), error
-
-
-def spans(client: 'Client', files: List[str], settings: Settings) -> Iterator:
-    """The spans of all files; OSError where one can't be read."""
-    for _, found, error in results(client, spans_of, files, settings.blocksize, settings.limit):
-        if error:
-            raise error
-        yield from found
-
-
-def surveyed(client: 'Client', blocks: List[Block], job: Job) -> Iterator[Survey]:
-    """The first pass. A block that can't be read is one with a fault."""
-    for block, survey, error in results(client, work.survey, blocks, job):
-        yield work.lose(block, job, f"not read: {said_of(error)}") if error else survey
+        result = None if error else future.result()
+    except (CancelledError, OSError) as lost:
+        raise Lost("the scheduler was lost; --resume goes on with what is done") from lost
+    if isinstance(error, CannotWrite):
+        raise error
+    if isinstance(error, ImportError):
+        raise Lost(f"a worker hasn't the package certpath: {said_of(error)}") from error
+    return result, error
 
 
 def said_of(error: BaseException) -> str:
     return f"{type(error).__name__}: {error}".splitlines()[0]
-
-
-def candidates(client: 'Client', blocks: List[Block], job: Job, faults: Faults) -> Iterator[index.Candidate]:
-    """What may issue or revoke, in the order of everything."""
-    for block, found, error in results(client, work.candidates, blocks, job):
-        if error:
-            faults.add(at_front(block, f"its issuers are left out: {said_of(error)}"))
-        yield from found or ()
 
 
 def at_front(block: Block, cause: str) -> Fault:
@@ -121,75 +243,29 @@ def at_front(block: Block, cause: str) -> Fault:
     return Fault(Place(block.spans[0].file, block.spans[0].begin), cause)
 
 
-def finished(client: 'Client', blocks: List[Block], job: Job) -> Iterator[Tuple[Block, Part]]:
-    """The second pass. The rows of a shard that can't be answered are written without answers."""
-    for block, part, error in results(client, work.finish, blocks, job):
-        yield block, work.unanswered(block, job, said_of(error)) if error else part
-
-
-def make_index(client: 'Client', blocks: List[Block], names: Iterable[str], job: Job,
-               faults: Faults) -> int:
-    """Writes the index and the table of issuers, and gives how many there are."""
-    index.add_names(job.index, names)
-    found = candidates(client, blocks, job, faults)
-    new = [it.read.row for it in index.add_issuers(job.index, [*found])]
-    return tables.write(job.folder(ISSUERS), 0, new, job.settings.form)
-
-
-def first_pass(client: 'Client', blocks: List[Block], job: Job, faults: Faults) -> Tuple[int, int]:
-    """Reads all blocks and makes the index: how many entries there are, and how many issuers."""
-    entries, names = 0, set()
-    for survey in surveyed(client, blocks, job):
-        entries += survey.entries
-        names |= survey.names
-        for fault in survey.faults:
-            faults.add(fault)
-    return entries, make_index(client, blocks, names, job, faults)
-
-
-def second_pass(client: 'Client', blocks: List[Block], job: Job, faults: Faults) -> Part:
-    """Writes all parts of the table: how many rows are there, and with which outcomes."""
-    rows, outcomes = 0, {}
-    for block, part in finished(client, blocks, job):
-        rows += part.rows
-        for word, count in part.outcomes.items():
-            outcomes[word] = outcomes.get(word, 0) + count
-        if part.trouble:
-            faults.add(at_front(block, f"not answered: {part.trouble}"))
-    return Part(rows, outcomes)
-
-
-def passes(files: List[str], client: 'Client', job: Job, faults: Faults) -> Done:
-    index.create(job.index)
-    if job.settings.vouchers is not None:
-        index.add_vouchers(job.index, signatures.lines_of(job.settings.vouchers))
-    blocks = blocks_of(spans(client, files, job.settings), job.settings.blocksize)
-    entries, issuers = first_pass(client, blocks, job, faults)
-    rows, outcomes, _ = second_pass(client, blocks, job, faults)
-    return Done(entries, rows, issuers, len(blocks), faults.end(), outcomes)
-
-
-def remove(job: Job, *names: str):
-    for name in names:
-        shutil.rmtree(job.folder(name), ignore_errors=True)
+def passes(plan: Plan, client: 'Client', show: Callable[[str], None] = lambda line: None,
+           progress=None) -> Done:
+    """Makes the table that is planned, or what is missing of it. What was kept between the passes
+    is removed, unless `resume` can try something again."""
+    if plan.finished is not None:
+        return records.done_of(plan.finished)
+    amiss = plan.anchors.amiss(plan.job.settings.anchors)
+    if amiss:
+        show(amiss)
+    done = Run(plan, client, show, progress or Silent()).all()
+    if not done.unanswered:
+        jobs.remove(plan.job, WORK)
+    return done
 
 
 def run(files: List[str], out: str, settings: Settings, client: 'Client',
-        show: Callable[[str], None] = lambda line: None) -> Done:
-    """Makes the table of some files in the folder `out`, which is new or empty.
+        show: Callable[[str], None] = lambda line: None, resume: bool = False) -> Done:
+    """Makes the table of some files, or of all in some folders, in the folder `out`, which is new
+    or empty, or with `resume` holds a run that has ended early.
 
     `show` is given a line for each fault. OSError where a file can't be read, signatures.BadLine
-    of the vouchers, CannotWrite of the folder, program.Missing.
+    of the vouchers, anchors.BadAnchors, CannotWrite of the folder, program.Missing, jobs.Different
+    where a run that is gone on with was asked for something else, Lost.
     """
-    files = [*map(os.path.abspath, files)]
-    for file in (*files, settings.anchors):
-        with open(file, "rb"):
-            pass
-    job = job_of(out, settings)
-    try:
-        return passes(files, client, job, Faults(show))
-    except BaseException:
-        remove(job, ENTRIES, ISSUERS)
-        raise
-    finally:
-        remove(job, WORK)
+    with planned(files, out, settings, resume) as plan:
+        return passes(plan, client, show)

@@ -3,20 +3,13 @@
 docs/SCALE.md shows why the answers are those of one run over everything.
 """
 import re
-from typing import Dict, List, NamedTuple, Optional, Tuple
+from typing import Dict, List, NamedTuple, Tuple
 
 from .index import Index
-from .program import PATHS, WHY, Failed, Question, report
+from .program import PATHS, Failed, Question, report
 from .signatures import text
 
 LINE = re.compile(r"(\d+) (?:(none|list|other)|path ([\d ]+) anchor (\d+))")
-# Lines of a report on what stands in the way; those that say `linked`, or only a name, are left out.
-OBSTACLE = re.compile(r"(at|list) (\d+)(?: to (anchor )?(\d+))? "
-                      r"(not usable: .*|no issuer: .*|not linked: .*|not used: .*|no issuer here: .*|"
-                      r"leads to an anchor with at most \d+ below)")
-REVOKED = re.compile(r"revoked by list (\d+)$")
-# How many obstacles of an item stand in the table, at most.
-MOST_REASONS = 20
 PATH, NONE = "path", "none"
 
 
@@ -60,7 +53,7 @@ class Asked(NamedTuple):
     program: str
     anchors: str
     """The file of anchors."""
-    anchor_items: List[str]
+    anchor_items: Tuple[str, ...]
     """The digests of the anchors, by position."""
     words: List[str]
     """The words of a run after its files."""
@@ -90,29 +83,3 @@ def answers(shard: Shard, asked: Asked) -> Dict[str, Answer]:
         raise Failed("certpath paths: other items than the shard's")
     return {item: answer_of(line, position, shard, asked)
             for position, (item, line) in enumerate(zip(shard.items, lines))}
-
-
-def obstacle(line: str, shard: Shard, target: str, asked: Asked) -> Optional[str]:
-    """A line of `certpath why`, with digests in the place of positions."""
-    read = OBSTACLE.fullmatch(line)
-    if read is None:
-        return None
-
-    def item(position: str) -> str:
-        found = shard.items[int(position)]
-        return "target" if found == target else found
-
-    what, at, anchor, to, said = read.groups()
-    said = REVOKED.sub(lambda it: f"revoked by list {item(it[1])}", said)
-    way = f" to anchor {asked.anchor_items[int(to)]}" if anchor else f" to {item(to)}" if to else ""
-    return f"{what} {item(at)}{way} {said}"
-
-
-def reasons(index: Index, target: Target, asked: Asked) -> str:
-    """What stands in the way of a path from a target, by one run on what it may be linked to."""
-    shard = shard_of(index, [target])
-    at = shard.items.index(target.item)
-    lines = report(asked.program, WHY, asked.question(shard, "--target", str(at)))
-    found = [*filter(None, (obstacle(it, shard, target.item, asked) for it in lines))]
-    more = [f".. {len(found) - MOST_REASONS} further"] if len(found) > MOST_REASONS else []
-    return "; ".join(found[:MOST_REASONS] + more)

@@ -1,9 +1,11 @@
 """Which keys vouch for the items of a shard: as a voucher file says, or as OpenSSL verifies."""
 import re
-from typing import Dict, Iterator, List
+from typing import Callable, Dict, Iterator, List
 
 from .. import openssl
-from ..items import frame
+from ..items import Kind, frame
+from ..questions import holders_by_issuer
+from .files import digest
 from .index import Index
 
 LINE = re.compile(r"[0-9A-Fa-f]{64} [0-9A-Fa-f]{64}")
@@ -13,11 +15,13 @@ class BadLine(ValueError):
     """A line of a voucher file is neither empty nor two digests."""
 
 
-def lines_of(path: str) -> Iterator[str]:
-    """The lines of a voucher file that aren't empty; BadLine with the number of the first bad one."""
-    with open(path, encoding="ascii", errors="replace") as file:
+def lines_of(path: str, summed: Callable[[bytes], None] = lambda octets: None) -> Iterator[str]:
+    """The lines of a voucher file that aren't empty; BadLine with the number of the first bad one.
+    `summed` is given all octets."""
+    with open(path, "rb") as file:
         for number, line in enumerate(file, 1):
-            text = line.rstrip("\r\n")
+            summed(line)
+            text = line.decode("ascii", "replace").rstrip("\r\n")
             if LINE.fullmatch(text):
                 yield text
             elif text:
@@ -29,13 +33,19 @@ def given(index: Index, items: List[str]) -> Dict[str, List[str]]:
     return {it: index.keys_for(it) for it in items}
 
 
-def verified(bundle: bytes, anchors: bytes, limit: int, weak: bool, tries: int) -> Dict[str, List[str]]:
+def verified(bundle: bytes, anchors: bytes, limit: int, weak: bool,
+             tries: int) -> Dict[str, List[str]]:
     """The same of the keys that OpenSSL verifies the items' signatures by."""
-    found = openssl.vouch(frame(bundle, limit), frame(anchors, limit), weak, tries)
+    items, trusted, judge = frame(bundle, limit), frame(anchors, limit), openssl.Judge(tries=tries)
+    holders = {name: judge.holders([it.certificate(items, trusted) for it in found])
+               for name, found in holders_by_issuer(items, trusted).items()}
     keys: Dict[str, List[str]] = {}
-    for line in found.vouchers.text().splitlines():
-        key, item = line.split()
-        keys.setdefault(item, []).append(key)
+    for position, kind in enumerate(items.kinds()):
+        if kind is not Kind.OTHER:
+            item = items[position]
+            tried = judge.judged(item, holders[item.issuer]).tried
+            taken = [it.key for it in tried if it.why is None and (weak or not it.weaknesses)]
+            keys[digest(item.public_bytes())] = [*dict.fromkeys(map(digest, taken))]
     return keys
 
 

@@ -1,9 +1,10 @@
 """Tables: files of rows, as CSV or as Parquet."""
 import csv
 import os
-from typing import Iterable, List
+from typing import Iterable, Iterator, List, Tuple
 
 from .rows import Row
+from .writing import whole
 
 CSV, PARQUET = "csv", "parquet"
 # The name of a column that is no word of Python.
@@ -36,28 +37,35 @@ def write_parquet(path: str, rows: List[Row]):
     pyarrow.parquet.write_table(pyarrow.table(arrays, names=HEADINGS), path)
 
 
-def count_csv(path: str) -> int:
+def read_csv(path: str) -> Iterator[Tuple[str, ...]]:
     with open(path, encoding="utf-8", errors="surrogateescape", newline="") as file:
-        return sum(1 for _ in csv.reader(file)) - 1
+        rows = csv.reader(file)
+        next(rows)
+        yield from map(tuple, rows)
 
 
-def count_parquet(path: str) -> int:
+def read_parquet(path: str) -> Iterator[Tuple[str, ...]]:
     import pyarrow.parquet
-    return pyarrow.parquet.read_metadata(path).num_rows
+    for batch in pyarrow.parquet.ParquetFile(path).iter_batches():
+        yield from zip(*(it.to_pylist() for it in batch.columns))
 
 
 WRITERS = {CSV: write_csv, PARQUET: write_parquet}
-COUNTERS = {CSV: count_csv, PARQUET: count_parquet}
+READERS = {CSV: read_csv, PARQUET: read_parquet}
 
 
-def write(folder: str, number: int, rows: List[Row], form: str) -> int:
-    """Writes a part of a table, and counts the rows that are in the file then.
+def part(folder: str, number: int, form: str) -> str:
+    """The name of a part of a table."""
+    return os.path.join(folder, f"part-{number:06}.{form}")
 
-    The file gets its name when it is whole: who writes it again after a worker was lost replaces
-    it by an equal one.
-    """
-    path = os.path.join(folder, f"part-{number:06}.{form}")
-    begun = f"{path}.{os.getpid()}.begun"
-    WRITERS[form](begun, rows)
-    os.replace(begun, path)
-    return COUNTERS[form](path)
+
+def read(path: str, form: str) -> Iterator[Tuple[str, ...]]:
+    """The rows of a part, without the headings."""
+    return READERS[form](path)
+
+
+def write(path: str, rows: List[Row], form: str, work: str) -> int:
+    """Writes a part of a table, begun in the folder `work`, and counts the rows that are there."""
+    with whole(path, work) as begun:
+        WRITERS[form](begun, rows)
+    return sum(1 for _ in read(path, form))

@@ -1,0 +1,138 @@
+"""Where tasks run: processes of this machine, or a scheduler of Dask that is there already.
+
+Messages of Dask are pickles: whoever can send one to a scheduler or a worker runs code as its user.
+So processes of this machine talk by TLS, with a key that is made for the run and is in memory
+alone, and listen on the loopback. Nothing is served by HTTP.
+"""
+import logging
+import os
+import signal
+import tempfile
+from contextlib import contextmanager
+from typing import Callable, Iterator, NamedTuple, Optional
+
+import dask
+from dask.distributed import Client, Nanny, Scheduler, Security, SpecCluster, Worker
+from dask.distributed import TimeoutError as DaskTimeoutError
+
+from .probe import fingerprint
+
+LOOPBACK = "127.0.0.1"
+TLS = "tls://"
+# Any port of the loopback. Dask's servers listen for HTTP whatever they are asked; without routes
+# they answer each request with 404.
+NO_HTTP = {"distributed.scheduler.http.routes": [], "distributed.worker.http.routes": []}
+ANY_PORT = f"{LOOPBACK}:0"
+# How long a scheduler is waited for.
+SECONDS = 15
+# How long its first worker is.
+WAIT = 600
+
+
+class Unreachable(Exception):
+    """There is no scheduler, it has no worker, or one of them was lost and the run with it."""
+
+
+class Refused(ValueError):
+    """Words that would let others run code on the workers, or that lack a key."""
+
+
+class Keys(NamedTuple):
+    """The files by which this process and a scheduler know each other, in PEM."""
+    authority: Optional[str]
+    """The certificate that has signed those of all."""
+    certificate: Optional[str]
+    key: Optional[str]
+
+
+class OwnWorker(Worker):
+    """A worker of this machine. The interrupt that a terminal sends to all processes of a command
+    is for the one that was started by hand: that ends the others."""
+
+    def __init__(self, *words, **more):
+        signal.signal(signal.SIGINT, signal.SIG_IGN)
+        super().__init__(*words, **more)
+
+
+def cluster_of(workers: int, security: Security) -> SpecCluster:
+    """A scheduler in this process and so many processes that work, all on the loopback."""
+    shared = {"host": LOOPBACK, "protocol": TLS, "security": security, "dashboard": False,
+              "dashboard_address": ANY_PORT}
+    options = {**shared, "nthreads": 1, "memory_limit": 1.0 / workers, "worker_class": OwnWorker,
+               "silence_logs": logging.CRITICAL}
+    worker = {"cls": Nanny, "options": options}
+    scheduler = {"cls": Scheduler, "options": {**shared, "port": 0}}
+    return SpecCluster(workers={number: worker for number in range(workers)}, worker=worker,
+                       scheduler=scheduler, security=security, silence_logs=logging.CRITICAL)
+
+
+@contextmanager
+def own_processes(workers: int) -> Iterator[Client]:
+    """A client of new processes of this machine, one for each core where `workers` is 0."""
+    # (what a worker puts on its disk is read back as pickles, so nobody else may write there)
+    with tempfile.TemporaryDirectory(prefix="inventory-") as scratch:
+        with dask.config.set({**NO_HTTP, "temporary-directory": scratch}), \
+                cluster_of(workers or os.cpu_count(), Security.temporary()) as cluster, \
+                Client(cluster) as client:
+            yield client
+
+
+def keys_of(keys: Keys) -> Security:
+    """The keys of files; those that aren't given are those of Dask's own configuration."""
+    given = {"tls_ca_file": keys.authority, "tls_client_cert": keys.certificate,
+             "tls_client_key": keys.key}
+    security = Security(require_encryption=True, **{it: file for it, file in given.items() if file})
+    if not (security.tls_ca_file and security.tls_client_cert):
+        raise Refused("tls:// needs --tls-ca-file, --tls-cert and --tls-key")
+    for file in filter(None, keys):
+        with open(file, "rb"):
+            pass
+    return security
+
+
+def wait_for_workers(client: Client, address: str, show: Callable[[str], None]):
+    """Waits until a scheduler has a worker."""
+    if client.nthreads():
+        return
+    show(f"inventory: {address} has no worker; waiting for one, {WAIT // 60} min at most "
+         f"(dask worker {address} ..)")
+    try:
+        client.wait_for_workers(1, timeout=WAIT)
+    except (TimeoutError, DaskTimeoutError) as error:
+        raise Unreachable(f"{address} has no worker") from error
+
+
+def compare(client: Client):
+    """Unreachable where a worker hasn't the package and the library of this process."""
+    own = fingerprint()
+    for address, found in sorted(client.run(fingerprint, on_error="return").items()):
+        if isinstance(found, BaseException):
+            raise Unreachable(f"the worker at {address} hasn't the package certpath: {said(found)}")
+        if found != own:
+            raise Unreachable(f"the worker at {address} has another version of certpath")
+
+
+@contextmanager
+def of_scheduler(address: str, keys: Keys, insecure: bool,
+                 show: Callable[[str], None]) -> Iterator[Client]:
+    """A client of a scheduler that is there. Refused of an address without TLS, unless `insecure`;
+    Unreachable."""
+    has_tls = address.startswith(TLS)
+    if not has_tls and not insecure:
+        raise Refused(f"--scheduler {address}: whoever reaches it runs code on its workers: use "
+                      f"{TLS}.., or --insecure where nobody else can reach it")
+    security = keys_of(keys) if has_tls else None
+    try:
+        client = Client(address, security=security, timeout=SECONDS)
+    except (OSError, ValueError, TypeError) as error:
+        raise Unreachable(f"no scheduler at {address}: {said(error)}") from error
+    with client:
+        wait_for_workers(client, address, show)
+        compare(client)
+        yield client
+
+
+def said(error: BaseException) -> str:
+    """The first line of what an error says."""
+    lines = str(error).splitlines() or [""]
+    return f"{type(error).__name__}: {lines[0]}"

@@ -1,0 +1,75 @@
+"""The table as a database of SQLite, made of the parts of a finished one."""
+import os
+import sqlite3
+from contextlib import closing
+from typing import Iterator, List, Optional, Tuple
+
+from . import tables
+from .jobs import RECORD
+from .work import ENTRIES, ISSUERS
+from .writing import CannotWrite, told, whole
+
+NUMBERS = ("offset", "log_index", "length")
+INDEXED = ("sha256", "subject", "issuer", "serial", "key_sha256", "not_after", "outcome",
+           "log_index")
+
+
+def tested(path: str):
+    """CannotWrite where the file of a database is there, or its folder isn't."""
+    if os.path.exists(path):
+        raise CannotWrite(f"cannot write {path}: it is there already")
+    with told(path):
+        os.listdir(os.path.dirname(os.path.abspath(path)))
+
+
+def parts(folder: str) -> Iterator[Tuple[str, str]]:
+    """The parts of a table in their order, each with its format."""
+    for name in sorted(os.listdir(folder)):
+        yield os.path.join(folder, name), name.rpartition(".")[2]
+
+
+def value(heading: str, held) -> Optional[object]:
+    """What stands in a column; nothing where the row doesn't have it."""
+    if held in ("", None):
+        return None
+    if heading in NUMBERS:
+        return int(held)
+    return held.encode(errors="surrogateescape").decode(errors="backslashreplace")
+
+
+def rows(folder: str) -> Iterator[List]:
+    for path, form in parts(folder):
+        for row in tables.read(path, form):
+            yield [*map(value, tables.HEADINGS, row)]
+
+
+def fill(opened: sqlite3.Connection, out: str):
+    """Writes both tables, their indexes, and the record of the run."""
+    kinds = ((it, "INTEGER" if it in NUMBERS else "TEXT") for it in tables.HEADINGS)
+    columns = ", ".join(f'"{heading}" {kind}' for heading, kind in kinds)
+    places = ", ".join("?" * len(tables.HEADINGS))
+    for name in (ENTRIES, ISSUERS):
+        opened.execute(f"CREATE TABLE {name} ({columns})")
+        opened.executemany(f"INSERT INTO {name} VALUES ({places})", rows(os.path.join(out, name)))
+        for it in INDEXED:
+            opened.execute(f"CREATE INDEX {name}_{it} ON {name} ({it})")
+    opened.execute("CREATE TABLE run (record TEXT)")
+    with open(os.path.join(out, RECORD), encoding="utf-8") as file:
+        opened.execute("INSERT INTO run VALUES (?)", (file.read(),))
+
+
+def write(out: str, path: str):
+    """Writes the table in the folder `out`, which is finished, as a database: a new file, or in the
+    place of one that is there. CannotWrite where it can't be written."""
+    path = os.path.abspath(path)
+    with whole(path, os.path.dirname(path)) as begun:
+        try:
+            with closing(sqlite3.connect(begun, isolation_level=None)) as opened:
+                # (the file is thrown away where anything fails, so nothing is written twice)
+                opened.execute("PRAGMA journal_mode = OFF")
+                opened.execute("PRAGMA synchronous = OFF")
+                opened.execute("BEGIN")
+                fill(opened, out)
+                opened.execute("COMMIT")
+        except sqlite3.Error as error:
+            raise CannotWrite(f"cannot write {path}: {error}") from error

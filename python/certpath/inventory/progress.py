@@ -1,0 +1,118 @@
+"""What is shown while the passes run: how far they are, how fast, and which workers were lost."""
+import sys
+import threading
+import time
+from datetime import datetime, timedelta
+from typing import Callable, Set
+
+# On a terminal a line is shown again after so many seconds, elsewhere a line is written.
+OFTEN, SELDOM = 1.0, 60.0
+# So long the thread is waited for in the end, in seconds.
+PATIENCE = 5.0
+# Goes back to the begin of a line, and clears it.
+CLEAR = "\r\x1b[K"
+
+
+def length_of(seconds: float) -> str:
+    """A length of time, as 7 s, 12 min or 3 h 20 min."""
+    minutes = round(seconds / 60)
+    if minutes < 2:
+        return f"{round(seconds)} s"
+    return f"{minutes} min" if minutes < 120 else f"{minutes // 60} h {minutes % 60} min"
+
+
+class Pass:
+    """How far a pass is."""
+
+    def __init__(self, name: str, octets: int, clock: Callable[[], float]):
+        self.name, self.octets, self.clock = name, octets, clock
+        self.begun, self.done, self.entries = clock(), 0, 0
+
+    def step(self, octets: int, entries: int):
+        """A block of so many octets is done, with so many entries."""
+        self.done, self.entries = self.done + octets, self.entries + entries
+
+    def line(self, now: datetime) -> str:
+        took = max(self.clock() - self.begun, 0.001)
+        part = self.done / self.octets if self.octets else 1.0
+        pace = self.entries / took
+        said = f"{self.name}: {part:.0%}, {self.entries} entries, {pace:.0f} a second"
+        if not 0 < part < 1:
+            return said
+        left = took / part - took
+        end = now + timedelta(seconds=left)
+        return f"{said}, {length_of(left)} left, until {end:%H:%M}"
+
+
+class Silent:
+    """In the place of Progress: shows nothing."""
+
+    def begin(self, name: str, octets: int) -> Pass:
+        return Pass(name, octets, time.monotonic)
+
+
+class Progress:
+    """Shows a run's passes, in a thread of its own, as long as the context lasts.
+
+    `workers` gives the addresses of the workers that are there.
+    """
+
+    def __init__(self, workers: Callable[[], Set[str]], stream=sys.stderr, clock=time.monotonic):
+        self.workers, self.stream, self.clock = workers, stream, clock
+        self.is_terminal = stream.isatty()
+        self.every = OFTEN if self.is_terminal else SELDOM
+        self.now, self.known, self.last = None, set(), clock()
+        self.lock, self.ended = threading.RLock(), threading.Event()
+        self.thread = threading.Thread(target=self.watch, daemon=True)
+
+    def __enter__(self):
+        self.known = self.workers()
+        self.thread.start()
+        return self
+
+    def __exit__(self, *_):
+        self.ended.set()
+        self.thread.join(PATIENCE)
+        self.clear()
+
+    def begin(self, name: str, octets: int) -> Pass:
+        self.now = Pass(name, octets, self.clock)
+        return self.now
+
+    def clear(self):
+        if self.is_terminal:
+            self.stream.write(CLEAR)
+            self.stream.flush()
+
+    def show(self, line: str):
+        """A line of its own, above the one that is shown again and again."""
+        with self.lock:
+            self.clear()
+            self.stream.write(f"{line}\n")
+            self.stream.flush()
+
+    def look(self):
+        """Says which workers were lost since the last look, and how far the pass is."""
+        try:
+            there = self.workers()
+        except Exception:  # (a scheduler that is lost ends the run; here nothing is known of it)
+            return
+        lost = self.known - there
+        self.known = there
+        if lost:
+            first = ", ".join(sorted(lost)[:3])
+            self.show(f"inventory: {len(lost)} of the workers lost ({first}); {len(there)} there; "
+                      "what they did is done again")
+        if self.now is not None and self.clock() - self.last >= self.every:
+            self.last = self.clock()
+            self.tell(self.now.line(datetime.now()))
+
+    def tell(self, line: str):
+        with self.lock:
+            self.stream.write(f"{CLEAR}inventory: {line}" if self.is_terminal
+                              else f"inventory: {line}\n")
+            self.stream.flush()
+
+    def watch(self):
+        while not self.ended.wait(OFTEN):
+            self.look()

@@ -1,0 +1,401 @@
+"""Tries tasks and runs of certpath.inventory, which need no Dask: they are run at once.
+
+    cd python && python3 -m unittest
+"""
+import csv
+import errno
+import json
+import os
+import shutil
+import sqlite3
+import unittest
+from base64 import b64decode, b64encode
+from contextlib import closing
+from datetime import datetime
+from unittest import mock
+
+from certpath.inventory import (anchors, blocks, databases, files, index, jobs, program, records, rows,
+                                running, signatures, tables, trees, work, writing)
+from certpath.inventory.entries import Entry, Place
+from certpath.items import LIMIT
+
+from .test_inventory import CHAIN, HERE, LEAF, ROOT, ROOT_FILE, TOP, X509_LEAF, Room, answer, sample
+
+
+class Tasks(Room):
+    """The tasks of a block, one after the other, without processes."""
+
+    def job(self, **more):
+        given = work.Settings(os.path.join(TOP, "samples", "root.der"), datetime(2026, 12, 1),
+                              form=tables.CSV, **more)
+        out = os.path.join(self.folder, "table")
+        held = anchors.read(given.anchors, LIMIT)
+        job = work.Job(jobs.completed(given), out)
+        jobs.begin(job, out, {}, held)
+        index.create(job.index)
+        return job
+
+    def block(self, *names):
+        paths = [os.path.join(TOP, "samples", it) for it in names]
+        return blocks.Block(0, tuple(span for it in paths
+                                     for span in files.spans_of(it, 1 << 20, LIMIT).spans))
+
+    def written(self, job):
+        with open(os.path.join(job.out, "entries", "part-000000.csv"), encoding="utf-8") as file:
+            return [*csv.DictReader(file)]
+
+    def test_passes(self):
+        job, block = self.job(), self.block("bundle.der", "fullchain.pem")
+        survey = work.survey(block, job)
+        self.assertEqual((survey.entries, len(survey.names)), (5, 2))
+        self.assertEqual([it.place.offset for it in survey.faults], [0])
+        self.assertEqual(survey, work.survey(block, job))
+        index.add_names(job.index, survey.names)
+        found = work.candidates(block, job).candidates
+        self.assertEqual([it.read.row.offset for it in found], [884, 1741, 2554])
+        self.assertEqual(len([*index.add_issuers(job.index, found)]), 3)
+        part = work.finish(block, job)
+        self.assertEqual(part, (5, {"none": 1, "path": 2, "list": 1, "fault": 1}, "", ()))
+        rows_there = self.written(job)
+        self.assertEqual([it["path"] for it in rows_there][1:3], ["", ""])
+        self.assertIn("revoked by list", rows_there[0]["reasons"])
+        self.assertEqual(os.listdir(os.path.join(job.out, "entries")), ["part-000000.csv"])
+
+    def test_trouble(self):
+        job = self.job()
+        block = self.block("bundle.der")
+        work.survey(block, job)
+        bad = job._replace(settings=job.settings._replace(program="/bin/false"))
+        part = work.finish(block, bad)
+        self.assertEqual((part.rows, part.outcomes), (4, {"fault": 3, "list": 1}))
+        self.assertIn("its check doesn't say yes", part.trouble)
+        self.assertEqual(self.written(job)[0]["reasons"], part.trouble)
+        self.assertEqual(work.finish(block, job).trouble, "")
+
+    def test_lost(self):
+        job, block = self.job(), self.block("bundle.der", "root.der")
+        survey = work.lose(block, job, "no worker is left")
+        self.assertEqual((survey.entries, len(survey.faults)), (2, 2))
+        self.assertEqual(work.finish(block, job).rows, 2)
+        self.assertEqual(work.survey(block, job).entries, 5)
+
+    def test_folder_in_use(self):
+        self.job()
+        with self.assertRaisesRegex(writing.CannotWrite, "--resume goes on"):
+            self.job()
+
+    def test_parts(self):
+        """A part is begun in the folder of the work, and one that is cut leaves nothing."""
+        job = self.job()
+        path = tables.part(job.folder("entries"), 0, tables.CSV)
+        with self.assertRaises(ZeroDivisionError), writing.whole(path, job.work) as begun:
+            self.assertEqual(os.path.dirname(begun), job.work)
+            with open(begun, "w", encoding="ascii"):
+                raise ZeroDivisionError
+        self.assertEqual(os.listdir(job.folder("entries")), [])
+        self.assertFalse([it for it in os.listdir(job.work) if it.endswith(".begun")])
+
+    def test_full_disk(self):
+        job = self.job()
+        row = rows.read(Entry(HERE, "item", LEAF), LIMIT).row
+        full = OSError(errno.ENOSPC, os.strerror(errno.ENOSPC))
+        path = tables.part(job.folder("entries"), 0, tables.CSV)
+        with mock.patch.object(tables.csv, "writer", side_effect=full), \
+                self.assertRaisesRegex(writing.CannotWrite, "cannot write .*part-000000.csv: No space"):
+            tables.write(path, [row], tables.CSV, job.work)
+        with self.assertRaisesRegex(writing.CannotWrite, "cannot write .*: unable to open"):
+            index.add_names(os.path.join(self.folder, "none", "index"), ["a"])
+
+    def test_faults(self):
+        told = []
+        faults = running.Faults(told.append)
+        for number in range(7):
+            faults.add(work.Fault(Place("a", number), f"not base64 at octet {number}"))
+        self.assertEqual((faults.end(), len(told), told[-1]), (7, 6, ".. 2 further: not base64 at octet N"))
+
+
+class Held:
+    """What a task gave or raised, as a future of Dask shows it."""
+
+    def __init__(self, task, arguments, is_lost):
+        self.error = self.value = None
+        try:
+            if is_lost:
+                raise RuntimeError("no worker is left")
+            self.value = task(*arguments)
+        except Exception as error:  # as Dask does, whatever it is
+            self.error = error
+
+    def exception(self):
+        return self.error
+
+    def result(self):
+        return self.value
+
+
+class Here:
+    """In the place of a client of Dask: it runs tasks at once, and loses those of one name, of the
+    first block. `between` is called before the tasks of each name."""
+
+    def __init__(self, lost="", between=lambda name: None):
+        self.lost, self.between = lost, between
+
+    def map(self, task, *columns, pure):
+        assert not pure
+        self.between(task.__name__)
+        return [Held(task, arguments, task.__name__ == self.lost and number == 0)
+                for number, arguments in enumerate(zip(*columns))]
+
+
+class Stopped(BaseException):
+    """As a signal ends a run."""
+
+
+class Runs(Room):
+    FILES = ["bundle.der", "fullchain.pem", "leaf.der"]
+
+    def run_with(self, client, names=None, resume=False, **more):
+        self.told, self.out = [], os.path.join(self.folder, "table")
+        given = {"anchors": ROOT_FILE, "at": datetime(2026, 12, 1), "form": tables.CSV, "blocksize": 1}
+        named = names or [os.path.join(TOP, "samples", it) for it in self.FILES]
+        return running.run(named, self.out, work.Settings(**{**given, **more}), client,
+                           self.told.append, resume)
+
+    def rows(self):
+        found = []
+        for name in sorted(os.listdir(os.path.join(self.out, "entries"))):
+            with open(os.path.join(self.out, "entries", name), encoding="utf-8") as file:
+                found += csv.DictReader(file)
+        return found
+
+    def table(self):
+        """All octets of the table."""
+        found = {}
+        for folder in ("entries", "issuers"):
+            for name in os.listdir(os.path.join(self.out, folder)):
+                with open(os.path.join(self.out, folder, name), "rb") as file:
+                    found[folder, name] = file.read()
+        return found
+
+    def record(self):
+        return jobs.load(os.path.join(self.out, "run.json"))
+
+    def test_everything(self):
+        done = self.run_with(Here())
+        self.assertEqual(done[:6], (6, 6, 3, 6, 1, {"none": 2, "path": 2, "list": 1, "fault": 1}))
+        self.assertEqual(sorted(os.listdir(self.out)), ["entries", "issuers", "run.json"])
+        self.assertEqual([it["outcome"] or it["class"] for it in self.rows()],
+                         ["none", "path", "path", "list", "fault", "none"])
+        self.assertEqual([it.partition(": ")[2] for it in self.told], [files.CAUSES["fault"]])
+
+    def test_record(self):
+        done = self.run_with(Here(), vouchers=os.path.join(TOP, "samples", "vouchers.txt"))
+        record = self.record()
+        self.assertEqual([(it["file"], it["octets"], it["sha256"]) for it in record["inputs"]],
+                         [(os.path.realpath(os.path.join(TOP, "samples", it)), len(sample(it)), rows.digest(sample(it)))
+                          for it in self.FILES])
+        self.assertEqual(record["vouchers"]["sha256"], rows.digest(sample("vouchers.txt")))
+        self.assertEqual((record["anchors"]["sha256"], record["anchors"]["usable"]), (rows.digest(ROOT), 1))
+        self.assertEqual((record["status"], record["moment"]), (1, "2026-12-01T00:00:00"))
+        self.assertEqual(records.done_of(record), done)
+
+    def test_given_vouchers(self):
+        whole = self.run_with(Here(), blocksize=1 << 20, why=False,
+                              vouchers=os.path.join(TOP, "samples", "vouchers.txt"))
+        self.assertEqual(whole.outcomes, {"none": 2, "path": 2, "list": 1, "fault": 1})
+        self.assertEqual([it["reasons"] for it in self.rows()], [""] * 6)
+
+    def test_lost_in_the_first_pass(self):
+        done = self.run_with(Here("survey"))
+        self.assertEqual((done.entries, done.rows, done.faults), (6, 6, 2))
+        self.assertEqual(self.rows()[0]["cause"], "not read: RuntimeError: no worker is left")
+
+    def test_lost_issuers(self):
+        done = self.run_with(Here("candidates"))
+        self.assertEqual((done.rows, done.issuers, done.faults), (6, 3, 2))
+        self.assertTrue(any("its issuers are left out" in it for it in self.told))
+
+    def test_lost_in_the_second_pass(self):
+        done = self.run_with(Here("finish"))
+        self.assertEqual((done.entries, done.rows, done.outcomes["fault"]), (6, 6, 2))
+        self.assertIn("no worker is left", self.rows()[0]["reasons"])
+
+    def test_given_up_blocks_again(self):
+        self.run_with(Here())
+        whole = self.table()
+        for lost in ("survey", "candidates", "finish"):
+            with self.subTest(lost=lost):
+                shutil.rmtree(self.out)
+                self.assertEqual(self.run_with(Here(lost)).unanswered, 1)
+                done = self.run_with(Here(), resume=True)
+                self.assertEqual((done.unanswered, self.table()), (0, whole))
+                self.assertFalse(os.path.exists(os.path.join(self.out, "work")))
+
+    def stop_at(self, stop):
+        """A run that is stopped before the tasks of a name, or after some of them."""
+        def between(name):
+            if name == stop:
+                raise Stopped
+        with self.assertRaises(Stopped):
+            self.run_with(Here(between=between))
+
+    def test_stopped_and_resumed(self):
+        self.run_with(Here())
+        whole = self.table()
+        for stop in ("cut", "survey", "candidates", "finish"):
+            with self.subTest(stop=stop):
+                shutil.rmtree(self.out)
+                self.stop_at(stop)
+                self.assertFalse(os.path.exists(os.path.join(self.out, "run.json")))
+                self.assertEqual(self.run_with(Here(), resume=True).rows, 6)
+                self.assertEqual(self.table(), whole)
+        self.assertEqual(self.run_with(None, resume=True).rows, 6)
+
+    def test_done_blocks_are_not_done_again(self):
+        self.stop_at("finish")
+        asked = []
+        with mock.patch.object(work, "read_span", side_effect=AssertionError):
+            self.run_with(Here(between=asked.append), resume=True)
+        self.assertEqual(asked, ["survey", "candidates", "finish"])
+
+    def test_another_run_is_not_resumed(self):
+        self.stop_at("survey")
+        for more, differing in (({"tries": 3}, "tries"), ({"at": datetime(2026, 12, 2)}, "at"),
+                                ({"why": False, "weak": True}, "weak, why"),
+                                ({"names": [ROOT_FILE]}, "files"),
+                                ({"anchors": os.path.join(TOP, "samples", "leaf.der")}, "anchors"),
+                                ({"vouchers": ROOT_FILE}, "vouchers")):
+            with self.assertRaisesRegex(running.Different, f"other {differing}$"):
+                self.run_with(Here(), resume=True, **more)
+        self.assertEqual(self.run_with(Here(), resume=True, at=None).rows, 6)
+
+    def test_killed_before_anything_was_noted(self):
+        os.makedirs(os.path.join(self.folder, "table", "work"))
+        with self.assertRaises(writing.CannotWrite):
+            self.run_with(Here())
+        self.assertEqual(self.run_with(Here(), resume=True).rows, 6)
+
+    def test_no_record_of_what_is_gone_on_with(self):
+        self.run_with(Here("finish"))
+        def between(name):
+            self.assertFalse(os.path.exists(os.path.join(self.out, "run.json")))
+        self.run_with(Here(between=between), resume=True)
+        self.assertEqual(self.record()["done"]["unanswered"], 0)
+
+    def test_two_runs_at_once(self):
+        def between(name):
+            if name == "survey":
+                with self.assertRaisesRegex(writing.CannotWrite, "another run works there"):
+                    self.run_with(Here(), resume=True)
+        self.run_with(Here(between=between))
+
+    def test_changed_files(self):
+        """A file that is written again between two passes gives rows that say so, and no answers."""
+        good = os.path.join(TOP, "samples", "bundle.der")
+        for pass_name, octets, outcomes in (
+                ("candidates", ROOT + LEAF, {"fault": 2, "none": 1, "path": 2, "list": 1}),
+                ("finish", LEAF, {"fault": 2, "none": 1, "path": 2, "list": 1}),
+                ("finish", LEAF + LEAF, {"fault": 2, "none": 1, "path": 2, "list": 1}),
+                ("survey", ROOT, {"fault": 1, "none": 1, "path": 2, "list": 1})):
+            with self.subTest(pass_name=pass_name, octets=len(octets)):
+                path = self.put("changing.der", LEAF + ROOT)
+                def between(name):
+                    if name == pass_name:
+                        self.put("changing.der", octets)
+                done = self.run_with(Here(between=between), [path, good], blocksize=1 << 20)
+                self.assertEqual(done.outcomes, outcomes)
+                self.assertEqual(done.changed, 2 if pass_name == "candidates" else 1)
+                self.assertEqual(self.record()["status"], 8)
+                self.assertTrue(any("the file changed while it was read" in it for it in self.told))
+                said = [it["reasons"] or it["cause"] for it in self.rows() if "changing" in it["file"]]
+                self.assertEqual({*said}, {"the file changed while it was read"})
+                shutil.rmtree(self.out)
+
+    def test_changed_chains(self):
+        """What an earlier file of the block has in its chains is known, though it changed."""
+        text = json.dumps({"entries": [answer(X509_LEAF, CHAIN)]}).encode()
+        paths = [self.put(it, text) for it in ("a.json", "b.json")]
+        def between(name):
+            if name == "finish":
+                self.put("a.json", b"{}")
+        done = self.run_with(Here(between=between), paths, blocksize=1 << 20)
+        self.assertEqual(done.outcomes, {"fault": 1, "path": 1})
+
+    def test_gaps(self):
+        text = json.dumps({"entries": [answer(X509_LEAF, CHAIN)] * 2}).encode()
+        paths = [self.put(f"get-entries?start={it}&end={it + 1}", text) for it in (0, 4, 5)]
+        done = self.run_with(Here(), paths)
+        self.assertEqual((done.missing, done.twice), (((2, 3),), ((5, 5),)))
+        self.assertEqual([it["log_index"] for it in self.rows()], ["0", "1", "4", "5", "5", "6"])
+        self.assertEqual(self.told, ["entries 2 to 3 of the log: in no file",
+                                     "entries 5 of the log: in several files"])
+        self.assertEqual(self.record()["status"], 1)
+
+    def test_refusals(self):
+        for more, error in (({"anchors": os.path.join(self.folder, "none")}, OSError),
+                            ({"anchors": os.path.join(TOP, "samples", "fullchain.pem")}, anchors.BadAnchors),
+                            ({"names": [os.path.join(self.folder, "none")]}, OSError),
+                            ({"vouchers": ROOT_FILE}, signatures.BadLine),
+                            ({"vouchers": os.path.join(self.folder, "none")}, FileNotFoundError),
+                            ({"program": self.folder}, program.Missing)):
+            with self.subTest(more=more), self.assertRaises(error):
+                self.run_with(Here(), **more)
+            self.assertFalse(os.path.isdir(self.out) and os.listdir(self.out))
+
+    def test_tree_head(self):
+        """Entries in two answers and their tree; then with a hole, another root, and a smaller tree."""
+        entries = [answer(X509_LEAF[:-2] + b"\0\2" + number.to_bytes(2, "big"), CHAIN) for number in range(5)]
+        leaves = [trees.leaf_hash(b64decode(it["leaf_input"])) for it in entries]
+        for spoilt, size, root, expected in (
+                (None, 5, leaves, ""), (None, 3, leaves[:3], ""), (None, 0, [], ""),
+                (None, 4, leaves[1:], "the tree of the entries has another root"),
+                (1, 5, leaves, "4 of its 5 entries were read, by their numbers in the log"),
+                (None, 6, leaves + leaves[:1], "5 of its 6 entries were read, by their numbers in the log")):
+            given = [{} if number == spoilt else it for number, it in enumerate(entries)]
+            names = [self.put(f"log?start={begin}&end={begin + len(part) - 1}",
+                              json.dumps({"entries": part}).encode())
+                     for begin, part in ((2, given[2:]), (0, given[:2]))]
+            hashed = trees.root_of(trees.of_leaves(0, root, len(root)), len(root))
+            head = self.put("sth.json", json.dumps({"tree_size": size, "sha256_root_hash": b64encode(
+                bytes.fromhex(hashed)).decode()}).encode())
+            done = self.run_with(Here(), names, tree_head=head)
+            self.assertEqual((done.tree, self.record()["status"]), (expected, 1 if expected or spoilt else 0))
+            shutil.rmtree(self.out)
+
+    def test_no_tree_head(self):
+        for octets in (b"", b"[]", b'{"tree_size": 1}', b'{"tree_size": 1, "sha256_root_hash": "AAAA"}',
+                       b'{"tree_size": true, "sha256_root_hash": "' + b64encode(bytes(32)) + b'"}'):
+            with self.assertRaises(trees.BadTreeHead):
+                self.run_with(Here(), tree_head=self.put("sth.json", octets))
+
+    def test_database(self):
+        self.run_with(Here(), why=False)
+        path = os.path.join(self.folder, "table.sqlite")
+        for _ in range(2):
+            databases.write(self.out, path)
+            with closing(sqlite3.connect(path)) as opened:
+                found = opened.execute('SELECT "offset", class, outcome, log_index FROM entries '
+                                       'ORDER BY rowid').fetchall()
+                issuers, = opened.execute("SELECT count(*) FROM issuers").fetchone()
+                record, = opened.execute("SELECT record FROM run").fetchone()
+                plan = opened.execute("EXPLAIN QUERY PLAN SELECT * FROM entries WHERE sha256 = ''")
+                self.assertIn("USING INDEX", plan.fetchone()[3])
+            self.assertEqual(found, [(int(it["offset"]), it["class"], it["outcome"] or None, None)
+                                     for it in self.rows()])
+            self.assertEqual((issuers, json.loads(record)), (3, self.record()))
+        with self.assertRaisesRegex(writing.CannotWrite, "there already"):
+            databases.tested(path)
+        for bad in (os.path.join(self.folder, "none", "a"), self.folder):
+            with self.assertRaises(writing.CannotWrite):
+                databases.write(self.out, bad)
+        self.assertEqual(databases.value("file", "a\udcff"), "a\\xff")
+        self.assertFalse([it for it in os.listdir(self.folder) if it.endswith(".begun")])
+
+    def test_anchors_that_change(self):
+        path = self.put("anchors.der", ROOT)
+        done = self.run_with(Here(between=lambda name: self.put("anchors.der", LEAF)), anchors=path)
+        self.assertEqual(done.outcomes["path"], 2)
+
+
+if __name__ == "__main__":
+    unittest.main()

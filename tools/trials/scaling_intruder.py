@@ -1,0 +1,104 @@
+"""Tries that another user of the machine can't talk to the processes of `certpath.inventory`, and
+that these listen on the loopback alone. Part of `scaling.py`; needs root, to become `nobody`."""
+import glob
+import os
+import subprocess
+import time
+
+LOOPBACK = {"0100007F", "00000000000000000000000001000000", "0000000000000000FFFF00000100007F"}
+# Of a line of /proc/net/tcp: the state of a socket that listens, and which words have what.
+LISTENS, LOCAL, STATE, INODE = "0A", 1, 3, 9
+INTRUDER = "nobody"
+SECONDS, SHORT = 60, 0.1
+# What a stranger tries at each port: messages of Dask, which carry code, with and without TLS of a
+# key of his own, and requests by HTTP. Whatever is answered is printed.
+TRIES = """
+import asyncio, http.client, os, sys
+from distributed.core import connect
+from distributed.protocol import to_serialize
+from distributed.protocol.pickle import dumps
+from distributed.security import Security
+
+PAGES = "/info/main/workers.html", "/json/counts.json", "/metrics", "/health", "/status", "/"
+
+async def ask(address, **words):
+    # (who may connect at all may send pickles)
+    comm = await asyncio.wait_for(connect(address, timeout=3, **words), 4)
+    for operation in ("run", "run_function"):
+        await comm.write({"op": operation, "function": dumps(os.getuid), "args": dumps(()),
+                          "kwargs": dumps({}), "wait": True, "reply": True, "close": False})
+        print(address, operation, await asyncio.wait_for(comm.read(), 4), flush=True)
+
+for port in sys.argv[1:]:
+    given = Security.temporary().get_connection_args("client")
+    for address, words in ((f"tcp://127.0.0.1:{port}", {}), (f"tls://127.0.0.1:{port}", given)):
+        try:
+            asyncio.run(ask(address, **words))
+        except Exception as error:
+            print("refused", address, type(error).__name__, file=sys.stderr)
+    for page in PAGES:
+        try:
+            asked = http.client.HTTPConnection("127.0.0.1", int(port), timeout=3)
+            asked.request("GET", page)
+            if asked.getresponse().status != 404:
+                print("http", port, page, flush=True)
+        except Exception as error:
+            print("refused", port, type(error).__name__, file=sys.stderr)
+print("tried", len(sys.argv) - 1)
+"""
+
+
+def processes(pid):
+    """A process and all below it."""
+    found = [pid]
+    for path in glob.glob(f"/proc/{pid}/task/*/children"):
+        with open(path, encoding="ascii") as file:
+            for child in map(int, file.read().split()):
+                found += processes(child)
+    return found
+
+
+def sockets(pid):
+    """The numbers of the sockets that a process has."""
+    links = (os.readlink(it) for it in glob.glob(f"/proc/{pid}/fd/*") if os.path.islink(it))
+    return {it[8:-1] for it in links if it.startswith("socket:[")}
+
+
+def listening(pid):
+    """The addresses and ports at which a process and those below it listen."""
+    own = set().union(*map(sockets, processes(pid)))
+    found = []
+    for name in ("tcp", "tcp6"):
+        with open(f"/proc/net/{name}", encoding="ascii") as file:
+            rows = map(str.split, file)
+            found += [row[LOCAL] for row in rows if row[STATE] == LISTENS and row[INODE] in own]
+    return [(address, int(port, 16)) for address, port in (it.split(":") for it in found)]
+
+
+def settled(pid):
+    """The same, once it doesn't change any more."""
+    until, found = time.monotonic() + SECONDS, []
+    while time.monotonic() < until:
+        time.sleep(20 * SHORT)
+        now = listening(pid)
+        if now and now == found:
+            break
+        found = now
+    return found
+
+
+def trial(count, interpreter, run):
+    """A run that waits, once its processes are there."""
+    found = settled(run.process.pid)
+    count.tell(len(found) > 3, f"too few ports: {found}")
+    count.tell(all(address in LOOPBACK for address, _ in found), f"not on the loopback: {found}")
+    if os.getuid() != 0:
+        print("scaling: another user isn't tried, since that needs root")
+        return
+    ports = sorted({str(port) for _, port in found})
+    ran = subprocess.run([interpreter, "-c", TRIES, *ports], cwd="/", user=INTRUDER, group="nogroup",
+                         extra_groups=[], env={"PATH": os.environ["PATH"], "HOME": "/"},
+                         stdin=subprocess.DEVNULL, stdout=subprocess.PIPE, stderr=subprocess.PIPE,
+                         text=True, check=False)
+    count.tell(ran.stdout == f"tried {len(ports)}\n",
+               f"another user is answered: {ran.stdout}{ran.stderr[-2000:]}")
