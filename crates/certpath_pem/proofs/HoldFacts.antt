@@ -1,12 +1,12 @@
 -- Lines in which the words of a boundary stand, and lines without a hyphen.
-use Rattle.std.proofs.Common.{◌≡◌, ◌∙◌, sym, ap, refl, ℕ, ◌==◌, Bool, true, false, List, [], ◌∷◌, ◌++◌, length, take, drop, codes, Option, Some, None, inl, inr, ◌⊎◌, ◌↔◌}
+use Rattle.std.proofs.Common.{◌≡◌, ◌∙◌, sym, ap, refl, ℕ, ◌==◌, Bool, true, false, List, [], ◌∷◌, ◌++◌, length, take, drop, codes, Option, Some, None, inl, inr, ◌⊎◌}
 use Rattle.std.specs.Prelude.{◌||◌, if◌then◌else◌, bytes_eq, option_and_then}
 use Rattle.std.specs.List.{list_any}
 use Rattle.std.proofs.lemmas.List.{take-append-drop}
 use Rattle.std.proofs.Math.Seq.{take-append_seam, take-nil}
 use Rattle.std.proofs.lemmas.Slice.Eq.{bytes_eq-Decides}
 use Rattle.certpath_pem.specs.Lines.{is_white, without_white_front, without_white_back, put_unless_white, trimmed}
-use Rattle.certpath_pem.specs.Labels.{Boundary, text, begin, end, bad, dashes, begins_with, holds, holds_boundary, begin_mark, end_mark, begin_words, end_words, before_words, behind_words, if_label, label_of, boundary_by, boundary_of}
+use Rattle.certpath_pem.specs.Labels.{text, dashes, begins_with, holds, holds_boundary, begin_mark, end_mark, begin_words, end_words, before_words, if_label, label_of, boundary_by, boundary_of}
 use Rattle.certpath_pem.specs.Laws.{IsBoundaryLine, IsWithin}
 use Rattle.certpath_pem.proofs.LabelFacts.{tells, label_says}
 

@@ -1,12 +1,11 @@
 -- What is written is read back.
-use Rattle.std.proofs.Common.{◌≡◌, ◌≢◌, ◌∙◌, sym, ap, subst, refl, ℕ, zero, suc, ◌+◌, ◌*◌, ◌/◌, ◌%◌, ◌==◌, ◌<◌, Bool, true, false, List, [], ◌∷◌, ◌++◌, length, slice_index, replicate, codes, arith, append_assoc, Option, Some, None, Ok, Result, inl, inr}
-use Rattle.std.specs.Prelude.{◌&&◌, ◌||◌, nat_le, not, if◌then◌else◌, option_and_then}
-use Rattle.std.specs.List.{concat, filter, list_any, AllByRecursion}
+use Rattle.std.proofs.Common.{◌≡◌, ◌≢◌, ◌∙◌, sym, ap, refl, ℕ, zero, suc, ◌+◌, ◌*◌, ◌/◌, ◌%◌, ◌==◌, ◌<◌, Bool, true, false, List, [], ◌∷◌, ◌++◌, length, slice_index, replicate, codes, arith, append_assoc, Option, Some, None, Ok, Result, inl, inr}
+use Rattle.std.specs.Prelude.{◌&&◌, nat_le, not, if◌then◌else◌, option_and_then}
+use Rattle.std.specs.List.{concat, filter, AllByRecursion}
 use Rattle.std.proofs.lemmas.List.{append-nil}
 use Rattle.std.proofs.lemmas.Bool.Decides.{eqb_tells}
 use Rattle.std.proofs.lemmas.Bool.{and_parts}
 use Rattle.std.proofs.lemmas.Slice.Eq.{bytes_eq-Decides}
-use Rattle.base64.specs.Tables.{all_below}
 use Rattle.base64.specs.Rfc4648.{encode_symbols, padding_len}
 use Rattle.base64.specs.declared.decode.DecodeError.{DecodeError}
 use Rattle.base64.specs.Engines.{standard}
@@ -15,8 +14,8 @@ use Rattle.base64.proofs.Tables.{all_below_at}
 use Rattle.base64.proofs.EngineFacts.{decode_of-encode_of, encode_of-nil}
 use Rattle.certpath_pem.specs.Lines.{is_white, put_before, lines_of}
 use Rattle.certpath_pem.specs.Labels.{Boundary, text, begin, end, is_label_char, is_joint, is_label_rest, is_label, dashes, begin_words, end_words, before_words, behind_words, if_label, label_of, boundary_by, boundary_of, holds_boundary}
-use Rattle.certpath_pem.specs.Blocks.{block, stray_end, octets, headers, is_text, ends_block, body_of, is_ended, entry_by, opened_by, entries_from, entries_of, is_symbol, is_blank, has_colon, has_headers, symbols_of, by_symbols, by_decoding, content_of}
-use Rattle.certpath_pem.specs.Writing.{wrapped_from, wrapped, boundary_line, pem_of}
+use Rattle.certpath_pem.specs.Blocks.{block, stray_end, octets, headers, is_text, ends_block, body_of, is_ended, entry_by, opened_by, entries_from, is_symbol, is_blank, has_colon, has_headers, symbols_of, by_symbols, by_decoding, content_of}
+use Rattle.certpath_pem.specs.Writing.{wrapped_from, wrapped, boundary_line}
 use Rattle.certpath_pem.specs.Laws.{IsBoundaryLine, ReadsBack}
 use Rattle.certpath_pem.proofs.LineFacts.{IsPlain, before_feed}
 use Rattle.certpath_pem.proofs.LabelFacts.{tells, core_trimmed, label_there}

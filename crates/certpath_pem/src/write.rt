@@ -46,7 +46,7 @@ fn push_boundary(text: &mut Vec<u8>, words: &[u8], label: &[u8]) -> Result<(), A
 }
 
 /// Octets as one block of PEM: a BEGIN line, base64 in lines of 64, an END line, each ended by an LF (RFC 7468, 2 and
-/// 3). `is_label` tells whether octets may be a label.
+/// 3). `is_label` says whether octets may be a label.
 pub fn write_pem(alloc: Global, label: &[u8], octets: &[u8]) -> Result<Vec<u8>, AllocError>
     requires { is_label label.now ≡ true }
     ensures { IfOk result (λ text. text.items ≡ pem_of label.now octets.now) }

@@ -1,4 +1,4 @@
-use Rattle.std.proofs.Common.{◌+◌, ◌≤◌, ap, length, arith}
+use Rattle.std.proofs.Common.{ap, length, arith}
 use Rattle.certpath_pem.proofs.StepFacts.{begun_entries}
 use Rattle.certpath_pem.proofs.blocks.begin_entry.Goals as goal
 

@@ -1,7 +1,7 @@
 use Rattle.std.proofs.Common.{◌≡◌, ◌≢◌, ◌∙◌, sym, ap, refl, Ok, Err, Result, []}
 use Rattle.base64.specs.Engines.{standard}
 use Rattle.base64.proofs.EngineFacts.{encode_of-nil}
-use Rattle.certpath_pem.specs.Blocks.{empty, by_symbols, by_decoding}
+use Rattle.certpath_pem.specs.Blocks.{by_symbols, by_decoding}
 use Rattle.certpath_pem.proofs.ContentFacts.{by_symbols_some, some_symbols, no_symbols}
 use Rattle.certpath_pem.proofs.content.decoded.Goals as goal
 
