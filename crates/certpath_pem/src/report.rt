@@ -1,0 +1,21 @@
+//! The report of a text as a whole.
+
+ghost use Rattle.std.specs.Prelude.{◌≡◌, IfOk, map};
+ghost use Rattle.certpath_pem.specs.Blocks.{entries_of};
+ghost use Rattle.certpath_pem.specs.Told.{entry_told};
+
+use crate::cursor::{Cursor, Entry};
+use std::alloc::{AllocError, Global};
+
+/// All entries of a text, in order. An entry takes 56 octets, and may stand for 10 octets of text: where memory is
+/// short, ask a `Cursor` for one after another.
+pub fn read(alloc: Global, text: &[u8]) -> Result<Vec<Entry<'_>>, AllocError>
+    ensures { IfOk result (λ entries. map entry_told entries.items ≡ entries_of text.now) }
+{
+    let mut entries = Vec::new(alloc);
+    let mut cursor = Cursor::new(text);
+    while let Some(entry) = cursor.next_entry() {
+        entries.push(entry)?;
+    }
+    Ok(entries)
+}
