@@ -2,12 +2,15 @@
 that these listen on the loopback alone. Part of `scaling.py`; needs root, to become `nobody`."""
 import glob
 import os
+import re
+import shutil
 import subprocess
 import time
 
-LOOPBACK = {"0100007F", "00000000000000000000000001000000", "0000000000000000FFFF00000100007F"}
-# Of a line of /proc/net/tcp: the state of a socket that listens, and which words have what.
-LISTENS, LOCAL, STATE, INODE = "0A", 1, 3, 9
+LOOPBACK = {"127.0.0.1", "[::1]", "[::ffff:127.0.0.1]"}
+# All sockets that listen for TCP, with the processes that have them (Debian's iproute2), and which
+# word of a line has the address.
+SOCKETS, LOCAL = ("ss", "-H", "-t", "-l", "-n", "-p"), 3
 INTRUDER = "nobody"
 SECONDS, SHORT = 60, 0.1
 # What a stranger tries at each port: messages of Dask, which carry code, with and without TLS of a
@@ -58,21 +61,16 @@ def processes(pid):
     return found
 
 
-def sockets(pid):
-    """The numbers of the sockets that a process has."""
-    links = (os.readlink(it) for it in glob.glob(f"/proc/{pid}/fd/*") if os.path.islink(it))
-    return {it[8:-1] for it in links if it.startswith("socket:[")}
-
-
 def listening(pid):
     """The addresses and ports at which a process and those below it listen."""
-    own = set().union(*map(sockets, processes(pid)))
-    found = []
-    for name in ("tcp", "tcp6"):
-        with open(f"/proc/net/{name}", encoding="ascii") as file:
-            rows = map(str.split, file)
-            found += [row[LOCAL] for row in rows if row[STATE] == LISTENS and row[INODE] in own]
-    return [(address, int(port, 16)) for address, port in (it.split(":") for it in found)]
+    own, found = set(processes(pid)), []
+    ran = subprocess.run(SOCKETS, stdin=subprocess.DEVNULL, stdout=subprocess.PIPE, text=True,
+                         check=True)
+    for line in ran.stdout.splitlines():
+        if own & set(map(int, re.findall(r"\bpid=(\d+)", line))):
+            address, _, port = line.split()[LOCAL].rpartition(":")
+            found.append((address, int(port)))
+    return sorted(found)
 
 
 def settled(pid):
@@ -89,6 +87,9 @@ def settled(pid):
 
 def trial(count, interpreter, run):
     """A run that waits, once its processes are there."""
+    if not shutil.which(SOCKETS[0]):
+        print(f"scaling: ports aren't looked at, since there is no {SOCKETS[0]} (iproute2)")
+        return
     found = settled(run.process.pid)
     count.tell(len(found) > 3, f"too few ports: {found}")
     count.tell(all(address in LOOPBACK for address, _ in found), f"not on the loopback: {found}")
