@@ -20,7 +20,7 @@ from trials.messages_rows import ABSENT, ELSEWHERE, ROWS
 from trials.vouching_pki import Workshop
 from trials.vouching_trials import Trials
 
-RUNS, SECONDS = 3, 120
+RUNS, SECONDS = 3, 600
 SOURCES = ("bundle", "vouch", "verify", "tools/pki/*.py", "tools/verify/*.py")
 # Patterns of what `certpath why` prints, and no messages.
 PATTERNS = "tools/verify/report.py"
