@@ -151,7 +151,8 @@ print(most() - before)
 
 class Memory(Chain):
     def test_room_of_the_system(self):
-        with mock.patch("certpath.paths.LARGE", 1):
+        # (the package's `paths` is a function, and its module of that name stands beside it)
+        with mock.patch.object(sys.modules["certpath.paths"], "LARGE", 1):
             self.assertEqual(certpath.find(*self.given, 0, AT), self.answer)
             with mock.patch("mmap.mmap", side_effect=OSError(12, "no memory")):
                 with self.assertRaisesRegex(certpath.OutOfMemory, "the system gave no 384 octets"):

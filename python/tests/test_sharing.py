@@ -17,7 +17,7 @@ from certpath.fixed import kept
 from tests.common import Chain, sample
 
 # How long a process may take; a worker that died would be waited for without an end.
-MOST_SECONDS = 120
+MOST_SECONDS = 600
 
 
 def answers():
@@ -215,7 +215,7 @@ class Threads(unittest.TestCase):
         begun.wait(MOST_SECONDS)
         other = threading.Thread(target=lambda: Slow(False).value)
         other.start()
-        other.join(10)
+        other.join(60)
         is_waiting = other.is_alive()
         may_end.set()
         one.join()
