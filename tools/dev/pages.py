@@ -159,7 +159,7 @@ INDEX_HEAD = """# From a rule to its code, proofs and rows
 For who wants to see a rule in the code, or what a changed definition touches: each definition page
 that a public contract depends on. `python3 tools/dev/pages.py` makes the page of the sources.
 A line has what the page defines, the first sections that it cites, the sources whose contracts
-name it, and the lemmas that do; paths are below the crate's `src/` and `proofs/`. Each
+name it, and the first lemma that does; paths are below the crate's `src/` and `proofs/`. Each
 crate's line *run by* names the rows and tests that run that code. [RULES.md](RULES.md) has the
 rules in words, [TRUST.md](TRUST.md) which pages a call depends on.
 
@@ -172,7 +172,7 @@ def rule_line(crate, page):
     users = [it.removeprefix(f"crates/{crate}/src/") for it in sources(crate, "src") if re.search(module, text(it))]
     proofs = [it.removeprefix(f"crates/{crate}/proofs/").removesuffix(".antt") for it in sources(crate, "proofs") if re.search(module, text(it))]
     # lemmas are beside each other, what is proved of one function is in its folder
-    proofs = sorted(it for it in proofs if "/" not in it) or sorted(proofs)[:1]
+    proofs = (sorted(it for it in proofs if "/" not in it) or sorted(proofs))[:1]
     cited = sections(re.sub(r"\s*\n--\s*", " ", text(path)))
     cited = f" ({'; '.join(cited[:MOST_NAMED])}{'; ..' if len(cited) > MOST_NAMED else ''})" if cited else ""
     parts = [f"{what} {named(names)}" for what, names in (("Code", users), ("proofs", proofs)) if names]
