@@ -1,6 +1,6 @@
 #!/usr/bin/env python3
-"""Makes the tables of docs/CRATES.md that say where an extension, a type and a rule is, from the sources; and of each
-crate's README.md the lines that say what it stands on and what runs it.
+"""Makes of the sources the lists of docs/CRATES.md that say where an extension and a type is, docs/INDEX.md, which leads from a
+rule to its code and proofs, and of each crate's README.md the lines that say what it stands on and what runs it.
 
     python3 tools/dev/pages.py               writes them into the pages; makes a README.md where a crate has none
     python3 tools/dev/pages.py above NAME..  prints the crates that stand on the named ones, which a change of these proves again
@@ -17,9 +17,9 @@ sys.path.insert(0, os.path.dirname(os.path.dirname(os.path.abspath(__file__))))
 from dev import believe
 from program import repo
 
-PAGE = "docs/CRATES.md"
-# How many files a cell of a table names.
-MOST_NAMED = 3
+PAGE, INDEX = "docs/CRATES.md", "docs/INDEX.md"
+# How many files, and how many sections, a line names.
+MOST_NAMED = 2
 SECTION = re.compile(r"(RFC \d+), ((?:appendix )?[A-Z]?[\d.]*\d)|(X\.\d+), (\d[\d.]*\d|\d+)")
 DECLARED = re.compile(r"(?m)^pub (struct|enum|trait|type) (\w+)")
 # What runs code, and holds none that others build on.
@@ -117,8 +117,8 @@ def types():
         if crate.endswith(TOPS) or crate.startswith(EXAMPLES):
             continue
         for path in sources(crate, "src"):
-            rows += [[code(name), kind, code(path.removeprefix("crates/"))] for kind, name in DECLARED.findall(text(path))]
-    return table(["name", "is a", "in"], sorted(rows, key=lambda it: (it[0].lower(), it[2])))
+            rows += [(name, kind, path.removeprefix("crates/")) for kind, name in DECLARED.findall(text(path))]
+    return "".join(f"- `{name}`, {kind}: `{path}`\n" for name, kind, path in sorted(rows, key=lambda it: (it[0].lower(), it[2])))
 
 
 # ---- rules
@@ -136,7 +136,7 @@ def believed():
             yield crate, pages
 
 
-def what(page):
+def what_of(page):
     """The first sentence of a definition page, without the sections that it ends with."""
     comment = re.match(r"(?:--[^\n]*\n)+", text(page))
     words = " ".join(it.strip("- ") for it in comment[0].splitlines()) if comment else ""
@@ -154,20 +154,40 @@ def runs(crate):
     return direct or sorted(users, key=lambda it: len(repo.below([it], listed)))[:2]
 
 
-def rules():
-    rows = []
-    for crate, pages in believed():
-        for page in pages:
-            path = f"crates/{crate}/specs/{page}.antt"
-            module = rf"Rattle\.{crate}\.specs\.{page}\b"
-            users = [it.removeprefix(f"crates/{crate}/src/") for it in sources(crate, "src") if re.search(module, text(it))]
-            proofs = [it.removeprefix(f"crates/{crate}/proofs/") for it in sources(crate, "proofs") if re.search(module, text(it))]
-            # lemmas stand beside each other, answers of one function in a folder
-            proofs.sort(key=lambda it: (it.count("/"), it))
-            cited = sections(re.sub(r"\s*\n--\s*", " ", text(path)))
-            cited = "; ".join(cited[:MOST_NAMED]) + ("; .." if len(cited) > MOST_NAMED else "") or "-"
-            rows.append([code(f"{crate}/specs/{page}.antt"), what(path), cited, named(users), named(proofs), named(runs(crate))])
-    return table(["definition", "of", "sections", "code", "proofs", "rows and tests"], rows)
+INDEX_HEAD = """# From a rule to its code, proofs and rows
+
+For who wants to see a rule in the code, or what a changed definition touches: each definition page
+that a public contract depends on. `python3 tools/dev/pages.py` makes the page of the sources.
+A line has what the page defines, the first sections that it cites, the sources whose contracts
+name it, and the first lemma that does; paths are below the crate's `src/` and `proofs/`. Each
+crate's line *run by* names the rows and tests that run that code. [RULES.md](RULES.md) has the
+rules in words, [TRUST.md](TRUST.md) which pages a call depends on.
+
+"""
+
+
+def rule_line(crate, page):
+    path = f"crates/{crate}/specs/{page}.antt"
+    module = rf"Rattle\.{crate}\.specs\.{page}\b"
+    users = [it.removeprefix(f"crates/{crate}/src/") for it in sources(crate, "src") if re.search(module, text(it))]
+    proofs = [it.removeprefix(f"crates/{crate}/proofs/").removesuffix(".antt") for it in sources(crate, "proofs") if re.search(module, text(it))]
+    # lemmas are beside each other, what is proved of one function is in its folder
+    proofs = (sorted(it for it in proofs if "/" not in it) or sorted(proofs))[:1]
+    cited = sections(re.sub(r"\s*\n--\s*", " ", text(path)))
+    cited = f" ({'; '.join(cited[:MOST_NAMED])}{'; ..' if len(cited) > MOST_NAMED else ''})" if cited else ""
+    parts = [f"{what} {named(names)}" for what, names in (("Code", users), ("proofs", proofs)) if names]
+    return f"- `{page}`: {what_of(path)}{cited}. {'; '.join(parts)}." if parts else f"- `{page}`: {what_of(path)}{cited}."
+
+
+def index():
+    """The text of docs/INDEX.md."""
+    crates = [*believed()]
+    found = [INDEX_HEAD, *(f"- [`{it}`](#{it})\n" for it, _ in crates)]
+    for crate, pages in crates:
+        found += [f"\n## `{crate}`\n\n", *(believe.wrapped(rule_line(crate, it)) + "\n" for it in pages)]
+        rows = runs(crate)
+        found += [believe.wrapped(f"- *Run by* {named(rows)}.") + "\n"] if rows else []
+    return "".join(found)
 
 
 # ---- the page of a crate
@@ -235,7 +255,7 @@ def notes():
         yield path, page, written_note(crate, page)
 
 
-TABLES = {"extensions": extensions, "types": types, "rules": rules}
+TABLES = {"extensions": extensions, "types": types}
 
 
 def written(page):
@@ -269,6 +289,7 @@ def main(words):
     else:
         made = written(repo.read(PAGE))
         put(PAGE, made)
+        put(INDEX, index())
         for path, page, made in notes():
             if page != made:
                 put(path, made)

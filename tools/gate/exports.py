@@ -64,3 +64,11 @@ def public(crate):
 def exported(crate):
     """The functions with a body that a crate exports."""
     return [it for source in syntax.files(crate) for it in source.functions if it.body and is_exported(it)]
+
+
+@functools.cache
+def traits(crate):
+    """The functions with clauses of the traits that a crate exports, without a body too."""
+    names, paths = reached(crate)
+    return [it for source in syntax.files(crate) for it in source.functions
+            if it.clauses and re.match(r"pub trait\b", it.owner[2]) and (it.owner_type in names or source.path in paths)]

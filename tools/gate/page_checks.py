@@ -2,7 +2,7 @@
 import os
 import re
 
-from dev import believe, calling, pages
+from dev import believe, calling, contracts, pages
 from gate import page_names
 from program import repo, usage
 
@@ -159,10 +159,13 @@ def walk_stands():
 
 
 def tables_made():
-    """The tables of docs/CRATES.md are what the sources say."""
+    """The lists of docs/CRATES.md, docs/INDEX.md and docs/CONTRACTS.md are what the sources say."""
     page = repo.read(pages.PAGE)
     if pages.written(page) != page:
-        yield f"{pages.PAGE}: a table isn't what the sources say: run tools/dev/pages.py"
+        yield f"{pages.PAGE}: a list isn't what the sources say: run tools/dev/pages.py"
+    if not os.path.exists(os.path.join(repo.TOP, pages.INDEX)) or repo.read(pages.INDEX) != pages.index():
+        yield f"{pages.INDEX}: it isn't what the sources say: run tools/dev/pages.py"
+    yield from contracts.faults()
 
 
 def notes_made():
@@ -188,23 +191,6 @@ def calling_made():
     yield from calling.faults()
 
 
-def bullet(section, name):
-    """The code of a bullet of a crate's section, as it stands between ticks."""
-    found = re.search(rf"(?m)^- \*{name}\*:((?:.|\n  )*)", section)
-    return re.findall(r"`([^`]+)`", " ".join(found[1].split())) if found else []
-
-
-def promises_name():
-    """What docs/CRATES.md names as a contract stands in the crate or in one that it lists."""
-    listed = repo.crates()
-    for crate, section in pages.crate_sections():
-        words = {it for name in {crate, *listed[crate]} for path in pages.sources(name, "src") for it in re.findall(r"\w+", pages.text(path))}
-        for code in bullet(section, "Contract"):
-            for word in re.findall(r"[A-Za-z_]\w*", code.removesuffix(".rt")):
-                if word not in words:
-                    yield f"{pages.PAGE}: {crate} has no {word}"
-
-
 def one_list_to_believe():
     """Which pages have to be believed is said by docs/TRUST.md alone, which a script makes."""
     for path in found_pages():
@@ -215,4 +201,4 @@ def one_list_to_believe():
 
 
 CHECKS = (narrow_pages, short_sentences, short_readme, contents_stand, claims_named, anchors_lead,
-          walk_stands, promises_name, one_list_to_believe, one_version, tables_made, notes_made, calling_made, *page_names.CHECKS)
+          walk_stands, one_list_to_believe, one_version, tables_made, notes_made, calling_made, *page_names.CHECKS)

@@ -1,0 +1,73 @@
+#!/usr/bin/env python3
+"""Writes docs/CONTRACTS.md: the clauses of every public call, and the laws, crate by crate.
+
+    python3 tools/dev/contracts.py
+
+`tools/gate/quick.py` compares the page. Functions that a macro or a derived trait makes are not seen.
+"""
+import os
+import sys
+
+sys.path.insert(0, os.path.dirname(os.path.dirname(os.path.abspath(__file__))))
+from dev import believe
+from gate import exports
+from program import repo
+
+PAGE = "docs/CONTRACTS.md"
+ONE, PREMISE = "one clause", "*a premise*"
+HEADER = """# Contracts by name
+
+For who looks for the clause that says something: each public call with the names of its clauses,
+and the laws of each crate. `python3 tools/dev/contracts.py` makes the page of the sources, and
+`./test quick` compares it. A clause is in the source, after `ensures` or `requires`, with its name
+if it has one; a premise is what a caller has to show. A law is a public function that does nothing:
+its clauses are what it says. A call without clauses of its own has those of its trait, in the words
+that its impl gives. [TRUST.md](TRUST.md) lists the pages of definitions that clauses rest on.
+
+"""
+
+
+def named(function):
+    """The names of a function's clauses, in their order; what it requires is a premise."""
+    return tuple(dict.fromkeys(PREMISE if kind == "requires" else name and f"`{name}`" or ONE for kind, name, _ in function.clauses))
+
+
+def by_clauses(functions):
+    """Functions by the names of their clauses, those with the same ones together."""
+    found = {}
+    for it in functions:
+        found.setdefault(named(it), []).append(it)
+    return found.items()
+
+
+def crate_lines(crate):
+    """The lines of a crate: its traits, its calls, and its laws."""
+    calls = [it for it in exports.public(crate) if it.clauses]
+    for what, functions in (("", exports.traits(crate)), ("", calls)):
+        for names, those in by_clauses(functions):
+            yield f"- {', '.join(believe.grouped(those))}: {', '.join(names)}."
+    rest = [it for it in exports.public(crate) if not it.clauses]
+    if rest:
+        yield f"- *By their traits*: {', '.join(believe.grouped(rest))}."
+    laws = [it for it in exports.exported(crate) if it.is_law]
+    if laws:
+        yield f"- *Laws*: {', '.join(believe.grouped(laws))}."
+
+
+def written():
+    """The text of the page."""
+    crates = [(it, [*map(believe.wrapped, crate_lines(it))]) for it in believe.libraries()]
+    crates = [(name, lines) for name, lines in crates if lines]
+    contents = "\n".join(f"- [`{name}`](#{name})" for name, _ in crates)
+    return HEADER + contents + "\n" + "".join("\n".join(["", f"## `{name}`", "", *lines, ""]) for name, lines in crates)
+
+
+def faults():
+    """What is amiss with the page."""
+    if not os.path.exists(os.path.join(repo.TOP, PAGE)) or repo.read(PAGE) != written():
+        yield f"{PAGE}: it isn't what the sources say: run python3 tools/dev/contracts.py"
+
+
+if __name__ == "__main__":
+    with open(os.path.join(repo.TOP, PAGE), "w", encoding="utf-8") as page:
+        page.write(written())
