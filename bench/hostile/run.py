@@ -138,7 +138,7 @@ def is_whole(family, run):
         return bool(END.search(tail_of(run.output, 100)))
     if family.command == "verify":
         return tail_of(run.output, 10).endswith(b"}\n")
-    return tail_of(run.errors, 10).endswith((b" told\n", b" left out\n"))
+    return tail_of(run.errors, 10).endswith((b" reported\n", b" left out\n"))
 
 
 def has_answer(family, run, wanted):
