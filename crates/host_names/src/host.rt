@@ -18,7 +18,7 @@ pub enum Host<'a> {
     Address(IpAddr),
 }
 
-/// What stands behind an opening bracket.
+/// What follows an opening bracket.
 fn behind_bracket(text: &[u8]) -> Option<&[u8]>
     ensures found { IfSome result (λ r. text.now ≡ 91 ∷ r.now) }
     ensures only { (rest : List ℕ) → text.now ≡ 91 ∷ rest → IsSomeAnd result (λ r. r.now ≡ rest) }

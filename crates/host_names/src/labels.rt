@@ -28,7 +28,7 @@ fn has_fault(fault: Fault, label: &[u8]) -> bool
     }
 }
 
-/// The first label, and what stands behind its dot.
+/// The first label, and what follows its dot.
 #[tactic(auto, using(crate::proofs::FirstLabels::none_before, crate::proofs::FirstLabels::only_one))]
 fn first_label(name: &[u8]) -> (&[u8], Option<&[u8]>)
     ensures { MatchOption result.1 (labels_of name.now ≡ result.0.now ∷ []) (λ rest. (labels_of name.now ≡ result.0.now ∷ labels_of rest.now) × (length rest.now < length name.now)) }

@@ -8,12 +8,12 @@ ghost use Rattle.host_names.specs.Refusals.{refusal_of};
 ghost use Rattle.host_names.specs.Examples.{a_b, w_a_b, star_a_b, star_b};
 
 /// No reason applies to exactly the names of hosts: so a text that is no address is refused exactly
-/// where it isn't such a name, behind the removal of its final dot.
+/// where it isn't such a name, once its final dot is removed.
 pub fn refused_or_named()
     ensures { (host : List ℕ) → (refusal_of host ≡ None) ↔ IsHostName host }
 {}
 
-/// A star stands for one label, never for none, and has two labels behind it. Letters are equal
+/// A star stands for one label, never for none, and has two labels after it. Letters are equal
 /// without case, and a final dot of a presented name matches nothing.
 pub fn examples_of_matching()
     ensures labels { labels_of star_a_b ≡ (42 ∷ []) ∷ (97 ∷ []) ∷ (98 ∷ []) ∷ [] }

@@ -28,7 +28,7 @@ fn is_spelled(name: &[u8]) -> bool
     begun
 }
 
-/// What stands behind the first label and its dot.
+/// What follows the first label and its dot.
 fn after_label(name: &[u8]) -> Option<&[u8]>
     ensures { option_map (λ r. r.now) result ≡ after_label false name.now }
 {
@@ -61,7 +61,7 @@ fn is_same(name: &[u8], host: &[u8]) -> bool
     name.eq_ignore_ascii_case(host)
 }
 
-/// What stands behind a star and a dot.
+/// What follows a star and a dot.
 fn behind_star(name: &[u8]) -> Option<&[u8]>
     ensures found { IfSome result (λ r. name.now ≡ 42 ∷ 46 ∷ r.now) }
     ensures only { (rest : List ℕ) → name.now ≡ 42 ∷ 46 ∷ rest → IsSomeAnd result (λ r. r.now ≡ rest) }

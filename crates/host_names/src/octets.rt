@@ -64,7 +64,7 @@ pub(crate) fn is_number(text: &[u8]) -> bool
     true
 }
 
-/// What stands behind the last separator.
+/// What follows the last separator.
 #[tactic(auto, using(crate::proofs::LastFacts::settled_at, crate::proofs::LastFacts::settled_all))]
 pub(crate) fn last_part(text: &[u8], separator: u8) -> &[u8]
     ensures { result.now ≡ last_part separator text.now }
@@ -90,7 +90,7 @@ fn count(text: &[u8], octet: u8) -> usize
     text.iter().filter(|one| **one == octet).count()
 }
 
-/// Whether a port stands behind the last colon.
+/// Whether a port follows the last colon.
 pub(crate) fn has_port(text: &[u8]) -> bool
     ensures { result ≡ has_port text.now }
 {

@@ -2,8 +2,8 @@
 
 use thiserror::Error;
 
-/// Why a text is no host (RFC 9525, 6.1; RFC 1123, 2.1). `Host::parse` tells the first that applies,
-/// in this order.
+/// Why a text is no host (RFC 9525, 6.1; RFC 1123, 2.1). `Host::parse` returns the first that
+/// applies, in this order.
 #[derive(Clone, Copy, Debug, PartialEq, Eq, Hash, Error)]
 pub enum Refusal {
     /// It is empty, or a dot.
@@ -21,7 +21,7 @@ pub enum Refusal {
     /// It is an address of IPv6 with a zone (RFC 4007, 11).
     #[error("it has a zone")]
     Zone,
-    /// It has a port behind its last colon.
+    /// It has a port after its last colon.
     #[error("it has a port")]
     Port,
     /// It has a colon or a bracket, and is no address of IPv6 (RFC 4291, 2.2).
