@@ -1,0 +1,5 @@
+pub mod Permitted
+pub mod Purposes
+pub mod Found
+pub mod Restricting
+pub mod Examples
