@@ -7,7 +7,6 @@ a record, as beside dist/certpath, which names these tools too: the same toolcha
 tools give the same octets. Of both libraries nothing is seen but the calls of the header.
 """
 import os
-import re
 import shutil
 import subprocess
 import sys
@@ -25,7 +24,7 @@ WORDS = ("kit", "sources", "allocator", "compiler", "binutils", "shared", "stati
 # What the octets depend on beside the sources.
 TOOLS = ("kit", "compiler", "binutils")
 BUILT = os.path.join("crates", CRATE, "out", f"lib{CRATE}.a")
-HEADER, ALLOCATOR = os.path.join("include", "certpath.h"), os.path.join("tools", "gate", "allocator.c")
+ALLOCATOR = os.path.join("tools", "gate", "allocator.c")
 ANSWERS = os.path.join("tools", "gate", "answers.py")
 PUBLIC, NEEDED = "certpath_*", ("cc", "ld", "objcopy", "ar")
 COMPILED = ("-std=c11", "-Wall", "-Wextra", "-Werror", "-O2", "-fPIC")
@@ -49,18 +48,6 @@ def read_record():
     return said if sorted(said) == sorted(WORDS) else None
 
 
-def soname():
-    """The name by which programs that were linked with the shared library ask for it: with the
-    version of the calls, from the header."""
-    version = re.search(r"(?m)^#define CERTPATH_VERSION (\d+)", repo.read(HEADER))[1]
-    return f"{os.path.basename(SHARED)}.{version}"
-
-
-def link():
-    """The symbolic link in dist/ of that name."""
-    return os.path.join("dist", soname())
-
-
 def faults():
     """What is wrong with the libraries by the sources, a line each. Nothing is run."""
     record = read_record()
@@ -73,9 +60,6 @@ def faults():
                        (ALLOCATOR, "allocator")):
         if programs.sum_of(path) != record[word]:
             yield f"{path} isn't that of {RECORD}: {MAKE}"
-    path = os.path.join(repo.TOP, link())
-    if not os.path.islink(path) or os.readlink(path) != os.path.basename(SHARED):
-        yield f"{link()} is no symbolic link to {os.path.basename(SHARED)}: {MAKE}"
 
 
 def proved():
@@ -157,7 +141,7 @@ def linked(archive, room):
     run(room, "ld", "-r", "-o", "certpath.o", "--whole-archive", "proved.a", "allocator.o")
     run(room, "objcopy", "--wildcard", "--keep-global-symbols=public", "certpath.o")
     run(room, "ar", "rcsD", "static", "certpath.o")
-    run(room, "cc", *LINKED, f"-Wl,-soname,{soname()}", "-Wl,--version-script=seen", "-o", "shared",
+    run(room, "cc", *LINKED, f"-Wl,-soname,{os.path.basename(SHARED)}", "-Wl,--version-script=seen", "-o", "shared",
         "certpath.o", "-lc")
     return [sources.octets_of(os.path.join(room, it)) for it in ("shared", "static")]
 
@@ -185,17 +169,13 @@ def make():
 
 
 def put(shared, static, record):
-    """Writes the libraries, their record, and the link."""
+    """Writes the libraries and their record."""
     from program import building
     text = "".join(f"{it} {record[it]}\n" for it in WORDS)
     for path, octets in ((SHARED, shared), (PACKAGED, shared), (STATIC, static),
                          (RECORD, text.encode())):
         building.put(os.path.join(repo.TOP, path), octets, 0o644)
         print(f"dist: {path} has {len(octets)} octets")
-    path = os.path.join(repo.TOP, link())
-    if os.path.lexists(path):
-        os.remove(path)
-    os.symlink(os.path.basename(SHARED), path)
 
 
 def answers(shared):
