@@ -27,15 +27,15 @@ from trials.scaling_runs import PROGRAM, Run, digest, octets_at, octets_of, rows
 
 ENTRIES, FEW = 20_000, 600
 # Blocks for the trial are small, so that there are some for each process.
-BLOCKSIZE = "1000000"
+BLOCKSIZE = "200000"
 SUMMARY = re.compile(r"inventory: (\d+) entries, (\d+) rows \((.*)\)")
 COUNTS = re.compile(r"inventory: (\d+) issuers and lists, (\d+) blocks, (\d+) faults")
 PATH = re.compile(r"\d+ path \d+ ?([\d ]*?) ?anchor (\d+)")
 OBSTACLE = re.compile(r"not usable|no issuer|not linked|not used|leads to an anchor")
 # How many certificates without a path are asked about over everything, too.
 WHYS = 5
-# Workers are looked after each second, so no two are killed within this time.
-LOOKS = 3
+# Seconds between two workers that are killed, so that another one is there.
+PAUSE = 0.2
 
 
 class Whole:
@@ -152,7 +152,7 @@ def trial(count, interpreter, room, entries):
     killed = Run(interpreter, whole, os.path.join(room, "two"), *given, "--workers", "2")
     for pattern in (("work", "0*.json"), ("entries", "*.csv")):
         count.tell(killed.kill_a_worker(pattern), f"no worker to be killed at {pattern[0]}")
-        time.sleep(LOOKS)
+        time.sleep(PAUSE)
     killed.wait()
     count.tell("of the workers lost" in killed.told, f"no word of lost workers: {killed.told}")
     count.tell(octets_of(one.out) == octets_of(killed.out),
