@@ -141,8 +141,8 @@ def linked(archive, room):
     run(room, "ld", "-r", "-o", "certpath.o", "--whole-archive", "proved.a", "allocator.o")
     run(room, "objcopy", "--wildcard", "--keep-global-symbols=public", "certpath.o")
     run(room, "ar", "rcsD", "static", "certpath.o")
-    run(room, "cc", *LINKED, f"-Wl,-soname,{os.path.basename(SHARED)}", "-Wl,--version-script=seen", "-o", "shared",
-        "certpath.o", "-lc")
+    run(room, "cc", *LINKED, f"-Wl,-soname,{os.path.basename(SHARED)}",
+        "-Wl,--version-script=seen", "-o", "shared", "certpath.o", "-lc")
     return [sources.octets_of(os.path.join(room, it)) for it in ("shared", "static")]
 
 
