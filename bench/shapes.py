@@ -3,7 +3,7 @@
 
     bench/shapes.py > bench/shapes.der
 
-Each item is a SEQUENCE. Fields of eight octets, as `SUBJECT0`, stand where an input has a number of its own, in hex: of the
+Each item is a SEQUENCE. Fields of eight octets, as `SUBJECT0`, are where an input has a number of its own, in hex: of the
 subject, the issuer, the serial, the key, or what is else drawn. So every item keeps its lengths, and each input is made by
 copying octets. Nothing is signed: keys and signatures are octets of the right length. `data/shapes.der` of the crate is the same file.
 """
@@ -185,7 +185,7 @@ def shapes():
 
 
 def list_parts():
-    """What stands before the entries of a list, two entries, and what stands behind them in the signed part and behind that."""
+    """What is before the entries of a list, two entries, and what is after them in the signed part and after that."""
     yield sequence(integer(b"\1"), SHA256_RSA, issuing(ISSUER), FIRST, LAST)
     serial = integer(b"\3" + filler("serial", 7) + SERIAL)
     date = element(0x17, b"260102030405Z")

@@ -28,11 +28,8 @@ def timed(words, out=subprocess.DEVNULL):
 
 
 def built(crate):
-    """The path of a crate's program, as its sources and all below it are now; ends the bench where it can't be built."""
-    program = repo.ready(crate)
-    if not program:
-        sys.exit(f"{crate} wasn't built, so nothing was timed")
-    return program
+    """The path of a crate's program, built from its sources and all below it as they are now; ends the bench if there is none."""
+    return repo.ready(crate)
 
 
 def yardstick(room):
@@ -57,7 +54,7 @@ def write_bundle(room):
 
 
 def run(name, words, expect, times, memory_times=None):
-    """Times the words and a bundle's path behind them, and prints medians.
+    """Times the words and a bundle's path after them, and prints medians.
 
     `expect` judges what they print. Ends with status 1 past `times` times the yardstick, or `memory_times` times the file's size.
     """

@@ -1,4 +1,4 @@
-# Completion of bash for certpath, verify, vouch and bundle: source this file. Made by tools/dev/manual.py.
+# Completion of bash for certpath, verify, vouch, bundle. Made of the commands' helps.
 _certpath() {
   local word=${COMP_WORDS[COMP_CWORD]} words
   if [ "$COMP_CWORD" -eq 1 ]; then
@@ -7,20 +7,20 @@ _certpath() {
   fi
   case ${COMP_WORDS[1]} in
     help) words="frame path paths questions recheck why" ;;
-    path) words="--at --demand-lists --help --limit --target" ;;
-    why) words="--at --demand-lists --help --limit --target" ;;
-    paths) words="--at --demand-lists --evidence --help --limit" ;;
-    recheck) words="--at --demand-lists --evidence --help --limit" ;;
-    questions) words="--help --limit" ;;
     frame) words="--help --limit" ;;
+    path) words="--at --demand-lists --help --limit --target" ;;
+    paths) words="--at --demand-lists --evidence --help --limit" ;;
+    questions) words="--help --limit" ;;
+    recheck) words="--at --demand-lists --help --limit" ;;
+    why) words="--at --demand-lists --help --limit --target" ;;
   esac
   _certpath_words "$word" "$words"
 }
 _certpath_other() {
   local word=${COMP_WORDS[COMP_CWORD]} words
   case ${1##*/} in
-    verify) words="--all --anchors --at --demand-lists --dot --help --html --ignore-unused-lists --json --limit --lists --quiet --target --weak" ;;
-    vouch) words="--weak --tries --verbose --limit --help" ;;
+    verify) words="--all --anchors --at --demand-lists --dot --help --host --html --ignore-unused-lists --json --limit --lists --purpose --quiet --target --weak" ;;
+    vouch) words="--help --limit --tries --verbose --weak" ;;
     bundle) words="--help" ;;
   esac
   _certpath_words "$word" "$words"
@@ -30,6 +30,9 @@ _certpath_words() {
     -*) COMPREPLY=($(compgen -W "$2" -- "$1")) ;;
     *) COMPREPLY=($(compgen -f -- "$1")) ;;
   esac
+  if [ "${COMP_WORDS[COMP_CWORD - 1]}" = --anchors ]; then
+    COMPREPLY+=($(compgen -W system -- "$1"))
+  fi
 }
 complete -o filenames -F _certpath certpath
 complete -o filenames -F _certpath_other verify vouch bundle

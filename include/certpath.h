@@ -36,7 +36,9 @@ enum {
     CERTPATH_BAD_NAME = 4,      /* the octets of a name can't be read */
     CERTPATH_BAD_MOMENT = 5,    /* a moment is no date and time */
     CERTPATH_BAD_ANSWER = 6,    /* an answer to be checked isn't one: its numbers don't fit */
-    CERTPATH_BAD_LINE = 7       /* a line of a voucher file is neither empty nor two digests */
+    CERTPATH_BAD_LINE = 7,      /* a line of a voucher file is neither empty nor two digests */
+    CERTPATH_NOT_CERTIFICATE = 8, /* the item is no certificate */
+    CERTPATH_BAD_HOST = 9       /* a text is no host */
 };
 
 /* ---- cutting files into items */
@@ -138,6 +140,49 @@ int32_t certpath_times(const uint8_t *item, size_t item_length, certpath_validit
  */
 int32_t certpath_name(const uint8_t *name, size_t name_length, uint8_t *text, size_t room,
                       size_t *length);
+
+/* ---- purposes and hosts */
+
+/* Why a text is no host: the first reason that applies (RFC 9525, 6.1; RFC 1123, 2.1). */
+enum {
+    CERTPATH_HOST_EMPTY = 0,        /* it is empty, or a dot */
+    CERTPATH_HOST_URL = 1,          /* it has a slash */
+    CERTPATH_HOST_EMAIL = 2,        /* it has an at sign */
+    CERTPATH_HOST_WILDCARD = 3,     /* it has a star */
+    CERTPATH_HOST_ZONE = 4,         /* it has colons and a zone (RFC 4007, 11) */
+    CERTPATH_HOST_PORT = 5,         /* a number follows its last colon */
+    CERTPATH_HOST_NO_ADDRESS = 6,   /* it has a colon or a bracket, and is no IPv6 address */
+    CERTPATH_HOST_NOT_ASCII = 7,    /* it has an octet outside ASCII */
+    CERTPATH_HOST_CHARACTER = 8,    /* it has a character that no name has */
+    CERTPATH_HOST_LONG = 9,         /* it has more than 253 octets */
+    CERTPATH_HOST_EMPTY_LABEL = 10, /* it has an empty label */
+    CERTPATH_HOST_LONG_LABEL = 11,  /* it has a label of more than 63 octets */
+    CERTPATH_HOST_HYPHEN = 12,      /* a label begins or ends with a hyphen */
+    CERTPATH_HOST_NUMBER = 13       /* its last label is a number, and it is no IPv4 address */
+};
+
+/*
+ * Whether a certificate is for a purpose (RFC 5280, 4.2.1.12): it has no extKeyUsage, or one that
+ * names the purpose or anyExtendedKeyUsage. `purpose` is the content of its OBJECT IDENTIFIER.
+ * `says_yes` is set to 1 or 0 with CERTPATH_DONE. CERTPATH_NOT_CERTIFICATE where the item is no
+ * certificate. A certificate is for no purpose where its extKeyUsage is no DER of object
+ * identifiers, names none, or occurs twice.
+ */
+int32_t certpath_allows(const uint8_t *item, size_t item_length, const uint8_t *purpose,
+                        size_t purpose_length, uint32_t *says_yes);
+
+/*
+ * Whether a certificate serves a host (RFC 9525, 6): among the names of its one subjectAltName is a
+ * dNSName that matches the host's name, or an iPAddress of the host's octets. The subject's common
+ * name is never used. `host` is a text in ASCII, without a 0 at its end: a name, an IPv4 address,
+ * or an IPv6 address, which may be in brackets.
+ *
+ * `says_yes` is set to 1 or 0 with CERTPATH_DONE, and with CERTPATH_BAD_HOST to the reason, one of
+ * CERTPATH_HOST_EMPTY and those after it. The host is looked at before the item.
+ * CERTPATH_NOT_CERTIFICATE where the item is no certificate.
+ */
+int32_t certpath_serves(const uint8_t *item, size_t item_length, const uint8_t *host,
+                        size_t host_length, uint32_t *says_yes);
 
 /* ---- whose signatures matter */
 

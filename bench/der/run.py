@@ -3,7 +3,7 @@
 same file (`bench/touch.c`).
 
 Prints medians of five, of whole processes that read the file: items/s, MB/s, and the time as a ratio to the yardstick.
-To reach: a ratio of at most 3. Exit status 1 where it is missed.
+To reach: a ratio of at most 3. Exit status 1 if it is missed.
 """
 import os
 import sys

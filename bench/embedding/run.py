@@ -6,8 +6,8 @@ samples/, beside a C program that makes the same calls of dist/libcertpath.a.
 
 Each program runs by turns, five times, and takes the least of five rounds in processor seconds; the medians of these are printed.
 What is measured are the calls: neither the start of Python, 0.05 s, nor the reading of the files. `certpath frame` and
-`certpath path` over the same files, from start to end, stand beside them. To reach: at most 1.1 times the seconds of C. Exit status 1
-where that is missed.
+`certpath path` over the same files, from start to end, are beside them. To reach: at most 1.1 times the seconds of C. Exit status 1
+if that is missed.
 """
 import os
 import shutil

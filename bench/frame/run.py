@@ -4,7 +4,7 @@
 
 Prints medians of five, of whole processes: items/s, MB/s, peak resident memory as a multiple of the file's size, and the
 time as a ratio to the yardstick. To reach: a ratio of at most 1, and at most 2.5 times the file's size in memory. Exit
-status 1 where either is missed.
+status 1 if either is missed.
 """
 import os
 import sys

@@ -5,7 +5,7 @@ ITEMS, SMALL_ITEMS = (12_500, 25_000, 50_000, 100_000), (1_000, 4_000)
 MEGABYTE = 1_000_000
 OCTETS, SMALL_OCTETS = tuple(MEGABYTE * it for it in (4, 8, 16, 32)), (125_000, 500_000)
 
-# For items above the 16,777,216 content octets that are allowed where no limit is given.
+# For items above the 16,777,216 content octets that are allowed if no limit is given.
 UNLIMITED = ("--limit", "4294967295")
 
 
@@ -30,7 +30,7 @@ class Family(NamedTuple):
     other: int = 0
     words: tuple = ()
     statuses: tuple = (0, 1, 3)
-    # Why the family misses what is wanted, where that is known and stated in docs/COST.md.
+    # Why the family misses what is wanted, if that is known and stated in docs/COST.md.
     known: str = None
 
 

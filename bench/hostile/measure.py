@@ -5,12 +5,12 @@ import subprocess
 from typing import NamedTuple
 
 MEGABYTE = 1_000_000
-# What a run may take before the kernel ends it, where the seconds aren't given.
+# What a run may take before the kernel ends it, if the seconds aren't given.
 MOST_SECONDS, MOST_MEMORY = 120, 12_000 * MEGABYTE
 
 
 class Run(NamedTuple):
-    """What a run took, how it ended, and where its standard output is. `status` is negative where a signal ended it."""
+    """What a run took, how it ended, and where its standard output is. `status` is negative if a signal ended it."""
     seconds: float
     memory: int
     status: int

@@ -7,7 +7,7 @@ KEY, X = key(1), name("x")
 ANCHOR = certificate(X, X, KEY)
 # What stands around the parts of a size, about.
 FRAME = 200
-# An item has at most so many content octets where no limit is given.
+# An item has at most so many content octets if no limit is given.
 MOST = 16_777_216
 
 
@@ -17,7 +17,7 @@ def identifier(number):
 
 
 def target(item, *further):
-    """The files of an item that the anchor's key vouches for, alone or with further ones behind it."""
+    """The files of an item that the anchor's key vouches for, alone or with further ones after it."""
     return Files([item, *further], [ANCHOR], [voucher(KEY, item)], "path 0 anchor 0")
 
 
@@ -128,7 +128,7 @@ def with_value(value):
 
 @of_octets("nested-50", "certificates that are nested to 50 levels, wherever an element may stand")
 def nested_50(size):
-    # the value stands at the sixth level
+    # the value is at the sixth level
     value = nested(43, nested(1) * 1000)
     item = with_value(value)
     return Files([item] * max(1, size // len(item)), [ANCHOR], [voucher(KEY, item)], "path 0 anchor 0")

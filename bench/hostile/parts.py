@@ -53,7 +53,7 @@ def integer(number):
 
 
 def key_ids(own, named):
-    """The subject's and the issuer's key identifiers (RFC 5280, 4.2.1.1 and 4.2.1.2), none where they are none."""
+    """The subject's and the issuer's key identifiers (RFC 5280, 4.2.1.1 and 4.2.1.2), none if they are none."""
     found = b"" if own is None else extension(b"\x55\x1d\x0e", element(0x04, own))
     return found if named is None else found + extension(b"\x55\x1d\x23", element(0x30, element(0x80, named)))
 
@@ -80,7 +80,7 @@ def entry(serial, further=b""):
 
 
 def revocation_list(issuer, entries=b"", version=b""):
-    """A revocation list; none of its entries where they are no octets."""
+    """A revocation list; none of its entries if they are no octets."""
     rows = element(0x30, entries) if entries else b""
     return assembled(element(0x30, version, ALGORITHM, issuer, FIRST, LAST, rows))
 

@@ -1,19 +1,20 @@
 #!/usr/bin/env python3
 """Measures what hostile files cost: families of files that are made to be slow, each at sizes that double.
 
-    bench/hostile/run.py [--small] [--brief] [--only NAME].. [--program PATH] [--seconds N] [--list] [--write FOLDER]
+    bench/hostile/run.py [--small] [--brief] [--only NAME].. [--every N] [--program PATH] [--seconds N] [--list] [--write FOLDER]
 
 Prints a row for each family: processor seconds at each size, the greatest growth at a doubling, the seconds of a file of 1 MB, the
 greatest peak memory for each octet read, and a verdict. `pass` wants three things:
 
-- at most 2.4 times the time at each doubling of the octets read and written, where less than 0.02 seconds count as 0.02;
-- at most 16 times the octets read in memory, or 40 MB where that is more (Python and OpenSSL alone take 20);
+- at most 2.4 times the time at each doubling of the octets read and written, if less than 0.02 seconds count as 0.02;
+- at most 16 times the octets read in memory, or 40 MB if that is more (Python and OpenSSL alone take 20);
 - at most 2 seconds for a file of 1 MB.
 
-`known` is a miss that docs/COST.md states. Exit status 1 where a family fails, or an answer isn't the one that is right.
+`known` is a miss that docs/COST.md states. Exit status 1 if a family fails, or an answer isn't the one that is right.
 `--small` takes two sizes, the second four times the first, at which a square would show, and is for a machine that does other
 work: a growth of up to 2.8 passes, and what misses it is measured up to three times more. `--brief` prints the rows of
-families that fail. `--write` keeps the files of the least size. `--seconds` is after how many a run is ended. `--program` is the
+families that fail. `--every` takes one family of each N. `--write` keeps the files of the least size.
+`--seconds` is after how many a run is ended. `--program` is the
 program for `frame`, `path`, `why` and `paths`; ./bundle, ./vouch and ./verify are those of the checkout.
 """
 import argparse
@@ -41,18 +42,18 @@ from parts import MOMENT
 
 MOST_GROWTH, MOST_TIMES, MOST_OF_MEGABYTE = 2.4, 16, 2.0
 LEAST_SECONDS, LEAST_MEMORY = 0.02, 40 * MEGABYTE
-# Where sizes are small other work on the machine counts for more: four times the octets may take 2.8 * 2.8 times the time. Twice the
+# If sizes are small other work on the machine counts for more: four times the octets may take 2.8 * 2.8 times the time. Twice the
 # time at a doubling makes four, the logarithm somewhat more, and a square sixteen.
 MOST_SMALL_GROWTH = 2.8
 # How often a family is measured anew that misses its growth alone.
 MORE_TIMES, MORE_SMALL_TIMES = 1, 3
-# Where sizes aren't small a run is repeated up to so often, while all of its runs together took less than so many seconds.
+# If sizes aren't small a run is repeated up to so often, while all of its runs together took less than so many seconds.
 MOST_RUNS, ENOUGH_SECONDS = 3, 3.0
 # A family whose runs take longer isn't measured anew.
 ENOUGH_TO_KNOW = 60
 PIECE = 1 << 20
 END = re.compile(rb"(?:\A|\n)end .*\n\Z")
-# How a run ends that the kernel ends, and the exit status of `certpath` where memory is refused.
+# How a run ends that the kernel ends, and the exit status of `certpath` if memory is refused.
 OUT_OF_TIME, OUT_OF_MEMORY = (-signal.SIGXCPU, -signal.SIGKILL), 6
 FILES = ("bundle", "anchors", "vouchers")
 # The commands that say which path item 0 has.
@@ -67,7 +68,7 @@ class Point(NamedTuple):
     written: int
     seconds: float
     memory: int
-    # Why the run isn't right, none where it is; and whether it ended for want of time or memory.
+    # Why the run isn't right, none if it is; and whether it ended for want of time or memory.
     fault: str
     is_spent: bool
 
@@ -116,7 +117,7 @@ def others_in(output):
     with open(output, "rb") as file:
         while piece := file.read(PIECE):
             found += (end + piece).count(b" other\n")
-            # (what stands at the border of two pieces is counted once: seven octets don't hold it twice)
+            # (what is at the border of two pieces is counted once: seven octets don't hold it twice)
             end = piece[-6:]
     return found
 
@@ -151,7 +152,7 @@ def has_answer(family, run, wanted):
 
 
 def fault_of(family, run, room):
-    """Why a run isn't right; none where it is."""
+    """Why a run isn't right; none if it is."""
     if run.status in OUT_OF_TIME:
         return "out of time"
     if run.status not in family.statuses:
@@ -267,6 +268,7 @@ def read_words():
     words.add_argument("--small", action="store_true", help="two small sizes, in seconds")
     words.add_argument("--brief", action="store_true", help="print the rows of families that fail")
     words.add_argument("--only", action="append", default=[], metavar="NAME", help="a family, or all whose names begin so")
+    words.add_argument("--every", type=int, default=1, metavar="N", help="one family of each N")
     words.add_argument("--program", help="the program for frame and path")
     words.add_argument("--seconds", type=int, default=MOST_SECONDS, metavar="N", help="end a run after so many seconds of one processor")
     words.add_argument("--list", action="store_true", help="print the families")
@@ -289,7 +291,7 @@ def write_all(families, folder, is_small):
 
 def main():
     words = read_words()
-    families = chosen(words.only)
+    families = chosen(words.only)[::max(1, words.every)]
     if words.list:
         print("\n".join(f"{it.name} ({it.command}): {it.title}" for it in families))
         return 0
@@ -297,8 +299,6 @@ def main():
         write_all(families, words.write, words.small)
         return 0
     program = words.program and os.path.abspath(words.program) or repo.ready("certpath_cli")
-    if not program:
-        sys.exit("certpath wasn't built, so nothing was measured")
     bench, failed = Bench(program, words.seconds, words.small), 0
     if not words.brief:
         print(f"| {' | '.join(HEAD)} |\n{'|---' * len(HEAD)}|", flush=True)

@@ -1,11 +1,11 @@
 #!/usr/bin/env python3
 """Times `check` of an answer on items: a path of ten and "none", at 10,000, 20,000 and 40,000 items of as many different names, and of
-one name, where key identifiers tell the path; and "none" at 100,000 equal self-issued certificates, and at as many lists of one issuer.
+one name, if key identifiers tell the path; and "none" at 100,000 equal self-issued certificates, and at as many lists of one issuer.
 
-Every key vouches for everything, at no cost: `Vouchers` would hash the key and the item at each call (SHA-256), which is told apart
+Every key vouches for everything, at no cost: `Vouchers` would hash the key and the item at each call (SHA-256), which is reported apart
 by leaving it out. Prints medians of five: milliseconds of the check and of `parse_der` over the same items, and peak resident memory of
 the whole process beside the octets. To reach: at most 2.4 times the time at each doubling (5.76 times from the first to the last) and 12
-times the octets; of the 100,000 equal ones at most 20 times the time of `parse_der`. Exit status 1 where that is missed.
+times the octets; of the 100,000 equal ones at most 20 times the time of `parse_der`. Exit status 1 if that is missed.
 `items.py small ROOM` writes the small files that the gate's run of `item_bench` reads.
 """
 import os
@@ -66,7 +66,7 @@ def revocation_list(issuer):
 
 
 def items(kind, count):
-    """The items of a kind: the first ten lead to the root, where there is a path."""
+    """The items of a kind: the first ten lead to the root, if there is a path."""
     for place in range(count):
         issuer = "root" if place == 9 else None
         if kind == "different":
@@ -88,7 +88,7 @@ def write(room, stem, octets):
 
 
 def resident(process):
-    """The peak resident octets of a process so far, 0 once it has ended. (What a parent is told of a child counts the parent's own memory too, until the child becomes the program.)"""
+    """The peak resident octets of a process so far, 0 once it has ended. (What a parent learns of a child counts the parent's own memory too, until the child becomes the program.)"""
     try:
         with open(f"/proc/{process}/status", encoding="ascii") as it:
             peak = re.search(r"VmHWM:\s+(\d+)", it.read())

@@ -8,10 +8,10 @@
 
 Prints medians of five: milliseconds of each call, and peak resident memory of the whole run with the making of the
 graph, at least that of this script (some 15 MB).
-To reach: from n to 4n at most 8 times the time and the memory in `layered` and `equal`, where less than a millisecond
+To reach: from n to 4n at most 8 times the time and the memory in `layered` and `equal`, if less than a millisecond
 counts as one, in `chain` at most 24 times the time and the memory (its rows are as many as its certificates, so 16 times
 is what there is to do), and in `apart` at most 5.76 times the memory, which is 2.4 times at each doubling. Exit status 1
-where that is missed.
+if that is missed.
 """
 import os
 import re

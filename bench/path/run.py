@@ -5,7 +5,7 @@ such, and equal self-issued certificates. Every key vouches for everything, at n
 
 Prints medians of five: milliseconds of the answer, of its check and of `parse_der` over the same items, and peak resident memory of
 the whole process beside the octets. To reach: at most 2.4 times the time at each doubling (18.3 times at each tenfold), and of the web of
-10,000 at most 15 times the time of `parse_der` for the answer, and 12 times the octets in memory. Exit status 1 where that is missed.
+10,000 at most 15 times the time of `parse_der` for the answer, and 12 times the octets in memory. Exit status 1 if that is missed.
 """
 import os
 import statistics

@@ -6,8 +6,8 @@ on the same files.
 
 Prints a row for each family: processor seconds of `paths` at each size, the greatest growth at a doubling, the time of `paths` over
 that of `path` for item 0 at the greatest size, the greatest peak memory for each octet read, and the octets that are printed. To reach:
-at most 2.4 times at each doubling; at most 1.5 times the time of `path` where one issuer or equal certificates are asked about; at
-most 12 times the octets in memory, where that is above 40 MB. Exit status 1 where that is missed, or an answer isn't the right one.
+at most 2.4 times at each doubling; at most 1.5 times the time of `path` if one issuer or equal certificates are asked about; at
+most 12 times the octets in memory, if that is above 40 MB. Exit status 1 if that is missed, or an answer isn't the right one.
 """
 import argparse
 import os
@@ -125,7 +125,7 @@ def best(words, room, runs):
 
 
 def fault_of(run, room):
-    """Why a run isn't right; none where it is."""
+    """Why a run isn't right; none if it is."""
     if run.status not in (0, 1):
         return f"{WRONG}: status {run.status}"
     with open(run.output, "rb") as file:
@@ -182,8 +182,6 @@ def read_words():
 def main():
     words = read_words()
     program = words.program or repo.ready("certpath_cli")
-    if not program:
-        return 1
     is_missed = False
     print("| " + " | ".join(HEAD) + " |\n|" + "---|" * len(HEAD), flush=True)
     for family in FAMILIES:

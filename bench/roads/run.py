@@ -3,7 +3,7 @@
 `X509Certificate::from_der` over the same items; and `read_typed` of one certificate of 1, 2 and 4 MB, of extensions with different identifiers.
 
 Prints medians of five, of whole processes that read the file. To reach: `read_typed` at most 3 times `X509Certificate::from_der`, and at
-most 2.4 times its time at each doubling of the one certificate. Exit status 1 where it is missed.
+most 2.4 times its time at each doubling of the one certificate. Exit status 1 if it is missed.
 """
 import os
 import statistics

@@ -3,7 +3,7 @@
 
 Prints medians of five, of whole processes that read the file: seconds, entries a second, and peak resident memory as a
 multiple of the file. To reach: at most 12 times the time at each tenfold, and 12 times the file in memory at 100,000 (of
-less, most is the process itself and this script's). Exit status 1 where it is missed.
+less, most is the process itself and this script's). Exit status 1 if it is missed.
 """
 import os
 import statistics
@@ -35,7 +35,7 @@ def entry(number):
 
 
 def write_list(path, count):
-    """Writes a list of so many entries, one by one: this process stays small, as what a child is told to have taken counts its parent's too."""
+    """Writes a list of so many entries, one by one: this process stays small, as what a child is said to have taken counts its parent's too."""
     front, behind = ALGORITHM + header(0x30, 0) + DATE, ALGORITHM + bytes.fromhex("030100")
     entries = header(0x30, count * len(entry(0)))
     size = len(front) + len(entries) + count * len(entry(0))

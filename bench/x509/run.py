@@ -5,7 +5,7 @@ the values of extensions unparsed, as `read_tree` does, beside `read_tree` over 
 
 Prints medians of five, of whole processes that read the file. To reach: without the values at most 0.9 times the time of
 `read_tree`, and with them from 10,000 to 40,000 items at most 5.76 times the time, which is 2.4 times at each doubling. Exit status 1
-where it is missed.
+if it is missed.
 """
 import os
 import statistics

@@ -18,17 +18,19 @@ threads may call at once.
 """
 from .cutting import End
 from .items import (LIMIT, Certificate, Item, Items, Kind, Other, RevocationList, class_of, frame)
-from .library import (BadAnswer, BadItem, BadLine, BadMoment, BadName, Error, LibraryMissing, NoField,
-                      OutOfMemory, version)
+from .library import (BadAnswer, BadHost, BadItem, BadLine, BadMoment, BadName, Error,
+                      LibraryMissing, NoField, OutOfMemory, version)
 from .names import Name
 from .paths import Answer, Asked, Outcome, check, find
 from .questions import Holder, Question, holders_by_issuer, questions
 from .reports import path, paths, why
+from .serving import allows, serves
 from .vouchers import Vouchers
 
 __all__ = [
-    "Answer", "Asked", "BadAnswer", "BadItem", "BadLine", "BadMoment", "BadName", "Certificate",
-    "End", "Error", "Holder", "Item", "Items", "Kind", "LIMIT", "LibraryMissing", "Name", "NoField",
-    "Other", "OutOfMemory", "Outcome", "Question", "RevocationList", "Vouchers", "check", "class_of",
-    "find", "frame", "holders_by_issuer", "path", "paths", "questions", "version", "why",
+    "Answer", "Asked", "BadAnswer", "BadHost", "BadItem", "BadLine", "BadMoment", "BadName",
+    "Certificate", "End", "Error", "Holder", "Item", "Items", "Kind", "LIMIT", "LibraryMissing",
+    "Name", "NoField", "Other", "OutOfMemory", "Outcome", "Question", "RevocationList", "Vouchers",
+    "allows", "check", "class_of", "find", "frame", "holders_by_issuer", "path", "paths",
+    "questions", "serves", "version", "why",
 ]

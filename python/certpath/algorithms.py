@@ -9,6 +9,6 @@ DIGESTS = {
     "1.2.840.10040.4.3": "sha1", f"{DSA_WITH_SHA2}.1": "sha224", f"{DSA_WITH_SHA2}.2": "sha256",
     "1.3.101.112": "its own", "1.3.101.113": "its own",
 }
-# The digests of RSA-PSS, which its parameters name (RFC 4055, 3.1); SHA-1 where they don't.
+# The digests of RSA-PSS, which its parameters name (RFC 4055, 3.1); SHA-1 if they don't.
 PSS_DIGESTS = {"1.3.14.3.2.26": "sha1", f"{SHA_2}.4": "sha224", f"{SHA_2}.1": "sha256", f"{SHA_2}.2": "sha384", f"{SHA_2}.3": "sha512"}
 WEAK = ("md5", "sha1")

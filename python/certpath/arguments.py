@@ -1,4 +1,4 @@
-"""What callers hand in: it is taken where it is what a call needs, and refused with a remedy else.
+"""What callers hand in: it is taken if it is what a call needs, and refused with a remedy else.
 
 ctypes cuts numbers to the width of the C type, and `bytes(3)` are three zeros. So nothing reaches
 the library that hasn't passed one of these functions.
@@ -54,7 +54,7 @@ def shown(number: int) -> str:
 
 
 def number(value, what: str, most: Optional[int], error: type = ValueError) -> int:
-    """An int from 0 to `most`, or from 0 on where that is None; TypeError of what is no int,
+    """An int from 0 to `most`, or from 0 on if that is None; TypeError of what is no int,
     `error` of one out of that range."""
     if isinstance(value, bool):
         raise TypeError(f"{what}: an int is needed, not bool")

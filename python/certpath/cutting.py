@@ -1,11 +1,11 @@
 """Cuts octets into items."""
 from array import array
 from ctypes import byref
-from typing import NamedTuple
+from typing import NamedTuple, Tuple
 
 from . import library
 
-# How many octets are cut in one call, or more where an item is longer.
+# How many octets are cut in one call, or more if an item is longer.
 WINDOW = 1 << 20
 # How a file ends, by the numbers of certpath.h.
 ENDS = ("clean", "cut", "fault")
@@ -30,7 +30,7 @@ class Cutter:
         self.octets, self.framed = octets, library.Framed()
         self.starts, self.spans = array("Q"), array("Q")
 
-    def cut(self, at: int, length: int):
+    def cut(self, at: int, length: int) -> Tuple[str, int]:
         """Cuts a window: notes where its items begin, and gives how it ends."""
         window = library.part_of(self.octets, at, length)
         self.make_room(length // 64 + 16)
@@ -46,7 +46,7 @@ class Cutter:
         self.starts.extend(map(at.__add__, self.spans[:2 * self.framed.count:2]))
         return ENDS[self.framed.end], at + self.framed.at
 
-    def make_room(self, count: int):
+    def make_room(self, count: int) -> None:
         """Makes room for so many spans, each an offset and a length."""
         if len(self.spans) < 2 * count:
             self.spans = array("Q", bytes(2 * count * self.spans.itemsize))

@@ -3,7 +3,7 @@ import enum
 from collections.abc import Sequence
 from ctypes import byref, c_size_t, c_uint32
 from datetime import datetime
-from typing import Iterator, Optional, Tuple
+from typing import Iterator, List, Optional, Tuple, Union, overload
 
 from . import arguments, library
 from .cutting import Cutter, End
@@ -14,6 +14,8 @@ from .names import Name
 LIMIT = 16777216
 # How many octets of a field are asked for at first.
 ROOM = 512
+# What a call takes as octets.
+Octets = Union[bytes, bytearray, memoryview]
 # Stands for the class of an item that isn't known yet.
 UNKNOWN = 255
 # How many items are classed in one call.
@@ -42,25 +44,25 @@ class Field(enum.IntEnum):
 KINDS = tuple(Kind)
 
 
-def class_number(octets, length: int) -> int:
+def class_number(octets: bytes, length: int) -> int:
     """The number of what the octets of an item are."""
     found = c_uint32()
     library.refuse(library.loaded().certpath_class(octets, length, byref(found)))
     return found.value
 
 
-def class_of(data: bytes) -> Kind:
+def class_of(data: Octets) -> Kind:
     """What the octets of an item are."""
     return KINDS[class_number(*library.octets_of(arguments.octets(data, "an item")))]
 
 
 class Item(Fixed):
-    """A certificate, a revocation list, or other octets. Items are equal where their octets are.
+    """A certificate, a revocation list, or other octets. Items are equal if their octets are.
 
     Fields are read when they are first asked for.
     """
 
-    def __init__(self, octets: bytes):
+    def __init__(self, octets: Octets):
         self._set(_octets=arguments.octets(octets, "an item"))
 
     @classmethod
@@ -80,7 +82,7 @@ class Item(Fixed):
         return self._octets
 
     def field(self, field: Field) -> bytes:
-        """A field's octets; NoField where the item has no such field."""
+        """A field's octets; NoField if the item has no such field."""
         number = arguments.number(field, "the field", arguments.MOST_32)
         octets, length = library.octets_of(self._octets)
         call = library.loaded().certpath_field
@@ -102,7 +104,7 @@ class Item(Fixed):
 class OfKind(Item):
     """An item of one class. Octets of another one are refused: BadItem."""
 
-    def __init__(self, octets: bytes):
+    def __init__(self, octets: Octets):
         super().__init__(octets)
         found = class_of(self._octets)
         if found is not self.kind:
@@ -176,7 +178,7 @@ class RevocationList(Signed):
 
     @property
     def next_update_utc(self) -> Optional[datetime]:
-        """When the next list is due, or None where it doesn't say so."""
+        """When the next list is due, or None if it doesn't say so."""
         return self._times[1]
 
 
@@ -188,13 +190,13 @@ class Items(Fixed, Sequence):
 
     `data` are the octets, `limit` is the most content octets of an item, and `end` says how the
     octets end after the items. Items are never changed. They may be pickled, and are framed anew
-    where they are loaded.
+    when they are loaded.
     """
     data: bytes
     limit: int
     end: End
 
-    def __init__(self, data: bytes, limit: int = LIMIT):
+    def __init__(self, data: Octets, limit: int = LIMIT):
         octets = arguments.octets(data, "data")
         limit = arguments.number(limit, "the limit", arguments.MOST_32)
         cutter = Cutter(octets, limit)
@@ -238,6 +240,12 @@ class Items(Fixed, Sequence):
     def __len__(self) -> int:
         return len(self._starts) - 1
 
+    @overload
+    def __getitem__(self, position: int) -> Item: ...
+
+    @overload
+    def __getitem__(self, position: slice) -> List[Item]: ...
+
     def __getitem__(self, position):
         if isinstance(position, slice):
             return [self[it] for it in range(*position.indices(len(self)))]
@@ -258,7 +266,11 @@ class Items(Fixed, Sequence):
         return Items, (self.data, self.limit)
 
 
-def frame(data: bytes, limit: int = LIMIT) -> Items:
+# What a call takes as a bundle or anchors.
+Given = Union[Items, Octets]
+
+
+def frame(data: Octets, limit: int = LIMIT) -> Items:
     """Cuts octets into items: DER SEQUENCEs one after another, each of at most `limit` content
     octets. `items.end` says how the octets end after them.
 
@@ -275,7 +287,7 @@ def are_no_items(items: Items) -> bool:
     return items.limit == arguments.MOST_32 or are_no_items(Items(items.data, arguments.MOST_32))
 
 
-def items_of(data, what: str, limit: int = LIMIT) -> Items:
+def items_of(data: Given, what: str, limit: int = LIMIT) -> Items:
     """Items that are given as such, or as octets that are items to their last one; BadItem of octets
     that aren't."""
     if isinstance(data, Items):
@@ -293,13 +305,13 @@ def items_of(data, what: str, limit: int = LIMIT) -> Items:
     return items
 
 
-def refuse_text(items: Items, what: str):
+def refuse_text(items: Items, what: str) -> None:
     """BadItem of Items that PEM or other text was framed to."""
     if are_no_items(items):
         raise library.BadItem(f"{what}: the octets are no DER items; {FROM_PEM}")
 
 
-def under_one_limit(bundle, anchors) -> Tuple[Items, Items]:
+def under_one_limit(bundle: Given, anchors: Given) -> Tuple[Items, Items]:
     """A bundle and anchors, each Items or octets, under one limit: that of Items that are given.
 
     BadItem as for `items_of`; ValueError of Items with two limits.
@@ -315,7 +327,7 @@ def under_one_limit(bundle, anchors) -> Tuple[Items, Items]:
     return bundle, anchors
 
 
-def both(bundle, anchors) -> Tuple[Items, Items]:
+def both(bundle: Given, anchors: Given) -> Tuple[Items, Items]:
     """A bundle and anchors under one limit. Items are refused too that have nothing but text, which
     would be a file without items in silence."""
     bundle, anchors = under_one_limit(bundle, anchors)

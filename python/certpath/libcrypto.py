@@ -63,12 +63,12 @@ NAMES = {CERTIFICATE: "X509", LIST: "X509_CRL"}
 SUBJECT_KEY_ID, AUTHORITY_KEY_ID = 82, 90
 # A key that is worth fewer bits of security is weak: RSA and DSA below 2048 bits, elliptic curves below 224.
 FEWEST_BITS = 112
-# OpenSSL verifies by longer exponents too where the modulus has at most 3,072 bits; that takes it up to 10 ms.
+# OpenSSL verifies by longer exponents too if the modulus has at most 3,072 bits; that takes it up to 10 ms.
 MOST_EXPONENT_BITS = 64
 # OpenSSL holds some 3 KB for each key.
 MOST_KEYS = 1024
 UNREAD, LONG_EXPONENT = "openssl cannot read its key", f"its key has an exponent of more than {MOST_EXPONENT_BITS} bits"
-# What OpenSSL notes where it has nothing to say but that a signature is wrong.
+# What OpenSSL notes if it has nothing to say but that a signature is wrong.
 WRONG, NO_REASONS = "wrong signature", ("EVP lib",)
 
 
@@ -106,8 +106,8 @@ def loaded():
 
 
 class Key(NamedTuple):
-    """A key: its element's octets, the pointer to what OpenSSL made of them, none where it isn't used, in which words it is weak, none
-    where it isn't, and why it isn't used, none where it is."""
+    """A key: its element's octets, the pointer to what OpenSSL made of them, none if it isn't used, in which words it is weak, none
+    if it isn't, and why it isn't used, none if it is."""
     octets: bytes
     handle: int
     weak: str
@@ -153,7 +153,7 @@ class Verifier:
         return self.keys[octets]
 
     def make_room(self):
-        """Frees the key that was asked for the longest time ago, where there is no room for another."""
+        """Frees the key that was asked for the longest time ago, if there is no room for another."""
         if len(self.keys) >= self.most:
             self.drop_oldest()
 
@@ -183,7 +183,7 @@ class Verifier:
         return bits
 
     def weakness(self, handle):
-        """In which words a key is weak, none where it isn't."""
+        """In which words a key is weak, none if it isn't."""
         if self.library.EVP_PKEY_get_security_bits(handle) >= FEWEST_BITS:
             return None
         return f"{self.library.EVP_PKEY_get_bits(handle)}-bit {(self.library.EVP_PKEY_get0_type_name(handle) or b'unnamed').decode()} key"
@@ -197,7 +197,7 @@ class Verifier:
 
     @contextmanager
     def reading(self, kind, octets):
-        """An item as OpenSSL reads it, as long as the context lasts; none where OpenSSL cannot read it."""
+        """An item as OpenSSL reads it, as long as the context lasts; none if OpenSSL cannot read it."""
         handle, is_whole = self.read(f"d2i_{NAMES[kind]}", octets)
         self.library.ERR_clear_error()
         try:
@@ -207,18 +207,18 @@ class Verifier:
                 getattr(self.library, f"{NAMES[kind]}_free")(handle)
 
     def subject_key_id(self, octets):
-        """The identifier that a certificate gives its key, none where it has none that can be read."""
+        """The identifier that a certificate gives its key, none if it has none that can be read."""
         with self.reading(CERTIFICATE, octets) as read:
             return read.subject_key_id() if read else None
 
     def parts_of(self, algorithm):
-        """An algorithm's identifier as text, and its parameters where they are a SEQUENCE."""
+        """An algorithm's identifier as text, and its parameters if they are a SEQUENCE."""
         identifier, kind, parameters = c_void_p(), c_int(), c_void_p()
         self.library.X509_ALGOR_get0(ctypes.byref(identifier), ctypes.byref(kind), ctypes.byref(parameters), algorithm)
         return self.identifier_of(identifier), parameters if kind.value == SEQUENCE else None
 
     def identifier_of(self, identifier):
-        """An object identifier as text (X.690, 8.19), by its octets where it is long."""
+        """An object identifier as text (X.690, 8.19), by its octets if it is long."""
         length = self.library.OBJ_length(identifier)
         if length > MOST_SHOWN:
             return f"of {length} octets that begin with {ctypes.string_at(self.library.OBJ_get0_data(identifier), MOST_SHOWN).hex()}"
@@ -232,7 +232,7 @@ class Verifier:
         return identifier, self.pss_digest(parameters) if identifier == PSS else DIGESTS.get(identifier)
 
     def pss_digest(self, parameters):
-        """The digest that parameters of RSA-PSS name (RFC 4055, 3.1), none where it isn't known."""
+        """The digest that parameters of RSA-PSS name (RFC 4055, 3.1), none if it isn't known."""
         if parameters is None:
             return None
         at = c_void_p(self.library.ASN1_STRING_get0_data(parameters))
@@ -241,7 +241,7 @@ class Verifier:
         if not read:
             return None
         try:
-            # (its first field is the digest's algorithm, null where that is SHA-1)
+            # (its first field is the digest's algorithm, null if that is SHA-1)
             digest = read[0]
             return PSS_DIGESTS.get(self.parts_of(digest)[0]) if digest else "sha1"
         finally:
@@ -251,13 +251,13 @@ class Verifier:
         """The parts of a SEQUENCE that are SEQUENCEs, each with all of its octets."""
         parts, _ = self.read("d2i_ASN1_SEQUENCE_ANY", octets)
         try:
-            found = [AnyType.from_address(self.library.OPENSSL_sk_value(parts, it)) for it in range(self.library.OPENSSL_sk_num(parts))]
-            return [self.string_of(it.value) for it in found if it.type == SEQUENCE]
+            found = [AnyType.from_address(self.library.OPENSSL_sk_value(parts, number)) for number in range(self.library.OPENSSL_sk_num(parts))]
+            return [self.string_of(entry.value) for entry in found if entry.type == SEQUENCE]
         finally:
             self.library.OPENSSL_sk_pop_free(parts, ctypes.cast(self.library.ASN1_TYPE_free, c_void_p))
 
     def string_of(self, pointer):
-        """The octets of an ASN1_STRING, none where there is none."""
+        """The octets of an ASN1_STRING, none if there is none."""
         if not pointer:
             return None
         return ctypes.string_at(self.library.ASN1_STRING_get0_data(pointer), self.library.ASN1_STRING_length(pointer))
@@ -296,8 +296,8 @@ class Read:
         return self.verifier.algorithm_of(self.signed_by())
 
     def refusals(self, keys):
-        """Why each key, by its element's octets, doesn't verify the signature; none where it does."""
-        return [self.refusal(self.verifier.key(it)) for it in keys]
+        """Why each key, by its element's octets, doesn't verify the signature; none if it does."""
+        return [self.refusal(self.verifier.key(one_key)) for one_key in keys]
 
     def refusal(self, key):
         if key.why:
@@ -308,13 +308,13 @@ class Read:
         return None if is_verified else reason
 
     def extension(self, number):
-        """The value of an extension that stands there once, as OpenSSL reads it; none where there is none."""
+        """The value of an extension that is there once, as OpenSSL reads it; none if there is none."""
         found = self.call("get_ext_d2i", number, None, None)
         self.library.ERR_clear_error()
         return found
 
     def subject_key_id(self):
-        """The identifier of a certificate's own key (RFC 5280, 4.2.1.2), none where it has none."""
+        """The identifier of a certificate's own key (RFC 5280, 4.2.1.2), none if it has none."""
         found = self.extension(SUBJECT_KEY_ID)
         try:
             return self.verifier.string_of(found)
@@ -322,7 +322,7 @@ class Read:
             self.library.ASN1_OCTET_STRING_free(found)
 
     def authority_key_id(self):
-        """The identifier of the key that signed the item (RFC 5280, 4.2.1.1 and 5.2.1), none where it has none."""
+        """The identifier of the key that signed the item (RFC 5280, 4.2.1.1 and 5.2.1), none if it has none."""
         found = self.extension(AUTHORITY_KEY_ID)
         try:
             # (the first field of an AUTHORITY_KEYID is the key identifier)

@@ -3,11 +3,12 @@ import ctypes
 import functools
 import os
 from ctypes import POINTER, byref, c_int8, c_int16, c_int32, c_size_t, c_uint32, c_uint64
+from typing import Any
 
 # The version of the calls that this package makes (CERTPATH_VERSION in certpath.h).
 VERSION = 2
 NAME = "libcertpath.so"
-# The library stands in the package, or where this is a checkout of the repository in its dist/.
+# The library is in the package, or in dist/ if this is a checkout of the repository.
 FOLDERS = (os.path.dirname(os.path.abspath(__file__)),
            os.path.join(os.path.dirname(os.path.abspath(__file__)), "..", "..", "dist"))
 
@@ -41,7 +42,18 @@ class BadAnswer(Error, ValueError):
 
 
 class BadItem(Error, ValueError):
-    """Octets are no items, or an item of another class, where items or such an item are needed."""
+    """Octets are no items, or an item of another class, if items or such an item are needed."""
+
+
+class BadHost(Error, ValueError):
+    """A text is no host; `reason` says why."""
+
+    def __init__(self, reason):
+        super().__init__(f"the host: {reason}")
+        self.reason = reason
+
+    def __reduce__(self):
+        return BadHost, (self.reason,)
 
 
 class BadLine(Error, ValueError):
@@ -56,7 +68,7 @@ class BadLine(Error, ValueError):
         return BadLine, (self.line,)
 
 
-DONE, TOO_SMALL, BAD_LINE = 0, 2, 7
+DONE, TOO_SMALL, BAD_LINE, BAD_HOST = 0, 2, 7, 9
 # What each status that refuses a call is, and what is said of it.
 ERRORS = {
     1: (OutOfMemory, "out of memory: the C library gave none"),
@@ -65,6 +77,7 @@ ERRORS = {
     5: (BadMoment, "the calendar has no such date, or a clock no such time"),
     6: (BadAnswer, "the numbers are no answer: an entry of the table stands for nothing, the table "
                    "has no whole rows, or there is a path where the outcome isn't PATH"),
+    8: (BadItem, "the octets are no certificate in its one spelling"),
 }
 # The octets of a voucher: two SHA-256 digests.
 PAIR = 64
@@ -128,6 +141,11 @@ FUNCTIONS = {
     "certpath_paths": [*ASKED, *REPORT],
     "certpath_version": [],
 }
+# What a library of this version may lack: the function is looked for when it is first called.
+FURTHER = {
+    "certpath_allows": [*INPUT, *INPUT, POINTER(c_uint32)],
+    "certpath_serves": [*INPUT, *INPUT, POINTER(c_uint32)],
+}
 
 
 @functools.lru_cache(maxsize=None)
@@ -150,7 +168,18 @@ def loaded():
     return library
 
 
-def version():
+@functools.lru_cache(maxsize=None)
+def further(name: str) -> Any:
+    """A function that the library may lack: LibraryMissing if it does."""
+    try:
+        function = getattr(loaded(), name)
+    except AttributeError as error:
+        raise LibraryMissing(f"{NAME} has no {name}: {error}") from error
+    function.argtypes, function.restype = FURTHER[name], c_int32
+    return function
+
+
+def version() -> int:
     """The version of the library's calls."""
     return loaded().certpath_version()
 
@@ -179,7 +208,7 @@ def spans_at(address):
 
 
 def text_of(call, guess):
-    """Makes a call that writes a report, with more room where it asks for it; gives the text.
+    """Makes a call that writes a report, with more room if it asks for it; gives the text.
 
     `call` takes a buffer, its room and a place for a Report, and gives the status.
     """
@@ -188,11 +217,11 @@ def text_of(call, guess):
     if status == BAD_LINE:
         raise BadLine(report.bad_line)
     refuse(status)
-    return buffer.raw[:report.length].decode()
+    return str(memoryview(buffer)[:report.length], "utf-8")
 
 
 def sized(call, guess):
-    """Makes a call that writes octets, with more room where it asks for it; gives the octets.
+    """Makes a call that writes octets, with more room if it asks for it; gives the octets.
 
     `call` takes a buffer, its room and a place for the length, and gives the status.
     """
@@ -203,7 +232,7 @@ def sized(call, guess):
 
 
 def filled(call, room, result, needed):
-    """Makes a call, again with the room that its result needs where there was too little; gives the
+    """Makes a call, again with the room that its result needs if there was too little; gives the
     buffer and the status."""
     while True:
         buffer = ctypes.create_string_buffer(room)

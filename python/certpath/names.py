@@ -7,7 +7,7 @@ from .fixed import Fixed, kept
 
 # How many octets of a name's text are asked for at first.
 ROOM = 512
-# What the library gives in the place of a text where a value can't be shown.
+# What the library gives in the place of a text if a value can't be shown.
 NO_TEXT = "<X509Error: Invalid X.509 name>"
 # The type of an attribute in the library's text.
 TYPE = r"(?:OID\([0-9a-f. ]*\)|[A-Za-z][A-Za-z0-9-]*)="
@@ -20,16 +20,16 @@ ENCODINGS = ("utf-8", "utf-16-be")
 MOST_SEARCHED = 1 << 26
 # What is escaped wherever it stands (RFC 4514, 2.4).
 SPECIAL = re.compile(r'["+,;<>\\]')
-# Text of which nothing is escaped, where its commas stand between attributes and all is printable.
+# Text of which nothing is escaped, if its commas are between attributes and all is printable.
 PLAIN_VALUE = r'[^"+,;<>\\# ](?:[^"+,;<>\\]*[^"+,;<>\\ ])?'
 PLAIN = re.compile(rf"{TYPE}{PLAIN_VALUE}(?:, {TYPE}{PLAIN_VALUE})*")
-# What stands between attributes, as a value would have it.
-COMMAS = tuple(", ".encode(it) for it in ENCODINGS)
+# What is between attributes, as a value would have it.
+COMMAS = tuple(", ".encode(encoding) for encoding in ENCODINGS)
 
 
 def hex_pairs(text: str) -> str:
     """The octets of a text in UTF-8, each as a backslash and two hex digits."""
-    return "".join(f"\\{it:02X}" for it in text.encode())
+    return "".join(f"\\{entry:02X}" for entry in text.encode())
 
 
 def escaped(value: str) -> str:
@@ -42,20 +42,20 @@ def escaped(value: str) -> str:
         value = value[:-1] + "\\ "
     if value.isprintable():
         return value
-    return "".join(it if it.isprintable() else hex_pairs(it) for it in value)
+    return "".join(entry if entry.isprintable() else hex_pairs(entry) for entry in value)
 
 
 def separators_in(octets: bytes) -> Set[str]:
     """What octets hold, as UTF-8 or as a BMPString, that looks like the begin of a further attribute;
     perhaps more."""
     # (every second octet of a BMPString is that of an ASCII character)
-    return {it[0] + it[1] for part in (octets, octets[::2], octets[1::2])
-            for it in FURTHER.finditer(part.decode("latin-1"))}
+    return {match[0] + match[1] for part in (octets, octets[::2], octets[1::2])
+            for match in FURTHER.finditer(part.decode("latin-1"))}
 
 
-def stands_in(octets: bytes, text: str) -> bool:
+def is_in(octets: bytes, text: str) -> bool:
     """Whether octets hold a text, as UTF-8 or as a BMPString."""
-    return any(text.encode(it) in octets for it in ENCODINGS)
+    return any(text.encode(encoding) in octets for encoding in ENCODINGS)
 
 
 def attributes_of(text: str, octets: bytes) -> List[str]:
@@ -63,27 +63,27 @@ def attributes_of(text: str, octets: bytes) -> List[str]:
 
     The library separates attributes by ", " and " + ", and leaves values as they are. So a value
     may hold what looks like a further attribute. Then the name's octets hold one after another what
-    stands before and after that place, as they never do of two attributes: there is a header
+    is before and after that place, as they never do of two attributes: there is a header
     between them, which has no text.
     """
     places, held = [*FURTHER.finditer(text)], separators_in(octets)
-    values = [text.find("=") + 1, *(it.end(1) for it in places)]
-    ends = [*(it.start() for it in places[1:]), len(text)]
+    values = [text.find("=") + 1, *(place.end(1) for place in places)]
+    ends = [*(place.start() for place in places[1:]), len(text)]
     are_many = len(places) * len(octets) > MOST_SEARCHED
     found, begin = [], 0
-    for it, value, end in zip(places, values, ends):
-        if it[0] + it[1] in held and (are_many or stands_in(octets, text[value:end])):
+    for entry, value, end in zip(places, values, ends):
+        if entry[0] + entry[1] in held and (are_many or is_in(octets, text[value:end])):
             # (a value has it)
             continue
-        found.append(text[begin:it.start()])
-        begin = it.start()
+        found.append(text[begin:entry.start()])
+        begin = entry.start()
     return [*found, text[begin:]]
 
 
 def is_plain(text: str, octets: bytes) -> bool:
     """Whether nothing of the library's text of a name is to be escaped, as of most names."""
     return (text.isprintable() and PLAIN.fullmatch(text) is not None
-            and not any(it in octets for it in COMMAS))
+            and not any(comma in octets for comma in COMMAS))
 
 
 def escaped_attribute(attribute: str) -> str:
@@ -92,7 +92,7 @@ def escaped_attribute(attribute: str) -> str:
 
 
 class Name(Fixed):
-    """A name (RFC 5280, 4.1.2.4). Names are equal where their octets are."""
+    """A name (RFC 5280, 4.1.2.4). Names are equal if their octets are."""
 
     def __init__(self, octets: bytes):
         self._set(_octets=arguments.octets(octets, "a name"))
@@ -103,10 +103,10 @@ class Name(Fixed):
 
     @kept
     def raw_text(self) -> str:
-        """The name as `certpath_name` gives it, whose values are as they stand in the certificate.
+        """The name as `certpath_name` gives it, whose values are as they are in the certificate.
 
         They may hold line ends and other control characters, so don't print it: `text` is made for
-        that. BadName where the octets are no name.
+        that. BadName if the octets are no name.
         """
         octets, length = library.octets_of(self._octets)
         call = library.loaded().certpath_name
@@ -121,7 +121,7 @@ class Name(Fixed):
         passes for several attributes. In a name that repeats within a value what two attributes
         are, these two may be shown as one value: compare names, not texts.
 
-        BadName where the octets are no name, or have a value that can't be shown, as a
+        BadName if the octets are no name, or have a value that can't be shown, as a
         TeletexString in Latin-1.
         """
         if self.raw_text == NO_TEXT:
@@ -131,7 +131,7 @@ class Name(Fixed):
         return "".join(map(escaped_attribute, attributes_of(self.raw_text, self._octets)))
 
     def __str__(self) -> str:
-        """The name as text, or `#` and its DER in hex where it has none."""
+        """The name as text, or `#` and its DER in hex if it has none."""
         try:
             return self.text
         except library.BadName:

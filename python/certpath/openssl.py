@@ -7,16 +7,16 @@ Of this nothing is proved: what is vouched for is what OpenSSL says.
 """
 from contextlib import contextmanager
 from itertools import chain, groupby
-from typing import Callable, Iterator, List, NamedTuple, Optional
+from typing import Callable, Iterable, Iterator, List, NamedTuple, Optional, Tuple
 
 from . import algorithms, arguments, libcrypto
 from .fixed import kept
-from .items import Certificate, Kind, both
+from .items import Certificate, Given, Item, Kind, both
 from .questions import Question, item_at, questions
 from .vouchers import Vouchers
 
 WORDS = {Kind.CERTIFICATE: libcrypto.CERTIFICATE, Kind.LIST: libcrypto.LIST}
-# How many keys are tried for an item, at most, where no number is given.
+# How many keys are tried for an item, at most, if no number is given.
 MOST_TRIES = 16
 NOT_TRIED, UNREAD = "not tried", "openssl cannot read it"
 TWO_ALGORITHMS = "its two algorithms differ"
@@ -31,20 +31,20 @@ class Verdict(NamedTuple):
     question: Question
     is_verified: bool
     """Whether the key verifies the signature."""
-    weaknesses: tuple
+    weaknesses: Tuple[str, ...]
     """Of a verified signature: in which words it is weak, as "sha1" or "1024-bit RSA key"."""
     why: Optional[str]
-    """Why the key doesn't verify it; None where it does."""
+    """Why the key doesn't verify it; None if it does."""
 
     def is_taken(self, weak: bool = False) -> bool:
-        """Whether the key vouches for the item: weak signatures only where `weak` is true."""
+        """Whether the key vouches for the item: weak signatures only if `weak` is true."""
         return self.is_verified and (weak or not self.weaknesses)
 
 
 class Vouched(NamedTuple):
     """Vouchers, and what they were made of."""
     vouchers: Vouchers
-    verdicts: list
+    verdicts: List[Verdict]
     """A Verdict for each question, in their order."""
 
 
@@ -53,22 +53,22 @@ class Tried(NamedTuple):
     holder: int
     """Which of the holders has the key."""
     key: bytes
-    weaknesses: tuple
+    weaknesses: Tuple[str, ...]
     """Of a verified signature: in which words it is weak."""
     why: Optional[str]
-    """Why the key doesn't verify the signature; None where it does."""
+    """Why the key doesn't verify the signature; None if it does."""
 
 
 class Judged(NamedTuple):
     """What OpenSSL says of an item."""
     why: Optional[str]
-    """Why no key can be tried; None where keys were, or there is none."""
+    """Why no key can be tried; None if keys were, or there is none."""
     tried: List[Tried]
     """The keys that were tried, in the order in which they were."""
 
 
-def verifier():
-    """What asks OpenSSL; Missing where it isn't there. Each thread needs its own. Its `close` frees
+def verifier() -> libcrypto.Verifier:
+    """What asks OpenSSL; Missing if it isn't there. Each thread needs its own. Its `close` frees
     the keys that it keeps, as does the end of a `with` block."""
     try:
         return libcrypto.Verifier()
@@ -77,7 +77,7 @@ def verifier():
 
 
 @contextmanager
-def closing(openssl=None):
+def closing(openssl: Optional[libcrypto.Verifier] = None) -> Iterator[libcrypto.Verifier]:
     """What asks OpenSSL: the one that is given, or else one of its own, which is closed then."""
     if openssl is not None:
         yield openssl
@@ -109,9 +109,9 @@ class KeyHolders:
     def _by_key(self):
         return {it.public_key_bytes: place for place, it in enumerate(self.certificates)}
 
-    def chosen(self, item, named: Callable, most: int) -> List[int]:
+    def chosen(self, item: Item, named: Callable, most: int) -> List[int]:
         """Which are tried, at most so many: first those of the key identifier that the item names,
-        then its own key where it is self-issued, then the others in their order."""
+        then its own key if it is self-issued, then the others in their order."""
         every = range(len(self.certificates))
         if len(every) < 2:
             return [*every[:most]]
@@ -130,7 +130,7 @@ class KeyHolders:
 class Judge:
     """Asks OpenSSL about items, with at most `tries` keys each."""
 
-    def __init__(self, openssl=None, tries: int = MOST_TRIES):
+    def __init__(self, openssl: Optional[libcrypto.Verifier] = None, tries: int = MOST_TRIES):
         self.tries = arguments.number(tries, "tries", None)
         self.openssl = openssl or verifier()
         self._ids = {}
@@ -139,7 +139,7 @@ class Judge:
         """Certificates whose keys are tried; made once for all items that they may have issued."""
         return KeyHolders(certificates, self.key_id)
 
-    def judged(self, item, holders: KeyHolders) -> Judged:
+    def judged(self, item: Item, holders: KeyHolders) -> Judged:
         """What OpenSSL says of a certificate or a list, by the keys of certificates."""
         if item.kind not in WORDS:
             raise ValueError("a certificate or a list is needed, not another item")
@@ -163,7 +163,7 @@ class Judge:
             self._ids[holder] = self.openssl.subject_key_id(holder.public_bytes())
         return self._ids[holder]
 
-    def weaknesses(self, digest: str, key: bytes) -> tuple:
+    def weaknesses(self, digest: str, key: bytes) -> Tuple[str, ...]:
         """In which words a signature is weak."""
         found = digest if digest in algorithms.WEAK else None, self.openssl.key(key).weak
         return tuple(filter(None, found))
@@ -187,11 +187,12 @@ def item_asked(question: Question) -> int:
     return question.item
 
 
-def answers(bundle, anchors, asked=None, tries: int = MOST_TRIES,
-            openssl=None) -> Iterator[Verdict]:
+def answers(bundle: Given, anchors: Given, asked: Optional[Iterable[Question]] = None,
+            tries: int = MOST_TRIES,
+            openssl: Optional[libcrypto.Verifier] = None) -> Iterator[Verdict]:
     """What OpenSSL says of each question, by default of all of a bundle and anchors (Items or
     octets). For each item at most `tries` keys are tried: first those of the key identifier that
-    the item names, then its own. The questions of an item have to stand side by side, as
+    the item names, then its own. The questions of an item have to be side by side, as
     `questions` gives them."""
     bundle, anchors = both(bundle, anchors)
     asked = questions(bundle, anchors) if asked is None else asked
@@ -203,11 +204,12 @@ def answers(bundle, anchors, asked=None, tries: int = MOST_TRIES,
             yield from verdicts_on(of_item, judge.judged(item_at(bundle, item), holders))
 
 
-def vouch(bundle, anchors, weak: bool = False, tries: int = MOST_TRIES) -> Vouched:
+def vouch(bundle: Given, anchors: Given, weak: bool = False,
+          tries: int = MOST_TRIES) -> Vouched:
     """Vouchers for all that OpenSSL verifies; weak signatures (MD5, SHA-1, keys worth fewer than
-    112 bits of security) only where `weak` is true.
+    112 bits of security) only if `weak` is true.
 
-    `bundle` and `anchors` are Items or octets; errors are those of `questions`. Missing where there
+    `bundle` and `anchors` are Items or octets; errors are those of `questions`. Missing if there
     is no libcrypto of OpenSSL 3.
     """
     bundle, anchors = both(bundle, anchors)

@@ -2,18 +2,18 @@
 import enum
 import mmap
 from array import array
-from ctypes import byref, c_size_t, c_uint32, c_uint64, sizeof
+from ctypes import Array, byref, c_size_t, c_uint32, c_uint64, sizeof
 from datetime import datetime
-from typing import NamedTuple, Optional, Sequence, Tuple, Union, overload
+from typing import NamedTuple, Optional, Sequence, Tuple, overload
 
 from . import arguments, library
-from .items import Items, both
+from .items import Given, Items, both
 from .moments import moment_of
-from .vouchers import Vouchers, vouchers_of
+from .vouchers import VouchersGiven, vouchers_of
 
 # How many positions of a path, and rows of a table, are asked for at first.
 ROOM = 16
-# Room of so many octets is taken from the system, which gives memory where it is written.
+# Room of so many octets is taken from the system, which gives memory when it is written.
 LARGE = 1 << 20
 
 
@@ -50,9 +50,9 @@ class Numbers(NamedTuple):
 
 
 class Answer(Numbers):
-    """An answer, with the table that shows that it is right. It is true where there is a path.
+    """An answer, with the table that shows that it is right. It is true if there is a path.
 
-    Answers are equal where their numbers are. One of `find` holds what was asked, which is pickled
+    Answers are equal if their numbers are. One of `find` holds what was asked, which is pickled
     with it: the octets of bundle, anchors and vouchers. `Answer(*answer)` is without.
     """
     asked: Optional[Asked] = None
@@ -88,7 +88,7 @@ def given(asked: Asked) -> tuple:
             asked.vouchers, len(asked.vouchers) // library.PAIR, byref(settings))
 
 
-def room_for(count: int):
+def room_for(count: int) -> "Array[c_uint64]":
     """Room for so many numbers of a table."""
     numbers, size = c_uint64 * count, count * sizeof(c_uint64)
     if size < LARGE:
@@ -99,10 +99,10 @@ def room_for(count: int):
         raise library.OutOfMemory(f"out of memory: the system gave no {size} octets") from None
 
 
-def find(bundle, anchors, vouchers: Union[Vouchers, bytes, str], target: int, at: datetime,
+def find(bundle: Given, anchors: Given, vouchers: VouchersGiven, target: int, at: datetime,
          demand_lists: bool = False) -> Answer:
     """The first of the shortest valid paths from an item of the bundle to an anchor, or that there
-    is none, with a table that shows it. The answer is true where there is a path.
+    is none, with a table that shows it. The answer is true if there is a path.
 
         if certpath.find(bundle, anchors, vouchers, 0, datetime.now(timezone.utc)):
             ..
@@ -114,7 +114,7 @@ def find(bundle, anchors, vouchers: Union[Vouchers, bytes, str], target: int, at
 
     TypeError of an argument of another type. BadItem of octets that aren't DER items to their last
     one, BadLine of text of vouchers, BadMoment; other ValueErrors of numbers that are out of range,
-    two limits, and vouchers that aren't pairs. OutOfMemory where the C library gives no memory.
+    two limits, and vouchers that aren't pairs. OutOfMemory if the C library gives no memory.
     """
     asked = Asked(*both(bundle, anchors), vouchers_of(vouchers), target, at, demand_lists)
     arguments_of_call = given(asked)
@@ -134,7 +134,7 @@ def find(bundle, anchors, vouchers: Union[Vouchers, bytes, str], target: int, at
 
 
 def numbers_of(values: Sequence[int], what: str) -> array:
-    """Numbers of an answer; BadAnswer where one is no uint64_t, TypeError where it is no int."""
+    """Numbers of an answer; BadAnswer if one is no uint64_t, TypeError if it is no int."""
     if isinstance(values, (str, bytes, bytearray)) or not isinstance(values, Sequence):
         raise TypeError(f"the answer's {what}: a tuple of ints is needed, not "
                         f"{arguments.type_name(values)}")
@@ -173,20 +173,20 @@ def check(answer: Answer, /) -> bool: ...
 
 
 @overload
-def check(bundle, anchors, vouchers: Union[Vouchers, bytes, str], target: int, at: datetime,
+def check(bundle: Given, anchors: Given, vouchers: VouchersGiven, target: int, at: datetime,
           answer: Answer, demand_lists: bool = False) -> bool: ...
 
 
 def check(bundle, anchors=NOT_GIVEN, vouchers=NOT_GIVEN, target=NOT_GIVEN, at=NOT_GIVEN,
-          answer=NOT_GIVEN, demand_lists=NOT_GIVEN):
+          answer=NOT_GIVEN, demand_lists=NOT_GIVEN) -> bool:
     """Whether an answer of `find`, or of anybody, is right, as its table shows.
 
     It reads the items by another reader than `find`, and searches for nothing. `check(answer)`
     repeats the question that an answer of `find` holds. Whoever got the answer from elsewhere asks
-    by his own: `check(bundle, anchors, vouchers, target, at, answer)`, with `demand_lists` where
+    by his own: `check(bundle, anchors, vouchers, target, at, answer)`, with `demand_lists` if
     `find` had it.
 
-    BadAnswer where the numbers of the answer can't be one's: out of range, or a table without
+    BadAnswer if the numbers of the answer can't be one's: out of range, or a table without
     whole rows. Other errors are those of `find`.
     """
     further = anchors, vouchers, target, at

@@ -3,12 +3,12 @@ from ctypes import byref, c_size_t
 from typing import Container, Dict, List, NamedTuple
 
 from . import arguments, library
-from .items import Certificate, Item, Items, Kind, both, frame, under_one_limit
+from .items import Certificate, Given, Item, Items, Kind, both, frame, under_one_limit
 from .names import Name
 
 
 def item_at(items: Items, position: int) -> Item:
-    """The item at a position from 0; IndexError where there is none."""
+    """The item at a position from 0; IndexError if there is none."""
     position = arguments.number(position, "a position", arguments.MOST_64, IndexError)
     if position >= len(items):
         raise IndexError(f"there are {len(items)} items, and none at position {position}")
@@ -23,7 +23,7 @@ class Holder(NamedTuple):
     """Its position in the bundle, or among the anchors."""
 
     def certificate(self, bundle: Items, anchors: Items) -> Certificate:
-        """The certificate; IndexError where there is no such item, ValueError where it is none."""
+        """The certificate; IndexError if there is no such item, ValueError if it is none."""
         found = item_at(anchors if self.is_anchor else bundle, self.position)
         if found.kind is not Kind.CERTIFICATE:
             raise ValueError(f"{self} is no certificate, but Kind.{found.kind.name}")
@@ -44,7 +44,7 @@ class Question(NamedTuple):
         return Holder(self.is_anchor, self.holder).certificate(bundle, anchors)
 
 
-def questions(bundle, anchors) -> List[Question]:
+def questions(bundle: Given, anchors: Given) -> List[Question]:
     """All questions of a bundle and anchors (Items or octets), each once, by their items' order.
 
     Of signatures nothing else is ever asked: whoever answers these alike has the same paths. Of n
@@ -80,7 +80,7 @@ def certificates_under(names: Container, items: Items, is_anchor: bool) -> List[
             if kind is Kind.CERTIFICATE and items[it].subject in names]
 
 
-def holders_by_issuer(bundle, anchors) -> Dict[Name, List[Holder]]:
+def holders_by_issuer(bundle: Given, anchors: Given) -> Dict[Name, List[Holder]]:
     """The questions of a bundle and anchors (Items or octets), each name of an issuer once: whose
     keys have to be tried on the items that were issued under it, in the order of the files.
 

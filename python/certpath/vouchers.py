@@ -1,9 +1,10 @@
 """Vouchers: which keys vouch for which items."""
 import hashlib
 from ctypes import byref
-from typing import Iterable, Union
+from typing import Iterable, Tuple, Union
 
 from . import arguments, library
+from .items import Octets
 
 DIGEST = 32
 DIGITS = 2 * DIGEST
@@ -13,8 +14,8 @@ TEXT = bytes(range(32, 127)) + b"\t\r\n"
 ROOM = 64
 
 
-def refuse_lines(text: bytes):
-    """BadLine where the octets are no voucher file, as the library's reader of voucher files says.
+def refuse_lines(text: bytes) -> None:
+    """BadLine if the octets are no voucher file, as the library's reader of voucher files says.
 
     It reads vouchers for a report; this one is on no items at all.
     """
@@ -23,8 +24,8 @@ def refuse_lines(text: bytes):
     library.text_of(lambda *room: library.loaded().certpath_why(*given, *room), ROOM)
 
 
-def pairs_of(octets, what: str = "vouchers") -> bytes:
-    """Pairs of digests one after another; ValueError where they can't be such: they are text, or
+def pairs_of(octets: Octets, what: str = "vouchers") -> bytes:
+    """Pairs of digests one after another; ValueError if they can't be such: they are text, or
     of another length."""
     octets = arguments.octets(octets, what)
     if octets and not octets[:library.PAIR].translate(None, TEXT):
@@ -39,7 +40,7 @@ def pairs_of(octets, what: str = "vouchers") -> bytes:
 class Vouchers:
     """Which keys vouch for which items: pairs of SHA-256 digests, as a voucher file has them."""
 
-    def __init__(self, pairs: Iterable = ()):
+    def __init__(self, pairs: Iterable[Tuple[bytes, bytes]] = ()):
         if isinstance(pairs, (str, bytes, bytearray, memoryview)):
             raise TypeError("vouchers: pairs of digests are needed; Vouchers.from_text() reads a "
                             "voucher file, Vouchers.from_octets() pairs one after another")
@@ -65,7 +66,7 @@ class Vouchers:
         return made
 
     @classmethod
-    def from_octets(cls, octets: bytes) -> "Vouchers":
+    def from_octets(cls, octets: Octets) -> "Vouchers":
         """The vouchers of pairs one after another, as `octets` gives them; ValueError of octets
         that can't be such."""
         octets, made = pairs_of(octets), cls()
@@ -73,12 +74,12 @@ class Vouchers:
             made._pairs[octets[it:it + library.PAIR]] = None
         return made
 
-    def add(self, key: bytes, item: bytes):
+    def add(self, key: bytes, item: bytes) -> None:
         """A key (DER, SubjectPublicKeyInfo) verifies the signature of an item (DER)."""
         key, item = arguments.octets(key, "the key"), arguments.octets(item, "the item")
         self.add_digests(hashlib.sha256(key).digest(), hashlib.sha256(item).digest())
 
-    def add_digests(self, key_digest: bytes, item_digest: bytes):
+    def add_digests(self, key_digest: bytes, item_digest: bytes) -> None:
         """As `add`, by the SHA-256 digests of the key and of the item, 32 octets each."""
         digests = (arguments.octets(key_digest, "the key's digest"),
                    arguments.octets(item_digest, "the item's digest"))
@@ -99,14 +100,18 @@ class Vouchers:
         return len(self._pairs)
 
 
-def vouchers_of(given: Union[Vouchers, bytes, str]) -> bytes:
+# What a call takes as vouchers: Vouchers, their octets, or the text of a voucher file.
+VouchersGiven = Union[Vouchers, bytes, str]
+
+
+def vouchers_of(given: VouchersGiven) -> bytes:
     """The pairs of vouchers, of their octets, or of the text of a voucher file."""
     if isinstance(given, Vouchers):
         return given.octets()
     return Vouchers.from_text(given).octets() if isinstance(given, str) else pairs_of(given)
 
 
-def voucher_file(given: Union[Vouchers, bytes, str]) -> bytes:
+def voucher_file(given: VouchersGiven) -> bytes:
     """A voucher file of vouchers, of their octets, or of its own text."""
     if isinstance(given, str):
         return given.encode()

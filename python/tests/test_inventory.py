@@ -374,7 +374,14 @@ class Tables(Room):
             path = tables.part(self.folder, number, tables.PARQUET)
             self.assertEqual(tables.write(path, held, tables.PARQUET, self.folder), len(held))
         found = pyarrow.parquet.read_table(os.path.join(self.folder, "part-000000.parquet"))
-        self.assertEqual(tuple(found.to_pylist()[0].values()), row)
+        self.assertEqual([it or "" for it in found.to_pylist()[0].values()], [*row])
+
+    def test_values(self):
+        for heading, held, expected in (
+                ("file", "a\udcff", "a\\xff"), ("file", "ö", "ö"), ("offset", "7", 7),
+                ("offset", 0, 0), ("log_index", "", None), ("log_index", "12", 12),
+                ("cause", "", None), ("cause", None, None)):
+            self.assertEqual(tables.value(heading, held), expected)
 
 
 class Indexed(Room):
@@ -508,15 +515,58 @@ class Reasons(Room):
         self.assertEqual(said[5], f"at {targets[0].item} no issuer: no authority")
         self.assertEqual((len(said), said[-1]), (21, ".. 9 further"))
 
+    def test_many_anchors(self):
+        """Anchors are counted by themselves: there may be more of them than items."""
+        path, targets = self.made(1)
+        with index.Index(path) as opened:
+            held = self.reasons(opened)
+            obstacle = reasons.obstacle_of("at 0 to anchor 2 not linked: no voucher")
+            held.asked = held.asked._replace(anchor_items=("a", "b", "c"))
+            shard = shards.shard_of(opened, targets)
+            self.assertEqual(held.naming(shard, targets[0].item)(obstacle),
+                             "at target to anchor c not linked: no voucher")
+
     def test_path_lengths(self):
         """Where one of them matters, targets are asked about one by one."""
         path, targets = self.made(3)
+        bound = "none\ncheck yes\nat 1 leads to an anchor with at most 0 below\n"
         with index.Index(path) as opened:
             held = self.reasons(opened)
-            bound = reasons.Told([reasons.obstacle_of("at 1 leads to an anchor with at most 0 below")])
-            with mock.patch.object(held, "told", return_value=bound) as told:
+            reported = reasons.Reported(reasons.places_of(bound))
+            self.assertTrue(reported.has_bound)
+            with mock.patch.object(held, "reported", return_value=reported) as asked:
                 self.assertEqual(len(held.of(targets)), 3)
-            self.assertEqual([it.args[2] for it in told.call_args_list], [0, 1, 0, 1, 2])
+            self.assertEqual([it.args[1] for it in asked.call_args_list],
+                             [targets[0], targets[1], *targets])
+
+    def test_other_names(self):
+        """Where none of them issued itself, both reports are of the whole bundle."""
+        path, targets = self.made(4)
+        with index.Index(path) as opened:
+            held, whole = self.reasons(opened), opened.closure([targets[0].issuer])
+            with mock.patch.object(held, "reported", wraps=held.reported) as asked, \
+                    mock.patch.object(opened, "under", return_value=[]):
+                opened.closure = lambda names: whole
+                found = held.together("", targets, 16)
+            self.assertEqual([len(it.args[0].items) for it in asked.call_args_list], [4, 4])
+            self.assertEqual(held.left, reasons.MOST_OF_BLOCK - 2 * 16 * 4)
+            self.assertEqual(found, self.reasons(opened).together(targets[0].issuer, targets, 16))
+
+    def test_lines(self):
+        """Names that read like a reason are none, and of many lines the first are kept."""
+        lines = ["none", "check yes", "at 3 CN=a", "at 3 not usable: expired 2026-01-01T00:00:00Z",
+                 *(f"at 3 to {it} not linked: no voucher" for it in range(30)), "at 3 to 30 linked",
+                 "at 3 to anchor 0 not linked: no voucher", "at 12 CN=b not linked: no voucher",
+                 "at 12 no issuer: no authority", "at 12 no issuer here: CN=c",
+                 "list 9 CN=c", "list 9 not used: no next update", ""]
+        found = reasons.places_of("\n".join(lines))
+        kinds = {(part.name, at): {kind: few.count for kind, few in held.items()}
+                 for (part, at), held in found.items()}
+        self.assertEqual(kinds, {("CERTIFICATES", 3): {"not usable": 1, "not linked": 31},
+                                 ("CERTIFICATES", 12): {"no issuer": 1, "no issuer here": 1},
+                                 ("LISTS", 9): {"not used": 1}})
+        first = [*map(reasons.obstacle_of, found[reasons.Part.CERTIFICATES, 3]["not linked"].first)]
+        self.assertEqual([it.to for it in first], [*range(reasons.MOST_REASONS)])
 
     def test_limit(self):
         path, targets = self.made(5)
@@ -529,6 +579,31 @@ class Reasons(Room):
             held.left = 5 * 30
             found = held.of(targets[:2])
             self.assertEqual([it.startswith("not asked") for it in found.values()], [False, True])
+
+    def test_limit_of_one_name(self):
+        """Of a thousand certificates of one name reasons are asked for, and of some more not."""
+        path, _ = self.made(1)
+        with index.Index(path) as opened:
+            for count, may in ((1000, True), (1100, False)):
+                self.assertEqual(self.reasons(opened).may_ask(count + count ** 2, count), may)
+
+    def test_front(self):
+        """Of many certificates of one name some give all reasons that stand in the table; where
+        they give fewer, all are asked about."""
+        path, targets = self.made(9)
+        with index.Index(path) as opened, mock.patch.object(reasons, "MOST_WHOLE", 0), \
+                mock.patch.object(reasons, "MOST_REASONS", 4):
+            held = self.reasons(opened)
+            whole = {it.item: held.alone(it, 90, 9) for it in targets}
+            for front in (4, 6, 3):
+                with mock.patch.object(reasons, "FRONT", front):
+                    found = self.reasons(opened).of(targets)
+                for item, said in found.items():
+                    lines = whole[item].split("; ")
+                    if front > 3:
+                        lines[4:] = [".. further not asked: 90 pairs of a certificate and one of "
+                                     "its issuer's name"]
+                    self.assertEqual(said.split("; "), lines)
 
 
 class Shown(unittest.TestCase):

@@ -8,14 +8,15 @@ import json
 import os
 import shutil
 import sqlite3
+import sys
 import unittest
 from base64 import b64decode, b64encode
 from contextlib import closing
 from datetime import datetime
 from unittest import mock
 
-from certpath.inventory import (anchors, blocks, databases, files, index, jobs, program, records, rows,
-                                running, signatures, tables, trees, work, writing)
+from certpath.inventory import (anchors, blocks, databases, files, index, jobs, parquet, program,
+                                records, rows, running, signatures, tables, trees, work, writing)
 from certpath.inventory.entries import Entry, Place
 from certpath.items import LIMIT
 
@@ -384,12 +385,39 @@ class Runs(Room):
                                      for it in self.rows()])
             self.assertEqual((issuers, json.loads(record)), (3, self.record()))
         with self.assertRaisesRegex(writing.CannotWrite, "there already"):
-            databases.tested(path)
+            writing.tested(path)
         for bad in (os.path.join(self.folder, "none", "a"), self.folder):
             with self.assertRaises(writing.CannotWrite):
                 databases.write(self.out, bad)
-        self.assertEqual(databases.value("file", "a\udcff"), "a\\xff")
         self.assertFalse([it for it in os.listdir(self.folder) if it.endswith(".begun")])
+
+    def test_parquet(self):
+        """One file has the rows of all parts, and the record."""
+        try:
+            import pyarrow.parquet
+        except ImportError:
+            self.skipTest("pyarrow isn't installed")
+        path, expected = os.path.join(self.folder, "table.parquet"), None
+        for form in (tables.CSV, tables.PARQUET):
+            self.run_with(Here(), why=False, form=form)
+            parquet.write(self.out, path)
+            found = pyarrow.parquet.read_table(path)
+            held = [it["offset"] for it in found.to_pylist()]
+            expected = expected or [int(it["offset"]) for it in self.rows()]
+            self.assertEqual(held, expected)
+            self.assertEqual(found.column("log_index").to_pylist(), [None] * len(held))
+            self.assertEqual(json.loads(found.schema.metadata[b"run"]), self.record())
+            shutil.rmtree(self.out)
+
+    def test_no_parquet(self):
+        with mock.patch.dict(sys.modules, {"pyarrow": None}):
+            self.assertEqual(tables.default_format(), tables.CSV)
+            with self.assertRaisesRegex(tables.NoParquet, "pip install pyarrow"):
+                self.run_with(Here(), form=tables.PARQUET)
+            self.assertFalse(os.path.exists(self.out))
+            self.run_with(Here(), why=False)
+            with self.assertRaises(tables.NoParquet):
+                parquet.write(self.out, os.path.join(self.folder, "table.parquet"))
 
     def test_anchors_that_change(self):
         path = self.put("anchors.der", ROOT)

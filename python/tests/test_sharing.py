@@ -91,7 +91,8 @@ class Pickling(unittest.TestCase):
             self.assertEqual((again, type(again), again.kind), (it, type(it), it.kind))
 
     def test_errors(self):
-        for error in (certpath.BadLine(7), certpath.NoField("no"), certpath.BadItem("no")):
+        for error in (certpath.BadLine(7), certpath.BadHost("it is empty"), certpath.NoField("no"),
+                      certpath.BadItem("no")):
             again = pickle.loads(pickle.dumps(error))
             self.assertEqual((type(again), str(again)), (type(error), str(error)))
 

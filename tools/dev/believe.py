@@ -3,7 +3,8 @@
 
   believe.py CRATE::CALL     prints each page of definitions that the call's clauses depend on,
                              and the types that they speak of
-  believe.py --write         writes docs/TRUST.md, a list for every public call
+  believe.py CRATE           prints the pages of each public call of a crate
+  believe.py --write         writes docs/TRUST.md: how much that is
 
 CALL is a function, `Type::function`, or a function of include/certpath.h, as certpath_c::certpath_find. From the words of
 the clauses it goes on to the words of each definition, and only of those definitions that are reached. It stops at the
@@ -20,7 +21,7 @@ sys.path.insert(0, os.path.dirname(os.path.dirname(os.path.abspath(__file__))))
 from gate import calls, exports, syntax
 from program import repo
 
-PAGE = "docs/TRUST.md"
+PAGE, WIDTH = "docs/TRUST.md", 100
 # The calls of the table at the head of docs/TRUST.md: what is judged, and the readers.
 JUDGED = ["certcheck::check", "certcheck::check_all", "certpath_find::find", "certpath_find::find_all", "certpath_run::run",
           "certpath_run::run_why", "certpath_run::run_all", "certpath_run::find_evidence", "certpath_recheck::run_recheck",
@@ -33,10 +34,10 @@ HEADS = ["certpath_engine::read_words", "certpath_engine::frame", "cert_framing:
 C_CRATE = "certpath_c"
 # Crates that run code, and hand nothing to others.
 NO_LIBRARY = re.compile(r"(?:_rows|_tests|bench)$|^example_")
-# A page follows the code where the comment at its head says so, or its name does; and the pages of which that is known.
+# A page follows the code if the comment at its head says so, or its name does; and the pages of which that is known.
 FOLLOWS = re.compile(r"retrace|step by step|as the code|from where it lies in the octets")
 FOLLOWS_BY_NAME = re.compile(r"(?:Reading|Readers)\.antt$")
-FOLLOWING = {f"crates/{it}.antt" for it in (
+FOLLOWING = {f"crates/{entry}.antt" for entry in (
     "asn1_any/specs/Reading", "asn1_core/specs/Reading", "asn1_oid/specs/Reading", "cert_judge/specs/Limits",
     "cert_judge/specs/Named", "x509_core/specs/Reading", "x509_names/specs/Reading")}
 HEAD = re.compile(r"^(?:(?:pattern|unfoldable|abbrev|axiom|pub) )*(record|data)? ?(?:pub )?([^\s:(){}]+)(?= )")
@@ -77,8 +78,8 @@ class Page:
         self.path = path
         self.text = repo.read(path)
         self.names, self.modules = {}, {}
-        for it in USE.finditer(self.text):
-            syntax.add_use(self.names, self.modules, it[2], it[3], it[4])
+        for match in USE.finditer(self.text):
+            syntax.add_use(self.names, self.modules, match[2], match[3], match[4])
         self.definitions, self.cases = {}, {}
         self.cut()
 
@@ -95,9 +96,9 @@ class Page:
             elif now and line.strip() and not OTHER.match(line):
                 now.lines += [*above, line]
             above = []
-        for it in self.definitions.values():
-            if it.kind == "data":
-                self.cases |= {case[1]: it for case in map(CASE.match, it.lines) if case}
+        for definition in self.definitions.values():
+            if definition.kind == "data":
+                self.cases |= {case[1]: definition for case in map(CASE.match, definition.lines) if case}
 
     def target(self, name):
         """What a word of this page stands for: a definition, a type, a name of the kit, or none."""
@@ -110,11 +111,11 @@ class Page:
 def reached(text, target, known):
     """What the words of a text stand for; operators are known by their parts."""
     words = {*CHAIN.findall(re.sub(r'"(?:[^"\\]|\\.)*"', '""', text))}
-    operators = {it for it in known if "◌" in it and all(part in words for part in it.split("◌") if part)}
-    return {target(it) for it in words | operators} - {None}
+    operators = {entry for entry in known if "◌" in entry and all(part in words for part in entry.split("◌") if part)}
+    return {target(word) for word in words | operators} - {None}
 
 
-class Held:
+class SourceType:
     """A type of the sources, a trait with what its functions promise, or a constant."""
 
     def __init__(self, file, name):
@@ -123,7 +124,7 @@ class Held:
         for first, last, head in file.blocks:
             if re.match(rf"impl\b.*\bModel for {re.escape(name)}\b", head):
                 self.spans.append((first, last))
-        self.count = sum(file.code.count("\n", *it) + 1 for it in self.spans)
+        self.count = sum(file.code.count("\n", *span) + 1 for span in self.spans)
 
     @property
     def where(self):
@@ -158,13 +159,13 @@ def words_of(source, text, at):
     for word in {*re.findall(r"\b[A-Z]\w*", text)}:
         named = syntax.named_type(source, word)
         if named:
-            found.add(held(*named))
+            found.add(source_type(*named))
     return found
 
 
 @functools.cache
-def held(source, name):
-    return Held(source, name)
+def source_type(source, name):
+    return SourceType(source, name)
 
 
 @functools.cache
@@ -187,17 +188,17 @@ class Kit:
 
 @functools.cache
 def lookup(module, name):
-    """What a name of a module stands for; none where the module is of the standard library."""
+    """What a name of a module stands for; none if the module is of the standard library."""
     _, crate, part, *inner = module.split(".")
     if crate == "std":
         return None
     if crate not in syntax.CRATES:
-        return kit(f"{crate} {'.'.join(it for it in inner if it != 'declared')}")
+        return kit(f"{crate} {'.'.join(entry for entry in inner if entry != 'declared')}")
     if inner[:1] == ["declared"]:
-        inner = [it for it in inner[1:] if it not in ("TheVariants", "TheConstants")]
+        inner = [entry for entry in inner[1:] if entry not in ("TheVariants", "TheConstants")]
         kind = name if module.endswith("TheConstants") or name == inner[-1] else inner[-1]
         found = syntax.type_file(crate, kind)
-        return held(*found) if found else None
+        return source_type(*found) if found else None
     path = f"crates/{crate}/{part}/{'/'.join(inner)}.antt"
     if not os.path.exists(os.path.join(repo.TOP, path)):
         return None
@@ -228,30 +229,30 @@ class Trust:
         """Puts a clause beside all that is reached from the first things."""
         waiting = [*first]
         while waiting:
-            it = waiting.pop()
-            if clause not in self.found.setdefault(it, set()):
-                self.found[it].add(clause)
-                waiting += it.needs
+            definition = waiting.pop()
+            if clause not in self.found.setdefault(definition, set()):
+                self.found[definition].add(clause)
+                waiting += definition.needs
 
     @functools.cached_property
     def pages(self):
         """The definitions and types that are reached, by their files."""
         found = {}
-        for it in sorted((it for it in self.found if not isinstance(it, Kit)), key=lambda it: (it.where, it.first)):
-            found.setdefault(it.where, []).append(it)
+        for element in sorted((entry for entry in self.found if not isinstance(entry, Kit)), key=lambda entry: (entry.where, entry.first)):
+            found.setdefault(element.where, []).append(element)
         return found
 
     @functools.cached_property
     def kit(self):
-        return sorted({it.module for it in self.found if isinstance(it, Kit)})
+        return sorted({entry.module for entry in self.found if isinstance(entry, Kit)})
 
     def lines(self, path):
         """How many lines are reached of a file."""
-        return sum(it.count for it in self.pages.get(path, ()))
+        return sum(entry.count for entry in self.pages.get(path, ()))
 
     def exact(self, path):
         """How many of them the clause `exact` of a reader alone reaches."""
-        return sum(it.count for it in self.pages.get(path, ()) if self.call.endswith("::from_der") and self.found[it] == {"exact"})
+        return sum(entry.count for entry in self.pages.get(path, ()) if self.call.endswith("::from_der") and self.found[entry] == {"exact"})
 
 
 def is_page(path):
@@ -268,44 +269,39 @@ def trust_of(call):
     return Trust(call, calls.function(call))
 
 
-def told(call):
+def printed(call):
     """The lines that are printed of a call."""
     trust = trust_of(call)
-    pages = [it for it in trust.pages if is_page(it)]
+    pages = [page for page in trust.pages if is_page(page)]
     for path, of in trust.pages.items():
-        yield f"{path}: {trust.lines(path)} of {length(path)} lines: {', '.join(it.name for it in of)}"
+        yield f"{path}: {trust.lines(path)} of {length(path)} lines: {', '.join(entry.name for entry in of)}"
     yield f"of the kit: {', '.join(trust.kit) or 'the standard library alone'}"
     yield f"{call}: {len(pages)} pages, {sum(map(trust.lines, pages))} lines; types of {len(trust.pages) - len(pages)} sources"
 
 
 HEADER = """# What a promise rests on: the pages to believe
 
-For who reviews a contract. A contract is proved, so its code and proofs needn't be read. What has
-to be read is the function's clauses, and the definitions that their words stand for. This page
-lists the pages of these definitions for every public call, those of `include/certpath.h` too.
-`python3 tools/dev/believe.py --write` makes it, and `./test quick` compares it.
+For who reviews a contract: how much has to be read to believe it. A contract is proved, so its code
+and proofs needn't be read; the function's clauses have to be, and the definitions that their words
+name. The table counts these for the calls that judge, for the main readers, and for each call of
+`include/certpath.h`. `python3 tools/dev/believe.py --write` makes this page, and `./test quick`
+compares it. Which pages these are:
 
-    python3 tools/dev/believe.py certcheck::check
+    $ python3 tools/dev/believe.py certcheck::check | tail -n 1
+    {LAST_LINE}
+    $ python3 tools/dev/believe.py cert_questions
+    {OF_CRATE}
 
-prints each page of one call, with the definitions on it that are reached, and how many lines these
-take. `CRATE::Type::function` names a function of a type.
+The first prints each page of one call, with the definitions that are reached on it and how many
+lines these take; `CRATE::Type::function` names a function of a type, and a law can be named too.
+The second prints, for each public call of a crate, the pages of the crate and those of others.
 
-How it is made: from the words of the clauses and of the signature, through the `ghost use` lines of
+The way goes from the words of the clauses and of the signature, through the `ghost use` lines of
 the source, to the definitions in `specs/`, and from the words of each definition on. Only
 definitions that are reached this way count, with the comment above each. Types of the sources count
-beside them: their fields, what a `Model` says that they stand for, and of a trait what its
-functions promise. It ends at the standard library and at the crates of the kit. Derived functions
-and laws are not listed; the command takes a law as well.
+beside them: their fields, their `Model`, and of a trait what its functions promise. It ends at the
+standard library and at the crates of the kit.
 
-- [How much](#how-much)
-- [Every public call](#every-public-call)
-"""
-INTRODUCTION = """## Every public call
-
-A crate's first line names the pages of other crates that its calls depend on. Then come its calls,
-each with the pages of the crate's own `specs/`. `(12 pages, 340 lines)` is the most that one call
-of the line depends on, pages of other crates included; only lines that are reached count. A call
-that isn't listed depends on no page.
 """
 
 
@@ -314,8 +310,8 @@ def summary(trusts):
     yield "| call | pages | lines | of these by `exact` alone | sources |"
     yield "|---|---|---|---|---|"
     for trust in trusts:
-        pages = [it for it in trust.pages if is_page(it)]
-        lines, exact = (sum(map(it, pages)) for it in (trust.lines, trust.exact))
+        pages = [page for page in trust.pages if is_page(page)]
+        lines, exact = (sum(map(entry, pages)) for entry in (trust.lines, trust.exact))
         yield f"| `{trust.call}` | {len(pages)} | {lines} | {exact or ''} | {len(trust.pages) - len(pages)} |"
 
 
@@ -327,8 +323,8 @@ def trust_in(function):
 
 def own_pages(crate):
     """The pages of a crate's specs/ that its public calls and laws depend on, but for those that follow the code."""
-    found = {path for it in exports.exported(crate) for path in trust_in(it).pages if is_page(path) and path.startswith(f"crates/{crate}/")}
-    return sorted(page_name(it) for it in found if not follows(it))
+    found = {path for entry in exports.exported(crate) for path in trust_in(entry).pages if is_page(path) and path.startswith(f"crates/{crate}/")}
+    return sorted(page_name(entry) for entry in found if not follows(entry))
 
 
 def page_name(path):
@@ -339,29 +335,29 @@ def page_name(path):
 def of_others(crate):
     """The pages of other crates, crate by crate."""
     found = {}
-    for it in exports.public(crate):
-        for path in filter(is_page, trust_in(it).pages):
+    for element in exports.public(crate):
+        for path in filter(is_page, trust_in(element).pages):
             found.setdefault(path.split("/")[1], set()).add(page_name(path))
     found.pop(crate, None)
-    return "; ".join(f"`{it}`: {named(sorted(found[it]))}" for it in found)
+    return "; ".join(f"`{entry}`: {named(sorted(found[entry]))}" for entry in found)
 
 
 def named(pages):
-    return ", ".join(f"`{it}`" for it in pages)
+    return ", ".join(f"`{page}`" for page in pages)
 
 
 def grouped(functions):
-    """Functions as they are named together: those of one type behind its name, each name once."""
+    """Functions as they are named together: those of one type after its name, each name once."""
     found = {}
-    for it in functions:
-        found.setdefault(it.owner_type, {})[it.name] = True
+    for function in functions:
+        found.setdefault(function.owner_type, {})[function.name] = True
     for owner, names in found.items():
         if owner and len(names) > 1:
             yield f"`{owner}::{{{', '.join(names)}}}`"
         elif owner:
             yield f"`{owner}::{next(iter(names))}`"
         else:
-            yield from (f"`{it}`" for it in names)
+            yield from (f"`{name}`" for name in names)
 
 
 def number(count, what):
@@ -371,26 +367,26 @@ def number(count, what):
 @functools.cache
 def has_pages(crate):
     """Whether a public call of a crate depends on a page."""
-    return not NO_LIBRARY.search(crate) and any(is_page(path) for it in exports.public(crate) for path in trust_in(it).pages)
+    return not NO_LIBRARY.search(crate) and any(is_page(path) for entry in exports.public(crate) for path in trust_in(entry).pages)
 
 
 def crate_lines(crate):
-    """The lines of a crate: the pages of others, then its calls by the pages of its own."""
+    """The lines of a crate: the pages of other crates that its calls depend on, then its calls by the pages of its own, with the
+    most pages and lines that one call of the line depends on."""
     by_pages = {}
-    for it in exports.public(crate):
-        pages = [*filter(is_page, trust_in(it).pages)]
+    for entry in exports.public(crate):
+        pages = [*filter(is_page, trust_in(entry).pages)]
         if pages:
             own = tuple(sorted(page_name(path) for path in pages if path.startswith(f"crates/{crate}/")))
-            by_pages.setdefault(own, []).append(it)
+            by_pages.setdefault(own, []).append(entry)
     if by_pages:
-        yield f"### `{crate}`"
-        yield ""
+        yield f"{crate}:"
     if of_others(crate):
         yield f"- *Of others*: {of_others(crate)}."
-    for own, those in sorted(by_pages.items(), key=lambda it: (len(it[0]), it[0])):
-        trusts = [trust_in(it) for it in those]
-        pages = max(sum(map(is_page, it.pages)) for it in trusts)
-        lines = max(sum(it.lines(path) for path in it.pages if is_page(path)) for it in trusts)
+    for own, those in sorted(by_pages.items(), key=lambda page: (len(page[0]), page[0])):
+        trusts = [trust_in(one) for one in those]
+        pages = max(sum(map(is_page, trust.pages)) for trust in trusts)
+        lines = max(sum(trust.lines(path) for path in trust.pages if is_page(path)) for trust in trusts)
         yield f"- {', '.join(grouped(those))}: {named(own) or 'none of its own'} ({number(pages, 'page')}, {number(lines, 'line')})."
 
 
@@ -404,17 +400,22 @@ def follows(path):
 
 def following(trusts):
     """The pages that follow the code among those of calls."""
-    return sorted({path for it in trusts for path in it.pages if is_page(path) and follows(path)})
+    return sorted({path for trust in trusts for path in trust.pages if is_page(path) and follows(path)})
 
 
-def wrapped(line):
-    """A line of a page, cut before column 100; what is below an item of a list is indented."""
+def printed_of_crate(crate):
+    """The lines that are printed of a crate; a page shows them indented."""
+    return [line for one_line in crate_lines(crate) for line in wrapped(one_line, WIDTH - 4).splitlines()]
+
+
+def wrapped(line, width=WIDTH):
+    """A line of a page, cut before a column; what is below an item of a list is indented."""
     indent = "  " if line.startswith("- ") else ""
-    return textwrap.fill(line, 100, subsequent_indent=indent, break_long_words=False, break_on_hyphens=False)
+    return textwrap.fill(line, width, subsequent_indent=indent, break_long_words=False, break_on_hyphens=False)
 
 
 def libraries():
-    return [it for it in syntax.CRATES if not NO_LIBRARY.search(it)]
+    return [crate for crate in syntax.CRATES if not NO_LIBRARY.search(crate)]
 
 
 def judged():
@@ -424,21 +425,19 @@ def judged():
 
 def written():
     """The text of docs/TRUST.md."""
-    every = [trust_in(it) for crate in libraries() for it in exports.public(crate)]
-    listed = [it for it in every if any(map(is_page, it.pages))]
-    kit = sorted({module.split()[0] for it in every for module in it.kit})
+    every = [trust_in(entry) for crate in libraries() for entry in exports.public(crate)]
+    listed = [entry for entry in every if any(map(is_page, entry.pages))]
+    kit = sorted({module.split()[0] for entry in every for module in entry.kit})
     heads = [*map(trust_of, HEADS), *map(trust_in, exports.public(C_CRATE))]
-    lines = [HEADER, "## How much", "", *summary(heads), "",
-             wrapped(f"Of {len(every)} public calls {len(listed)} depend on a page. Of the crates of the kit definitions of these are reached: {', '.join(f'`{it}`' for it in kit)}."), "",
-             "A reader's clause `exact` says which error comes. It is written in definitions that follow the",
-             "reader's steps, on pages named `Reading` and `Readers`. To know what a reader accepts, and as which",
-             "value, these needn't be read.", "",
-             wrapped("Of the pages of the calls that judge, and of C's, these follow the code step by step: " + (", ".join(f"`{short(it)}`" for it in following(judged())) or "none") + "."), "",
-             INTRODUCTION]
-    for crate in libraries():
-        found = [*map(wrapped, crate_lines(crate))]
-        lines += [*found, ""] if found else []
-    return "\n".join(lines)
+    of_crate = "\n".join(f"    {line}" for line in printed_of_crate("cert_questions"))
+    head = HEADER.replace("{LAST_LINE}", [*printed("certcheck::check")][-1]).replace("    {OF_CRATE}", of_crate)
+    lines = [head + "## How much", "", *summary(heads), "",
+             wrapped(f"Of {len(every)} public calls {len(listed)} depend on a page. Of the crates of the kit definitions of these are reached: {', '.join(f'`{entry}`' for entry in kit)}."), "",
+             "A reader's clause `exact` says which error is returned. It is written in definitions that follow",
+             "the reader's steps, on pages named `Reading` and `Readers`. To know what a reader accepts, and as",
+             "which value, these needn't be read.", "",
+             wrapped("Of the pages of the calls that judge, and of C's, these follow the code step by step: " + (", ".join(f"`{short(entry)}`" for entry in following(judged())) or "none") + ".")]
+    return "\n".join(lines) + "\n"
 
 
 def faults():
@@ -454,12 +453,12 @@ def main(words):
         with open(os.path.join(repo.TOP, PAGE), "w", encoding="utf-8") as file:
             file.write(written())
         return 0
-    if not words or any(it.startswith("-") for it in words):
+    if not words or any(word.startswith("-") for word in words):
         print(__doc__.strip(), file=sys.stderr)
         return 2
     for call in words:
         try:
-            print("\n".join(told(call)))
+            print(*(printed_of_crate(call) if call in syntax.CRATES else printed(call)), sep="\n")
         except LookupError as error:
             print(f"believe: {error.args[0]}", file=sys.stderr)
             return 1

@@ -18,7 +18,7 @@ CALLER, CONTRACTS, END = "<!-- caller: made by tools/dev/calling.py -->\n", "<!-
 
 class Page:
     """Of a crate: the proved sources that show how it is called, each with the functions that are quoted of it (all of it
-    where none is named); and the calls whose contracts are quoted."""
+    if none is named); and the calls whose contracts are quoted."""
 
     def __init__(self, sources, calls):
         self.sources, self.calls = sources, calls
@@ -54,7 +54,7 @@ def path_of(crate):
 def function(call):
     """The function that a call names; of a trait also one that has no body."""
     crate, *owner, name = call.split("::")
-    found = [it for source in syntax.files(crate) for it in source.functions if it.name == name and it.owner_type == "".join(owner)]
+    found = [function for source in syntax.files(crate) for function in source.functions if function.name == name and function.owner_type == "".join(owner)]
     if not found:
         raise LookupError(f"there is no function {call}")
     return found[0]
@@ -68,7 +68,7 @@ def signature(of):
 
 
 def contract(call):
-    """A call's signature and clauses, as they stand in its source."""
+    """A call's signature and clauses, as they are in its source."""
     of = function(call)
     lines = [signature(of)]
     for kind, name, text in of.clauses:
@@ -84,8 +84,8 @@ def quoted(source, names):
         first = next(number for number, line in enumerate(lines) if line and not line.startswith("//!"))
         return lines[first:]
     found = []
-    for it in (syntax.file(path).plain[name] for name in names):
-        first, last = it.line - 1, syntax.line_of(it.file.code, syntax.closing(it.file.code, it.body_at))
+    for entry in (syntax.file(path).plain[name] for name in names):
+        first, last = entry.line - 1, syntax.line_of(entry.file.code, syntax.closing(entry.file.code, entry.body_at))
         while lines[first - 1].startswith("///"):
             first -= 1
         found += ([""] if found else []) + lines[first:last]

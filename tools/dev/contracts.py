@@ -5,6 +5,7 @@
 
 `tools/gate/quick.py` compares the page. Functions that a macro or a derived trait makes are not seen.
 """
+import functools
 import os
 import sys
 
@@ -22,7 +23,7 @@ and the laws of each crate. `python3 tools/dev/contracts.py` makes the page of t
 `./test quick` compares it. A clause is in the source, after `ensures` or `requires`, with its name
 if it has one; a premise is what a caller has to show. A law is a public function that does nothing:
 its clauses are what it says. A call without clauses of its own has those of its trait, in the words
-that its impl gives. [TRUST.md](TRUST.md) lists the pages of definitions that clauses rest on.
+that its impl gives. [TRUST.md](TRUST.md) says which definitions clauses rest on.
 
 """
 
@@ -35,31 +36,36 @@ def named(function):
 def by_clauses(functions):
     """Functions by the names of their clauses, those with the same ones together."""
     found = {}
-    for it in functions:
-        found.setdefault(named(it), []).append(it)
+    for function in functions:
+        found.setdefault(named(function), []).append(function)
     return found.items()
 
 
 def crate_lines(crate):
     """The lines of a crate: its traits, its calls, and its laws."""
-    calls = [it for it in exports.public(crate) if it.clauses]
+    calls = [entry for entry in exports.public(crate) if entry.clauses]
     for what, functions in (("", exports.traits(crate)), ("", calls)):
         for names, those in by_clauses(functions):
             yield f"- {', '.join(believe.grouped(those))}: {', '.join(names)}."
-    rest = [it for it in exports.public(crate) if not it.clauses]
+    rest = [entry for entry in exports.public(crate) if not entry.clauses]
     if rest:
         yield f"- *By their traits*: {', '.join(believe.grouped(rest))}."
-    laws = [it for it in exports.exported(crate) if it.is_law]
+    laws = [entry for entry in exports.exported(crate) if entry.is_law]
     if laws:
         yield f"- *Laws*: {', '.join(believe.grouped(laws))}."
 
 
+@functools.cache
+def crates():
+    """The crates that have a section, each with its lines."""
+    found = {library: [*map(believe.wrapped, crate_lines(library))] for library in believe.libraries()}
+    return {name: lines for name, lines in found.items() if lines}
+
+
 def written():
     """The text of the page."""
-    crates = [(it, [*map(believe.wrapped, crate_lines(it))]) for it in believe.libraries()]
-    crates = [(name, lines) for name, lines in crates if lines]
-    contents = "\n".join(f"- [`{name}`](#{name})" for name, _ in crates)
-    return HEADER + contents + "\n" + "".join("\n".join(["", f"## `{name}`", "", *lines, ""]) for name, lines in crates)
+    contents = "\n".join(f"- [`{name}`](#{name})" for name in crates())
+    return HEADER + contents + "\n" + "".join("\n".join(["", f"## `{name}`", "", *lines, ""]) for name, lines in crates().items())
 
 
 def faults():

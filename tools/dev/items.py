@@ -2,7 +2,7 @@
 """Writes the items of crates/cert_rows/stdin anew, each by the comment above it.
 
 A comment `# TITLE: KIND PART=TEXT ..` spells the item below it. KIND is `certificate` or `list`, of which only the parts that are named differ from the plain one;
-or `octets TEXT`. A digit, `keys` or a word with commas before KIND stands before the item too, with a colon. A text is octets in hex; `TAG(TEXT)` is an element, its length counted; `"LETTERS"` their octets; `TEXT*N` what is before it N times over; `-` nothing.
+or `octets TEXT`. A digit, `keys` or a word with commas before KIND is before the item too, with a colon. A text is octets in hex; `TAG(TEXT)` is an element, its length counted; `"LETTERS"` their octets; `TEXT*N` what is before it N times over; `-` nothing.
 """
 import os
 import re
@@ -14,7 +14,7 @@ from program import repo
 STDIN = "crates/cert_rows/stdin"
 ALGORITHM = "30(06(2a03))"
 DATES = '17("250101000000Z")', '17("260101000000Z")'
-# The parts of a plain item, in the order in which they are written: those of the first part, then those behind it.
+# The parts of a plain item, in the order in which they are written: those of the first part, then those after it.
 PLAIN = {
     "certificate": (
         {"version": "-", "serial": "02(01)", "signature": ALGORITHM, "issuer": "30()", "validity": f"30({DATES[0]}{DATES[1]})", "subject": "30()",
@@ -67,7 +67,7 @@ def item(spelling):
     kind, *words = spelling.split(" ")
     if kind == "octets":
         return octets("".join(words))
-    first, behind = ({**it} for it in PLAIN[kind])
+    first, behind = ({**entry} for entry in PLAIN[kind])
     for word in words:
         name, _, text = word.partition("=")
         parts = first if name in first else behind
@@ -76,7 +76,7 @@ def item(spelling):
         parts[name] = text
     outer = {**behind}
     end = octets(outer.pop("behind"))
-    return element(b"\x30", element(b"\x30", b"".join(octets(it) for it in first.values())) + b"".join(octets(it) for it in outer.values())) + end
+    return element(b"\x30", element(b"\x30", b"".join(octets(entry) for entry in first.values())) + b"".join(octets(entry) for entry in outer.values())) + end
 
 
 def row(spelling):

@@ -5,16 +5,19 @@
 """
 import os
 import re
+import shutil
+import subprocess
 import sys
+import textwrap
 
 sys.dont_write_bytecode = True
 sys.path.insert(0, os.path.dirname(os.path.dirname(os.path.abspath(__file__))))
+from install import completions
 from program import repo, usage
-from verify import words
 
 SOURCE, PAGE, COMPLETION = "docs/CLI.md", "docs/certpath.1", "completion/certpath.bash"
 REMEDY = "run python3 tools/dev/manual.py"
-OPTION = re.compile(r"(?<![\w-])--?[a-z][a-z-]*")
+OPTION = re.compile(r"(?m)^ +(?:-\w, )?(--[a-z][a-z-]*)")
 RULE = re.compile(r"\|(?:-+\|)+")
 LINK = re.compile(r"\[([^\]]*)\]\(([^)#]*)[^)]*\)")
 # What the page describes, as `man` lists it; the sections of these commands begin with their forms.
@@ -23,8 +26,6 @@ SECTION = re.compile(r"(?ms)^## `([a-z]+)[^`\n]*`\n(.*?)(?=^## |\Z)")
 # The links of the page itself, which a manual page has no use for.
 CONTENTS = "Also:"
 SEE_ALSO = "openssl-verify(1), openssl-x509(1), openssl-crl(1); README.md and the folder docs of the repository"
-# Commands whose help isn't a text of a module, by what ./vouch and ./bundle say of their words.
-FURTHER = {"vouch": ("--weak", "--tries", "--verbose", "--limit", "--help"), "bundle": ("--help",)}
 
 
 def plain(text):
@@ -111,59 +112,50 @@ def of_block(lines):
         yield from (".PP", plain(" ".join(lines)))
 
 
+# A line of roff has at most so many characters, as `mandoc -Tlint` wants it; lines that keep their form may be longer.
+WIDTH = 80
+LOG, DATE = "CHANGELOG.md", re.compile(r"(?m)^## [\d.]+ - (\d{4}-\d\d-\d\d)$")
+
+
+def fitted(lines):
+    """The lines of a page as `mandoc -Tlint` wants them: no paragraph begins right after a heading, and text is cut at blanks."""
+    is_form, before = False, ""
+    for line in lines:
+        is_form = line == ".nf" or is_form and line != ".fi"
+        if line != ".PP" or not before.startswith((".SH", ".SS")):
+            if line.startswith(".") or is_form:
+                yield line
+            else:
+                cut = textwrap.wrap(line, WIDTH, break_long_words=False, break_on_hyphens=False)
+                yield from (f"\\&{it}" if it.startswith((".", "'")) else it for it in cut)
+        before = line
+
+
+def date():
+    """The day of the version, by the change log."""
+    found = DATE.search(repo.read(LOG))
+    return found[1] if found else ""
+
+
 def page():
     """The manual page."""
     _, _, body = repo.read(SOURCE).partition("\n")
-    head = [f'.TH CERTPATH 1 "" "certpath {usage.VERSION}"', ".SH NAME",
+    head = [f'.TH CERTPATH 1 "{date()}" "certpath {usage.VERSION}"', ".SH NAME",
             f"{', '.join(NAMES)} \\- X.509 certificates, revocation lists and certificate paths"]
     lines = [line for block in blocks(body) for line in of_block(block)]
-    return "\n".join([*head, *synopsis(body), ".SH COMMANDS", *lines, '.SH "SEE ALSO"', plain(SEE_ALSO)]) + "\n"
-
-
-def options_of(text):
-    return sorted({it for it in OPTION.findall(text) if it.startswith("--")})
+    return "\n".join(fitted([*head, *synopsis(body), ".SH COMMANDS", *lines, '.SH "SEE ALSO"', plain(SEE_ALSO)])) + "\n"
 
 
 def completion():
-    """The completion of bash."""
-    of_commands = {name: options_of(text) for name, text in usage.TEXTS.items()}
-    cases = "".join(f'    {name}) words="{" ".join(options)}" ;;\n' for name, options in of_commands.items())
-    others = {"verify": options_of(words.parser().format_help()), **FURTHER}
-    tables = "".join(f'    {name}) words="{" ".join(options)}" ;;\n' for name, options in others.items())
-    return f"""# Completion of bash for certpath, verify, vouch and bundle: source this file. Made by tools/dev/manual.py.
-_certpath() {{
-  local word=${{COMP_WORDS[COMP_CWORD]}} words
-  if [ "$COMP_CWORD" -eq 1 ]; then
-    COMPREPLY=($(compgen -W "{' '.join([*usage.COMMANDS, 'help', '--version', '--build'])}" -- "$word"))
-    return
-  fi
-  case ${{COMP_WORDS[1]}} in
-    help) words="{' '.join(usage.COMMANDS)}" ;;
-{cases}  esac
-  _certpath_words "$word" "$words"
-}}
-_certpath_other() {{
-  local word=${{COMP_WORDS[COMP_CWORD]}} words
-  case ${{1##*/}} in
-{tables}  esac
-  _certpath_words "$word" "$words"
-}}
-_certpath_words() {{
-  case $1 in
-    -*) COMPREPLY=($(compgen -W "$2" -- "$1")) ;;
-    *) COMPREPLY=($(compgen -f -- "$1")) ;;
-  esac
-}}
-complete -o filenames -F _certpath certpath
-complete -o filenames -F _certpath_other {' '.join(others)}
-"""
+    """The completion of bash in a checkout."""
+    return completions.bash(is_installed=False)
 
 
 MADE = {PAGE: page, COMPLETION: completion}
 
 
 def faults():
-    """A line for each file that isn't what its sources say."""
+    """A line for each file that isn't what its sources say, and for what `mandoc` finds, if it is installed."""
     for path, made in MADE.items():
         try:
             held = repo.read(path)
@@ -171,6 +163,9 @@ def faults():
             held = None
         if held != made():
             yield f"{path}: it isn't what {SOURCE} and the commands' helps say: {REMEDY}"
+    if shutil.which("mandoc"):
+        lint = subprocess.run(["mandoc", "-Tlint", os.path.join(repo.TOP, PAGE)], capture_output=True, text=True, check=False)
+        yield from (lint.stdout + lint.stderr).splitlines()
 
 
 def main():

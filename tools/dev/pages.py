@@ -1,9 +1,9 @@
 #!/usr/bin/env python3
-"""Makes of the sources the lists of docs/CRATES.md that say where an extension and a type is, docs/INDEX.md, which leads from a
-rule to its code and proofs, and of each crate's README.md the lines that say what it stands on and what runs it.
+"""Makes of the sources the lists of docs/CRATES.md that say what a crate is and where an extension is, docs/INDEX.md, which says
+what each page of definitions defines, and of each crate's README.md the lines that say what it depends on and what runs it.
 
-    python3 tools/dev/pages.py               writes them into the pages; makes a README.md where a crate has none
-    python3 tools/dev/pages.py above NAME..  prints the crates that stand on the named ones, which a change of these proves again
+    python3 tools/dev/pages.py               writes them into the pages; makes a README.md if a crate has none
+    python3 tools/dev/pages.py above NAME..  prints the crates that depend on the named ones, which a change of these proves again
 
 `tools/gate/quick.py` asks `written` whether they are as the sources say.
 """
@@ -14,20 +14,21 @@ import re
 import sys
 
 sys.path.insert(0, os.path.dirname(os.path.dirname(os.path.abspath(__file__))))
-from dev import believe
+from dev import believe, contracts
 from program import repo
 
 PAGE, INDEX = "docs/CRATES.md", "docs/INDEX.md"
-# How many files, and how many sections, a line names.
+# How many files a line names.
 MOST_NAMED = 2
+# Pages of definitions that have no rule: what values of types stand for, and examples.
+NO_RULE = re.compile(r"(?:View|Views|Values|Examples|Told|Held)$")
 SECTION = re.compile(r"(RFC \d+), ((?:appendix )?[A-Z]?[\d.]*\d)|(X\.\d+), (\d[\d.]*\d|\d+)")
-DECLARED = re.compile(r"(?m)^pub (struct|enum|trait|type) (\w+)")
 # What runs code, and holds none that others build on.
 TOPS = ("_rows", "_tests", "bench")
 EXAMPLES = "example_"
 # The crates that hand on others by name.
 PORTS = ("asn1_rs", "der_parser", "x509_parser")
-# What tries the crates that no rows and tests stand on.
+# What tries the crates that no rows and tests depend on.
 TRIALS = {"certpath_c": "tools/trials/embedding.py", "certpath_cli": "tools/trials/commands.py"}
 
 
@@ -41,17 +42,11 @@ def sources(crate, part):
     """The files of a crate's src/, specs/ or proofs/, by their paths from the top."""
     inside = os.path.join(repo.TOP, "crates", crate, part)
     found = glob.glob(os.path.join(inside, "**", "*"), recursive=True)
-    return sorted(os.path.relpath(it, repo.TOP) for it in found if it.endswith((".rt", ".antt")))
+    return sorted(os.path.relpath(entry, repo.TOP) for entry in found if entry.endswith((".rt", ".antt")))
 
 
 def code(name):
     return f"`{name}`"
-
-
-def named(names):
-    """The first of some names, and how many more there are."""
-    shown = ", ".join(map(code, names[:MOST_NAMED]))
-    return f"{shown} and {len(names) - MOST_NAMED} more" if len(names) > MOST_NAMED else shown or "-"
 
 
 def table(heads, rows):
@@ -59,8 +54,8 @@ def table(heads, rows):
 
 
 def sections(octets):
-    """The sections of standards that a text cites, each once, in the order in which they stand."""
-    found = [f"{it[1] or it[3]}, {it[2] or it[4]}" for it in SECTION.finditer(octets)]
+    """The sections of standards that a text cites, each once, in the order in which they are there."""
+    found = [f"{match[1] or match[3]}, {match[2] or match[4]}" for match in SECTION.finditer(octets)]
     return [*dict.fromkeys(found)]
 
 
@@ -69,9 +64,9 @@ def sections(octets):
 def dotted(octets):
     """An object identifier with its points (X.690, 8.19)."""
     numbers, number = [], 0
-    for it in octets:
-        number = number << 7 | it & 0x7F
-        if it < 0x80:
+    for octet in octets:
+        number = number << 7 | octet & 0x7F
+        if octet < 0x80:
             numbers.append(number)
             number = 0
     first = min(numbers[0] // 40, 2)
@@ -106,27 +101,24 @@ def extensions():
         relation = re.search(rf"IsOf kinds\.{kind} = Begins (\w+)", parsed)[1]
         identifier = dotted(bytes.fromhex(octets.replace("\\x", "")))
         rows.append([kind, identifier, section, code(reader), code(path.removeprefix("crates/")), code(f"{homes[relation]}.antt")])
-    return table(["extension", "identifier", "section", "read by", "in", "definition"], sorted(rows, key=lambda it: it[0].lower()))
+    return table(["extension", "identifier", "section", "read by", "in", "definition"], sorted(rows, key=lambda row: row[0].lower()))
 
 
-# ---- types
+# ---- crates
 
-def types():
-    rows = []
-    for crate in repo.crates():
-        if crate.endswith(TOPS) or crate.startswith(EXAMPLES):
-            continue
-        for path in sources(crate, "src"):
-            rows += [(name, kind, path.removeprefix("crates/")) for kind, name in DECLARED.findall(text(path))]
-    return "".join(f"- `{name}`, {kind}: `{path}`\n" for name, kind, path in sorted(rows, key=lambda it: (it[0].lower(), it[2])))
+def described(crate):
+    """What a crate is, by the first paragraph of its page, on one line."""
+    page = repo.read(note(crate)) if os.path.exists(os.path.join(repo.TOP, note(crate))) else ""
+    before = page.partition(NOTE_BEGIN)[0].partition("\n")[2]
+    return " ".join(before.split()).replace("](../../docs/", "](")
+
+
+def crates():
+    """A line for each crate, in the order of crates.txt."""
+    return "".join(believe.wrapped(f"- [`{crate}`](../{note(crate)}): {described(crate)}") + "\n" for crate in repo.crates())
 
 
 # ---- rules
-
-def crate_sections():
-    """The sections of the page that tell of a crate, each with its name."""
-    return re.findall(r"(?m)^### `(\w+)`\n(.*?)(?=^##|\Z)", repo.read(PAGE), re.S | re.M)
-
 
 def believed():
     """Each crate with the pages of its specs/ that its contracts depend on."""
@@ -139,29 +131,29 @@ def believed():
 def what_of(page):
     """The first sentence of a definition page, without the sections that it ends with."""
     comment = re.match(r"(?:--[^\n]*\n)+", text(page))
-    words = " ".join(it.strip("- ") for it in comment[0].splitlines()) if comment else ""
+    words = " ".join(line.strip("- ") for line in comment[0].splitlines()) if comment else ""
     words = re.split(r"(?<=[^.\d])\. |: ", words)[0].strip(" .")
     words = re.sub(r" \((?:RFC|X\.)[^()]*\)$", "", words)
     return words.replace("|", "\\|")
 
 
 def runs(crate):
-    """The crates of rows and tests that name a crate, or a port that hands it on; where there are none, those that stand on it and on least."""
+    """The crates of rows and tests that name a crate, or a port that hands it on; if there are none, those that depend on it and on least."""
     listed = repo.crates()
-    users = [it for it in listed if it.endswith(("_rows", "_tests")) and it != "hex_rows" and crate in repo.below([it], listed)]
-    handed = {crate} | {it for it in PORTS if crate in listed[it]}
-    direct = [it for it in users if handed & {*listed[it]}]
-    return direct or sorted(users, key=lambda it: len(repo.below([it], listed)))[:2]
+    users = [name for name in listed if name.endswith(("_rows", "_tests")) and name != "hex_rows" and crate in repo.below([name], listed)]
+    handed = {crate} | {port for port in PORTS if crate in listed[port]}
+    direct = [user for user in users if handed & {*listed[user]}]
+    return direct or sorted(users, key=lambda user: len(repo.below([user], listed)))[:2]
 
 
-INDEX_HEAD = """# From a rule to its code, proofs and rows
+INDEX_HEAD = """# From a definition to its code
 
-For who wants to see a rule in the code, or what a changed definition touches: each definition page
-that a public contract depends on. `python3 tools/dev/pages.py` makes the page of the sources.
-A line has what the page defines, the first sections that it cites, the sources whose contracts
-name it, and the first lemma that does; paths are below the crate's `src/` and `proofs/`. Each
-crate's line *run by* names the rows and tests that run that code. [RULES.md](RULES.md) has the
-rules in words, [TRUST.md](TRUST.md) which pages a call depends on.
+For who wants to see a rule in the code: each page of definitions in `specs/` that a public contract
+depends on, with what it defines, the first section that it cites, and the first sources in `src/`
+whose contracts name it. Pages that say what values of types stand for (`View`, `Values`) aren't
+listed, nor examples. `python3 tools/dev/pages.py` makes the page of the sources. The rules in
+words are in [RULES.md](RULES.md) and [RULES_PORTS.md](RULES_PORTS.md); `crates/NAME/README.md`
+names the rows and tests that run the code.
 
 """
 
@@ -169,24 +161,20 @@ rules in words, [TRUST.md](TRUST.md) which pages a call depends on.
 def rule_line(crate, page):
     path = f"crates/{crate}/specs/{page}.antt"
     module = rf"Rattle\.{crate}\.specs\.{page}\b"
-    users = [it.removeprefix(f"crates/{crate}/src/") for it in sources(crate, "src") if re.search(module, text(it))]
-    proofs = [it.removeprefix(f"crates/{crate}/proofs/").removesuffix(".antt") for it in sources(crate, "proofs") if re.search(module, text(it))]
-    # lemmas are beside each other, what is proved of one function is in its folder
-    proofs = (sorted(it for it in proofs if "/" not in it) or sorted(proofs))[:1]
-    cited = sections(re.sub(r"\s*\n--\s*", " ", text(path)))
-    cited = f" ({'; '.join(cited[:MOST_NAMED])}{'; ..' if len(cited) > MOST_NAMED else ''})" if cited else ""
-    parts = [f"{what} {named(names)}" for what, names in (("Code", users), ("proofs", proofs)) if names]
-    return f"- `{page}`: {what_of(path)}{cited}. {'; '.join(parts)}." if parts else f"- `{page}`: {what_of(path)}{cited}."
+    users = [source.removeprefix(f"crates/{crate}/src/") for source in sources(crate, "src") if re.search(module, text(source))]
+    cited = sections(re.sub(r"\s*\n--\s*", " ", text(path)))[:1]
+    cited = f" ({cited[0]})" if cited else ""
+    used = f" {', '.join(map(code, users[:MOST_NAMED]))}." if users else ""
+    return f"- `{page}`: {what_of(path)}{cited}.{used}"
 
 
 def index():
     """The text of docs/INDEX.md."""
-    crates = [*believed()]
-    found = [INDEX_HEAD, *(f"- [`{it}`](#{it})\n" for it, _ in crates)]
+    rules = ((crate, [page for page in pages if not NO_RULE.search(page)]) for crate, pages in believed())
+    crates = [(crate, pages) for crate, pages in rules if pages]
+    found = [INDEX_HEAD, *(f"- [`{crate}`](#{crate})\n" for crate, _ in crates)]
     for crate, pages in crates:
-        found += [f"\n## `{crate}`\n\n", *(believe.wrapped(rule_line(crate, it)) + "\n" for it in pages)]
-        rows = runs(crate)
-        found += [believe.wrapped(f"- *Run by* {named(rows)}.") + "\n"] if rows else []
+        found += [f"\n## `{crate}`\n\n", *(believe.wrapped(rule_line(crate, page)) + "\n" for page in pages)]
     return "".join(found)
 
 
@@ -201,7 +189,7 @@ def note(crate):
 
 
 def linked(names):
-    return ", ".join(f"[`{it}`](../{it}/README.md)" for it in names)
+    return ", ".join(f"[`{name}`](../{name}/README.md)" for name in names)
 
 
 def wrapped(line):
@@ -217,22 +205,18 @@ def wrapped(line):
 
 
 def note_lines(crate):
-    """What crates.txt says of a crate, and where its promises stand."""
+    """What crates.txt says of a crate, and where its contracts are."""
     listed = repo.crates()
-    has_section = crate in dict(crate_sections())
-    rest = "examples" if crate.startswith(EXAMPLES) else "rows-tests-benches"
-    place = f"docs/CRATES.md#{crate if has_section else rest}"
-    users = [it for it in listed if crate in listed[it]]
-    lines = [f"- Promises: [docs/CRATES.md](../../{place})."]
+    lines = []
+    if crate in contracts.crates():
+        lines.append(f"- Contracts: [docs/CONTRACTS.md](../../docs/CONTRACTS.md#{crate}).")
     if believe.has_pages(crate):
-        lines.append(f"- Pages to believe: [docs/TRUST.md](../../docs/TRUST.md#{crate}).")
+        lines.append(f"- Pages to believe: `python3 tools/dev/believe.py {crate}`.")
     if listed[crate]:
-        lines.append(wrapped(f"- Stands on {linked(listed[crate])}.").rstrip("\n"))
-    if users:
-        lines.append(wrapped(f"- Used by {linked(users)}.").rstrip("\n"))
+        lines.append(wrapped(f"- Depends on {linked(listed[crate])}.").rstrip("\n"))
     if not crate.endswith(TOPS) and not crate.startswith(EXAMPLES):
         rows = runs(crate)
-        tried = f"- Rows and tests: {linked(rows)}." if rows else "- No crate of rows or tests stands on it."
+        tried = f"- Rows and tests: {linked(rows)}." if rows else "- No crate of rows or tests depends on it."
         if not rows and crate in TRIALS:
             tried += f" Tried by `{TRIALS[crate]}`."
         lines.append(wrapped(tried).rstrip("\n"))
@@ -248,14 +232,14 @@ def written_note(crate, page):
 
 
 def notes():
-    """Each crate's page as it stands, none where there is none, and as it is made."""
+    """Each crate's page as it is, none if there is none, and as it is made."""
     for crate in repo.crates():
         path = note(crate)
         page = repo.read(path) if os.path.exists(os.path.join(repo.TOP, path)) else None
         yield path, page, written_note(crate, page)
 
 
-TABLES = {"extensions": extensions, "types": types}
+TABLES = {"extensions": extensions, "crates": crates}
 
 
 def written(page):
@@ -268,12 +252,12 @@ def written(page):
 
 
 def above(names):
-    """The named crates and all that stand on one of them, lowest first."""
+    """The named crates and all that depend on one of them, lowest first."""
     listed = repo.crates()
-    unknown = [it for it in names if it not in listed]
+    unknown = [name for name in names if name not in listed]
     if unknown:
         sys.exit(f"pages: crates.txt names no crate {unknown[0]}")
-    return [it for it in repo.below(listed, listed) if {*names} & {*repo.below([it], listed)}]
+    return [crate for crate in repo.below(listed, listed) if {*names} & {*repo.below([crate], listed)}]
 
 
 def put(path, text):

@@ -1,5 +1,5 @@
 #!/usr/bin/env python3
-"""Proves the named crates with all that they stand on, lowest first, and runs their tests and programs.
+"""Proves the named crates with all that they depend on, lowest first, and runs their tests and programs.
 
 Kept work is used: what hasn't changed isn't proved again. Each crate, its tests and its program count as passed or failed.
 """
@@ -17,7 +17,7 @@ SECONDS = 120
 
 
 def step(what, words, crate):
-    """Runs a command of `rt` in the crate's folder, and tells whether it passed."""
+    """Runs a command of `rt` in the crate's folder, and reports whether it passed."""
     print(f"== {crate}: {what}", flush=True)
     folder = os.path.join(repo.TOP, "crates", crate)
     status = subprocess.run(words, cwd=folder, stdin=subprocess.DEVNULL, stderr=subprocess.STDOUT).returncode
@@ -27,25 +27,36 @@ def step(what, words, crate):
 
 def has_tests(crate):
     """Whether a source of the crate has a test."""
-    sources = [os.path.join(at, it) for at, _, names in os.walk(os.path.join(repo.TOP, "crates", crate, "src")) for it in names]
-    return any(re.search(r"#\s*\[[^]]*\btest\b", repo.read(it)) for it in sources)
+    sources = [os.path.join(at, name) for at, _, names in os.walk(os.path.join(repo.TOP, "crates", crate, "src")) for name in names]
+    return any(re.search(r"#\s*\[[^]]*\btest\b", repo.read(source)) for source in sources)
 
 
 def beside(crate, name):
-    """The octets of a file beside src/, none where it isn't there."""
+    """The octets of a file beside src/, none if it isn't there."""
     path = os.path.join(repo.TOP, "crates", crate, name)
     if not os.path.isfile(path):
         return b""
-    with open(path, "rb") as it:
-        return it.read()
+    with open(path, "rb") as one_file:
+        return one_file.read()
+
+
+def built(crate, words):
+    """Has `rt` prove a crate over kept work, build its program and run it on the words. Gives the program's path, none if it
+    wasn't built, and what was printed."""
+    folder = os.path.join(repo.TOP, "crates", crate)
+    ran = subprocess.run(["rt", "run", "--", *words], cwd=folder, text=True, errors="replace", stdin=subprocess.DEVNULL,
+                         stdout=subprocess.DEVNULL, stderr=subprocess.PIPE)
+    # (the status is the program's own once it runs)
+    is_built = f"\nrt: running out/{crate};" in f"\n{ran.stderr}"
+    return os.path.join(folder, "out", crate) if is_built else None, ran.stderr
 
 
 def runs(crate):
-    """Builds a program and runs it on its files args, stdin and data/, and tells whether it wrote its file stdout and ended with its status."""
+    """Builds a program and runs it on its files args, stdin and data/, and reports whether it wrote its file stdout and ended with its status."""
     folder = os.path.join(repo.TOP, "crates", crate)
     words, wanted = beside(crate, "args").decode().splitlines(), int(beside(crate, "status") or 0)
     print(f"== {crate}: its program", flush=True)
-    program, said = repo.built(crate, words)
+    program, said = built(crate, words)
     if not program:
         print(f"{said}== {crate}: its program FAILED: it wasn't built", flush=True)
         return False
@@ -68,7 +79,7 @@ def runs(crate):
 
 def main(names):
     listed = repo.crates()
-    unknown = [it for it in names if it not in listed]
+    unknown = [name for name in names if name not in listed]
     if unknown:
         print(f"crates.txt has no crate {' '.join(unknown)}\n0 passed, {len(unknown)} failed")
         return 1

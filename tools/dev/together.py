@@ -1,6 +1,6 @@
 """Edits of one crate that are tried together, by one check of all of them.
 
-A function is proved over the contracts of the functions that it calls, never over their bodies. So where the bodies of several functions
+A function is proved over the contracts of the functions that it calls, never over their bodies. So if the bodies of several functions
 are changed at once, each that its own goals refuse would be refused alone. Nothing is concluded of an edit whose function isn't told to
 fail by itself, or whose proof only misses a name: it is tried alone.
 """
@@ -12,7 +12,7 @@ from program import repo
 MOST = 24
 FUNCTION = re.compile(r"( *)(?:pub(?:\([^)]*\))? |final |const |unsafe )*fn (\w+)")
 TOLD = re.compile(r"^fn (\S+): (not proved|no proof)(.*)$", re.M)
-# What is told of a function that fails, or waits, for another's sake alone.
+# What is reported of a function that fails, or waits, for another's sake alone.
 OF_OTHERS = re.compile(r"it calls|it passes|a call of|it waits")
 # An error in the answers that a function's own goals have: its goals are made of its own body and of contracts.
 OWN_PROOF = re.compile(r"^\./proofs/(\S+)/(?:Answers|Proof|Invariants)\.antt:\d+:\d+: error: (.*)$", re.M)
@@ -27,18 +27,18 @@ def bodies(lines):
         head = FUNCTION.match(line)
         if not head:
             continue
-        end = next((it for it in range(number, len(lines)) if lines[it] == f"{head[1]}}}"), None)
+        end = next((one_number for one_number in range(number, len(lines)) if lines[one_number] == f"{head[1]}}}"), None)
         opening = f"{head[1]}{{"
-        begin = next((it for it in range(number, end or number) if lines[it] == opening), None)
+        begin = next((one_number for one_number in range(number, end or number) if lines[one_number] == opening), None)
         if begin is None:
-            begin = next((it for it in range(number, end or number) if lines[it].endswith("{")), None)
+            begin = next((one_number for one_number in range(number, end or number) if lines[one_number].endswith("{")), None)
         if begin is not None:
             found.append((begin + 1, end, head[2]))
     return found
 
 
 def touched(crate, edit):
-    """The functions whose bodies an edit changes, as pairs of module and name, none where it changes anything else."""
+    """The functions whose bodies an edit changes, as pairs of module and name, none if it changes anything else."""
     found, path, old = set(), None, None
     for line in repo.read(f"crates/{crate}/{edit}").split("\n"):
         if line.startswith("file: "):
@@ -49,7 +49,7 @@ def touched(crate, edit):
             if not path.startswith("src/"):
                 return None
             lines = repo.read(f"crates/{crate}/{path}").splitlines()
-            at = next((number for number, it in enumerate(lines) if old in it), None)
+            at = next((number for number, line in enumerate(lines) if old in line), None)
             inside = [name for begin, end, name in bodies(lines) if at is not None and begin <= at < end]
             if not inside:
                 return None
@@ -82,9 +82,9 @@ def failing(said):
     paths = [path.split("::")[1:] for path, _, why in TOLD.findall(said) if "did not prove" in why or not OF_OTHERS.search(why)]
     broken = [(folder.replace("+", "").split("/"), why) for folder, why in OWN_PROOF.findall(said)]
     named = [path for path, why in broken if OF_NAMES.search(why)]
-    # a method stands under its type or impl, a function in its module
-    found = {("::".join(it[:-depth]), it[-1]) for it in [*paths, *(path for path, _ in broken)] for depth in (1, 2)}
-    return found - {("::".join(it[:-depth]), it[-1]) for it in named for depth in (1, 2)}
+    # a method is under its type or impl, a function in its module
+    found = {("::".join(one_path[:-depth]), one_path[-1]) for one_path in [*paths, *(path for path, _ in broken)] for depth in (1, 2)}
+    return found - {("::".join(entry[:-depth]), entry[-1]) for entry in named for depth in (1, 2)}
 
 
 def refused(said, group):

@@ -22,11 +22,12 @@ from concurrent.futures import ThreadPoolExecutor
 
 sys.path.insert(0, os.path.dirname(os.path.dirname(os.path.abspath(__file__))))
 from dev import together
-from program import progress, repo
-from program.lanes import OVER_KEPT, lanes
+from gate import edits
+from gate.lanes import OVER_KEPT, lanes, weights
+from program import repo
 
 # What isn't copied of a crate: what `rt` made, and the edits.
-LEFT_OUT = ("out", *repo.FOLDERS)
+LEFT_OUT = ("out", *edits.FOLDERS)
 TRIED = re.compile(r"^rt: must-fail \w+/(\S+\.edit): (.*)$", re.M)
 REFUSED = "refused, as it must be"
 BY_NAME = "only because a proof file names"
@@ -93,7 +94,7 @@ class Tried:
     """A crate whose edits are tried: how many ended in which way."""
 
     def __init__(self, crate):
-        self.crate, self.left = crate, repo.edits(crate, "wrong")
+        self.crate, self.left = crate, edits.names(crate, "wrong")
         self.ends, self.together = collections.Counter(), 0
 
     def say(self, text):
@@ -130,7 +131,7 @@ class Tried:
                 return
 
     def at_once(self, folder, group):
-        """The edits of a group that a check of all of them refuses; where they can't be checked together, of its halves."""
+        """The edits of a group that a check of all of them refuses; if they can't be checked together, of its halves."""
         if len(group) < 2 or STOPPED.is_set():
             return []
         changed = together.texts(self.crate, "wrong", group)
@@ -204,11 +205,11 @@ def main(names):
         say(f"crates.txt has no crate {' '.join(unknown)}")
         print(f"0 passed, {len(unknown)} failed")
         return 1
-    crates = [it for it in dict.fromkeys(names or listed) if repo.edits(it, "wrong")]
-    costs, side_by_side = progress.costs(crates), lanes(OVER_KEPT)
-    say(f"{sum(len(repo.edits(it, 'wrong')) for it in crates)} edits of {len(crates)} crates, {side_by_side} crates at a time")
+    crates = [it for it in dict.fromkeys(names or listed) if edits.names(it, "wrong")]
+    costs, side_by_side = weights(repo.TOP, crates), lanes(OVER_KEPT)
+    say(f"{sum(len(edits.names(it, 'wrong')) for it in crates)} edits of {len(crates)} crates, {side_by_side} crates at a time")
     # (the dearest first, so that the lanes end together)
-    crates.sort(key=lambda it: -costs[it] * len(repo.edits(it, "wrong")))
+    crates.sort(key=lambda it: -costs[it] * len(edits.names(it, "wrong")))
     with tempfile.TemporaryDirectory(prefix="wrong-") as above, ThreadPoolExecutor(side_by_side) as pool:
         total = sum((it.ends for it in pool.map(lambda it: Tried(it).run(above), crates)), collections.Counter())
     say("all: " + ", ".join(f"{total[it]} {it}" for it in ENDS))

@@ -21,16 +21,16 @@ from certpath import library
 def fields_of(item):
     """What the package shows of an item."""
     names = ("kind", "subject", "issuer", "serial_number", "not_valid_before_utc", "not_valid_after_utc", "last_update_utc", "next_update_utc")
-    return [f"{it} {getattr(item, it)!s:.500}" for it in names if hasattr(item, it)]
+    return [f"{name} {getattr(item, name)!s:.500}" for name in names if hasattr(item, name)]
 
 
 def answers(case, octets):
     """Lines of what is answered in a case, for each target."""
     at = datetime.fromisoformat(case.moment).replace(tzinfo=timezone.utc)
-    bundle, anchors = (certpath.frame(b"".join(octets[it] for it in names)) for names in (case.items, case.anchors))
+    bundle, anchors = (certpath.frame(b"".join(octets[name] for name in names)) for names in (case.items, case.anchors))
     vouchers = paths.vouchers((octets[key], octets[item]) for key, item in case.vouching)
     pairs = bytes.fromhex(vouchers.decode())
-    yield from (line for it in (*bundle, *anchors) for line in fields_of(it))
+    yield from (line for anchor in (*bundle, *anchors) for line in fields_of(anchor))
     yield from map(str, certpath.questions(bundle, anchors))
     yield certpath.paths(bundle, anchors, vouchers.decode(), at, case.demand)
     for target in range(len(bundle)):

@@ -5,7 +5,7 @@ import re
 from gate import syntax
 from program import repo
 
-# Names in a body: of a method that is called, of a function behind a path, of one that is called, of one that may be handed over.
+# Names in a body: of a method that is called, of a function after a path, of one that is called, of one that may be handed over.
 METHOD = re.compile(r"\.\s*(\w+)(?:::<[^<>()]*>)?\(")
 BEHIND = re.compile(r"\b((?:\w+(?:::<[^<>()]*>)?::)+)(\w+)\b")
 PLAIN = re.compile(r"(?<![.:\w])(\w+)(?:::<[^<>()]*>)?\(")
@@ -18,16 +18,16 @@ OF_STD = {"Vec", "String", "Box", "Option", "Result"}
 @functools.cache
 def functions():
     """The functions that have a body."""
-    return [function for crate in syntax.CRATES for it in syntax.files(crate) for function in it.functions if function.body]
+    return [function for crate in syntax.CRATES for file in syntax.files(crate) for function in file.functions if function.body]
 
 
 @functools.cache
 def of_types():
     """The functions of types and traits, by their names."""
     found = {}
-    for it in functions():
-        if it.owner_type:
-            found.setdefault(it.name, []).append(it)
+    for function in functions():
+        if function.owner_type:
+            found.setdefault(function.name, []).append(function)
     return found
 
 
@@ -44,40 +44,40 @@ def reach(crate):
 def called(function):
     """The functions that a body names. Of a method whose type the file doesn't name, and of a type parameter's function, each that it may be."""
     source, body = function.file, function.body or ""
-    found = {it for name in {*METHOD.findall(body)} for it in methods(source, name)}
-    found |= {it for path, name in {*BEHIND.findall(body)} for it in behind(function, TYPES.sub("", path).strip(":").split("::"), name)}
-    handed = {it for it in HANDED.findall(body) if not re.search(rf"\b(?:let (?:mut )?{it}\b|{it}:)", function.signature + body)}
-    found |= {syntax.plain_function(source, it) for it in {*PLAIN.findall(body)} | handed}
+    found = {method for name in {*METHOD.findall(body)} for method in methods(source, name)}
+    found |= {entry for path, name in {*BEHIND.findall(body)} for entry in behind(function, TYPES.sub("", path).strip(":").split("::"), name)}
+    handed = {match for match in HANDED.findall(body) if not re.search(rf"\b(?:let (?:mut )?{match}\b|{match}:)", function.signature + body)}
+    found |= {syntax.plain_function(source, match) for match in {*PLAIN.findall(body)} | handed}
     return found - {None, function}
 
 
 @functools.cache
 def methods(source, name):
-    of = {it for it in owned(name) if "self" in it.signature.partition("(")[2].partition(",")[0] and it.file.crate in reach(source.crate)}
-    return {it for it in of if is_named(source, it)} or of
+    of = {entry for entry in owned(name) if "self" in entry.signature.partition("(")[2].partition(",")[0] and entry.file.crate in reach(source.crate)}
+    return {entry for entry in of if is_named(source, entry)} or of
 
 
-def is_named(source, it):
+def is_named(source, function):
     """Whether a file names the type, or the trait, whose function it is."""
-    named = syntax.named_type(source, it.owner_type)
-    return bool(named) and named[0].crate == it.file.crate
+    named = syntax.named_type(source, function.owner_type)
+    return bool(named) and named[0].crate == function.file.crate
 
 
 def behind(function, path, name):
-    """The functions that a name behind a path may be."""
+    """The functions that a name after a path may be."""
     source, last = function.file, path[-1]
     if last == "Self":
-        return {it for it in owned(name) if it.file.crate == source.crate and it.owner_type == function.owner_type}
+        return {entry for entry in owned(name) if entry.file.crate == source.crate and entry.owner_type == function.owner_type}
     whole = path[0] if path[0] in syntax.CRATES else source.crate
     named = syntax.named_type(source, last) if len(path) == 1 else syntax.type_file(whole, last)
     if named:
-        return {it for it in owned(name) if it.owner_type == named[1] and it.file.crate == named[0].crate}
+        return {entry for entry in owned(name) if entry.owner_type == named[1] and entry.file.crate == named[0].crate}
     if last in OF_STD:
         return set()
     if last[0].isupper():
         parameters = re.findall(r"(?:\bimpl|\bfn \w+|\btrait \w+)\s*<([^()]*)", f"{function.owner[2]}({function.signature}")
-        is_one = any(re.search(rf"\b{last}\b", it) for it in parameters) or function.owner[2].startswith(("trait", "pub trait"))
-        return {it for it in owned(name) if is_one and it.file.crate in reach(source.crate)}
+        is_one = any(re.search(rf"\b{last}\b", parameter) for parameter in parameters) or function.owner[2].startswith(("trait", "pub trait"))
+        return {entry for entry in owned(name) if is_one and entry.file.crate in reach(source.crate)}
     at, there = source.imports.get(last, ("::".join(path[:-1]) or "crate", last))
     crate = source.crate if at.split("::")[0] == "crate" else at.split("::")[0]
     module = syntax.module_file(last, "crate") if last in syntax.CRATES else syntax.module_file(crate, f"{at}::{there}") if crate in syntax.CRATES else None
@@ -88,23 +88,23 @@ def function(call):
     """The function that a call names, as `CRATE::function` or `CRATE::Type::function`."""
     crate, *owner, name = call.split("::")
     for source in syntax.files(crate) if crate in syntax.CRATES else ():
-        for it in source.functions:
-            if it.name == name and it.owner_type == "".join(owner) and it.body is not None:
-                return it
+        for one_function in source.functions:
+            if one_function.name == name and one_function.owner_type == "".join(owner) and one_function.body is not None:
+                return one_function
     raise LookupError(f"there is no function {call}")
 
 
-def come_to(first, leave=lambda caller, it: False):
+def come_to(first, leave=lambda caller, entry: False):
     """Each function that the first ones come to, they too; calls that `leave` names are not followed."""
     found, waiting = set(), [*first]
     while waiting:
-        it = waiting.pop()
-        if it not in found:
-            found.add(it)
-            waiting += (other for other in called(it) if not leave(it, other))
+        function = waiting.pop()
+        if function not in found:
+            found.add(function)
+            waiting += (other for other in called(function) if not leave(function, other))
     return found
 
 
 def name_of(function):
-    """The name of a function, behind that of its type."""
+    """The name of a function, after that of its type."""
     return f"{function.owner_type}::{function.name}".removeprefix("::")

@@ -15,10 +15,10 @@ ALLOWED = {
     # it raises the count itself, and then calls the reader
     ("Header::from_der_counted", "Header::from_der"),
     ("Header::strict_counted", "Header::strict"),
-    # the value of an extension is parsed where a caller asks for it; those that count never do, and values stay `Unparsed`
+    # the value of an extension is parsed if a caller asks for it; those that count never do, and values stay `Unparsed`
     ("extension_of", "parsed_value"),
 }
-# Uncounted readers that stand in a file with functions which counted calls come to. None of these functions names them.
+# Uncounted readers that are in a file with functions which counted calls come to. None of these functions names them.
 BESIDE = {
     "crates/asn1_core/src/header.rt": {"Header::from_ber", "Header::from_der", "Header::strict"},
     "crates/asn1_any/src/any.rt": {"Any::from_der", "Any::from_ber", "Any::from_ber_recursive"},
@@ -49,50 +49,50 @@ def takes_count(function):
 @functools.cache
 def crates():
     """The crates with counted calls, and those below them."""
-    own = [crate for crate in syntax.CRATES if any(takes_count(it) for of in syntax.files(crate) for it in of.functions)]
+    own = [crate for crate in syntax.CRATES if any(takes_count(function) for of in syntax.files(crate) for function in of.functions)]
     return repo.below(own, syntax.CRATES)
 
 
 @functools.cache
 def functions():
-    return [it for it in calls.functions() if it.file.crate in crates()]
+    return [function for function in calls.functions() if function.file.crate in crates()]
 
 
-def is_allowed(caller, it):
-    return (name_of(caller), name_of(it)) in ALLOWED
+def is_allowed(caller, called):
+    return (name_of(caller), name_of(called)) in ALLOWED
 
 
 @functools.cache
 def uncounted():
     """The functions that take no count and try headers, by themselves or through another one."""
     callers = {}
-    for it in functions():
-        for other in calls.called(it):
-            if not is_allowed(it, other):
-                callers.setdefault(other, []).append(it)
-    found = {it for it in functions() if (it.file.crate, name_of(it)) in LOWEST}
+    for one_function in functions():
+        for other in calls.called(one_function):
+            if not is_allowed(one_function, other):
+                callers.setdefault(other, []).append(one_function)
+    found = {function for function in functions() if (function.file.crate, name_of(function)) in LOWEST}
     waiting = [*found, *filter(takes_count, functions())]
     while waiting:
-        of = {it for it in callers.get(waiting.pop(), ()) if it not in found and not takes_count(it)}
+        of = {entry for entry in callers.get(waiting.pop(), ()) if entry not in found and not takes_count(entry)}
         found |= of
         waiting += of
     return found
 
 
 def faults():
-    """What is amiss: a counted call that comes to an uncounted reader, or makes a count; and such a reader where none is known."""
+    """What is amiss: a counted call that comes to an uncounted reader, or makes a count; and such a reader if none is known."""
     reached = calls.come_to(filter(takes_count, functions()), is_allowed)
-    for it in sorted(filter(takes_count, reached), key=lambda it: (it.file.path, it.at)):
-        for other in sorted(calls.called(it) & uncounted(), key=name_of):
-            if not is_allowed(it, other):
-                yield f"{it.file.path}:{it.line}: {name_of(it)} calls {name_of(other)}, which keeps no count of its headers"
-        if "HeaderCount::new" in (it.body or ""):
-            yield f"{it.file.path}:{it.line}: {name_of(it)} makes a count of its own"
-    files = {it.file.path for it in reached}
-    for it in sorted(uncounted(), key=lambda it: (it.file.path, it.at)):
-        if it.file.path in files and name_of(it) not in BESIDE.get(it.file.path, ()):
-            yield f"{it.file.path}:{it.line}: {name_of(it)} keeps no count of its headers, and counted calls come to other functions of this file"
-    known = {(it.file.path, name_of(it)) for it in uncounted()}
+    for one_entry in sorted(filter(takes_count, reached), key=lambda entry: (entry.file.path, entry.at)):
+        for other in sorted(calls.called(one_entry) & uncounted(), key=name_of):
+            if not is_allowed(one_entry, other):
+                yield f"{one_entry.file.path}:{one_entry.line}: {name_of(one_entry)} calls {name_of(other)}, which keeps no count of its headers"
+        if "HeaderCount::new" in (one_entry.body or ""):
+            yield f"{one_entry.file.path}:{one_entry.line}: {name_of(one_entry)} makes a count of its own"
+    files = {entry.file.path for entry in reached}
+    for element in sorted(uncounted(), key=lambda entry: (entry.file.path, entry.at)):
+        if element.file.path in files and name_of(element) not in BESIDE.get(element.file.path, ()):
+            yield f"{element.file.path}:{element.line}: {name_of(element)} keeps no count of its headers, and counted calls come to other functions of this file"
+    known = {(entry.file.path, name_of(entry)) for entry in uncounted()}
     for path, names in BESIDE.items():
         for name in sorted(names):
             if path not in files or (path, name) not in known:

@@ -2,8 +2,8 @@
 """Makes dist/certpath, the program that a clone runs at once, and the libraries beside it, and
 checks them against the sources.
 
-    python3 tools/gate/dist.py make             builds certpath from the sources, where they or the
-                                                toolchain changed, and writes dist/
+    python3 tools/gate/dist.py make             builds dist/certpath, as ./certpath --build does, and
+                                                the libraries
     python3 tools/gate/dist.py make library     the libraries alone
     python3 tools/gate/dist.py check [PROGRAM]  compares dist/certpath with PROGRAM, just built from
                                                 the sources: what the gate left, where none is named
@@ -28,38 +28,16 @@ MAKE = "run python3 tools/gate/dist.py make"
 
 def faults():
     """What is wrong with dist/ by the sources, a line each. No program is run."""
-    record = programs.read_record(programs.SHIPPED_RECORD)
-    if record is None:
-        yield f"{programs.SHIPPED_RECORD} is missing, or is no record: {MAKE}"
-        return
-    if record.sources != sources.known(programs.CERTPATH):
-        yield f"sources have changed since {programs.SHIPPED} was built: {MAKE}"
-    if programs.sum_of(programs.SHIPPED) != record.program:
-        yield f"{programs.SHIPPED} isn't the program of {programs.SHIPPED_RECORD}: {MAKE}"
-    elif not programs.is_executable(programs.SHIPPED):
-        yield f"{programs.SHIPPED} has no permission to be executed: {MAKE}"
-
-
-def made():
-    """The path of the program and of its record, built from the sources as they are by the
-    toolchain on the path; or none."""
-    from program import building
-    path, _ = programs.own_now(programs.CERTPATH)
-    own, record_path = programs.own(programs.CERTPATH)
-    if not path or programs.read_record(record_path).kit != building.kit():
-        path = building.build(programs.CERTPATH, f"{programs.SHIPPED} has to be made")
-    return (own, record_path) if path else None
+    _, lack = programs.found(programs.CERTPATH)
+    if lack:
+        yield lack.why
 
 
 def make():
-    """Puts the program and its record into dist/; gives the status."""
+    """Builds the program into dist/, and then the libraries; gives the status."""
     from program import building
-    ours = made()
-    if not ours:
+    if not building.build(programs.CERTPATH):
         return 1
-    for one, other, mode in zip(ours, (programs.SHIPPED, programs.SHIPPED_RECORD), (0o755, 0o644)):
-        octets = sources.octets_of(os.path.join(repo.TOP, one))
-        building.put(os.path.join(repo.TOP, other), octets, mode)
     amiss = [*faults()]
     for line in amiss:
         print(f"dist: {line}")
@@ -67,22 +45,29 @@ def make():
         return 1
     size = os.path.getsize(os.path.join(repo.TOP, programs.SHIPPED))
     record = programs.read_record(programs.SHIPPED_RECORD)
-    print(f"dist: {programs.SHIPPED} has {size} octets, SHA-256 {record.program}; by {record.kit}")
+    print(f"dist: {programs.SHIPPED} has {size} octets, SHA-256 {record['program']}; by {record['kit']}")
     return library.make() if library.is_there() else 0
 
 
-def check(program):
-    """Compares dist/certpath with a program that was just built; gives the status."""
+def compared(program):
+    """Compares dist/certpath with a program that was just built; prints and gives what is amiss."""
     from program import building
     amiss = [*faults()]
     if not os.access(program, os.X_OK):
         amiss.append(f"there is no program {os.path.relpath(program)} to compare with")
     if not amiss:
         record, kit = programs.read_record(programs.SHIPPED_RECORD), building.kit()
-        amiss = [*(unequal(program) if kit == record.kit else unlike(program, record.kit, kit))]
+        of_record = record["kit"]
+        amiss = [*(unequal(program) if kit == of_record else unlike(program, of_record, kit))]
     amiss += library.check() if library.is_there() else []
     for line in amiss:
-        print(f"dist: {line}")
+        print(f"dist: {line}", flush=True)
+    return amiss
+
+
+def check(program):
+    """Says how dist/certpath compares with a program that was just built; gives the status."""
+    amiss = compared(program)
     print(f"dist: {0 if amiss else 1} passed, {len(amiss)} failed")
     return 1 if amiss else 0
 

@@ -18,23 +18,23 @@ def reached(crate):
     names, paths = set(), set()
     waiting = [syntax.module_file(crate, "crate")]
     while waiting:
-        it = waiting.pop()
-        if it.path in paths:
+        file = waiting.pop()
+        if file.path in paths:
             continue
-        paths.add(it.path)
-        names |= {leaf[1] for text in PUBLIC_USE.findall(it.code) for leaf in syntax.use_leaves(text)}
-        waiting += filter(None, (syntax.module_file(crate, f"{module(it)}::{name}") for name in PUBLIC_MOD.findall(it.code)))
+        paths.add(file.path)
+        names |= {leaf[1] for text in PUBLIC_USE.findall(file.code) for leaf in syntax.use_leaves(text)}
+        waiting += filter(None, (syntax.module_file(crate, f"{module(file)}::{name}") for name in PUBLIC_MOD.findall(file.code)))
     return names, paths
 
 
 def module(source):
     """The path of a file's module, as `crate::a::b`."""
     inner = os.path.splitext(source.path.split("/src/")[1])[0]
-    return "::".join(["crate", *(it for it in inner.split("/") if it not in ("lib", "main", "mod"))])
+    return "::".join(["crate", *(word for word in inner.split("/") if word not in ("lib", "main", "mod"))])
 
 
 def trait_of(function):
-    """The trait that an impl is of, without its parameters; empty where it is of none."""
+    """The trait that an impl is of, without its parameters; empty if it is of none."""
     head = function.owner[2]
     for _ in range(3):
         head = re.sub(r"<[^<>]*>", "", head)
@@ -57,18 +57,18 @@ def is_exported(function):
 @functools.cache
 def public(crate):
     """The functions with a body that a crate exports, but for its laws, in the order of their files."""
-    return [it for it in exported(crate) if not it.is_law]
+    return [entry for entry in exported(crate) if not entry.is_law]
 
 
 @functools.cache
 def exported(crate):
     """The functions with a body that a crate exports."""
-    return [it for source in syntax.files(crate) for it in source.functions if it.body and is_exported(it)]
+    return [function for source in syntax.files(crate) for function in source.functions if function.body and is_exported(function)]
 
 
 @functools.cache
 def traits(crate):
     """The functions with clauses of the traits that a crate exports, without a body too."""
     names, paths = reached(crate)
-    return [it for source in syntax.files(crate) for it in source.functions
-            if it.clauses and re.match(r"pub trait\b", it.owner[2]) and (it.owner_type in names or source.path in paths)]
+    return [function for source in syntax.files(crate) for function in source.functions
+            if function.clauses and re.match(r"pub trait\b", function.owner[2]) and (function.owner_type in names or source.path in paths)]

@@ -1,6 +1,6 @@
 """What changed since the last commit, by git, and isn't laid out as `rt fmt` lays it out: a copy of its crate is laid out, and compared.
 
-Where git or `rt` isn't there, nothing is looked at. `rt ci` refuses each file that is out of layout.
+If git or `rt` isn't there, nothing is looked at. `rt ci` refuses each file that is out of layout.
 """
 import os
 import re
@@ -20,7 +20,7 @@ def changed():
     found = []
     for words in ASKED:
         ran = subprocess.run(["git", *words, "--", "crates"], cwd=repo.TOP, stdin=subprocess.DEVNULL, capture_output=True, text=True, errors="replace")
-        found += [it[1] for it in map(SOURCE.fullmatch, ran.stdout.splitlines()) if it]
+        found += [entry[1] for entry in map(SOURCE.fullmatch, ran.stdout.splitlines()) if entry]
     return sorted({*found} & {*repo.crates()})
 
 

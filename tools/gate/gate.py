@@ -1,87 +1,123 @@
-#!/usr/bin/env python3
-"""Runs `rt ci` and times it whole, and writes the table of docs/GATE.md.
+"""What `./test` runs: the gate where `rt` is on the path, and else all that needs no toolchain.
 
-    python3 tools/gate/gate.py          runs `rt ci` as ./test does
-    python3 tools/gate/gate.py anew     likewise, and takes nothing that earlier runs kept, where the toolchain keeps any
-    python3 tools/gate/gate.py write    writes the table: a row for each crate, with its edits counted; measured seconds stay as they stand
-
-After what `rt ci` prints stands a line `gate: N s of processors, M s by the clock`, as the system gives them of a command that ended.
+The gate is the quick look; `rt ci`, timed whole; the comparison of dist/ with what that built; and
+the trials. The last line counts all of it: `N passed, M failed`.
 """
 import os
 import re
+import shutil
 import subprocess
 import sys
 import time
 
-sys.path.insert(0, os.path.dirname(os.path.dirname(os.path.abspath(__file__))))
-from program import building, repo
+from program import building, programs, repo, sources
+from trials import running
 
-PAGE = "docs/GATE.md"
-BEGIN, END = "<!-- table: rows by tools/gate/gate.py write -->", "<!-- end of the table -->"
-# A row: the crate, and the seconds that were measured of its proof and of the proof of its tests, where they were.
-ROW = re.compile(r"^\| `(\w+)` \|([^|\n]*)\|([^|\n]*)\|", re.M)
+COUNTED = re.compile(r"(\d+) passed, (\d+) failed")
+NO_PROOF = ("./test: no proof was run: rt, the Rattle toolchain, isn't on the path (docs/FAQ.md says where it can be had).\n"
+            "./test: with rt on the path, ./test proves every crate, and runs all trials at their full size.")
+
+
+def keeps_work():
+    """Whether `rt ci` takes what earlier runs on this machine proved, unless `--anew` forbids it, by its help."""
+    said = subprocess.run(["rt", "help"], stdin=subprocess.DEVNULL, stdout=subprocess.PIPE, stderr=subprocess.STDOUT,
+                          text=True, errors="replace").stdout
+    return "--anew" in said or "from nothing" not in said
 
 
 def words_of(is_anew):
     """What `rt ci` is called with. A toolchain that keeps nothing between runs knows no `--anew`, and needs none."""
-    if building.keeps_work():
+    if keeps_work():
         return ["--anew"] if is_anew else []
     print("gate: this toolchain keeps nothing between runs: each run proves all from nothing", flush=True)
     return []
 
 
-def gate(words):
-    """Runs `rt ci` and keeps the programs that it built; gives its status."""
-    began, before = time.monotonic(), building.digests()
-    child = subprocess.Popen(["rt", "ci", *words])
+def digests():
+    """The digests of the sources of all programs but certpath, which dist/ has."""
+    is_program = {it: os.path.isfile(os.path.join(repo.TOP, "crates", it, "src", "main.rt")) for it in repo.crates()}
+    return {it: sources.digest(it) for it in is_program if is_program[it] and it != programs.CERTPATH}
+
+
+def keep_programs(before):
+    """Keeps the programs that `rt ci` left in this checkout, if their sources are as they were before it."""
+    for crate, digest in digests().items():
+        program = os.path.join(repo.TOP, "crates", crate, "out", crate)
+        if before.get(crate) == digest and os.path.isfile(program):
+            building.keep(crate, program, digest)
+
+
+def proofs(words):
+    """Runs `rt ci` and keeps the programs that it built; gives how many passed and failed, by its last line."""
+    began, before = time.monotonic(), digests()
+    child = subprocess.Popen(["rt", "ci", *words], cwd=repo.TOP, stdout=subprocess.PIPE, text=True, errors="replace")
+    passed = failed = 0
+    for line in child.stdout:
+        print(line, end="", flush=True)
+        counted = COUNTED.match(line)
+        if counted:
+            passed, failed = map(int, counted.groups())
     _, status, spent = os.wait4(child.pid, 0)
     child.returncode = os.waitstatus_to_exitcode(status)
     if child.returncode == 0:
-        building.keep_the_gates(before)
+        keep_programs(before)
     print(f"gate: {spent.ru_utime + spent.ru_stime:.0f} s of processors, {time.monotonic() - began:.0f} s by the clock", flush=True)
-    return 0 if child.returncode == 0 else 1
+    # (an `rt ci` that ends before it counts has failed)
+    return passed, failed or int(child.returncode != 0)
 
 
-def parted(text):
-    """The page before its table, the table, and what follows."""
-    before, _, rest = text.partition(BEGIN)
-    table, _, after = rest.partition(END)
-    return before, table, after
+def compared():
+    """Compares dist/ with what `rt ci` built."""
+    from gate import dist
+    amiss = dist.compared(os.path.join(repo.TOP, dist.BY_THE_GATE))
+    return int(not amiss), len(amiss)
 
 
-def lines_of(table):
-    """The lines of the table, with the measured seconds of the one that stands on the page."""
-    measured = {crate: cells for crate, *cells in ROW.findall(table)}
-    counts = {it: [len(repo.edits(it, folder)) for folder in repo.FOLDERS] for it in repo.crates()}
-    sums = [sum(it) for it in zip(*counts.values())]
-    head = ["| crate | proof | tests | edits in the gate | in `wrong/` |", "|---|---|---|---|---|"]
-    rows = [f"| `{it}` | {' | '.join([*map(str.strip, measured.get(it, ('', ''))), *(str(count or '') for count in counts[it])])} |" for it in counts]
-    return [*head, *rows, f"| all {len(counts)} | | | {sums[0]} | {sums[1]:,} |"]
+def gate(is_anew=False):
+    """Runs the gate, of which each step counts; gives the status. If a look or a proof fails, the rest isn't run."""
+    from gate import quick
+    counts = [quick.looked()]
+    if not counts[-1][1]:
+        counts.append(proofs(words_of(is_anew)))
+    if not counts[-1][1]:
+        counts += [compared(), running.run(is_gate=True)[:2]]
+    passed, failed = map(sum, zip(*counts))
+    print(f"{passed} passed, {failed} failed")
+    return 1 if failed else 0
 
 
-def written(text):
-    """The page with its table made anew."""
-    before, table, after = parted(text)
-    return "\n".join([before + BEGIN, "", *lines_of(table), "", END]) + after
+def without_toolchain():
+    """Runs all that needs no toolchain; gives the status."""
+    from gate import quick
+    looks, trials = quick.looked(), running.run(is_small=True)
+    passed, failed, left = looks[0] + trials[0], looks[1] + trials[1], trials[2]
+    print(NO_PROOF)
+    return counted(passed, failed, left)
 
 
-def faults():
-    """What is wrong with the table, a line each."""
-    text = repo.read(PAGE)
-    if written(text) != text:
-        yield f"{PAGE}: rows or counts of its table are stale: run python3 tools/gate/gate.py write"
+def counted(passed, failed, left):
+    """Prints the last line; gives the status, a status of its own if dist/ is older than the sources."""
+    print(f"{passed} passed, {failed} failed{f', {left} skipped' if left else ''}")
+    return programs.OUTDATED if programs.is_outdated() else 1 if failed else 0
+
+
+def trials(names):
+    """Runs single trials, or all, at the sizes of the gate; gives the status."""
+    return counted(*running.run(names))
 
 
 def main(words):
-    if words == ["write"]:
-        text = written(repo.read(PAGE))
-        with open(os.path.join(repo.TOP, PAGE), "w", encoding="utf-8") as to:
-            to.write(text)
-        return 0
-    if words in ([], ["anew"]):
-        return gate(words_of(bool(words)))
-    sys.exit(__doc__)
-
-
-if __name__ == "__main__":
-    sys.exit(main(sys.argv[1:]))
+    first, rest = (words[0], words[1:]) if words else ("", [])
+    if first == "" or first == "anew" and not rest:
+        return gate(bool(words)) if shutil.which("rt") else without_toolchain()
+    if first == "quick":
+        from gate import quick
+        return quick.main()
+    if first == "trial":
+        return trials(rest)
+    if not shutil.which("rt"):
+        print("./test: rt, the Rattle toolchain, which proves crates, isn't on the path\n0 passed, 1 failed")
+        return 1
+    if first == "wrong":
+        return subprocess.run([sys.executable, os.path.join(repo.TOP, "tools", "dev", "wrong.py"), *rest]).returncode
+    return subprocess.run([sys.executable, os.path.join(repo.TOP, "tools", "dev", "single.py"), *words]).returncode

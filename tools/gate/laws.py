@@ -17,15 +17,15 @@ EXAMPLE = re.compile(r"examples?(?:_of_|$)|worked_")
 
 def laws():
     """The public functions that do nothing."""
-    return [it for it in calls.functions() if it.is_law]
+    return [function for function in calls.functions() if function.is_law]
 
 
 def said(function, text):
-    """What a clause says: where it begins with the name of a definition, what that says."""
+    """What a clause says: if it begins with the name of a definition, what that says."""
     name = re.match(r"\s*(\S*)", text)[1]
-    for it in believe.words_of(function.file, name, function.at):
-        if isinstance(it, believe.Definition) and it.name == name and not it.kind:
-            return re.split(rf"(?m)^{re.escape(name)}\b[^=]*=", "\n".join(it.lines), maxsplit=1)[-1]
+    for entry in believe.words_of(function.file, name, function.at):
+        if isinstance(entry, believe.Definition) and entry.name == name and not entry.kind:
+            return re.split(rf"(?m)^{re.escape(name)}\b[^=]*=", "\n".join(entry.lines), maxsplit=1)[-1]
     return text
 
 
@@ -40,9 +40,9 @@ def has_premise(text):
 
 def lines():
     """A line for each law with a premise and no example, and one with their numbers."""
-    named = {(it.file.crate, it.name) for it in laws()}
-    conditional = [it for it in laws() if not EXAMPLE.match(it.name) and any(has_premise(said(it, text)) for _, _, text in it.clauses)]
-    without = [it for it in conditional if (it.file.crate, f"example_of_{it.name.removeprefix('law_')}") not in named]
-    for it in sorted(without, key=lambda it: (it.file.path, it.at)):
-        yield f"{it.file.path}:{it.line}: {it.name} has no example_of_{it.name.removeprefix('law_')}"
+    named = {(law.file.crate, law.name) for law in laws()}
+    conditional = [law for law in laws() if not EXAMPLE.match(law.name) and any(has_premise(said(law, text)) for _, _, text in law.clauses)]
+    without = [entry for entry in conditional if (entry.file.crate, f"example_of_{entry.name.removeprefix('law_')}") not in named]
+    for element in sorted(without, key=lambda entry: (entry.file.path, entry.at)):
+        yield f"{element.file.path}:{element.line}: {element.name} has no example_of_{element.name.removeprefix('law_')}"
     yield f"of {len(conditional)} laws with premises {len(conditional) - len(without)} have an example"

@@ -4,7 +4,8 @@ certpath_c and compared with it.
 `rt lib` proves the crate and leaves crates/certpath_c/out/libcertpath_c.a. The C compiler and the
 binutils of the machine make both libraries of it and of tools/gate/allocator.c. Beside them stands
 a record, as beside dist/certpath, which names these tools too: the same toolchain and the same
-tools give the same octets. Of both libraries nothing is seen but the calls of the header.
+tools give the same octets. Of both libraries nothing is seen but the calls of the header. The
+shared one has a SONAME with the version of these calls; ./install names the file so.
 """
 import os
 import shutil
@@ -13,13 +14,15 @@ import sys
 import tempfile
 from concurrent.futures import FIRST_COMPLETED, ThreadPoolExecutor, wait
 
-from program import lanes, programs, progress, repo, sources
+from gate import lanes
+from install import contents
+from program import programs, repo, sources
 
-CRATE = "certpath_c"
+CRATE = programs.LIBRARY
 SHARED, STATIC = os.path.join("dist", "libcertpath.so"), os.path.join("dist", "libcertpath.a")
 # The Python package has a copy of its own, since it is installed without dist/.
 PACKAGED = os.path.join("python", "certpath", "libcertpath.so")
-RECORD = os.path.join("dist", "BUILT-library")
+RECORD = programs.LIBRARY_RECORD
 WORDS = ("kit", "sources", "allocator", "compiler", "binutils", "shared", "static", "needs")
 # What the octets depend on beside the sources.
 TOOLS = ("kit", "compiler", "binutils")
@@ -39,12 +42,8 @@ def is_there():
 
 
 def read_record():
-    """The words of the record, none where there is none."""
-    try:
-        lines = repo.read(RECORD).splitlines()
-    except (OSError, ValueError):
-        return None
-    said = dict(it.split(" ", 1) for it in lines if " " in it)
+    """The words of the record, none if there is none."""
+    said = programs.read_record(RECORD)
     return said if sorted(said) == sorted(WORDS) else None
 
 
@@ -54,7 +53,7 @@ def faults():
     if record is None:
         yield f"{RECORD} is missing, or is no record: {MAKE}"
         return
-    if record["sources"] != sources.known(CRATE):
+    if record["sources"] != sources.digest(CRATE):
         yield f"sources have changed since {SHARED} was built: {MAKE}"
     for path, word in ((SHARED, "shared"), (PACKAGED, "shared"), (STATIC, "static"),
                        (ALLOCATOR, "allocator")):
@@ -80,12 +79,12 @@ def rt_lib(crate, *words):
 
 
 def chains(crates, listed):
-    """About how many seconds each of the crates takes, lowest first, with the dearest chain of
-    those above it."""
-    costs, found = progress.costs(crates), {}
+    """What the proof of each of the crates weighs, lowest first, with the heaviest chain of those
+    above it."""
+    weights, found = lanes.weights(repo.TOP, crates), {}
     for it in reversed(crates):
         above = (found[other] for other in crates if it in listed[other])
-        found[it] = costs[it] + max(above, default=0)
+        found[it] = weights[it] + max(above, default=0)
     return found
 
 
@@ -141,21 +140,21 @@ def linked(archive, room):
     run(room, "ld", "-r", "-o", "certpath.o", "--whole-archive", "proved.a", "allocator.o")
     run(room, "objcopy", "--wildcard", "--keep-global-symbols=public", "certpath.o")
     run(room, "ar", "rcsD", "static", "certpath.o")
-    run(room, "cc", *LINKED, f"-Wl,-soname,{os.path.basename(SHARED)}",
-        "-Wl,--version-script=seen", "-o", "shared", "certpath.o", "-lc")
+    run(room, "cc", *LINKED, f"-Wl,-soname,{contents.soname()}", "-Wl,--version-script=seen",
+        "-o", "shared", "certpath.o", "-lc")
     return [sources.octets_of(os.path.join(room, it)) for it in ("shared", "static")]
 
 
 def made():
     """The octets of both libraries, and their record; none where the crate can't be proved."""
     from program import building
-    digest = sources.known(CRATE)
+    digest = sources.digest(CRATE)
     if not proved():
         return None
     with tempfile.TemporaryDirectory(prefix="library-") as room:
         shared, static = linked(os.path.join(repo.TOP, BUILT), room)
     record = {**tools(), "sources": digest, "allocator": programs.sum_of(ALLOCATOR),
-              "shared": programs.sum_of_octets(shared), "static": programs.sum_of_octets(static),
+              "shared": sources.sum_of_octets(shared), "static": sources.sum_of_octets(static),
               "needs": building.needs_of(shared)}
     return shared, static, record
 
@@ -170,11 +169,10 @@ def make():
 
 def put(shared, static, record):
     """Writes the libraries and their record."""
-    from program import building
     text = "".join(f"{it} {record[it]}\n" for it in WORDS)
     for path, octets in ((SHARED, shared), (PACKAGED, shared), (STATIC, static),
                          (RECORD, text.encode())):
-        building.put(os.path.join(repo.TOP, path), octets, 0o644)
+        sources.put(os.path.join(repo.TOP, path), octets)
         print(f"dist: {path} has {len(octets)} octets")
 
 

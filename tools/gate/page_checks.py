@@ -3,8 +3,9 @@ import os
 import re
 
 from dev import believe, calling, contracts, pages
-from gate import page_names
+from gate import helps, page_names
 from program import repo, usage
+from trials import page_commands
 
 WIDTH, LONGEST_SENTENCE = 100, 40
 README, README_WORDS, README_LINES = "README.md", 900, 120
@@ -25,7 +26,7 @@ ROW = re.compile(r'(?m)^\| <a id="([\w-]+)"></a>')
 def found_pages():
     """Each page of the repository, by its path from the top."""
     for at, folders, names in os.walk(repo.TOP):
-        folders[:] = sorted(it for it in folders if it not in (".git", "out", "__pycache__"))
+        folders[:] = sorted(folder for folder in folders if folder not in (".git", "out", "__pycache__"))
         for name in sorted(names):
             if name.endswith(".md"):
                 yield os.path.relpath(os.path.join(at, name), repo.TOP)
@@ -105,7 +106,7 @@ def claims_named():
     """Each claim of README.md about proofs names its row of docs/PROMISES.md."""
     section = repo.read(README).partition(f"{PROVED}\n")[2].partition("\n## ")[0]
     rows = {*ROW.findall(repo.read(PROMISES))}
-    claims = [it for it in paragraphs(section) if re.match(r"\d+\. ", it)]
+    claims = [paragraph for paragraph in paragraphs(section) if re.match(r"\d+\. ", paragraph)]
     if not claims:
         yield f"{README}: it has no claims below {PROVED}"
     for claim in claims:
@@ -146,7 +147,7 @@ def anchors_lead():
 
 
 def walk_stands():
-    """The functions that the walks name stand in the files beside them: of crates, and of scripts by their paths from the top."""
+    """The functions that the walks name are in the files beside them: of crates, and of scripts by their paths from the top."""
     rows = WALK_ROW.findall(repo.read(WALK))
     if not rows:
         yield f"{WALK}: the table of the walk is gone"
@@ -175,15 +176,25 @@ def notes_made():
             yield f"{path}: {'there is none' if page is None else 'its lines are not what crates.txt says'}: run tools/dev/pages.py"
 
 
+def commands_run():
+    """Each command line of a page is run by a trial, or has a reason why not."""
+    yield from page_commands.faults()
+
+
+def helps_agree():
+    """What a command takes is said alike by its help, its page, the completion and the program."""
+    yield from helps.faults()
+
+
 def one_version():
     """The package, the change log and the pages name the version that `./certpath --version` prints."""
     numbered = r"(\d+\.\d+\.\d+)"
-    found = [(path, it) for path in found_pages() if path != LOG for it in re.findall(rf"\b[Vv]ersion {numbered}", repo.read(path))]
+    found = [(path, match) for path in found_pages() if path != LOG for match in re.findall(rf"\b[Vv]ersion {numbered}", repo.read(path))]
     for path, pattern in ((PACKAGE, r'(?m)^version = "([^"]*)"'), (LOG, rf"(?m)^## {numbered} - ")):
         found.append((path, next(iter(re.findall(pattern, repo.read(path))), "none")))
-    for path, it in found:
-        if it != usage.VERSION:
-            yield f"{path}: version {it}, and ./certpath --version prints {usage.VERSION}"
+    for path, entry in found:
+        if entry != usage.VERSION:
+            yield f"{path}: version {entry}, and ./certpath --version prints {usage.VERSION}"
 
 
 def calling_made():
@@ -201,4 +212,4 @@ def one_list_to_believe():
 
 
 CHECKS = (narrow_pages, short_sentences, short_readme, contents_stand, claims_named, anchors_lead,
-          walk_stands, one_list_to_believe, one_version, tables_made, notes_made, calling_made, *page_names.CHECKS)
+          walk_stands, commands_run, helps_agree, one_list_to_believe, one_version, tables_made, notes_made, calling_made, *page_names.CHECKS)

@@ -7,7 +7,7 @@ import os
 import re
 
 from gate import syntax
-from program import repo
+from program import repo, usage
 
 # Pages that speak of what was.
 PAST = ("CHANGELOG.md", "docs/PERF.md")
@@ -16,7 +16,7 @@ OTHERS = "docs/DIFFERENCES.md"
 SPAN = re.compile(r"`([^`\n]+)`")
 # A name with an underscore, or with a capital within.
 NAME = re.compile(r"\b(?=\w*[a-z]_[a-z]|\w*[a-z][A-Z])[A-Za-z]\w{3,}\b")
-# A call behind its crate: one name, or several in braces.
+# A call after its crate: one name, or several in braces.
 CALL = re.compile(r"\b([a-z]\w+)::(\{[^{}]*\}|\w+)(?:::(\{[^{}]*\}|\w+))?")
 COUNT = re.compile(r"\b(\d[\d,]*) crates\b(?! (?:in|of|are) (?:`must-fail|edits))")
 OPTION = re.compile(r"(?<![\w-])--[a-z][a-z-]*")
@@ -24,7 +24,7 @@ COMMAND = re.compile(r"^(?:    )?(?:\$ )?(?:time )?\./(certpath|verify|vouch|bun
 STATUS = re.compile(r"\bstatus(?:es)? (\d+)\b", re.I)
 # Where the options and statuses of each command are.
 GRAMMARS = {"certpath": "tools/program/usage.py", "verify": "tools/verify/words.py", "vouch": "vouch", "bundle": "bundle", "rows": "rows"}
-# `timeout`, where the time is over.
+# `timeout`, when the time is over.
 FOREIGN_STATUSES = {"124"}
 NUMBERED = re.compile(r"(?i)\bstatus:? ((?:[^.]|\.(?=\S))*)\.")
 WORD = re.compile(rb"[A-Za-z_]\w{3,}")
@@ -34,7 +34,7 @@ PRUNED = (".git", "out", "__pycache__", "samples")
 
 
 def walked():
-    """Each file of the tree, but for what checks and runs leave behind."""
+    """Each file of the tree, but for what checks and runs leave."""
     for at, folders, names in os.walk(repo.TOP):
         folders[:] = sorted(it for it in folders if it not in PRUNED)
         yield from (os.path.join(at, it) for it in sorted(names))
@@ -78,7 +78,7 @@ def is_part(name):
 
 
 def names_there():
-    """A name that a page has as code stands somewhere in the tree."""
+    """A name that a page has as code is somewhere in the tree."""
     for place, text in spans((OTHERS,)):
         for name in NAME.findall(text):
             if name not in words() and not is_part(name):
@@ -92,7 +92,7 @@ def words_of(crate):
 
 
 def calls_there():
-    """What a page names behind a crate, as `crate::name`, stands in that crate, or in one that it hands on."""
+    """What a page names after a crate, as `crate::name`, is in that crate, or in one that it hands on."""
     for place, text in spans():
         for crate, *parts in CALL.findall(text):
             if crate in syntax.CRATES:
@@ -111,7 +111,7 @@ def crates_counted():
 
 
 def options_there():
-    """A command line of a page has options that its command knows, and an option named elsewhere stands in some script or source."""
+    """A command line of a page has options that its command knows, and an option named elsewhere is in some script or source."""
     known = {it: {*OPTION.findall(repo.read(path))} for it, path in GRAMMARS.items()}
     found = [(place, it) for place, text in spans() for it in OPTION.findall(text)]
     for path, place, line in lines():
@@ -131,11 +131,12 @@ def is_script(path):
 
 
 def statuses_there():
-    """An exit status that a page names is one that a command tells of in its help."""
-    told = {it for path in GRAMMARS.values() for text in NUMBERED.findall(repo.read(path)) for it in re.findall(r"(?:^|[;,] )\s*(\d+)\b", " ".join(text.split()))}
+    """An exit status that a page names is one that a command names in its help."""
+    helps = [*map(repo.read, GRAMMARS.values()), *map(usage.help_of, usage.HELPS)]
+    named = {it for one in helps for text in NUMBERED.findall(one) for it in re.findall(r"(?:^|[;,] )\s*(\d+)\b", " ".join(text.split()))}
     for path, place, line in lines():
         for number in STATUS.findall(line):
-            if number not in told | FOREIGN_STATUSES:
+            if number not in named | FOREIGN_STATUSES:
                 yield f"{place}: no command ends with status {number}"
 
 

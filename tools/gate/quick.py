@@ -8,7 +8,7 @@ import sys
 
 sys.path.insert(0, os.path.dirname(os.path.dirname(os.path.abspath(__file__))))
 from dev import items, manual
-from gate import dist, formatting, gate, laws, library, page_checks, source_checks, words
+from gate import dist, edits, formatting, laws, library, listed, page_checks, source_checks, words
 from program import repo
 from trials import bundling
 
@@ -16,7 +16,7 @@ from trials import bundling
 MOST_EDITS, MOST_CRATES = 25, 12
 MOST_LINES = 800
 # How many files the gate may read for its sums of what libraries are made from: each takes it some 0.15 ms, one after another.
-MOST_READS = 22_300_000
+MOST_READS = 22_400_000
 OF_FUNCTION = ("Invariants.antt", "Answers.antt", "Proof.antt")
 BESIDE_SRC = ("args", "stdin", "stdout", "status")
 PAGES = ("README.md", "CALLING.md")
@@ -39,7 +39,7 @@ def files():
 
 FILES = files()
 OF_RATTLE = [it for it in FILES if it.endswith((".rt", ".antt"))]
-SCRIPTS = [it for it in FILES if it.endswith((".py", ".sh")) or it in ("test", "certpath", "rows", "bundle", "vouch", "verify", ".ci/run")]
+SCRIPTS = [it for it in FILES if it.endswith((".py", ".sh")) or it in ("test", "certpath", "rows", "bundle", "vouch", "verify", "install", "tools/install/inventory", ".ci/run")]
 TEXTS = [it for it in FILES if it.endswith((".md", ".edit")) or it == "crates.txt"]
 DOCS = [it for it in FILES if it.endswith(".md")]
 CRATES = repo.crates()
@@ -50,28 +50,23 @@ def layout():
     yield from formatting.faults()
 
 
-def table_is_made():
-    """The table of docs/GATE.md has a row for each crate, and counts its edits."""
-    yield from gate.faults()
-
-
 def edits_apply():
     """Each edit can be applied to its crate."""
     for crate in CRATES:
-        for folder in repo.FOLDERS:
-            for edit in repo.edits(crate, folder):
-                why = repo.amiss(crate, f"{folder}/{edit}")
+        for folder in edits.FOLDERS:
+            for edit in edits.names(crate, folder):
+                why = edits.amiss(crate, f"{folder}/{edit}")
                 if why:
                     yield f"crates/{crate}/{folder}/{edit} can't be applied: {why}"
 
 
 def few_edits():
     """The gate tries few edits in few crates, and none that lies in wrong/ too."""
-    counts = {it: len(repo.edits(it, "must-fail")) for it in CRATES if repo.edits(it, "must-fail")}
+    counts = {it: len(edits.names(it, "must-fail")) for it in CRATES if edits.names(it, "must-fail")}
     if sum(counts.values()) > MOST_EDITS or len(counts) > MOST_CRATES:
         yield f"must-fail/ has {sum(counts.values())} edits in {len(counts)} crates, and at most {MOST_EDITS} in {MOST_CRATES} are kept there: move others to wrong/"
     for crate in CRATES:
-        for edit in {*repo.edits(crate, "must-fail")} & {*repo.edits(crate, "wrong")}:
+        for edit in {*edits.names(crate, "must-fail")} & {*edits.names(crate, "wrong")}:
             yield f"crates/{crate}: {edit} stands in must-fail/ and in wrong/"
 
 
@@ -95,7 +90,7 @@ def is_read(path, reached, words):
     """Whether a file below crates/NAME/ is one that the crate's check or its run reads."""
     _, crate, part, *inner = path.split("/")
     name = inner[-1] if inner else part
-    if part in repo.FOLDERS:
+    if part in edits.FOLDERS:
         return len(inner) == 1 and name.endswith((".edit", ".md"))
     if part == "src":
         return path in reached
@@ -164,12 +159,9 @@ def docs_name_files():
 
 
 def crates_listed():
-    """crates.txt and the folders name the same crates, and docs/CRATES.md tells of each."""
-    folders, told = {*os.listdir(os.path.join(repo.TOP, "crates"))}, repo.read("docs/CRATES.md")
-    for name in sorted({*CRATES} - folders):
-        yield f"crates.txt: there is no folder crates/{name}"
-    for name in sorted(folders - {*CRATES}):
-        yield f"crates/{name}: crates.txt has no line for it"
+    """crates.txt has one line for each folder of crates/, and docs/CRATES.md tells of each."""
+    told = repo.read("docs/CRATES.md")
+    yield from listed.faults()
     for name in CRATES:
         if f"`{name}`" not in told:
             yield f"docs/CRATES.md: it tells nothing of the crate {name}"
@@ -205,7 +197,7 @@ def roads_apart():
 
 
 def headers_counted():
-    """No counted call comes to a reader that keeps no count of its headers, and such readers stand where they are known."""
+    """No counted call comes to a reader that keeps no count of its headers, and such readers are in places that are known."""
     yield from source_checks.headers_counted()
 
 
@@ -265,17 +257,24 @@ def libraries_are_built():
     yield from library.faults()
 
 
+def checks():
+    """All looks."""
+    found = (layout, edits_apply, few_edits, all_read, no_labels, no_machine, docs_name_files, crates_listed, few_ways, judge_alone, roads_apart, headers_counted, no_handles, short_files, items_spelled, worked_causes, bundles, manual_is_made, dist_is_built, libraries_are_built, plain_words)
+    return found + source_checks.CHECKS + page_checks.CHECKS
+
+
+def looked():
+    """Looks, and prints what is amiss; gives how many looks passed and failed."""
+    amiss = {it: [*it()] for it in checks()}
+    for lines in amiss.values():
+        print("".join(f"quick: {it}\n" for it in lines), end="", flush=True)
+    failed = sum(map(bool, amiss.values()))
+    return len(amiss) - failed, failed
+
+
 def main():
-    checks = (layout, edits_apply, few_edits, all_read, no_labels, no_machine, docs_name_files, crates_listed, few_ways, judge_alone, roads_apart, headers_counted, no_handles, short_files, items_spelled, table_is_made, worked_causes, bundles, manual_is_made, dist_is_built, libraries_are_built, plain_words)
-    checks += source_checks.CHECKS
-    checks += page_checks.CHECKS
-    failed = 0
-    for check in checks:
-        found = [*check()]
-        failed += bool(found)
-        for line in found:
-            print(f"quick: {line}")
-    print(f"{len(checks) - failed} passed, {failed} failed")
+    passed, failed = looked()
+    print(f"{passed} passed, {failed} failed")
     return 1 if failed else 0
 
 

@@ -3,7 +3,7 @@ import os
 import re
 
 from dev import believe
-from gate import bodies, calls, counting, syntax
+from gate import calls, counting, syntax
 from program import repo
 
 
@@ -17,13 +17,13 @@ def check_asked():
     """Each run of `certpath_run` comes to one call of the check in `certcheck`, of what it found, and what that says is what the report is made with."""
     for run, finds, checks in ASKED:
         check = calls.function(f"certcheck::{checks}")
-        reached = [it for it in calls.come_to([calls.function(f"certpath_run::{run}")]) if it.file.crate == "certpath_run"]
-        callers = [it for it in reached if check in calls.called(it)]
-        if [len(re.findall(rf"\b{checks}\(", it.body)) for it in callers] != [1]:
+        reached = [entry for entry in calls.come_to([calls.function(f"certpath_run::{run}")]) if entry.file.crate == "certpath_run"]
+        callers = [entry for entry in reached if check in calls.called(entry)]
+        if [len(re.findall(rf"\b{checks}\(", caller.body)) for caller in callers] != [1]:
             yield f"crates/certpath_run: one function, which {run} comes to, calls certcheck::{checks} once, and no other does"
             continue
-        yield from (f"{callers[0].file.path}: {it}" for it in said_of_found(callers[0].body, finds, checks))
-        told = [it for it in reached for text in re.findall(TOLD, it.body) if re.search(r"\bsaid\b", text)]
+        yield from (f"{callers[0].file.path}: {entry}" for entry in said_of_found(callers[0].body, finds, checks))
+        told = [entry for entry in reached for text in re.findall(TOLD, entry.body) if re.search(r"\bsaid\b", text)]
         if not told:
             yield f"crates/certpath_run: what certcheck::{checks} said is in no report that {run} makes"
 
@@ -35,26 +35,26 @@ def said_of_found(body, finds, checks):
     after = set(re.findall(r"\w+", body[said.end():])) if said else set()
     if not (found and said) or f"&{found[1]}" not in said[2] or not {found[1], said[1]} <= after:
         yield f"what {finds} gives is what {checks} is asked of, and what both gave is handed on"
-    elif any(len(re.findall(rf"\b{it}\s*=(?!=)", body)) > 1 for it in (found[1], said[1])):
+    elif any(len(re.findall(rf"\b{entry}\s*=(?!=)", body)) > 1 for entry in (found[1], said[1])):
         yield f"what {finds} gave or {checks} said is put in place anew"
 
 
 def key_ids_read_apart():
     """`certpath_find` reads key identifiers by the readers of elements, and comes to nothing of `cert_model::parts`, by which the check reads them."""
     source = syntax.file("crates/certpath_find/src/key_ids.rt")
-    reached = {f"{it.file.path} {calls.name_of(it)}" for it in calls.come_to(source.functions)}
-    for it in ("crates/asn1_any/src/any.rt Any::from_der", "crates/x509_flags/src/identifier.rt KeyIdentifier::from_der"):
-        if it not in reached:
-            yield f"{source.path}: nothing comes to {it.split()[1]}"
-    for it in sorted(it for it in reached if it.startswith("crates/cert_model/src/parts.rt ")):
-        yield f"{source.path}: it comes to {it.split()[1]} of cert_model::parts"
-    for it in (it for crate in syntax.CRATES if crate.startswith("certpath_") for it in syntax.files(crate)):
-        if re.search(r"\bcert_model::parts\b", it.code):
-            yield f"{it.path}: it names cert_model::parts"
+    reached = {f"{entry.file.path} {calls.name_of(entry)}" for entry in calls.come_to(source.functions)}
+    for one in ("crates/asn1_any/src/any.rt Any::from_der", "crates/x509_flags/src/identifier.rt KeyIdentifier::from_der"):
+        if one not in reached:
+            yield f"{source.path}: nothing comes to {one.split()[1]}"
+    for element in sorted(entry for entry in reached if entry.startswith("crates/cert_model/src/parts.rt ")):
+        yield f"{source.path}: it comes to {element.split()[1]} of cert_model::parts"
+    for current in (file for crate in syntax.CRATES if crate.startswith("certpath_") for file in syntax.files(crate)):
+        if re.search(r"\bcert_model::parts\b", current.code):
+            yield f"{current.path}: it names cert_model::parts"
 
 
 def headers_counted():
-    """No counted call comes to a reader that keeps no count of its headers, and such readers stand where they are known."""
+    """No counted call comes to a reader that keeps no count of its headers, and such readers are in places that are known."""
     yield from counting.faults()
 
 
@@ -63,12 +63,7 @@ def pages_counted():
     yield from believe.faults()
 
 
-def bodies_named():
-    """docs/WRONG_BODIES.md names edits that are there, and the functions that they change."""
-    yield from bodies.faults()
-
-
-# What reaches behind the commands of the toolchain: how a line of a script looks that does, and what it does.
+# What reaches past the commands of the toolchain: how a line of a script looks that does, and what it does.
 BEHIND = (
     (r"""toolchain/bin|rlibs|logic_built|["']bin["'], *["']rattle["']|/bin/rattle\b""", "calls or names what lies in the toolchain's folder"),
     (r"""realpath\(.*\brt\b|["']rt["'], *["']doc["']|\brt doc\b""", "looks for the toolchain's folder"),
@@ -90,7 +85,7 @@ THIS = "tools/gate/source_checks.py"
 
 
 def behind_the_kit(text):
-    """The lines of a text that reach behind the commands of the toolchain: number and what is amiss."""
+    """The lines of a text that reach past the commands of the toolchain: number and what is amiss."""
     for number, line in enumerate(text.splitlines(), 1):
         yield from ((number, why) for pattern, why in BEHIND if re.search(pattern, line))
 
@@ -98,8 +93,8 @@ def behind_the_kit(text):
 def scripts(top=repo.TOP):
     """The scripts of the repository, by their paths: those that are named so, and those that begin as one."""
     for at, folders, names in os.walk(top):
-        folders[:] = sorted(it for it in folders if it not in (".git", "out", "__pycache__"))
-        for path in (os.path.join(at, it) for it in sorted(names)):
+        folders[:] = sorted(folder for folder in folders if folder not in (".git", "out", "__pycache__"))
+        for path in (os.path.join(at, name) for name in sorted(names)):
             if path.endswith((".py", ".sh")) or os.access(path, os.X_OK) and is_script(path):
                 yield os.path.relpath(path, top)
 
@@ -110,12 +105,12 @@ def is_script(path):
 
 
 def toolchain_by_commands(top=repo.TOP):
-    """Scripts use the toolchain by its commands alone: none calls what lies behind them, or looks into what they start."""
-    yield from (f"{THIS}: a script with the line {it} isn't refused" for it in PLANTED if not [*behind_the_kit(it)])
-    yield from (f"{THIS}: a script with the line {it} is refused" for it in HARMLESS if [*behind_the_kit(it)])
+    """Scripts use the toolchain by its commands alone: none calls what lies beneath them, or looks into what they start."""
+    yield from (f"{THIS}: a script with the line {entry} isn't refused" for entry in PLANTED if not [*behind_the_kit(entry)])
+    yield from (f"{THIS}: a script with the line {entry} is refused" for entry in HARMLESS if [*behind_the_kit(entry)])
     for path in scripts(top):
         if path != THIS:
             yield from (f"{path}:{number}: it {why}" for number, why in behind_the_kit(repo.read(path, top)))
 
 
-CHECKS = (check_asked, key_ids_read_apart, pages_counted, bodies_named, toolchain_by_commands)
+CHECKS = (check_asked, key_ids_read_apart, pages_counted, toolchain_by_commands)

@@ -20,16 +20,16 @@ CLAUSE = re.compile(r"\b(requires|ensures)\s+(\w*)\s*(?=\{)|[{;\[]")
 
 def blanked(text):
     """The text with blanks in the place of comments, quoted texts and characters; each line keeps its length."""
-    return OPAQUE.sub(lambda it: re.sub(r"[^\n]", " ", it[0]), text)
+    return OPAQUE.sub(lambda character: re.sub(r"[^\n]", " ", character[0]), text)
 
 
 def closing(code, at):
     """Where the bracket that opens at a place is closed."""
     opening, depth = code[at], 0
-    for it in BRACKETS[opening].finditer(code, at):
-        depth += 1 if it[0] == opening else -1
+    for match in BRACKETS[opening].finditer(code, at):
+        depth += 1 if match[0] == opening else -1
         if not depth:
-            return it.start()
+            return match.start()
     raise ValueError(f"a bracket is not closed: {code[at:at + 60]}")
 
 
@@ -39,11 +39,11 @@ def line_of(text, at):
 
 
 class Function:
-    """A function: its name, the header of the impl or trait that it stands in, its signature, clauses and body."""
+    """A function: its name, the header of the impl or trait that it is in, its signature, clauses and body."""
 
     def __init__(self, file, name, at, owner, signature, clauses, body, body_at):
         self.file, self.name, self.at, self.owner = file, name, at, owner
-        # Each clause is `requires` or `ensures`, its name (empty where it has none) and its text; what a trait leaves open has no body.
+        # Each clause is `requires` or `ensures`, its name (empty if it has none) and its text; what a trait leaves open has no body.
         self.signature, self.clauses, self.body, self.body_at = signature, clauses, body, body_at
 
     @property
@@ -61,7 +61,7 @@ class Function:
 
     @functools.cached_property
     def owner_type(self):
-        """The type whose function it is, or the trait; empty where it is of neither."""
+        """The type whose function it is, or the trait; empty if it is of neither."""
         head = re.sub(r"<[^<>]*>", "", re.sub(r"<[^<>]*>", "", re.sub(r"<[^<>]*>", "", self.owner[2])))
         found = re.match(r"(?:pub(?:\([\w ]+\))? )?(?:impl\b.*?\bfor|impl|trait)\b\s*(\w+)", head)
         return found[1] if found else ""
@@ -74,38 +74,38 @@ class File:
         self.path, self.crate = path, path.split("/")[1]
         self.text = repo.read(path)
         self.code = blanked(self.text)
-        self.blocks = [(it.start(), closing(self.code, it.end() - 1), it[0].strip(" \n\t{")) for it in BLOCK.finditer(self.code)]
+        self.blocks = [(match.start(), closing(self.code, match.end() - 1), match[0].strip(" \n\t{")) for match in BLOCK.finditer(self.code)]
 
     def owner_at(self, at):
         """The span and the header of the innermost impl, trait or module around a place."""
-        around = [it for it in self.blocks if it[0] < at < it[1]]
+        around = [block for block in self.blocks if block[0] < at < block[1]]
         return max(around) if around else (0, len(self.code), "")
 
     @functools.cached_property
     def functions(self):
-        return [self.function(it) for it in FUNCTION.finditer(self.code)]
+        return [self.function(match) for match in FUNCTION.finditer(self.code)]
 
     @functools.cached_property
     def plain(self):
         """The functions outside all types, by their names."""
-        return {it.name: it for it in self.functions if not it.owner_type}
+        return {function.name: function for function in self.functions if not function.owner_type}
 
     def function(self, found):
-        """The function whose head was found: its clauses stand between its parameters and its body."""
+        """The function whose head was found: its clauses are between its parameters and its body."""
         at = closing(self.code, self.code.index("(", self.generics_end(found.end())))
         clauses, end, signature = [], at + 1, None
         while True:
-            it = CLAUSE.search(self.code, end)
+            clause = CLAUSE.search(self.code, end)
             # (an array type has a semicolon)
-            while it[0] == "[":
-                it = CLAUSE.search(self.code, closing(self.code, it.start()) + 1)
-            signature = signature or self.code[found.start():it.start()]
-            if not it[1]:
+            while clause[0] == "[":
+                clause = CLAUSE.search(self.code, closing(self.code, clause.start()) + 1)
+            signature = signature or self.code[found.start():clause.start()]
+            if not clause[1]:
                 break
-            end = closing(self.code, it.end()) + 1
-            clauses.append((it[1], it[2], self.code[it.end() + 1:end - 1]))
-        body = self.code[it.start():closing(self.code, it.start()) + 1] if it[0] == "{" else None
-        return Function(self, found[1], found.start(), self.owner_at(found.start() + len(found[0])), signature, clauses, body, it.start())
+            end = closing(self.code, clause.end()) + 1
+            clauses.append((clause[1], clause[2], self.code[clause.end() + 1:end - 1]))
+        body = self.code[clause.start():closing(self.code, clause.start()) + 1] if clause[0] == "{" else None
+        return Function(self, found[1], found.start(), self.owner_at(found.start() + len(found[0])), signature, clauses, body, clause.start())
 
     def generics_end(self, at):
         """Behind the type parameters that begin at a place, or the place itself."""
@@ -122,27 +122,27 @@ class File:
     def types(self):
         """Each struct, enum, trait, type and constant by its name, with where it begins and ends."""
         found = {}
-        for it in TYPE.finditer(self.code):
-            end = re.compile(r"[{;]").search(self.code, it.end())
-            found.setdefault(it[2], (it.start(), closing(self.code, end.start()) if end[0] == "{" else end.start()))
+        for match in TYPE.finditer(self.code):
+            end = re.compile(r"[{;]").search(self.code, match.end())
+            found.setdefault(match[2], (match.start(), closing(self.code, end.start()) if end[0] == "{" else end.start()))
         return found
 
     @functools.cached_property
     def imports(self):
         """Of each name of Rust that `use` brings in: the path that it comes from, and its name there."""
         found = {}
-        for it in RUST_USE.finditer(self.code):
-            if not it[0].lstrip().startswith("ghost"):
-                found |= {local: (path, name) for path, name, local in use_leaves(it[1])}
+        for match in RUST_USE.finditer(self.code):
+            if not match[0].lstrip().startswith("ghost"):
+                found |= {local: (path, name) for path, name, local in use_leaves(match[1])}
         return found
 
     def ghosts(self, at):
         """The names that `ghost use` brings in at a place: of the file, and of the blocks around the place."""
         names, modules = {}, {}
-        for it in GHOST_USE.finditer(self.code):
-            start, end, _ = self.owner_at(it.start())
+        for match in GHOST_USE.finditer(self.code):
+            start, end, _ = self.owner_at(match.start())
             if start <= at <= end:
-                add_use(names, modules, it[1], it[2], it[3])
+                add_use(names, modules, match[1], match[2], match[3])
         return names, modules
 
 
@@ -158,7 +158,7 @@ def use_leaves(text):
                 parts, part = [*parts, part.strip()], ""
             else:
                 part += sign
-        return [leaf for it in parts if it for leaf in use_leaves(head.strip() + it)]
+        return [leaf for part in parts if part for leaf in use_leaves(head.strip() + part)]
     path, _, last = text.rpartition("::")
     name, _, local = last.partition(" as ")
     return [(path, name, local or name)]
@@ -170,9 +170,9 @@ def add_use(names, modules, path, listed, alias):
         if alias:
             modules[alias] = path
         return
-    for it in re.split(r"[,\s]\s*(?=\S)", re.sub(r"\s+as\s+", "=", listed.strip())):
-        if it.strip(", "):
-            name, _, local = it.strip(", ").partition("=")
+    for word in re.split(r"[,\s]\s*(?=\S)", re.sub(r"\s+as\s+", "=", listed.strip())):
+        if word.strip(", "):
+            name, _, local = word.strip(", ").partition("=")
             names[local or name] = (path, name)
 
 
@@ -186,8 +186,8 @@ def files(crate):
     """The .rt files of a crate, tests left out."""
     found = []
     for at, _, names in sorted(os.walk(os.path.join(repo.TOP, "crates", crate, "src"))):
-        paths = [os.path.relpath(os.path.join(at, it), repo.TOP) for it in sorted(names) if it.endswith(".rt")]
-        found += [file(it) for it in paths if not re.search(r"/tests?\b", it)]
+        paths = [os.path.relpath(os.path.join(at, name), repo.TOP) for name in sorted(names) if name.endswith(".rt")]
+        found += [file(path) for path in paths if not re.search(r"/tests?\b", path)]
     return found
 
 
@@ -214,14 +214,14 @@ def plain_function(source, name):
 
 @functools.cache
 def type_file(crate, name):
-    """The file of a crate that defines a type, or that of the crate from which it is handed on; none where it is not of the repository."""
+    """The file of a crate that defines a type, or that of the crate from which it is handed on; none if it is not of the repository."""
     if crate not in CRATES:
         return None
-    for it in files(crate):
-        if name in it.types:
-            return it, name
-    for it in files(crate):
-        path, other = it.imports.get(name, ("", ""))
+    for one_file in files(crate):
+        if name in one_file.types:
+            return one_file, name
+    for entry in files(crate):
+        path, other = entry.imports.get(name, ("", ""))
         if path and path.split("::")[0] in CRATES:
             return type_file(path.split("::")[0], other)
     return None

@@ -22,7 +22,7 @@ BLANKS = b" \t"
 
 
 def boundary_of(line):
-    """Whether a line begins or ends a block, as BEGIN or END, and the block's label; none where it does neither. Blanks may
+    """Whether a line begins or ends a block, as BEGIN or END, and the block's label; none if it does neither. Blanks may
     stand around it."""
     line = line.strip(BLANKS)
     for kind in (BEGIN, END):

@@ -1,7 +1,6 @@
 """Makes the package python/certpath known to the scripts that share its modules."""
-import os
 import sys
 
-from program import repo
+from program import installed
 
-sys.path.insert(0, os.path.join(repo.TOP, "python"))
+sys.path.insert(0, installed.FOLDER)

@@ -3,7 +3,7 @@ import errno
 import sys
 
 STANDARD_INPUT = "-"
-# So many characters of a word stand in a message.
+# So many characters of a word are in a message.
 MOST_SHOWN = 200
 
 

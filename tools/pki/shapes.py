@@ -19,7 +19,7 @@ class Part(NamedTuple):
 
 def header_at(octets, at):
     """The first identifier octet of the element that begins there, where its content begins and ends, and whether its length
-    is in the shortest form; none where there is no header of definite length. The content may end behind the octets."""
+    is in the shortest form; none if there is no header of definite length. The content may end after the octets."""
     if len(octets) < at + 2:
         return None
     begin = at + 1
@@ -40,7 +40,7 @@ def header_at(octets, at):
 
 
 def headers_in(octets):
-    """Where each element of a row of them begins, and its header; ends with none where the octets aren't a row of elements."""
+    """Where each element of a row of them begins, and its header; ends with none if the octets aren't a row of elements."""
     at = 0
     while at < len(octets):
         header = header_at(octets, at)
@@ -52,7 +52,7 @@ def headers_in(octets):
 
 
 def parts_of(octets, most=None):
-    """The elements that the octets are, or the first of them, at most so many; none where the octets aren't a row of elements."""
+    """The elements that the octets are, or the first of them, at most so many; none if the octets aren't a row of elements."""
     parts = []
     for found in headers_in(octets):
         if found is None:
@@ -64,7 +64,7 @@ def parts_of(octets, most=None):
 
 
 def first_parts(octets, most):
-    """The first elements that begin the octets, at most so many; what stands behind them isn't looked at. None where one of these isn't
+    """The first elements that begin the octets, at most so many; what is after them isn't looked at. None if one of these isn't
     an element."""
     parts = []
     for found in headers_in(octets):
@@ -83,16 +83,16 @@ def is_row(octets):
 
 
 def tags_of(parts):
-    return [it.tag for it in parts or []]
+    return [part.tag for part in parts or []]
 
 
 def without(tag, parts):
-    """The parts without the first one, where that has the tag."""
+    """The parts without the first one, if that has the tag."""
     return parts[1:] if tags_of(parts[:1]) == [tag] else parts
 
 
 def kind_of(octets):
-    """Whether a whole element has the shape of a certificate (RFC 5280, 4.1) or of a list (RFC 5280, 5.1), none where it has neither."""
+    """Whether a whole element has the shape of a certificate (RFC 5280, 4.1) or of a list (RFC 5280, 5.1), none if it has neither."""
     if len(octets) < LEAST_ITEM:
         return None
     whole = first_parts(octets, 1)

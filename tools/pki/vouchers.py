@@ -7,7 +7,7 @@ from certpath import Kind, Vouchers, holders_by_issuer
 
 
 class Verdict(NamedTuple):
-    """The keys that vouch for an item, and what is to tell of it, none where there is nothing."""
+    """The keys that vouch for an item, and what is to be reported of it, none if there is nothing."""
     keys: tuple = ()
     why: str = None
 
@@ -16,15 +16,15 @@ UNREAD = Verdict(why="neither certificate nor list")
 
 
 class Vouching:
-    """The vouchers for a bundle's items, by the keys of its certificates and of the anchors. `told` is told what there is to tell.
+    """The vouchers for a bundle's items, by the keys of its certificates and of the anchors. `report` takes what there is to report.
 
     Equal items are judged once.
     """
 
-    def __init__(self, bundle, anchors, judge, takes_weak, told):
-        self.bundle, self.anchors, self.judge, self.takes_weak, self.told = bundle, anchors, judge, takes_weak, told
+    def __init__(self, bundle, anchors, judge, takes_weak, report):
+        self.bundle, self.anchors, self.judge, self.takes_weak, self.report = bundle, anchors, judge, takes_weak, report
         self.vouchers, self.verdicts, self.vouched = Vouchers(), {}, 0
-        self.holders = {name: judge.holders([it.certificate(bundle, anchors) for it in holders])
+        self.holders = {name: judge.holders([holder.certificate(bundle, anchors) for holder in holders])
                         for name, holders in holders_by_issuer(bundle, anchors).items()}
         for number, kind in enumerate(bundle.kinds()):
             self.vouch(number, kind)
@@ -34,16 +34,16 @@ class Vouching:
             if kind is Kind.CERTIFICATE:
                 self.read("anchors", number, anchors[number])
             else:
-                told.add("anchors", number, "no certificate")
+                report.add("anchors", number, "no certificate")
 
     def vouch(self, number, kind):
-        """Adds an item's vouchers, or tells why there is none."""
+        """Adds an item's vouchers, or reports why there is none."""
         verdict = UNREAD if kind is Kind.OTHER else self.verdict(number)
         for key in verdict.keys:
             self.vouchers.add(key, self.bundle.octets(number))
         self.vouched += bool(verdict.keys)
         if verdict.why:
-            self.told.add("bundle", number, verdict.why)
+            self.report.add("bundle", number, verdict.why)
 
     def verdict(self, number):
         """What is found of a certificate or a list, once of equal ones."""
@@ -61,20 +61,20 @@ class Vouching:
             return Verdict(why="no key under its issuer's name")
         left = holders - len(judged.tried)
         untried = f"; {counted(left, 'further key')} not tried (--tries)" if left else ""
-        verified = [it for it in judged.tried if it.why is None]
+        verified = [entry for entry in judged.tried if entry.why is None]
         if not verified:
             return Verdict(why=f"not verified by {counted(len(judged.tried), 'key')} ({judged.tried[0].why}){untried}")
-        taken = tuple(it.key for it in verified if self.takes_weak or not it.weaknesses)
+        taken = tuple(entry.key for entry in verified if self.takes_weak or not entry.weaknesses)
         if not taken:
             return Verdict(why=f"weak: {', '.join(verified[0].weaknesses)} (--weak takes it){untried}")
         return Verdict(taken, f"vouched for{untried}" if untried else None)
 
     def read(self, file, number, certificate):
-        """Tells of a key that isn't used, where an item of the bundle asks for one under its name."""
+        """Reports a key that isn't used, if an item of the bundle asks for one under its name."""
         if certificate.subject in self.holders:
             why = self.judge.openssl.key(certificate.public_key_bytes).why
             if why:
-                self.told.add(file, number, why)
+                self.report.add(file, number, why)
 
     def text(self):
         """The file: each line once, in ascending order."""
@@ -82,4 +82,4 @@ class Vouching:
 
     def summary(self):
         return (f"vouch: {counted(len(self.bundle), 'item')}, {self.vouched} vouched for, {counted(len(self.vouchers), 'line')}, "
-                f"{self.told.count} reported")
+                f"{self.report.count} reported")

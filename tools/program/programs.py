@@ -1,5 +1,5 @@
-"""Programs that are there, and what each was built from: dist/certpath, and what builds and the
-gate left below out/programs/.
+"""Programs that are there, and what each was built from: dist/certpath, and those of other crates
+below out/programs/, which `./certpath --build NAME` and the gate put there.
 
 Beside a program stands its record, lines of a word and what it says. `kit`: the line of the
 toolchain. `sources`: the digest of what it was built from. `program`: the SHA-256 of its octets.
@@ -9,32 +9,24 @@ import _signal
 import os
 import sys
 
-from program import repo, sources, streams
+from program import installed, repo, sources, streams
 
-CERTPATH = "certpath_cli"
+CERTPATH, LIBRARY = "certpath_cli", "certpath_c"
 SHIPPED, SHIPPED_RECORD = os.path.join("dist", "certpath"), os.path.join("dist", "BUILT")
-OWN, RECORD = os.path.join("out", "programs"), ".built"
+LIBRARY_RECORD = os.path.join("dist", "BUILT-library")
+OWN = os.path.join("out", "programs")
 WORDS = ("kit", "sources", "program", "needs")
-REMEDY = "./certpath --build builds it from the sources"
-# The status where there is no program to run.
-NO_PROGRAM = 70
-
-
-class Record:
-    """What a program was built by and from, its SHA-256, and the machine that it needs."""
-
-    def __init__(self, kit, sources, program, needs):
-        self.kit, self.sources, self.program, self.needs = kit, sources, program, needs
-
-    def text(self):
-        return "".join(f"{it} {getattr(self, it)}\n" for it in WORDS)
+BUILD = "./certpath --build"
+OLDER = f"dist/ is older than the sources: {BUILD} builds it"
+# The statuses where dist/ is older than the sources, and where there is no program to run.
+OUTDATED, NO_PROGRAM = 69, 70
 
 
 class Lack:
-    """Why there is no program, and whether it is built without being asked for."""
+    """Why there is no program to run, with what to do, and the status to end with."""
 
-    def __init__(self, why, is_built):
-        self.why, self.is_built = why, is_built
+    def __init__(self, why, status=NO_PROGRAM):
+        self.why, self.status = why, status
 
 
 def title(crate):
@@ -42,86 +34,65 @@ def title(crate):
     return "certpath" if crate == CERTPATH else crate
 
 
+def paths(crate):
+    """The paths of a crate's program and of its record."""
+    own = os.path.join(OWN, crate)
+    return (SHIPPED, SHIPPED_RECORD) if crate == CERTPATH else (own, f"{own}.built")
+
+
 def read_record(path):
-    """The record in a file, none where there is none."""
+    """What the lines of a record say, by their words; nothing if it can't be read."""
     try:
-        lines = repo.read(path).splitlines()
+        return dict(it.split(" ", 1) for it in repo.read(path).splitlines() if " " in it)
     except (OSError, ValueError):
-        return None
-    said = dict(it.split(" ", 1) for it in lines if " " in it)
-    return Record(**said) if sorted(said) == sorted(WORDS) else None
-
-
-def sum_of_octets(octets):
-    return sources.hashlib.sha256(octets).hexdigest()
+        return {}
 
 
 def sum_of(path):
-    """The SHA-256 of a file in hex digits, none where it can't be read."""
+    """The SHA-256 of a file in hex digits, none if it can't be read."""
     try:
-        return sum_of_octets(sources.octets_of(os.path.join(repo.TOP, path)))
+        return sources.sum_of_octets(sources.octets_of(os.path.join(repo.TOP, path)))
     except OSError:
         return None
 
 
-def is_executable(path):
-    return os.access(os.path.join(repo.TOP, path), os.X_OK)
-
-
-def own(crate):
-    """The paths of what is built here and of its record."""
-    path = os.path.join(OWN, crate)
-    return path, path + RECORD
-
-
-def own_now(crate):
-    """The path of what was built here from the sources as they are, or none; and their digest."""
-    digest, (path, record_path) = sources.known(crate), own(crate)
-    record = read_record(record_path)
-    is_there = record is not None and record.sources == digest and record.program == sum_of(path)
-    return os.path.join(repo.TOP, path) if is_there and is_executable(path) else None, digest
-
-
 def found(crate):
-    """The path of the program that was built from the sources as they are, or none and the lack.
-
-    What was built here goes before dist/certpath, so that who built it runs that."""
-    path, digest = own_now(crate)
-    if path:
-        return path, None
-    if crate != CERTPATH:
-        return None, Lack("no program of these sources is built yet", True)
-    record = read_record(SHIPPED_RECORD)
-    if record is None:
-        return None, Lack(f"{SHIPPED_RECORD} is missing, or is no record of {SHIPPED}", False)
-    if record.sources != digest:
-        return None, Lack(f"sources have changed since {SHIPPED} was built", True)
-    amiss = fault(record)
-    return (None, Lack(amiss, False)) if amiss else (os.path.join(repo.TOP, SHIPPED), None)
+    """The path of a crate's program as its sources are now, or none and what is lacking. In an
+    installation it is the one program there."""
+    if installed.IS_INSTALLED:
+        amiss = installed.fault()
+        return (None, Lack(f"{amiss}: {installed.REMEDY}")) if amiss else (installed.PROGRAM, None)
+    path, record = paths(crate)[0], read_record(paths(crate)[1])
+    remedy = BUILD if crate == CERTPATH else f"{BUILD} {crate}"
+    if sorted(record) == sorted(WORDS) and record["sources"] != sources.digest(crate):
+        older = OLDER if crate == CERTPATH else f"it is older than its sources: {remedy} builds it"
+        return None, Lack(older, OUTDATED)
+    amiss = fault(path, record, paths(crate)[1]) if record or crate == CERTPATH else "it isn't built yet"
+    return (None, Lack(f"{amiss}: {remedy} builds it")) if amiss else (os.path.join(repo.TOP, path), None)
 
 
-def standing():
-    """The path, from the top of the repository, of the certpath that runs on the sources as they
-    are, and its record; or none of both."""
-    path, _ = found(CERTPATH)
-    if path is None:
-        return None, None
-    path = os.path.relpath(path, repo.TOP)
-    return path, read_record(SHIPPED_RECORD if path == SHIPPED else path + RECORD)
-
-
-def fault(record):
-    """What keeps dist/certpath from being run, none where nothing does."""
-    program = sum_of(SHIPPED)
-    if program is None:
-        return f"{SHIPPED} is missing, or can't be read"
-    if program != record.program:
-        return f"{SHIPPED} was changed: its SHA-256 isn't the one in {SHIPPED_RECORD}"
-    if not is_executable(SHIPPED):
-        return f"{SHIPPED} has no permission to be executed"
-    if not fits(record.needs):
-        return f"{SHIPPED} needs {record.needs}, and this is {machine()}"
+def fault(path, record, record_path):
+    """What keeps a program from being run, none if nothing does."""
+    if sorted(record) != sorted(WORDS):
+        return f"{record_path} is missing, or is no record"
+    if sum_of(path) != record["program"]:
+        return f"{path} is missing, or was changed: its SHA-256 isn't that of its record"
+    if not os.access(os.path.join(repo.TOP, path), os.X_OK):
+        return f"{path} has no permission to be executed"
+    if not fits(record["needs"]):
+        return f"{path} needs {record['needs']}, and this is {machine()}"
     return None
+
+
+def is_library_old():
+    """Whether the libraries of dist/ were built from other sources than those that are here."""
+    return not installed.IS_INSTALLED and read_record(LIBRARY_RECORD).get("sources") != sources.digest(LIBRARY)
+
+
+def is_outdated():
+    """Whether dist/ is older than the sources: its program, or its libraries."""
+    lack = found(CERTPATH)[1]
+    return bool(lack) and lack.status == OUTDATED or is_library_old()
 
 
 def machine():
@@ -146,13 +117,14 @@ def numbers(version):
 
 
 def become(crate, path, words):
-    """Becomes the program on the words; ends with status 70 where it can't be started."""
+    """Becomes the program on the words; ends with status 70 if it can't be started."""
     end_by_pipe()
     try:
         os.execv(path, [path, *words])
     except OSError as error:
         name = os.path.relpath(path, repo.TOP)
-        streams.tell(f"{title(crate)}: {name} can't be started ({error.strerror}): {REMEDY}")
+        remedy = installed.REMEDY if installed.IS_INSTALLED else f"{BUILD} builds it"
+        streams.report(f"{title(crate)}: {name} can't be started ({error.strerror}): {remedy}")
         sys.exit(NO_PROGRAM)
 
 

@@ -1,5 +1,4 @@
-"""What the scripts share: the crates as crates.txt lists them, their programs, and edits with the
-texts that they make.
+"""What the scripts share: the crates as crates.txt lists them, and their programs.
 
 `./certpath` imports this before each run: what takes time to import is imported where it is used.
 """
@@ -7,7 +6,6 @@ import os
 import sys
 
 TOP = os.path.dirname(os.path.dirname(os.path.dirname(os.path.abspath(__file__))))
-FOLDERS = ("must-fail", "wrong")
 
 
 def read(path, top=TOP):
@@ -29,7 +27,7 @@ def crates(top=TOP):
 
 
 def below(names, listed):
-    """The named crates and all that they stand on, lowest first."""
+    """The named crates and all that they depend on, lowest first."""
     found = []
 
     def take(name):
@@ -44,70 +42,17 @@ def below(names, listed):
 
 
 def ready(crate):
-    """The path of a crate's program as its sources are now. It is built where it isn't there; where
-    it can't be had, standard error says why, and there is none.
-
-    `certpath_cli` is dist/certpath, where that was built from these sources.
-    """
+    """The path of a crate's program as its sources are now. If it isn't there, standard error says
+    why and what to do, and this process ends with a status of its own: nothing is built."""
     from program import programs
     path, lack = programs.found(crate)
-    if path:
-        return path
-    if not lack.is_built:
-        programs.streams.tell(f"{programs.title(crate)}: {lack.why}: {programs.REMEDY}")
-        return None
-    from program import building
-    return building.build(crate, lack.why)
+    if lack:
+        programs.streams.report(f"{programs.title(crate)}: {lack.why}")
+        sys.exit(lack.status)
+    return path
 
 
 def run(crate, words):
-    """Becomes a crate's program on the words; ends with status 70 where there is none to start."""
+    """Becomes a crate's program on the words."""
     from program import programs
-    path = ready(crate)
-    if not path:
-        sys.exit(programs.NO_PROGRAM)
-    programs.become(crate, path, words)
-
-
-def built(crate, words=()):
-    """Has `rt` prove a crate over kept work, build its program and run it on the words: for a crate
-    that one works on. Gives the program's path, or none where it wasn't built, and what was printed."""
-    import subprocess
-    folder = os.path.join(TOP, "crates", crate)
-    ran = subprocess.run(["rt", "run", "--", *words], cwd=folder, text=True, errors="replace",
-                         stdin=subprocess.DEVNULL, stdout=subprocess.DEVNULL, stderr=subprocess.PIPE)
-    # (the status is the program's own once it runs)
-    is_built = f"\nrt: running out/{crate};" in f"\n{ran.stderr}"
-    return os.path.join(folder, "out", crate) if is_built else None, ran.stderr
-
-
-def edits(crate, folder):
-    """The names of a crate's edits in must-fail/ or in wrong/."""
-    at = os.path.join(TOP, "crates", crate, folder)
-    return sorted(it for it in os.listdir(at) if it.endswith(".edit")) if os.path.isdir(at) else []
-
-
-def amiss(crate, edit):
-    """Why an edit can't be applied to the crate, or none. Each `old:` text stands once in what the pairs before it left."""
-    import re
-    texts, path, old, pairs = {}, None, None, 0
-    for line in read(f"crates/{crate}/{edit}").split("\n"):
-        if line.startswith("file: "):
-            path = line[len("file: "):].strip()
-            if not re.match(r"(src|specs|proofs)/", path) or os.path.normpath(path) != path:
-                return f"{path} is no file below src/, specs/ or proofs/"
-        elif line.startswith("old: "):
-            old = line[len("old: "):]
-        elif line.startswith("new:"):
-            if not path or not old:
-                return "a `new:` stands before any `file:` or `old:`"
-            if path not in texts:
-                if not os.path.isfile(os.path.join(TOP, "crates", crate, path)):
-                    return f"there is no file {path}"
-                texts[path] = read(f"crates/{crate}/{path}")
-            count = texts[path].count(old)
-            if count != 1:
-                return f"its `old:` text stands {count} times in {path}: {old.strip()}"
-            texts[path] = texts[path].replace(old, re.sub(r"\A ", "", line[len("new:"):]))
-            old, pairs = None, pairs + 1
-    return None if pairs else "it has no pair of `old:` and `new:`"
+    programs.become(crate, ready(crate), words)

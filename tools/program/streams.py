@@ -23,7 +23,7 @@ def shown(text):
     return "".join(it if it.isprintable() else it.encode("unicode_escape").decode() for it in text)
 
 
-def tell(text):
+def report(text):
     """Writes a line on standard error. An error there is ignored, since the exit status holds the result."""
     write_lines([shown(str(text))])
 
@@ -43,7 +43,7 @@ class Lines:
     def __init__(self):
         self.held, self.size = [], 0
 
-    def tell(self, text):
+    def add(self, text):
         """Adds a line."""
         line = shown(text)
         self.held.append(line)
@@ -66,7 +66,7 @@ def wrote(octets):
         sys.stdout.flush()
         return True
     except OSError:
-        tell("cannot write")
+        report("cannot write")
     if sys.stdout is not None:
         # what is left in the buffer would be tried again, and told, when Python ends
         os.dup2(os.open(os.devnull, os.O_WRONLY), sys.stdout.fileno())

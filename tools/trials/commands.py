@@ -1,16 +1,14 @@
-#!/usr/bin/env python3
 """Runs the built program `certpath` on a table of command lines, and tells of each whether its status and what it wrote are as wanted.
 
 What leads from the words to the files isn't seen by a contract of a library, so it is run: the limit, each status, each message, and what is written where.
 """
 import os
 import subprocess
-import sys
 import tempfile
 
-sys.path.insert(0, os.path.dirname(os.path.dirname(os.path.abspath(__file__))))
 from program import repo
 from trials import paths, pieces
+from trials.count import Trial
 
 SECONDS = 60
 BUNDLE = os.path.join(repo.TOP, "samples", "bundle.der")
@@ -75,7 +73,7 @@ def table(room):
 def frame_table(room, made):
     """Rows of `frame`, and of words that no command takes."""
     samples = [os.path.join(repo.TOP, "samples", f"{it}.der") for it in ("leaf", "intermediate", "root", "list")]
-    bundled = subprocess.run([os.path.join(repo.TOP, "bundle"), *samples], stdout=subprocess.PIPE, timeout=SECONDS).stdout
+    bundled = subprocess.run([os.path.join(repo.TOP, "bundle"), *samples], stdout=subprocess.PIPE, stderr=subprocess.DEVNULL, timeout=SECONDS).stdout
     longest = bytes([0x30, 0x84]) + LARGEST.to_bytes(4, "big") + bytes(LARGEST)
     above = bytes([0x30, 0x84]) + (LARGEST + 1).to_bytes(4, "big") + bytes(LARGEST + 1)
     empty, three, cut, fault = made("empty", b""), made("three", THREE), made("cut", THREE + CUT), made("fault", THREE + b"\x00\x00")
@@ -142,34 +140,20 @@ def ran(program, words, room, octets, output):
     return it.returncode, it.stdout, it.stderr
 
 
-def main():
-    program = repo.ready("certpath_cli")
-    if not program:
-        print("certpath: it wasn't built")
-        return 1
-    passed = failed = 0
+class Commands(Trial):
+    def test_command_lines(self):
+        program = self.program()
 
-    def count(words, got, wanted):
-        nonlocal passed, failed
-        if got == wanted:
-            passed += 1
-        else:
-            failed += 1
-            print(f"certpath {words}: status, output and error are {got}, wanted are {wanted}")
+        def count(words, got, wanted):
+            self.row(got == wanted, f"certpath {words}: status, output and error are {got}, wanted are {wanted}")
 
-    with tempfile.TemporaryDirectory(prefix="commands-") as room:
-        rows = table(room)
-        for words, octets, *wanted in rows:
-            count(words, ran(program, words, room, octets, subprocess.PIPE), tuple(wanted))
-        for words, octets, *wanted in octet_by_octet(rows, room):
-            count([*words, "octet by octet"], pieces.ran([program, *words], octets, SECONDS, cwd=room), tuple(wanted))
-        # a device that takes no octet
-        with open("/dev/full", "wb") as full:
-            count(["frame", "three", ">/dev/full"], ran(program, ["frame", "three"], room, b"", full), (7, None, b"cannot write\n"))
-            count([*paths.FULL, ">/dev/full"], ran(program, paths.FULL, room, b"", full), (7, None, b"cannot write\n"))
-    print(f"certpath: {passed} passed, {failed} failed of {passed + failed} command lines")
-    return 1 if failed else 0
-
-
-if __name__ == "__main__":
-    sys.exit(main())
+        with tempfile.TemporaryDirectory(prefix="commands-") as room:
+            rows = table(room)
+            for words, octets, *wanted in rows:
+                count(words, ran(program, words, room, octets, subprocess.PIPE), tuple(wanted))
+            for words, octets, *wanted in octet_by_octet(rows, room):
+                count([*words, "octet by octet"], pieces.ran([program, *words], octets, SECONDS, cwd=room), tuple(wanted))
+            # a device that takes no octet
+            with open("/dev/full", "wb") as full:
+                count(["frame", "three", ">/dev/full"], ran(program, ["frame", "three"], room, b"", full), (7, None, b"cannot write\n"))
+                count([*paths.FULL, ">/dev/full"], ran(program, paths.FULL, room, b"", full), (7, None, b"cannot write\n"))

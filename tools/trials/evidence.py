@@ -1,4 +1,3 @@
-#!/usr/bin/env python3
 """Trials of evidence: what `certpath paths --evidence` writes, `certpath recheck` accepts; and nothing else.
 
 True evidence: of each worked case, of bundles by chance, and of one bundle of 10,000 items; `paths` reads items by types, `recheck`
@@ -9,14 +8,11 @@ texts that no inventory has, with the number of the first bad line; and files th
 import os
 import random
 import subprocess
-import sys
 import tempfile
 
-sys.dont_write_bytecode = True
-sys.path.insert(0, os.path.dirname(os.path.dirname(os.path.abspath(__file__))))
 from dev import items
-from program import repo
 from trials import paths
+from trials.count import Trial
 
 SECONDS = 60
 FORGED, MANY = 1_000, 10_000
@@ -180,10 +176,10 @@ def unread(text):
 # ---- trials
 
 class Count:
-    """What passed and failed, with a line for each miss."""
+    """Runs the program in a folder; each run is a row of a trial."""
 
-    def __init__(self, program, room):
-        self.program, self.room, self.passed, self.failed = program, room, 0, 0
+    def __init__(self, trial, program, room):
+        self.trial, self.program, self.room = trial, program, room
 
     def ran(self, words):
         it = subprocess.run([self.program, *words], cwd=self.room, stdin=subprocess.DEVNULL, capture_output=True, timeout=SECONDS)
@@ -194,11 +190,7 @@ class Count:
         self.holds(self.ran(words) in wanted, words, wanted)
 
     def holds(self, yes, *told):
-        if yes:
-            self.passed += 1
-        else:
-            self.failed += 1
-            print("evidence:", *told)
+        self.trial.row(yes, " ".join(map(str, told)))
 
 
 def true_one(count, files):
@@ -251,27 +243,18 @@ def trial_of_files(count, files, text):
     count.wants([*words[:-1], "2025-06-31T00:00:00"], (2, b"", b"bad moment\n"))
 
 
-def main():
-    program = sys.argv[1] if sys.argv[1:] else repo.ready("certpath_cli")
-    if not program:
-        print("evidence: the program wasn't built")
-        return 1
-    numbers = random.Random(1)
-    with tempfile.TemporaryDirectory(prefix="evidence-") as room:
-        count = Count(os.path.abspath(program), room)
-        for files in of_cases(room):
-            true_one(count, files)
-        bundles = [(it, true_one(count, it)) for it in (by_chance(room, f"chance{number}", numbers) for number in range(BUNDLES))]
-        true_one(count, of_many(room))
-        trial_of_forged(count, numbers, bundles)
-        files, text = bundles[0]
-        trial_of_cuts(count, files, text)
-        for bad, number in unread(text).items():
-            count.wants(files.recheck(bad), (8, b"", b"evidence line %d\n" % number))
-        trial_of_files(count, files, text)
-    print(f"evidence: {count.passed} passed, {count.failed} failed")
-    return 1 if count.failed else 0
-
-
-if __name__ == "__main__":
-    sys.exit(main())
+class Evidence(Trial):
+    def test_evidence(self):
+        numbers = random.Random(1)
+        with tempfile.TemporaryDirectory(prefix="evidence-") as room:
+            count = Count(self, self.program(), room)
+            for files in of_cases(room):
+                true_one(count, files)
+            bundles = [(it, true_one(count, it)) for it in (by_chance(room, f"chance{number}", numbers) for number in range(BUNDLES))]
+            true_one(count, of_many(room))
+            trial_of_forged(count, numbers, bundles)
+            files, text = bundles[0]
+            trial_of_cuts(count, files, text)
+            for bad, number in unread(text).items():
+                count.wants(files.recheck(bad), (8, b"", b"evidence line %d\n" % number))
+            trial_of_files(count, files, text)

@@ -1,26 +1,20 @@
-#!/usr/bin/env python3
 """Refuses memory to the built programs: each request of a run in turn, until a run meets none.
 
 `certpath` has to print what it prints with all its memory, or `out of memory` alone, with status 6.
 The programs of rows call what no command does: a row has the outcome that it has with all memory,
 or it says that memory is out, or the program ends so. Tests that are made for it pass, or end
 because memory was refused to themselves. tools/trials/embedding/refuse.c does the refusing.
-
-    python3 tools/trials/memory.py     the last line is `memory: N passed, M failed`
 """
 import os
 import re
-import shutil
 import subprocess
-import sys
 import tempfile
 from concurrent.futures import ThreadPoolExecutor
 from typing import Callable, NamedTuple
 
-sys.dont_write_bytecode = True
-sys.path.insert(0, os.path.dirname(os.path.dirname(os.path.abspath(__file__))))
 from program import repo
 from trials import paths, pieces
+from trials.count import Trial
 
 REFUSER = os.path.join("tools", "trials", "embedding", "refuse.c")
 COMPILER = ["cc", "-std=c99", "-Wall", "-Wextra", "-Werror", "-O1", "-shared", "-fPIC"]
@@ -57,7 +51,7 @@ REFUSED = re.compile(rb"Failure\(OutOfMemory\)|refused|no certificate")
 WRITTEN, UNWRITTEN = re.compile(rb"\n  written .*\n\Z"), b"\n  written nothing\n"
 
 
-class Trial(NamedTuple):
+class Run(NamedTuple):
     """A program, its words, its input as the pieces that it reads one by one, and whether it is
     right with a request refused, by what it did with all its memory and what it does now."""
     title: str
@@ -70,13 +64,11 @@ class Trial(NamedTuple):
 
 
 def refuser(room):
-    """The library that refuses, compiled; none where it can't be."""
-    if shutil.which(COMPILER[0]) is None:
-        return None
+    """The library that refuses, compiled."""
     library = os.path.join(room, "refuse.so")
     words = [*COMPILER, os.path.join(repo.TOP, REFUSER), "-o", library]
-    done = subprocess.run(words, stdin=subprocess.DEVNULL)
-    return library if done.returncode == 0 else None
+    subprocess.run(words, stdin=subprocess.DEVNULL, check=True)
+    return library
 
 
 def ran(trial, room, library, number):
@@ -94,15 +86,16 @@ def ran(trial, room, library, number):
 
 
 def all_refusals(trial, room, library):
-    """How many requests a run makes, and a line for each refusal after which it is wrong."""
-    whole, amiss, number = ran(trial, room, library, 0)[1], [], 0
+    """Refuses each request of a run in turn, and then one more than there are; gives for each
+    whether the run is right, and what is said if not."""
+    whole, found = ran(trial, room, library, 0)[1], []
     while True:
-        number += 1
+        number = len(found) + 1
         was_refused, now = ran(trial, room, library, number)
-        if not (trial.is_right(whole, now) if was_refused else now == whole):
-            amiss.append(f"{trial.title}, request {number}: {now}, with all memory {whole}")
+        is_right = trial.is_right(whole, now) if was_refused else now == whole and number > 1
+        found.append((is_right, f"{trial.title}, request {number}: {now}, with all memory {whole}"))
         if not was_refused:
-            return number - 1, amiss if number > 1 else [f"{trial.title}: nothing is refused"]
+            return found
 
 
 # ---- what is run
@@ -136,7 +129,7 @@ def command_trials(program, room):
         return name
 
     def trial(title, words, parts=()):
-        return Trial(title, [program, *words], parts, is_command_right)
+        return Run(title, [program, *words], parts, is_command_right)
 
     for place, title in enumerate(CASES):
         case = cases[title]
@@ -164,44 +157,38 @@ def row_trials(crate, program):
         stored = ALL_KINDS.findall(repo.read("crates/x509_rows/stdin"))
         rows |= {f"all kinds, {place}": f"certificate {it}" for place, it in enumerate(stored)}
     for title, row in rows.items():
-        yield Trial(f"{crate}, {title}", [program], (f"{row}\n".encode(),), is_row_right)
+        yield Run(f"{crate}, {title}", [program], (f"{row}\n".encode(),), is_row_right)
 
 
 def test_trials(crate):
     """The tests of a crate, none where the gate left no program of them here."""
     program = os.path.join(repo.TOP, "crates", crate, "out", f"{crate}_tests")
-    if not os.access(program, os.X_OK):
-        print(f"memory: {crate}: the gate left no program of its tests, so they aren't run")
-        return
-    for it in TESTS[crate]:
-        yield Trial(f"{crate}, {it}", [program, f"tests::{it}"], (), is_test_right)
+    for it in TESTS[crate] if os.access(program, os.X_OK) else ():
+        yield Run(f"{crate}, {it}", [program, f"tests::{it}"], (), is_test_right)
 
 
-def main():
-    passed = failed = 0
-    with tempfile.TemporaryDirectory(prefix="memory-") as room, ThreadPoolExecutor(RUNS) as pool:
-        made = {it: repo.ready(it) for it in ("certpath_cli", *ROWS)}
-        made[REFUSER] = library = refuser(room)
-        lacking = [it for it, path in made.items() if not path]
-        for it in lacking:
-            print(f"memory: {it} wasn't built")
-        if lacking:
-            print(f"memory: 0 passed, {len(lacking)} failed")
-            return 1
-        groups = {"certpath": [*command_trials(made["certpath_cli"], room)]}
-        groups |= {it: [*row_trials(it, made[it])] for it in ROWS}
-        groups |= {it: [*test_trials(it)] for it in TESTS}
-        for title, trials in (it for it in groups.items() if it[1]):
-            found = [*pool.map(lambda it: all_refusals(it, room, library), trials)]
-            requests, amiss = sum(it for it, _ in found), [line for _, it in found for line in it]
-            # a trial for each request, and one with a request more than there are
-            passed += requests + len(trials) - len(amiss)
-            failed += len(amiss)
-            print("".join(f"memory: {it}\n" for it in amiss), end="")
-            print(f"memory: {title}: {len(trials)} runs, {requests} requests refused")
-    print(f"memory: {passed} passed, {failed} failed")
-    return 1 if failed else 0
+class Memory(Trial):
+    def setUp(self):
+        self.need(COMPILER[0])
 
+    def tried(self, *trials):
+        """Each trial with all its refusals, each of which is a row."""
+        with tempfile.TemporaryDirectory(prefix="memory-") as room, ThreadPoolExecutor(RUNS) as pool:
+            library, made = refuser(room), [it for of in trials for it in of(room)]
+            for rows in pool.map(lambda it: all_refusals(it, room, library), made):
+                for row in rows:
+                    self.row(*row)
 
-if __name__ == "__main__":
-    sys.exit(main())
+    def test_commands(self):
+        program = self.program()
+        self.tried(lambda room: command_trials(program, room))
+
+    def test_rows(self):
+        made = {it: self.program(it) for it in ROWS}
+        self.tried(*(lambda _, it=it: row_trials(it, made[it]) for it in ROWS))
+
+    def test_tests(self):
+        trials = [it for crate in TESTS for it in test_trials(crate)]
+        if not trials:
+            self.skipTest("tests of asn1_tests and run_tests with memory refused: no program of them, which ./test with rt leaves")
+        self.tried(lambda _: trials)

@@ -10,12 +10,14 @@ DEMANDED = f"{GOOD} --demand-lists --lists int-list.pem --lists root-list.pem"
 SEE = "; see ./verify --help"
 NO_CRYPTO = "import certpath.libcrypto as it; it.candidates = lambda: ['libnone.so']"
 NO_LIBRARY = "import certpath.library as it; it.FOLDERS = ('/none',)"
+OLDER = "from program import sources; sources.digest = lambda *_: '0' * 64"
+NO_RECORD = "from program import programs; programs.SHIPPED_RECORD = 'none'"
 NO_MEMORY = "import certpath.library as it; it.loaded().certpath_frame = lambda *_: 1"
 
 
 def stub(name):
     """Puts a program in the place of certpath."""
-    return f"import os; from program import repo; repo.ready = lambda *_: os.path.abspath('{name}')"
+    return f"import os; from program import programs; programs.found = lambda *_: (os.path.abspath('{name}'), None)"
 
 
 class Row(NamedTuple):
@@ -40,12 +42,15 @@ def of_case(title, *said, words="", remedy=None, ends=0, status=1):
 
 def of_bound(bound, typed, status, *said, **further):
     """A row where a bound is lower than it is, since what reaches it takes long to make."""
-    return Row(typed, status, said, setting=f"from verify import files, page, people, run, signing, spelling; {bound}", **further)
+    return Row(typed, status, said, setting=f"from verify import files, page, people, run, signing, spelling, stores; {bound}", **further)
 
 
 WORDS = (
     Row("verify", 2, (f"verify: a FILE is missing{SEE}",), "verify --help"),
-    Row("verify leaf.pem --host x", 2, (f"verify: there is no option --host: neither names of hosts nor purposes are judged{SEE}",), "verify --help"),
+    Row("verify leaf.pem --hostname x", 2, (f"verify: there is no option --hostname; the host is --host{SEE}",), "verify --help"),
+    Row("verify leaf.pem --eku x", 2, (f"verify: there is no option --eku; the purpose is --purpose{SEE}",), "verify --help"),
+    Row("verify leaf.pem --verify-email x", 2, (f"verify: there is no option --verify-email: addresses of e-mail aren't judged{SEE}",), "verify --help"),
+    Row("verify leaf.pem --all --host a.test", 2, ("verify: --host is asked of one target, and not with --all",), "verify --help"),
     Row("verify leaf.pem -CAfile root.pem", 2, (f"there is no option -CAfile; trust anchors are named by --anchors{SEE}",), GOOD),
     Row("verify leaf.pem -untrusted int.pem", 2, (f"there is no option -untrusted; further certificates are further FILEs{SEE}",), GOOD),
     Row("verify leaf.pem -CRLfile int-list.pem", 2, (f"; revocation lists are further FILEs, or --lists{SEE}",), f"{GOOD} int-list.pem --lists root-list.pem"),
@@ -97,7 +102,8 @@ FILES = (
         f"{GOOD} big-list.pem"),
 )
 ANCHORS = (
-    of_bound("files.STORES = ()", "verify leaf.pem", 4, "verify: no store of trust anchors is known on this system; name anchors with --anchors FILE", remedy=GOOD),
+    of_bound("stores.system_sources = list", "verify leaf.pem", 4, "verify: no store of trust anchors is known on this system; name anchors with --anchors FILE",
+             remedy=GOOD),
     Row("verify leaf.pem --anchors int-list.pem", 4, ("verify: int-list.pem: holds no certificate, so no anchor; name a file with --anchors FILE",), GOOD),
     Row("verify leaf.pem --anchors empty", 4, ("verify: empty: its files hold no certificate, so no anchor; name a file of certificates with --anchors FILE",), GOOD),
     Row("verify leaf.pem --anchors key.pem", 4, ("verify: key.pem: it holds no certificate, so no anchor; name a file of certificates with --anchors FILE",), GOOD),
@@ -108,7 +114,7 @@ ANCHORS = (
                                                              "its name and key alone (RFC 5280, 6.1.1, d)")),
     Row(f"verify new-leaf.pem --anchors new-root.pem {AT}", 0, ("anchor 0 CN=new isn't valid before 2027-01-01T00:00:00Z; of an anchor,",)),
     Row(f"verify sha1-root.pem --anchors sha1-root.pem {AT}", 1, ("no valid path at 2026-06-01T00:00:00Z: anchor 0 itself: CN=Old root",
-        "an anchor is trusted as it stands, and needs no path; as a target it is judged like any certificate, its own signature and validity too"),
+        "an anchor is trusted as it is, and needs no path; as a target it is judged like any certificate, its own signature and validity too"),
         f"verify sha1-root.pem --anchors sha1-root.pem {AT} --weak"),
 )
 TARGETS = (
@@ -126,10 +132,13 @@ TARGETS = (
 )
 PROGRAMS = (
     Row(GOOD, 70, ("verify: OpenSSL, which verifies signatures, cannot be called: no libcrypto of OpenSSL 3 is there",), setting=NO_CRYPTO),
+    Row("verify leaf.pem", 70, ("verify: OpenSSL, which reads the store of trust anchors, cannot be called: no libcrypto of OpenSSL 3 is there",), setting=NO_CRYPTO),
     Row(GOOD, 70, ("verify: the library of certpath is missing: libcertpath.so is in none of /none",), setting=NO_LIBRARY),
     Row(GOOD, 70, ("verify: the Python package certpath can't be used: ",), setting="sys.modules['ctypes'] = None"),
     Row(GOOD, 6, ("verify: out of memory",), setting=NO_MEMORY),
-    Row(GOOD, 70, ("verify: certpath, which answers, could not be built",), setting="from program import repo; repo.ready = lambda *_: None"),
+    Row(GOOD, 69, ("verify: dist/ is older than the sources: ./certpath --build builds it",), setting=OLDER),
+    Row("vouch root.der root.der", 69, ("vouch: dist/ is older than the sources: ./certpath --build builds it",), setting=OLDER),
+    Row(GOOD, 70, ("verify: none is missing, or is no record: ./certpath --build builds it",), setting=NO_RECORD),
     Row(GOOD, 70, ("verify: certpath why: it ended with status 9",), setting=stub("failing")),
     Row(GOOD, 70, ("verify: certpath why: boom",), setting=stub("saying")),
     Row(GOOD, 1, ("the check says no: a fault of this program; please report it",), setting=stub("denying")),
@@ -229,15 +238,25 @@ REASONS = (
 )
 ROWS = (*WORDS, *FILES, *ANCHORS, *TARGETS, *PROGRAMS, *VOUCH, *BUNDLE, *LISTS, *CERTIFICATES, *REASONS)
 # Messages that other trials try: the file, and what stands there.
+STORES = "tools/trials/stores.py"
 ELSEWHERE = {
     "further reasons (--verbose shows them)": ("tools/trials/vouching_tries.py", "OTHERS"),
     "verifying signatures": ("tools/trials/verifying_large.py", "verifying signatures"),
-    " (the system's store)": ("tools/trials/verifying.py", " (the system's store)"),
+    **{it: (STORES, said) for it, said in (
+        ("the system's store", "by the system's store"), (" with {}", "(?: with [A-Z_]+"), ("the system's store has no certificate ({})", "the system's store has no"),
+        ("no file in it is named by a hash, so OpenSSL finds none; {}", "no file in it is named by a hash"), ("openssl rehash gives its files such names", "; openssl rehash gives"),
+        ("a revocation list, for which OpenSSL looks under names with r", "under names with r"), ("no file is there", "no file is there"),
+        ("the hash of its subject is {}, so OpenSSL doesn't find it", "the hash of its subject is "), ("OpenSSL can't read it", "OpenSSL can't read it"),
+        ("no PEM, which is all that OpenSSL reads there", "no PEM, which is all"), ("and {} further files", "and 10 further files"), ("further certificate", "1 further certificate"))},
+    **{it: ("tools/trials/hosts.py", words) for it, words in (
+        ("not for {}", "not for serverAuth"), ("doesn't serve {}", "doesn't serve a.test"), ("it isn't for {}", "it isn't for serverAuth"),
+        ("it doesn't serve {}", "it doesn't serve"), (": it is for {}", ": it is for clientAuth"), ("--host {}: {}", "--host"),
+        ("--purpose {}: {}", "--purpose nothing"), (" for {}", "for host a.test"), ("host {}", "host a.test"), ("purpose {}", "purpose serverAuth"))},
 }
 ON_A_TERMINAL = "progress, which a terminal sees in runs of more than a second"
 # Messages that no row can print, and why.
 ABSENT = {
     "that is no file name": "a name with a NUL, which no command line can have",
     "reading items": ON_A_TERMINAL, "reading {}": ON_A_TERMINAL, "looking for the keys of issuers": ON_A_TERMINAL,
-    "asking certpath {}": ON_A_TERMINAL, "{}: {} of {}": ON_A_TERMINAL,
+    "hosts and purposes can't be asked for: {}": "a library that has no such calls", "asking certpath {}": ON_A_TERMINAL, "{}: {} of {}": ON_A_TERMINAL,
 }

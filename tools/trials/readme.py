@@ -1,15 +1,14 @@
 #!/usr/bin/env python3
-"""Runs the commands of README.md, and compares what each prints with what stands below it.
+"""Runs the commands of pages, and compares what each prints with what is below it; page_commands.py says which commands aren't run.
 
-    python3 tools/trials/readme.py [PAGE..]
     python3 tools/trials/readme.py --write PAGE   puts what the commands print below them, for a reader to compare with what is right
 
 A command is a line of a code block that begins with `$ `, with the lines after it while they end in a backslash; the lines
 to the next command, or to the end of the block, are what it has to print on standard output and standard error. All commands of a page run in one copy of the repository, in
-their order. Nothing is built: the commands find an `rt` that fails, so a program has to be there for these sources, in
-dist/ or in out/programs/. The last line is `N passed, M failed`.
+their order. Nothing is built: the commands find an `rt` that fails.
 """
 import os
+import re
 import shutil
 import signal
 import subprocess
@@ -18,11 +17,14 @@ import tempfile
 
 sys.path.insert(0, os.path.dirname(os.path.dirname(os.path.abspath(__file__))))
 from program import repo
+from trials import page_commands
+from trials.count import Trial
 
 PROMPT, INDENT, GOES_ON = "$ ", "    ", "\\"
 SECONDS = 120
-# What builds keep, and what stands in the place of `rt`.
-PROGRAMS = os.path.join("out", "programs")
+# What a command line calls that is no script of the repository, once what is in quotes is away.
+CALLED, QUOTED = re.compile(r"(?:^|[|;&])\s*([a-z][\w-]*)"), re.compile(r"'[^']*'|\"[^\"]*\"")
+# What stands in the place of `rt`.
 HIDDEN = """#!/bin/sh
 echo "rt: the commands of a page build nothing" >&2
 exit 1
@@ -61,12 +63,9 @@ def commands(page):
 
 
 def copied(room):
-    """Copies the repository without what checks leave behind, but with programs that were built; gives the copy."""
+    """Copies the repository without what checks leave behind; gives the copy."""
     top = os.path.join(room, "copy")
     shutil.copytree(repo.TOP, top, ignore=shutil.ignore_patterns(".git", "out", "__pycache__"))
-    built = os.path.join(repo.TOP, PROGRAMS)
-    if os.path.isdir(built):
-        shutil.copytree(built, os.path.join(top, PROGRAMS))
     return top
 
 
@@ -81,30 +80,28 @@ def hidden(room):
 
 
 def printed(command, top, environment):
-    """What a command prints, as lines; or that it was ended."""
+    """What a command prints, as lines without blanks at their ends; or that it was ended."""
     child = subprocess.Popen(["bash", "-c", command], cwd=top, env=environment, stdin=subprocess.DEVNULL, stdout=subprocess.PIPE,
                              stderr=subprocess.STDOUT, text=True, errors="replace", start_new_session=True)
     try:
-        return child.communicate(timeout=SECONDS)[0].splitlines()
+        return [line.rstrip() for line in child.communicate(timeout=SECONDS)[0].splitlines()]
     except subprocess.TimeoutExpired:
         os.killpg(child.pid, signal.SIGKILL)
         child.communicate()
         return [f"(ended after {SECONDS} seconds)"]
 
 
-def page_failures(path):
-    """Runs the commands of a page; gives how many there are, and how many printed something else, which it reports."""
-    wanted, failed = commands(repo.read(path)), 0
+def tried(path):
+    """The commands of a page that are run, each with the lines that are wanted."""
+    return [it for it in commands(repo.read(path)) if not page_commands.reason(path, it[0])]
+
+
+def page_rows(path):
+    """Runs the commands of a page; gives each with the lines that are wanted and those that it printed."""
     with tempfile.TemporaryDirectory() as room:
         top, environment = copied(room), hidden(room)
-        for command, lines in wanted:
-            found = printed(command, top, environment)
-            if found != lines:
-                failed += 1
-                print(f"readme: {path}: {command}")
-                for mark, text in [*(("wanted", it) for it in lines), *(("printed", it) for it in found)]:
-                    print(f"readme:     {mark}: {text}")
-    return len(wanted), failed
+        for command, lines in tried(path):
+            yield command, lines, printed(command, top, environment)
 
 
 def filled(page, outputs):
@@ -126,23 +123,30 @@ def write(path):
     page = repo.read(path)
     with tempfile.TemporaryDirectory() as room:
         top, environment = copied(room), hidden(room)
-        outputs = [printed(command, top, environment) for command, _ in commands(page)]
+        outputs = [lines if page_commands.reason(path, command) else printed(command, top, environment) for command, lines in commands(page)]
     with open(os.path.join(repo.TOP, path), "w", encoding="utf-8") as file:
         file.write(filled(page, outputs))
 
 
-def main(pages):
-    if pages[:1] == ["--write"] and len(pages) == 2:
-        write(pages[1])
-        return 0
-    passed = failures = 0
-    for path in pages or ["README.md"]:
-        ran, failed = page_failures(path)
-        # A page without a command shows nothing.
-        passed, failures = passed + ran - failed, failures + (failed if ran else 1)
-    print(f"{passed} passed, {failures} failed")
-    return 1 if failures else 0
+class Readme(Trial):
+    def test_pages(self):
+        for path in page_commands.pages():
+            with self.subTest():
+                lack = page_commands.lacking(path)
+                if lack:
+                    self.skipTest(f"{path}: {lack}")
+                wanted = tried(path)
+                self.need("sh", *sorted({word for command, _ in wanted for word in CALLED.findall(QUOTED.sub("", command))}))
+                self.need_libcrypto()
+                self.page(path)
+
+    def page(self, path):
+        for command, lines, found in page_rows(path):
+            marked = [*(f"    wanted: {it}" for it in lines), *(f"    printed: {it}" for it in found)]
+            self.row(found == lines, "\n".join([f"{path}: {command}", *marked]))
 
 
 if __name__ == "__main__":
-    sys.exit(main(sys.argv[1:]))
+    if sys.argv[1:2] != ["--write"] or len(sys.argv) != 3:
+        sys.exit(__doc__)
+    write(sys.argv[2])

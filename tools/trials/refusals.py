@@ -1,21 +1,17 @@
-#!/usr/bin/env python3
 """Makes chains with openssl that have no path, each for a reason of its own, and lists that aren't used; and compares what
 ./vouch, `./certpath path` and `./certpath why` say of each with what RFC 5280 and tools/trials/refusals.txt want.
 
 The report of `why` is wanted whole: the one cause is in it, and no obstacle that isn't there.
 """
-import os
 import re
-import sys
 import tempfile
 from concurrent.futures import ThreadPoolExecutor
 from typing import NamedTuple
 
-sys.dont_write_bytecode = True
-sys.path.insert(0, os.path.dirname(os.path.dirname(os.path.abspath(__file__))))
 from program import repo
 from program.streams import counted
 from trials.chains import AUTHORITY, ISSUER_ID, NO_AUTHORITY, NO_SIGNER, OF_AUTHORITY, OF_LEAF, OF_ROOT, OWN_ID, SIGNER, Chain
+from trials.count import Trial
 from trials.vouching_pki import Workshop
 from trials.vouching_trials import Trials
 
@@ -199,20 +195,14 @@ def tried(t, title, root, want):
         yield f"control characters of {command}", CONTROL.findall(found), []
 
 
-def main():
-    if not repo.ready("certpath_cli"):
-        print("refusals: certpath wasn't built")
-        return 1
-    with tempfile.TemporaryDirectory(prefix="refusals-") as room, ThreadPoolExecutor(RUNS) as runs:
-        t, rows = Trials(Workshop(room), "refusals"), wanted()
-        t.same("the cases", sorted(CASES), sorted(rows))
-        root = Chain(t.shop, "root").certificate("/CN=Root", "p384", extensions=OF_ROOT)
-        for title, found in zip(CASES, runs.map(lambda it: [*tried(t, it, root, rows[it])], CASES)):
-            for what, is_so, should_be in found:
-                t.same(f"{title}: {what}", is_so, should_be)
-    print(f"refusals: {t.passed} passed, {t.failed} failed")
-    return 1 if t.failed else 0
-
-
-if __name__ == "__main__":
-    sys.exit(main())
+class Refusals(Trial):
+    def test_refusals(self):
+        self.need("openssl")
+        self.program()
+        with tempfile.TemporaryDirectory(prefix="refusals-") as room, ThreadPoolExecutor(RUNS) as runs:
+            t, rows = Trials(Workshop(room), self), wanted()
+            t.same("the cases", sorted(CASES), sorted(rows))
+            root = Chain(t.shop, "root").certificate("/CN=Root", "p384", extensions=OF_ROOT)
+            for title, found in zip(CASES, runs.map(lambda it: [*tried(t, it, root, rows[it])], CASES)):
+                for what, is_so, should_be in found:
+                    t.same(f"{title}: {what}", is_so, should_be)

@@ -3,11 +3,11 @@
 `certpath paths` over everything says, whatever the number of processes, and also where workers are
 killed.
 
-    python3 tools/trials/scaling.py [N]                      the trial, with N entries, 20000 without N
+    python3 tools/trials/scaling.py N                        the trial, with N entries
     python3 tools/trials/scaling.py make N FOLDER            a log of N entries, to be measured
     python3 tools/trials/scaling.py measure FOLDER WORKERS.. times and memory, with so many processes
 
-Without Dask nothing is tried. Prints `N passed, M failed` in the end.
+Without Dask nothing is tried.
 """
 import json
 import os
@@ -20,12 +20,12 @@ import time
 
 sys.dont_write_bytecode = True
 sys.path.insert(0, os.path.dirname(os.path.dirname(os.path.abspath(__file__))))
-from trials import (scaling_apart, scaling_ends, scaling_intruder, scaling_scheduler,
-                    synthetic)
-from trials.count import Count
+from trials import (running, scaling_apart, scaling_costs, scaling_ends, scaling_intruder,
+                    scaling_scheduler, synthetic)
+from trials.count import Trial, size
 from trials.scaling_runs import PROGRAM, Run, digest, octets_at, octets_of, rows_of, with_dask
 
-ENTRIES, FEW = 20_000, 600
+ENTRIES, SMALL, FEW = 2_000, 1_000, 600
 # Blocks for the trial are small, so that there are some for each process.
 BLOCKSIZE = "200000"
 SUMMARY = re.compile(r"inventory: (\d+) entries, (\d+) rows \((.*)\)")
@@ -97,47 +97,59 @@ def same_answers(count, whole, rows, answers):
     found = {(it["file"], int(it["offset"])): (it["class"], it["outcome"], it["path"], it["anchor"])
              for it in rows}
     wrong = [it for it, columns in answers.items() if found.get(it) != columns]
-    count.tell(not wrong, f"{len(wrong)} rows differ from one run over everything: {wrong[:3]}")
+    count.row(not wrong, f"{len(wrong)} rows differ from one run over everything: {wrong[:3]}")
     for word in ("path", "none"):
         seen = sum(columns[1] == word for columns in answers.values())
-        count.tell(seen > len(answers) // 20, f"only {seen} of {len(answers)} entries with {word}")
+        count.row(seen > len(answers) // 20, f"only {seen} of {len(answers)} entries with {word}")
 
 
 def same_reasons(count, whole, rows):
     """Certificates without a path have reasons; of some these are what `why` says over everything.
     There it speaks of all lists, and in the table only of those that matter."""
     pathless = [it for it in rows if it["outcome"] == "none"]
-    count.tell(all(it["reasons"] for it in pathless), "a certificate without a path and a reason")
+    count.row(all(it["reasons"] for it in pathless), "a certificate without a path and a reason")
     whole_reasons = [it for it in pathless if ".." not in it["reasons"]]
     for row in whole_reasons[::len(whole_reasons) // WHYS + 1]:
         expected, found = whole.obstacles((row["file"], int(row["offset"]))), {*row["reasons"].split("; ")}
         more = [it for it in expected - found if not it.startswith("list ")]
-        count.tell(found <= expected and not more, f"reasons of {row['sha256']}: {found ^ expected}")
+        count.row(found <= expected and not more, f"reasons of {row['sha256']}: {found ^ expected}")
 
 
 def counted(count, whole, run, rows):
     """As many rows as entries, and each fault is shown."""
     summary, counts = SUMMARY.search(run.said), COUNTS.search(run.said)
     if not (summary and counts):
-        count.tell(False, f"no summary:\n{run.said}\n{run.told[-3000:]}")
+        count.row(False, f"no summary:\n{run.said}\n{run.errors[-3000:]}")
         return
     log = whole.log
-    count.tell(run.process.returncode == 1, f"status {run.process.returncode}, and there are faults")
-    count.tell(int(summary[1]) == int(summary[2]) == len(rows) == log.entries,
-               f"{summary[0]}: {len(rows)} rows, where {log.entries} entries were written")
-    count.tell(int(counts[3]) == log.faults == sum(bool(it["cause"]) for it in rows),
-               f"{counts[0]}, where {log.faults} were made")
+    count.row(run.process.returncode == 1, f"status {run.process.returncode}, and there are faults")
+    count.row(int(summary[1]) == int(summary[2]) == len(rows) == log.entries,
+              f"{summary[0]}: {len(rows)} rows, where {log.entries} entries were written")
+    count.row(int(counts[3]) == log.faults == sum(bool(it["cause"]) for it in rows),
+              f"{counts[0]}, where {log.faults} were made")
     for file, said in (("a.der", "the file ends within the item that begins here"),
                        ("b.der", "no item begins here"), (".json", "leaf_input: not base64"),
                        (".json", "leaf_input: cut at octet"), (".json", "leaf_input: not there")):
-        count.tell(re.search(rf"(?m){re.escape(file)} \d+: {said}", run.told), f"not told: {said}")
+        count.row(re.search(rf"(?m){re.escape(file)} \d+: {said}", run.errors), f"not reported: {said}")
 
 
 def issuers_are_there(count, out, rows):
     """Each certificate that a path names has a row in the table of issuers, once."""
     known = [it["sha256"] for it in rows_of(out, "issuers")]
     named = {it for row in rows for it in row["path"].split()}
-    count.tell(len({*known}) == len(known) and named <= {*known}, "issuers that have no row, or two")
+    count.row(len({*known}) == len(known) and named <= {*known}, "issuers that have no row, or two")
+
+
+def killed(count, interpreter, whole, one, given, room):
+    """A run of which each worker is killed once writes the table of another one."""
+    run = Run(interpreter, whole, os.path.join(room, "two"), *given, "--workers", "2")
+    for pattern in (("work", "0*.json"), ("entries", "*.csv")):
+        count.row(run.kill_a_worker(pattern), f"no worker to be killed at {pattern[0]}")
+        time.sleep(PAUSE)
+    run.wait()
+    count.row("of the workers lost" in run.errors, f"no word of lost workers: {run.errors}")
+    count.row(octets_of(one.out) == octets_of(run.out),
+              f"another table by two processes, each of them killed once:\n{run.errors[-3000:]}")
 
 
 def trial(count, interpreter, room, entries):
@@ -149,14 +161,7 @@ def trial(count, interpreter, room, entries):
     same_answers(count, whole, rows, whole.answers())
     same_reasons(count, whole, rows)
     issuers_are_there(count, one.out, rows)
-    killed = Run(interpreter, whole, os.path.join(room, "two"), *given, "--workers", "2")
-    for pattern in (("work", "0*.json"), ("entries", "*.csv")):
-        count.tell(killed.kill_a_worker(pattern), f"no worker to be killed at {pattern[0]}")
-        time.sleep(PAUSE)
-    killed.wait()
-    count.tell("of the workers lost" in killed.told, f"no word of lost workers: {killed.told}")
-    count.tell(octets_of(one.out) == octets_of(killed.out),
-               f"another table by two processes, of which each was killed once:\n{killed.told[-3000:]}")
+    killed(count, interpreter, whole, one, given, room)
     scaling_ends.resumed(count, interpreter, whole, one, given, room)
     few = Whole(os.path.join(room, "few"), FEW, 45)
     asked = Run(interpreter, few, os.path.join(room, "three"), "--demand-lists", "--no-why",
@@ -164,8 +169,10 @@ def trial(count, interpreter, room, entries):
     same_answers(count, few, rows_of(asked.out), few.answers("--demand-lists"))
     strangers(count, interpreter, room)
     scaling_ends.trial(count, interpreter, few, room)
-    scaling_scheduler.trial(count, interpreter, few, room)
-    scaling_apart.trial(count, interpreter, room)
+    if size(True, False):
+        scaling_scheduler.trial(count, interpreter, few, room)
+        scaling_apart.trial(count, interpreter, room)
+        scaling_costs.small(count, interpreter, room)
 
 
 def strangers(count, interpreter, room):
@@ -175,11 +182,11 @@ def strangers(count, interpreter, room):
     os.mkfifo(vouchers)
     run = Run(interpreter, few, os.path.join(room, "alone"), "--no-why", "--workers", "2",
               "--vouchers", vouchers)
-    scaling_intruder.trial(count, interpreter, run)
+    scaling_intruder.trial(count, interpreter, [run.process.pid])
     with open(vouchers, "w", encoding="ascii"):
         pass
     run.wait()
-    count.tell(len(rows_of(run.out)) == few.log.entries, f"a run that was knocked at:\n{run.told}")
+    count.row(len(rows_of(run.out)) == few.log.entries, f"a run that was knocked at:\n{run.errors}")
 
 
 def make(number, folder):
@@ -229,16 +236,22 @@ def main(words):
         return make(*words[1:])
     if words[:1] == ["measure"] and len(words) > 2:
         return measure(*words[1:])
-    if len(words) > 1 or not all(map(str.isdigit, words)):
+    if len(words) != 1 or not words[0].isdigit():
         sys.exit(__doc__)
-    count, interpreter = Count("scaling"), with_dask()
-    if interpreter is None:
-        print("scaling: skipped, since Dask isn't installed (python3-distributed)")
-    else:
+    from trials import scaling
+    scaling.ENTRIES = int(words[0])
+    _, failed, _ = running.run(["scaling"])
+    return 1 if failed else 0
+
+
+class Scaling(Trial):
+    def test_inventory(self):
+        interpreter = with_dask()
+        if interpreter is None:
+            self.skipTest("Dask isn't installed (python3-distributed)")
+        self.program()
         with tempfile.TemporaryDirectory(prefix="scaling-") as room:
-            trial(count, interpreter, room, int(words[0]) if words else ENTRIES)
-    print(f"scaling: {count.passed} passed, {count.failed} failed")
-    return 1 if count.failed else 0
+            trial(self, interpreter, room, size(ENTRIES, SMALL))
 
 
 if __name__ == "__main__":

@@ -1,35 +1,59 @@
-"""Tries `certpath.inventory` on certificates that are made apart, by the package `cryptography`: RSA
-and elliptic curves, weak keys and digests, crossed authorities, path lengths, revocation lists,
-copies, damaged signatures and names that many share. OpenSSL verifies the signatures, here in each
-shard and there by `./vouch` over everything; each row has to say what `certpath paths` says.
+"""Tries `certpath.inventory` on a log that is made apart, by the package `cryptography`: RSA and
+elliptic curves, weak keys and digests, crossed authorities, path lengths, revocation lists, copies,
+damaged signatures, precertificates and names that many share. OpenSSL verifies the signatures, here
+in each shard and there by `./vouch` over everything. Each row has to say what `certpath paths`
+says.
 
-    scaling_apart.py FOLDER     writes everything.der and anchors.der
+    scaling_apart.py N FOLDER     writes the log, of about N entries, and everything in one file
 
 Part of `scaling.py`.
 """
 import hashlib
+import json
 import os
 import random
 import subprocess
 import sys
+from base64 import b64encode
 from datetime import datetime
+from typing import NamedTuple, Optional
 
-ITEMS, ROOTS, UPPER, LOWER = 900, 4, 10, 11
+ENTRIES, ROOTS, UPPER, LOWER = 1000, 4, 10, 11
 SELF_ISSUED, SERIALS = 30, 1000
 MOMENT, BEGIN = datetime(2026, 12, 1), datetime(2026, 1, 1)
 PAST, FUTURE = datetime(2026, 11, 1), datetime(2027, 6, 1)
-BUNDLE, ANCHORS, VOUCHERS = "everything.der", "anchors.der", "vouchers.txt"
+BUNDLE, ANCHORS, VOUCHERS, LOG = "everything.der", "anchors.der", "vouchers.txt", "log.json"
 SHARED = "localhost"
+# How many entries an answer to get-entries has; a time stamp in milliseconds.
+ANSWER, TIMESTAMP = 200, 1_790_000_000_000
+
+
+# What is compared of a row; octets of a block, for so many entries.
+COLUMNS, BLOCKSIZE = ("class", "outcome", "path", "anchor"), 60_000
+
+
+class Made(NamedTuple):
+    """An item, and of a leaf the number of its issuer."""
+    octets: bytes
+    issuer: Optional[int] = None
+    tbs: bytes = b""
+    """Of a precertificate the TBSCertificate that the log's tree has."""
+
+
+def vector(octets, length=3):
+    return len(octets).to_bytes(length, "big") + octets
 
 
 class Maker:
     """Makes certificates and lists; a number makes the choices, and keys are new each time."""
 
-    def __init__(self, seed):
+    def __init__(self, seed, entries):
+        self.entries, self.first = entries, {}
         from cryptography import x509
         from cryptography.hazmat.primitives import hashes, serialization
         from cryptography.hazmat.primitives.asymmetric import ec, rsa
         self.x509, self.hashes, self.der = x509, hashes, serialization.Encoding.DER
+        self.serialization = serialization
         self.chance, self.serial = random.Random(seed), SERIALS
         self.keys = [rsa.generate_private_key(65537, 2048) if it % 3
                      else ec.generate_private_key(ec.SECP256R1())
@@ -42,7 +66,7 @@ class Maker:
     def name(self, text):
         return self.x509.Name([self.x509.NameAttribute(self.x509.NameOID.COMMON_NAME, text)])
 
-    def certificate(self, subject, key, issuer, signer, length=None, is_authority=False):
+    def builder(self, subject, key, issuer, signer, length=None, is_authority=False):
         x509, self.serial = self.x509, self.serial + 1
         made = x509.CertificateBuilder(
             self.name(issuer), self.name(subject), key.public_key(), self.serial, BEGIN,
@@ -53,14 +77,20 @@ class Maker:
         if not self.one_in(3):
             found = x509.AuthorityKeyIdentifier.from_issuer_public_key(signer.public_key())
             made = made.add_extension(found, False)
-        digest = self.hashes.SHA1() if self.one_in(25) else self.hashes.SHA256()
-        return made.sign(signer, digest).public_bytes(self.der)
+        return made
+
+    def signed(self, made, signer):
+        return made.sign(signer, self.hashes.SHA1() if self.one_in(25) else self.hashes.SHA256())
+
+    def certificate(self, subject, key, issuer, signer, length=None, is_authority=False):
+        made = self.builder(subject, key, issuer, signer, length, is_authority)
+        return self.signed(made, signer).public_bytes(self.der)
 
     def revocations(self, issuer, signer):
         made = self.x509.CertificateRevocationListBuilder(
             self.name(issuer), BEGIN, PAST if self.one_in(5) else FUTURE)
         for _ in range(10):
-            serial = SERIALS + self.chance.randrange(1, ITEMS)
+            serial = SERIALS + self.chance.randrange(1, self.entries)
             made = made.add_revoked_certificate(self.x509.RevokedCertificateBuilder(
                 serial, BEGIN).build())
         return made.sign(signer, self.hashes.SHA256()).public_bytes(self.der)
@@ -71,31 +101,79 @@ class Maker:
             above = range(ROOTS) if at < ROOTS + UPPER else range(ROOTS, ROOTS + UPPER)
             for _ in range(self.chance.choice((1, 1, 2, 3))):
                 issuer, length = self.chance.choice(above), self.chance.choice((None, None, 0, 1))
-                yield self.certificate(f"Authority {at}", self.keys[at], f"Authority {issuer}",
-                                       self.keys[issuer], length, True)
-            yield self.revocations(f"Authority {at}", self.keys[at])
+                octets = self.certificate(f"Authority {at}", self.keys[at], f"Authority {issuer}",
+                                          self.keys[issuer], length, True)
+                self.first.setdefault(at, octets)
+                yield Made(octets)
+            yield Made(self.revocations(f"Authority {at}", self.keys[at]))
 
-    def leaves(self):
-        for number in range(ITEMS):
+    def leaves(self, number):
+        for it in range(number - SELF_ISSUED):
             issuer = self.chance.randrange(ROOTS, len(self.keys))
-            subject = SHARED if self.one_in(50) else f"{number}.example.test"
-            octets = self.certificate(subject, self.chance.choice(self.keys), f"Authority {issuer}",
-                                      self.keys[issuer])
-            yield octets[:-1] + bytes([octets[-1] ^ 1]) if self.one_in(30) else octets
+            subject = SHARED if self.one_in(50) else f"{it}.example.test"
+            signer, key = self.keys[issuer], self.chance.choice(self.keys)
+            made = self.builder(subject, key, f"Authority {issuer}", signer)
+            if self.one_in(6):
+                poisoned = made.add_extension(self.x509.PrecertPoison(), True)
+                yield Made(self.signed(poisoned, signer).public_bytes(self.der), issuer,
+                           self.signed(made, signer).tbs_certificate_bytes)
+                continue
+            octets = self.signed(made, signer).public_bytes(self.der)
+            damaged = octets[:-1] + bytes([octets[-1] ^ 1])
+            yield Made(damaged if self.one_in(30) else octets, issuer)
             if self.one_in(40):
-                yield octets
+                yield Made(octets, issuer)
         for _ in range(SELF_ISSUED):
             key = self.chance.choice(self.keys)
-            yield self.certificate(SHARED, key, SHARED, key)
+            yield Made(self.certificate(SHARED, key, SHARED, key))
+
+    def answer(self, made):
+        """An entry of an answer to get-entries (RFC 6962, 3.4 and 4.6), and its chain."""
+        front = b"\0\0" + TIMESTAMP.to_bytes(8, "big") + bool(made.tbs).to_bytes(2, "big")
+        chain = self.first[made.issuer]
+        links, extra = vector(vector(chain)), b""
+        if made.tbs:
+            key = self.keys[made.issuer].public_key().public_bytes(
+                self.der, self.serialization.PublicFormat.SubjectPublicKeyInfo)
+            front, extra = front + hashlib.sha256(key).digest(), vector(made.octets)
+        leaf = front + vector(made.tbs or made.octets) + vector(b"", 2)
+        fields = {"leaf_input": leaf, "extra_data": extra + links}
+        return {name: b64encode(octets).decode() for name, octets in fields.items()}, chain
 
     def write(self, folder):
         roots = [self.certificate(f"Authority {at}", self.keys[at], f"Authority {at}", self.keys[at],
                                   None, True) for at in range(ROOTS)]
-        items = [*self.authorities(), *self.leaves()]
+        items = [Made(it) for it in roots] + [*self.authorities()]
+        items += self.leaves(self.entries - len(items))
         self.chance.shuffle(items)
-        for name, octets in ((BUNDLE, items), (ANCHORS, roots)):
-            with open(os.path.join(folder, name), "wb") as to:
-                to.write(b"".join(octets))
+        # (a log takes no lists, and what has no chain here is left in a file of items)
+        logged = [it for it in items[len(items) // 2:] if it.issuer is not None]
+        kept = [it for it in items[:len(items) // 2]]
+        kept += [it for it in items[len(items) // 2:] if it.issuer is None]
+        everything, entries, files = [], [], ["items.der"]
+        offset = 0
+        for it in kept:
+            entries.append((files[0], offset, len(everything)))
+            everything.append(it.octets)
+            offset += len(it.octets)
+        self.put(folder, files[0], b"".join(everything))
+        for begin in range(0, len(logged), ANSWER):
+            files.append(f"answer-{begin // ANSWER:04}.json")
+            answers = []
+            for it in logged[begin:begin + ANSWER]:
+                answer, chain = self.answer(it)
+                entries.append((files[-1], len(answers), len(everything)))
+                everything += [it.octets, chain]
+                answers.append(answer)
+            self.put(folder, files[-1], json.dumps({"entries": answers}).encode())
+        self.put(folder, BUNDLE, b"".join(everything))
+        self.put(folder, ANCHORS, b"".join(roots))
+        digests = [[hashlib.sha256(it).hexdigest() for it in some] for some in (everything, roots)]
+        self.put(folder, LOG, json.dumps([files, entries, *digests]).encode())
+
+    def put(self, folder, name, octets):
+        with open(os.path.join(folder, name), "wb") as to:
+            to.write(octets)
 
 
 def expected(line, items, anchors):
@@ -108,42 +186,42 @@ def expected(line, items, anchors):
     return ("cert", "none", "", "") if words[1] == "none" else (words[1], "", "", "")
 
 
-def trial(count, interpreter, room):
+def trial(count, interpreter, room, entries=ENTRIES):
     from program import repo
     from trials.scaling_runs import PROGRAM, Run, rows_of
     from trials.synthetic import Written
     folder = os.path.join(room, "apart")
     os.mkdir(folder)
-    subprocess.run([interpreter, "-W", "ignore", __file__, folder], check=True)
+    subprocess.run([interpreter, "-W", "ignore", __file__, str(entries), folder], check=True)
     bundle, anchors, vouchers = (os.path.join(folder, it) for it in (BUNDLE, ANCHORS, VOUCHERS))
+    with open(os.path.join(folder, LOG), encoding="ascii") as file:
+        files, places, digests, held = json.load(file)
     with open(vouchers, "wb") as to:
         subprocess.run([os.path.join(repo.TOP, "vouch"), bundle, anchors], check=True, stdout=to,
                        stderr=subprocess.DEVNULL)
     words = ["--at", MOMENT.isoformat()]
     lines = subprocess.run([PROGRAM, "paths", bundle, anchors, vouchers, *words], text=True,
                            stdout=subprocess.PIPE, check=False).stdout.splitlines()
-    run = Run(interpreter, Written([bundle], anchors, vouchers, 0, 0), os.path.join(room, "made-apart"),
-              "--blocksize", "60000", "--workers", "2").wait()
-    rows = rows_of(run.out)
-    digests = [it["sha256"] for it in rows]
-    with open(anchors, "rb") as file:
-        held = digests_in(file.read(), PROGRAM, anchors)
-    wrong = [row["offset"] for row, line in zip(rows, lines) if expected(line, digests, held) != (
-        row["class"], row["outcome"], row["path"], row["anchor"])]
-    count.tell(len(rows) > ITEMS and lines[len(rows)] == "end clean" and not wrong,
-               f"{len(wrong)} of {len(rows)} rows differ from one run: {wrong[:5]} {run.told[-2000:]}")
-    outcomes = [it["outcome"] for it in rows]
-    count.tell(min(map(outcomes.count, ("path", "none"))) > ITEMS // 4, "too few of an outcome")
-    count.tell(all(it["reasons"] for it in rows if it["outcome"] == "none"), "none without a reason")
-
-
-def digests_in(octets, program, path):
-    """The digests of a file's items, cut where `certpath frame` says."""
-    lines = subprocess.run([program, "frame", path], text=True, stdout=subprocess.PIPE,
-                           check=False).stdout.splitlines()
-    places = [[*map(int, it.split())] for it in lines if it[0].isdigit()]
-    return [hashlib.sha256(octets[begin:begin + length]).hexdigest() for _, begin, length in places]
+    paths = [os.path.join(folder, it) for it in files]
+    log, out = Written(paths, anchors, vouchers, 0, 0), os.path.join(room, "made-apart")
+    run = Run(interpreter, log, out, "--blocksize", str(BLOCKSIZE * entries // ENTRIES),
+              "--workers", "2").wait()
+    rows = {(it["file"], int(it["offset"])): it for it in rows_of(run.out)}
+    wanted = {(os.path.join(folder, file), offset): expected(lines[position], digests, held)
+              for file, offset, position in places}
+    found = {place: tuple(it[name] for name in COLUMNS) for place, it in rows.items()}
+    wrong = [it for it in wanted if found.get(it) != wanted[it]]
+    count.row(lines[len(digests)] == "end clean" and found.keys() == wanted.keys() and not wrong,
+              f"{len(wrong)} of {len(wanted)} rows differ from one run: {wrong[:5]} "
+              f"{run.errors[-2000:]}")
+    outcomes = [it["outcome"] for it in rows.values()]
+    count.row(min(map(outcomes.count, ("path", "none"))) > len(rows) // 5, "too few of an outcome")
+    count.row({it["source"] for it in rows.values()} == {"item", "x509_entry", "precert_entry"}
+              and not any(it["cause"] for it in rows.values()), "other sources, or a fault")
+    count.row(all(it["reasons"] and not it["reasons"].startswith("not asked")
+                  for it in rows.values() if it["outcome"] == "none"), "none without a reason")
+    return len(rows)
 
 
 if __name__ == "__main__":
-    Maker(64).write(sys.argv[1])
+    Maker(64, int(sys.argv[1])).write(sys.argv[2])

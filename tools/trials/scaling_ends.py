@@ -1,6 +1,7 @@
 """Tries how runs of `certpath.inventory` end: stopped and gone on with, refused, and where a file
 changes or can't be written. Part of `scaling.py`."""
 import os
+import re
 import resource
 import signal
 import sqlite3
@@ -10,14 +11,18 @@ from contextlib import closing
 
 from program import repo
 from trials import synthetic
-from trials.scaling_runs import Run, octets_of, rows_of
+from trials.scaling_runs import Run, octets_of, rows_of, seconds_of
 
 SMALL = ["--blocksize", "20000", "--no-why", "--workers", "2"]
 CHANGED = "the file changed while it was read"
 # With files of at most so many octets nothing of a table can be written whole.
 FILE_LIMIT = 20_000
 # Certificates of one name, and how many seconds of a processor their table may take.
-SAME_NAME, MOST_SECONDS = 1000, 10
+SAME_NAME, MOST_SECONDS = 500, 10
+# Files of one entry, and within how many seconds of a core the first block of them is read.
+FEW_FILES, MOST_BEFORE = 3000, 60
+# How many of a certificate's reasons are in the table, at most; one of them.
+MOST_REASONS, NO_VOUCHER = 20, re.compile(r"at target to [0-9a-f]{64} not linked: no voucher")
 # A module in the place of Dask.
 NO_DASK = "raise ImportError('No module named dask')"
 
@@ -28,23 +33,23 @@ def resumed(count, interpreter, whole, one, given, room):
     for number, status, pattern in ((signal.SIGTERM, 128 + signal.SIGTERM, ("work", "0*.json")),
                                     (signal.SIGKILL, -signal.SIGKILL, ("entries", "*.csv"))):
         run = Run(interpreter, whole, out, *words)
-        count.tell(run.wait_for(pattern), f"nothing at {pattern}")
+        count.row(run.wait_for(pattern), f"nothing at {pattern}")
         run.process.send_signal(number)
         run.wait()
-        count.tell(run.process.returncode == status and not os.path.exists(f"{out}/run.json"),
-                   f"{number.name}: status {run.process.returncode}, {run.told[-2000:]}")
+        count.row(run.process.returncode == status and not os.path.exists(f"{out}/run.json"),
+                  f"{number.name}: status {run.process.returncode}, {run.errors[-2000:]}")
     last = Run(interpreter, whole, out, *words).wait()
-    count.tell(last.said == one.said, f"resumed: {last.said}\n{last.told[-2000:]}")
-    count.tell(octets_of(out) == octets_of(one.out), "another table where the run was gone on with")
-    count.tell(sorted(os.listdir(out)) == ["entries", "issuers", "run.json"], f"{os.listdir(out)}")
+    count.row(last.said == one.said, f"resumed: {last.said}\n{last.errors[-2000:]}")
+    count.row(octets_of(out) == octets_of(one.out), "another table where the run was gone on with")
+    count.row(sorted(os.listdir(out)) == ["entries", "issuers", "run.json"], f"{os.listdir(out)}")
     database = os.path.join(room, "resumed.sqlite")
     again = Run(interpreter, whole, out, *words, "--sqlite", database).wait()
-    count.tell(again.said == one.said and "is finished" in again.told, f"finished: {again.told}")
+    count.row(again.said == one.said and "is finished" in again.errors, f"finished: {again.errors}")
     with closing(sqlite3.connect(database)) as opened:
         found = opened.execute('SELECT sha256, outcome FROM entries ORDER BY file, "offset"')
         expected = sorted(rows_of(out), key=lambda it: (it["file"], int(it["offset"])))
-        count.tell(found.fetchall() == [(it["sha256"] or None, it["outcome"] or None) for it in expected],
-                   "the database differs from the table")
+        count.row(found.fetchall() == [(it["sha256"] or None, it["outcome"] or None) for it in expected],
+                  "the database differs from the table")
 
 
 def changed(count, interpreter, few, room):
@@ -54,15 +59,15 @@ def changed(count, interpreter, few, room):
     with open(path, "rb") as file:
         octets = file.read()
     run = Run(interpreter, few, os.path.join(room, "changed"), "--vouchers", log.vouchers, *SMALL)
-    count.tell(run.wait_for(("work", "0*.json")), "no first pass")
+    count.row(run.wait_for(("work", "0*.json")), "no first pass")
     with open(path, "wb") as file:
         file.write(octets[:len(octets) // 2])
     run.wait()
     rows = rows_of(run.out)
     told = [it for it in rows if CHANGED in (it["reasons"], it["cause"])]
-    count.tell(run.process.returncode == 8 and told and {it["file"] for it in told} == {path},
-               f"changed: status {run.process.returncode}, {len(told)} rows: {run.told[-2000:]}")
-    count.tell(all(it["outcome"] for it in rows if it["class"] == "cert"), "a row without outcome")
+    count.row(run.process.returncode == 8 and told and {it["file"] for it in told} == {path},
+              f"changed: status {run.process.returncode}, {len(told)} rows: {run.errors[-2000:]}")
+    count.row(all(it["outcome"] for it in rows if it["class"] == "cert"), "a row without outcome")
     with open(path, "wb") as file:
         file.write(octets)
 
@@ -84,13 +89,13 @@ def refused(count, interpreter, few, room):
             (5, ["--vouchers", pem, "--workers", "1"], "vouchers line 1")):
         out = os.path.join(room, "refused")
         run = Run(interpreter, log, out, *words).wait()
-        count.tell(run.process.returncode == status and said in run.told
-                   and "Traceback" not in run.told and not (os.path.exists(out) and os.listdir(out)),
-                   f"{words}: status {run.process.returncode}, {run.told}")
+        count.row(run.process.returncode == status and said in run.errors
+                  and "Traceback" not in run.errors and not (os.path.exists(out) and os.listdir(out)),
+                  f"{words}: status {run.process.returncode}, {run.errors}")
     run = Run(interpreter, log, os.path.join(room, "full"), "--vouchers", log.vouchers, *SMALL,
               preexec_fn=limited).wait()
-    count.tell(run.process.returncode == 7 and "cannot write /" in run.told,
-               f"a full disk: status {run.process.returncode}, {run.told[-2000:]}")
+    count.row(run.process.returncode == 7 and "cannot write /" in run.errors,
+              f"a full disk: status {run.process.returncode}, {run.errors[-2000:]}")
 
 
 def without_dask(count, interpreter, room):
@@ -106,16 +111,31 @@ def without_dask(count, interpreter, room):
                              env={**os.environ, **places, "PYTHONDONTWRITEBYTECODE": "1"},
                              stdin=subprocess.DEVNULL, stdout=subprocess.PIPE,
                              stderr=subprocess.STDOUT)
-        count.tell(ran.returncode == status and said in ran.stdout and "Traceback" not in ran.stdout,
-                   f"without Dask: {words}: status {ran.returncode}, {ran.stdout}")
+        count.row(ran.returncode == status and said in ran.stdout and "Traceback" not in ran.stdout,
+                  f"without Dask: {words}: status {ran.returncode}, {ran.stdout}")
 
 
-def one_name(count, interpreter, few, room):
-    """Many certificates of one name, each issued by itself, take a bounded time with reasons."""
-    path, local = os.path.join(room, "one-name.der"), synthetic.Authority("localhost")
+def localhosts(path, number):
+    """Writes certificates of one name, each issued by itself with a key of its own."""
     with open(path, "wb") as file:
-        for serial in range(SAME_NAME):
-            file.write(synthetic.certificate(serial, local, local.name, local.public, []).octets)
+        for serial in range(number):
+            own = synthetic.Authority(f"key {serial}")
+            own.name = synthetic.name("localhost")
+            file.write(synthetic.certificate(serial, own, own.name, own.public, []).octets)
+
+
+def has_reasons(row, further):
+    """Whether as many reasons stand there as may, each on the certificate itself."""
+    *lines, last = row["reasons"].split("; ")
+    return (len({*lines}) == MOST_REASONS and last == f".. further {further}"
+            and all(map(NO_VOUCHER.fullmatch, lines)))
+
+
+def one_name(count, interpreter, few, room, number=SAME_NAME):
+    """Many certificates of one name have reasons within a bounded time; gives the seconds of a
+    processor."""
+    path = os.path.join(room, "one-name.der")
+    localhosts(path, number)
     before = resource.getrusage(resource.RUSAGE_CHILDREN)
     begun = time.monotonic()
     run = Run(interpreter, few.log._replace(files=[path]), os.path.join(room, "one-name"),
@@ -123,10 +143,47 @@ def one_name(count, interpreter, few, room):
     after = resource.getrusage(resource.RUSAGE_CHILDREN)
     took = after.ru_utime + after.ru_stime - before.ru_utime - before.ru_stime
     rows = rows_of(run.out)
-    count.tell(len(rows) == SAME_NAME and all(it["outcome"] == "none" and it["reasons"] for it in rows),
-               f"{len(rows)} rows of one name: {run.told[-2000:]}")
-    count.tell(took < MOST_SECONDS, f"{SAME_NAME} certificates of one name: {took:.1f} s of a "
-                                    f"processor, {time.monotonic() - begun:.1f} s in all")
+    further = (f"not asked: {number * (number + 1)} pairs of a certificate and one of its issuer's "
+               "name")
+    wrong = [it for it in rows if it["outcome"] != "none" or not has_reasons(it, further)]
+    count.row(len(rows) == number and not wrong,
+              f"{len(wrong)} of {len(rows)} rows of one name: {wrong[:1]} {run.errors[-2000:]}")
+    count.row(took < MOST_SECONDS, f"{number} certificates of one name: {took:.1f} s of a "
+                                   f"processor, {time.monotonic() - begun:.1f} s in all")
+    return took
+
+
+def one_entry_files(folder, number):
+    """Writes files of one certificate each, which differ by their serial numbers alone."""
+    os.makedirs(folder)
+    local, first = synthetic.Authority("localhost"), 1 << 30
+    octets = synthetic.certificate(first, local, local.name, local.public, []).octets
+    front, back = octets.split(first.to_bytes(4, "big"))
+    for it in range(number):
+        with open(os.path.join(folder, f"{it:07}.der"), "wb") as file:
+            file.write(front + (first + it).to_bytes(4, "big") + back)
+
+
+def many_files(count, interpreter, few, room, number):
+    """Many files of one entry are begun with soon; gives the run, in which a block was read."""
+    folder = os.path.join(room, "many-files")
+    one_entry_files(folder, number)
+    begun = time.monotonic()
+    run = Run(interpreter, few.log._replace(files=[folder]), os.path.join(room, "of-many-files"),
+              "--vouchers", few.log.vouchers, "--no-why", "--workers", "1")
+    is_read = run.wait_for(("work", "0*.json"))
+    took, within = seconds_of(run.process.pid), time.monotonic() - begun
+    said = (f"of {number} files {'the first' if is_read else 'no'} block was read after "
+            f"{took:.1f} s of a core, within {within:.1f} s")
+    count.row(is_read and took < MOST_BEFORE, said)
+    return run, said
+
+
+def all_of_many_files(count, interpreter, few, room):
+    run, _ = many_files(count, interpreter, few, room, FEW_FILES)
+    rows = rows_of(run.wait().out)
+    count.row(len({(it["file"], it["sha256"]) for it in rows}) == FEW_FILES == len(rows),
+              f"{FEW_FILES} files: {len(rows)} rows: {run.errors[-2000:]}")
 
 
 def trial(count, interpreter, few, room):
@@ -134,3 +191,4 @@ def trial(count, interpreter, few, room):
     refused(count, interpreter, few, room)
     without_dask(count, interpreter, room)
     one_name(count, interpreter, few, room)
+    all_of_many_files(count, interpreter, few, room)

@@ -1,11 +1,13 @@
-"""Tries that another user of the machine can't talk to the processes of `certpath.inventory`, and
-that these listen on the loopback alone. Part of `scaling.py`; needs root, to become `nobody`."""
-import glob
+"""Tries that another user of the machine can't talk to processes of `certpath.inventory`, or to a
+scheduler and workers that it is given, and that these listen on the loopback alone. Part of
+`scaling.py`; needs root, to become `nobody`."""
 import os
 import re
 import shutil
 import subprocess
 import time
+
+from trials.scaling_runs import processes
 
 LOOPBACK = {"127.0.0.1", "[::1]", "[::ffff:127.0.0.1]"}
 # All sockets that listen for TCP, with the processes that have them (Debian's iproute2), and which
@@ -51,19 +53,9 @@ print("tried", len(sys.argv) - 1)
 """
 
 
-def processes(pid):
-    """A process and all below it."""
-    found = [pid]
-    for path in glob.glob(f"/proc/{pid}/task/*/children"):
-        with open(path, encoding="ascii") as file:
-            for child in map(int, file.read().split()):
-                found += processes(child)
-    return found
-
-
-def listening(pid):
-    """The addresses and ports at which a process and those below it listen."""
-    own, found = set(processes(pid)), []
+def listening(pids):
+    """The addresses and ports at which processes and those below them listen."""
+    own, found = {it for pid in pids for it in processes(pid)}, []
     ran = subprocess.run(SOCKETS, stdin=subprocess.DEVNULL, stdout=subprocess.PIPE, text=True,
                          check=True)
     for line in ran.stdout.splitlines():
@@ -73,26 +65,26 @@ def listening(pid):
     return sorted(found)
 
 
-def settled(pid):
+def settled(pids):
     """The same, once it doesn't change any more."""
     until, found = time.monotonic() + SECONDS, []
     while time.monotonic() < until:
         time.sleep(20 * SHORT)
-        now = listening(pid)
+        now = listening(pids)
         if now and now == found:
             break
         found = now
     return found
 
 
-def trial(count, interpreter, run):
-    """A run that waits, once its processes are there."""
+def trial(count, interpreter, pids):
+    """Processes that listen, once those below them are there, too."""
     if not shutil.which(SOCKETS[0]):
         print(f"scaling: ports aren't looked at, since there is no {SOCKETS[0]} (iproute2)")
         return
-    found = settled(run.process.pid)
-    count.tell(len(found) > 3, f"too few ports: {found}")
-    count.tell(all(address in LOOPBACK for address, _ in found), f"not on the loopback: {found}")
+    found = settled(pids)
+    count.row(len(found) > 3, f"too few ports: {found}")
+    count.row(all(address in LOOPBACK for address, _ in found), f"not on the loopback: {found}")
     if os.getuid() != 0:
         print("scaling: another user isn't tried, since that needs root")
         return
@@ -101,5 +93,5 @@ def trial(count, interpreter, run):
                          extra_groups=[], env={"PATH": os.environ["PATH"], "HOME": "/"},
                          stdin=subprocess.DEVNULL, stdout=subprocess.PIPE, stderr=subprocess.PIPE,
                          text=True, check=False)
-    count.tell(ran.stdout == f"tried {len(ports)}\n",
-               f"another user is answered: {ran.stdout}{ran.stderr[-2000:]}")
+    count.row(ran.stdout == f"tried {len(ports)}\n",
+              f"another user is answered: {ran.stdout}{ran.stderr[-2000:]}")

@@ -47,15 +47,15 @@ class Run:
              out, "--at", synthetic.MOMENT, "--program", PROGRAM, "--format", "csv", *words],
             env=paths, stdin=subprocess.DEVNULL, stdout=subprocess.PIPE, stderr=subprocess.PIPE,
             text=True, **more)
-        self.said = self.told = ""
+        self.said = self.errors = ""
 
     def wait(self):
         try:
-            self.said, self.told = self.process.communicate(timeout=SECONDS)
+            self.said, self.errors = self.process.communicate(timeout=SECONDS)
         except subprocess.TimeoutExpired:
             self.process.kill()
-            self.said, self.told = self.process.communicate()
-            self.told += f"\nended after {SECONDS} s"
+            self.said, self.errors = self.process.communicate()
+            self.errors += f"\nended after {SECONDS} s"
         return self
 
     def workers(self):
@@ -85,6 +85,25 @@ class Run:
                 return True
             time.sleep(SHORT)
         return False
+
+
+def processes(pid):
+    """A process and all below it."""
+    found = [pid]
+    for path in glob.glob(f"/proc/{pid}/task/*/children"):
+        for child in map(int, octets_at(path).split()):
+            found += processes(child)
+    return found
+
+
+def seconds_of(pid):
+    """How many seconds of a core a process and all below it have taken so far."""
+    ticks = 0
+    for it in processes(pid):
+        # (after the name in parentheses: of 50 fields the 12th and 13th are its own time)
+        fields = octets_at(f"/proc/{it}/stat").rpartition(b")")[2].split()
+        ticks += sum(map(int, fields[11:13]))
+    return ticks / os.sysconf("SC_CLK_TCK")
 
 
 def threads_of(process):

@@ -1,6 +1,6 @@
 """Tries `certpath.inventory` with a scheduler that is there already, by TLS, on the loopback: one
-that has no worker, strangers' keys, a worker without the package, and one that is lost. Part of
-`scaling.py`."""
+that has no worker, strangers' keys, another user, a worker without the package, and one that is
+lost. Part of `scaling.py`."""
 import os
 import signal
 import socket
@@ -8,11 +8,13 @@ import subprocess
 import time
 
 from program import repo
+from trials import scaling_intruder
 from trials.scaling_runs import Run, octets_of
 
 LOOPBACK, SECONDS, SHORT = "127.0.0.1", 120, 0.2
 SMALL = ["--blocksize", "20000", "--no-why"]
 NO_HTTP = ["--no-dashboard", "--dashboard-address", f"{LOOPBACK}:0"]
+NO_PAGES = {f"DASK_DISTRIBUTED__{it}__HTTP__ROUTES": "[]" for it in ("SCHEDULER", "WORKER")}
 REQUEST = ["-newkey", "ec", "-pkeyopt", "ec_paramgen_curve:P-256", "-nodes"]
 
 
@@ -48,7 +50,8 @@ class Servers:
             self.started.append(subprocess.Popen(
                 [self.interpreter, "-m", "distributed.cli." + words[0], *words[1:], *self.words,
                  *NO_HTTP], cwd=self.room, stdin=subprocess.DEVNULL, stdout=to, stderr=to,
-                env={**os.environ, "PYTHONPATH": path, "PYTHONDONTWRITEBYTECODE": "1"}))
+                env={**os.environ, **NO_PAGES, "PYTHONPATH": path,
+                     "PYTHONDONTWRITEBYTECODE": "1"}))
         return self.started[-1]
 
     def __enter__(self):
@@ -78,8 +81,8 @@ class Servers:
 
 def ended(count, run, status, said):
     run.wait()
-    count.tell(run.process.returncode == status and said in run.told and "Traceback" not in run.told,
-               f"status {run.process.returncode}, {status} expected, with {said}: {run.told[-3000:]}")
+    count.row(run.process.returncode == status and said in run.errors and "Traceback" not in run.errors,
+              f"status {run.process.returncode}, {status} expected, with {said}: {run.errors[-3000:]}")
 
 
 def trial(count, interpreter, few, room):
@@ -98,12 +101,13 @@ def trial(count, interpreter, few, room):
         stranger.wait()
         run = Run(interpreter, few, out, *given, *there, *own)
         time.sleep(10 * SHORT)
-        servers.worker()
+        worker = servers.worker()
         ended(count, run, 1, f"{servers.address} has no worker; waiting for one")
-        count.tell(octets_of(out) == octets_of(whole.out), "another table by a scheduler")
+        scaling_intruder.trial(count, interpreter, [servers.scheduler.pid, worker.pid])
+        count.row(octets_of(out) == octets_of(whole.out), "another table by a scheduler")
         lost = Run(interpreter, few, os.path.join(room, "lost"), *given, *there, *own)
-        count.tell(lost.wait_for(("work", "0*.json")), "no first pass")
+        count.row(lost.wait_for(("work", "0*.json")), "no first pass")
         servers.scheduler.send_signal(signal.SIGKILL)
         ended(count, lost, 9, "the scheduler was lost")
     again = Run(interpreter, few, lost.out, *given, "--workers", "1", "--resume").wait()
-    count.tell(octets_of(again.out) == octets_of(whole.out), f"lost and gone on with: {again.told}")
+    count.row(octets_of(again.out) == octets_of(whole.out), f"lost and gone on with: {again.errors}")

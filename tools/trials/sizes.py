@@ -1,11 +1,8 @@
-#!/usr/bin/env python3
 """Asks about large input, with ample memory: 1,000 items, a path of 300, a list of 1,000 entries,
 300 extensions, items of 100 KB, 1,000 vouchers. A body that gives up beyond a size fails here.
 
 It asks the program, the package python/certpath, whose search and check read items by two readers,
 and the programs of rows, which have every extension and entry printed.
-
-    python3 tools/trials/sizes.py     the last line is `sizes: N passed, M failed`
 """
 import os
 import re
@@ -15,12 +12,10 @@ import tempfile
 from datetime import datetime
 from typing import NamedTuple
 
-sys.dont_write_bytecode = True
-sys.path.insert(0, os.path.dirname(os.path.dirname(os.path.abspath(__file__))))
 from dev import items
 from program import repo
 from trials import paths
-from trials.count import Count
+from trials.count import Trial
 
 sys.path.insert(0, os.path.join(repo.TOP, "python"))
 import certpath
@@ -161,8 +156,8 @@ def by_program(count, program, room, case):
         is_right = ran.returncode in (0, 1) and not ran.stderr
         if words[0] == "path":
             is_right = is_right and ran.stdout == case.report()
-        count.tell(is_right, f"{case.title}: {words[0]} ended with status {ran.returncode}: "
-                             f"{ran.stderr or ran.stdout[-200:]}")
+        count.row(is_right, f"{case.title}: {words[0]} ended with status {ran.returncode}: "
+                            f"{ran.stderr or ran.stdout[-200:]}")
 
 
 def by_package(count, case):
@@ -172,14 +167,14 @@ def by_package(count, case):
     asked = bundle, anchors, pairs, case.target, datetime.fromisoformat(MOMENT)
     try:
         kinds = [it.kind for it in bundle]
-        count.tell(kinds == [KINDS[it.kind] for it in case.bundle], f"{case.title}: other classes")
-        count.tell(certpath.questions(bundle, anchors), f"{case.title}: no questions")
+        count.row(kinds == [KINDS[it.kind] for it in case.bundle], f"{case.title}: other classes")
+        count.row(certpath.questions(bundle, anchors), f"{case.title}: no questions")
         answer = certpath.find(*asked, demand_lists=case.demand)
-        count.tell(line_of(answer) == case.answer, f"{case.title}: {line_of(answer)[:200]}")
+        count.row(line_of(answer) == case.answer, f"{case.title}: {line_of(answer)[:200]}")
         says_yes = certpath.check(*asked, answer, demand_lists=case.demand)
-        count.tell(says_yes, f"{case.title}: the check says no")
+        count.row(says_yes, f"{case.title}: the check says no")
     except certpath.Error as error:
-        count.tell(False, f"{case.title}: {error!r}")
+        count.row(False, f"{case.title}: {error!r}")
 
 
 def line_of(answer):
@@ -191,7 +186,7 @@ def line_of(answer):
 
 def by_rows(count, large):
     """Two readers of items, and `from_der`, read each extension and each entry."""
-    programs = {it: repo.ready(it) for it in ("cert_rows", "x509_rows")}
+    programs = {it: count.program(it) for it in ("cert_rows", "x509_rows")}
     for title, item in large.items():
         word, octets = WORDS[item.kind], item.octets.hex()
         written = f"  written {len(item.octets)}, the item\n"
@@ -200,32 +195,24 @@ def by_rows(count, large):
                 ("x509_rows", f"{word} {word} {octets}", " = 30 ", "; rest none\n")):
             told = printed(programs[crate], row)
             is_right = told.startswith(front) and told.endswith(end)
-            count.tell(is_right and len(PART.findall(told)) == item.parts,
-                       f"{title}: {crate} prints {told[:100]} .. {told[-100:]}")
+            count.row(is_right and len(PART.findall(told)) == item.parts,
+                      f"{title}: {crate} prints {told[:100]} .. {told[-100:]}")
 
 
 def printed(program, row):
-    """What a program of rows prints after the row; nothing where it fails, or there is none."""
-    if not program:
-        return ""
+    """What a program of rows prints after the row; nothing where it fails."""
     ran = subprocess.run([program], input=f"{row}\n", stdout=subprocess.PIPE, text=True,
                          timeout=SECONDS)
     return ran.stdout[len(row):] if ran.returncode == 0 else ""
 
 
-def main():
-    count, large, program = Count("sizes"), large_items(), repo.ready("certpath_cli")
-    if not program:
-        print("sizes: certpath_cli wasn't built\nsizes: 0 passed, 1 failed")
-        return 1
-    with tempfile.TemporaryDirectory(prefix="sizes-") as room:
-        for case in cases(large):
-            by_program(count, program, room, case)
-            by_package(count, case)
-    by_rows(count, large)
-    print(f"sizes: {count.passed} passed, {count.failed} failed")
-    return 1 if count.failed else 0
+class Sizes(Trial):
+    def test_program_and_package(self):
+        program = self.program()
+        with tempfile.TemporaryDirectory(prefix="sizes-") as room:
+            for case in cases(large_items()):
+                by_program(self, program, room, case)
+                by_package(self, case)
 
-
-if __name__ == "__main__":
-    sys.exit(main())
+    def test_rows(self):
+        by_rows(self, large_items())

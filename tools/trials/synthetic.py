@@ -201,8 +201,8 @@ def spoilt(kind: int, answer: dict, entry: Entry) -> Entry:
 class Log:
     """Entries in files, in the order in which the files are read."""
 
-    def __init__(self, entries: int, seed: int = 44):
-        self.chance = random.Random(seed)
+    def __init__(self, entries: int, seed: int = 44, precertificates: int = PRECERTIFICATES):
+        self.chance, self.precertificates = random.Random(seed), precertificates
         self.authorities = Authorities(self.chance)
         self.count = entries
         self.faults = 0
@@ -223,7 +223,8 @@ class Log:
 
     def answer_entries(self, count: int):
         for at in range(count):
-            issuer, is_precertificate = self.issuer(), self.chance.randrange(PRECERTIFICATES) == 0
+            issuer = self.issuer()
+            is_precertificate = self.chance.randrange(self.precertificates) == 0
             made = leaf(self.chance, self.chance.randrange(1 << 20), issuer, is_precertificate)
             chain = self.authorities.chain(issuer)
             entry = Entry(made, chain, None, is_precertificate)

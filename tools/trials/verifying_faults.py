@@ -11,6 +11,7 @@ import tempfile
 from program import repo
 from trials import refusals
 from trials.chains import AUTHORITY, ISSUER_ID, OF_AUTHORITY, OF_LEAF, SIGNER, Chain
+from trials.count import INTERRUPTIBLE
 from trials.refusals import AT
 from trials.verifying_large import pem
 
@@ -189,7 +190,7 @@ def remains(v, root):
         environment = {**os.environ, "TMPDIR": folder}
         status = subprocess.run([*command, *words], cwd=own, env=environment, stdout=subprocess.DEVNULL).returncode
         yield "what remains", (status, os.listdir(folder), os.listdir(own)), (1, [], [])
-        with subprocess.Popen([*command, "-", *words], cwd=own, env=environment, stdin=subprocess.PIPE, stderr=subprocess.PIPE) as child:
+        with subprocess.Popen([*INTERRUPTIBLE, *command, "-", *words], cwd=own, env=environment, stdin=subprocess.PIPE, stderr=subprocess.PIPE) as child:
             # (more than a pipe holds, so that the run reads once this is written)
             child.stdin.write(b"\n" * MORE_THAN_A_PIPE)
             child.send_signal(signal.SIGINT)

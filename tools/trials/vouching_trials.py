@@ -1,4 +1,4 @@
-"""Runs the scripts of this repository, and counts what goes as it should."""
+"""Runs the scripts of this repository; what goes as it should and what doesn't are rows of a trial."""
 import os
 import re
 import subprocess
@@ -16,18 +16,10 @@ REASON = re.compile(r"(not verified by \d+ keys?) \([^()]+\)")
 
 
 class Trials:
-    """The trials in a workshop's folder."""
+    """The runs in a workshop's folder, for a trial."""
 
-    def __init__(self, shop, subject="vouch"):
-        self.shop, self.subject, self.passed, self.failed = shop, subject, 0, 0
-
-    def same(self, title, found, wanted):
-        """A trial: whether what was found is what is wanted."""
-        if found == wanted:
-            self.passed += 1
-        else:
-            self.failed += 1
-            print(f"{self.subject}: {title}: {found!r:.1200}, wanted is {wanted!r:.1200}", flush=True)
+    def __init__(self, shop, trial):
+        self.shop, self.same = shop, trial.same
 
     def run(self, script, words, octets=b"", output=subprocess.PIPE):
         """A script's status, what it wrote to standard output where that is piped, and its lines on standard error."""

@@ -4,7 +4,7 @@ from typing import NamedTuple
 
 from dev.items import element, octets
 from pki import package
-from pki.told import MOST_REASONS, OTHERS, Told
+from pki.reporting import MOST_REASONS, OTHERS, Report
 from pki.vouchers import Vouching
 from trials.vouching_items import NO_KEY, Made, altered, not_verified, told
 from trials.vouching_pki import DATES, ECDSA_SHA256, RSA_SHA256, name
@@ -111,7 +111,7 @@ def groups(t, holders):
            (1, b"", ["bundle 0, 1 (2 items): not verified by 1 key (..)", f"bundle: cut at {len(leaves[0] + leaves[1])}: the last item isn't whole", "vouch: 2 items, 0 vouched for, 0 lines, 3 reported"]))
 
 
-class Held(NamedTuple):
+class Key(NamedTuple):
     """A key as OpenSSL's are, of which nothing is asked but its octets."""
     octets: bytes
     handle: int = 1
@@ -126,7 +126,7 @@ class Counting:
         self.asked, self.read = [], None
 
     def key(self, key):
-        return Held(key)
+        return Key(key)
 
     def subject_key_id(self, octets):
         return None
@@ -150,13 +150,13 @@ class Counting:
         return ["wrong signature"] * len(keys)
 
 
-class Kept(Told):
+class Kept(Report):
     """Keeps the lines that it would write."""
 
     def __init__(self):
         super().__init__(False)
         self.kept = []
-        self.lines.tell = self.kept.append
+        self.lines.add = self.kept.append
 
 
 def counts(t, holders):

@@ -1,27 +1,29 @@
-"""What is answered of a target: the path or what stands in its way, and what one should know beside it."""
+"""The answer on a target: the path or what prevents one, and what one should know beside it."""
 from functools import cached_property
-from typing import NamedTuple
+from typing import NamedTuple, Optional
 
 from verify import reasons, spelling
 from verify.core import Kind, Shown, certpath, fingerprint, name_of
+from verify.demands import HOSTS, PURPOSES, Demands
 from verify.report import REVOKED, Link, Report
 
-NOT_JUDGED = ("host names", "extended key usage", "name constraints", "policies", "OCSP", "delta, indirect and partitioned lists")
+NOT_JUDGED = (HOSTS, PURPOSES, "name constraints", "policies", "OCSP", "delta, indirect and partitioned lists")
 # So often `certpath why` is asked again, at most, about lists that aren't used.
 MOST_ASKED = 32
 YES, NO, UNKNOWN = "yes", "no", "unknown"
 # Outcomes beside those of `certpath why`.
 NO_TARGET, PATH_REFUSED = "no target", "refused"
-# What stands in the way where no certificate has the issuer's name, or only the certificate itself.
+# What prevents a path if no certificate has the issuer's name, or only the certificate itself.
 MISSING, ITS_OWN = "no issuer here", "issued by itself"
 # So many certificates are shown whose names read like an issuer's.
 MOST_ALIKE = 3
 TYPES = {*spelling.TYPES.values()}
-# What stands against a list no more at another moment and with a voucher.
-MENDED = ("no voucher", "past next update", "not current before", "by another key")
-# What stands against a list that no key of its issuer's name vouches for.
+# What is against a list no more at another moment and with a voucher.
+NO_VOUCHER = "no voucher"
+MENDED = (NO_VOUCHER, "past next update", "not current before", "by another key")
+# What is against a list that no key of its issuer's name vouches for.
 NO_KEY, TAKES_WEAK = "no voucher by a key of its issuer", "--weak accepts it"
-# What stands against a list that is used, but not for a certificate which another key of the issuer signed.
+# What is against a list that is used, but not for a certificate which another key of the issuer signed.
 OTHER_KEY = "by another key of its issuer"
 # What keeps a list from a certificate whose issuer's name reads like that of the list.
 OTHER_SPELLING = "issuer spelled otherwise"
@@ -55,10 +57,11 @@ class Edge(NamedTuple):
 
 
 class Answer(NamedTuple):
-    """The answer for one target, or, where that is no certificate, what stands there instead.
+    """The answer for one target, or, if that is no certificate, what is there instead.
 
-    A path is refused where a list that isn't used may revoke one of its certificates, unless such lists are ignored. A target that has
-    no path may be an anchor itself.
+    A path is refused if a list that isn't used may revoke one of its certificates, unless such lists are ignored. A target that has
+    no path may be an anchor itself. `store` has the words for the system's store, if its anchors are asked; `demands` are the purpose
+    and the host that are asked for.
     """
     target: Shown
     instead: str
@@ -74,6 +77,18 @@ class Answer(NamedTuple):
     is_asked_why: bool
     is_refused: bool
     as_anchor: Shown
+    store: Optional[str] = None
+    demands: Optional[Demands] = None
+
+    @property
+    def asked(self):
+        """The host and the purpose that are asked for, as the first line has them."""
+        return self.demands.asked() if self.demands else ""
+
+    @property
+    def not_judged(self):
+        """What the answer says nothing of."""
+        return self.demands.not_judged(NOT_JUDGED) if self.demands else NOT_JUDGED
 
     def false_comfort(self):
         """The lists that aren't used and would revoke a certificate of the path, or may."""
@@ -92,7 +107,7 @@ class Answer(NamedTuple):
 
 
 def no_target(instead):
-    """The answer where the target is no certificate."""
+    """The answer if the target is no certificate."""
     return Answer(None, instead, NO_TARGET, True, [], None, [], [], [], [], [], True, False, None)
 
 
@@ -114,23 +129,23 @@ def braced(text):
 class Judge:
     """Makes answers of reports. `unread` are lines on lists that can't be read."""
 
-    def __init__(self, given, room, signatures):
-        self.bundle, self.anchors, self.room, self.signatures = given.bundle, given.anchors, room, signatures
-        self.unread, self.is_single, self.asked, self.idle = [*given.unread_lists()], len(given.targets) == 1, 0, {}
-        self.ignores_unused = given.asked.ignores_unused
+    def __init__(self, inputs, workspace, signatures):
+        self.bundle, self.anchors, self.workspace, self.signatures = inputs.bundle, inputs.anchors, workspace, signatures
+        self.unread, self.is_single, self.asked, self.idle = [*inputs.unread_lists()], len(inputs.targets) == 1, 0, {}
+        self.ignores_unused, self.store, self.demands = inputs.asked.ignores_unused, inputs.store, inputs.demands
         self.pairs = {*signatures.vouchers.text().splitlines()}
         # the lists of each issuer, and the questions of each list
         self.lists, self.questions = {}, {position: [] for position in self.bundle.of_kind[Kind.LIST]}
         for position in self.questions:
             self.lists.setdefault(self.bundle.items[position].issuer, []).append(position)
-        for it in given.questions:
+        for it in inputs.questions:
             if it.item in self.questions:
                 self.questions[it.item].append(it)
 
     def answer(self, target, report=None):
-        """The answer for the certificate at a position; the report is asked for where none is given."""
+        """The answer for the certificate at a position; the report is asked for if none is given."""
         is_asked = report is None
-        report = report or Report(self.room.why(target))
+        report = report or Report(self.workspace.why(target))
         shown = self.bundle.certificate(target)
         path = [self.bundle.certificate(it) for it in report.path or []]
         anchor = self.anchors.certificate(report.anchor) if report.path else None
@@ -140,7 +155,8 @@ class Judge:
         weak = [*self.weak(report), *self.weak_target(target)]
         is_refused = bool(path) and not self.ignores_unused and (bool(self.unread) or any(it.revokes != NO for it in unused))
         return Answer(shown, None, PATH_REFUSED if is_refused else report.outcome, report.is_checked, path, anchor, against, edges, unused,
-                      self.unread, weak, is_asked or bool(path), is_refused, None if path else self.as_anchor(target))
+                      self.unread, weak, is_asked or bool(path), is_refused, None if path else self.as_anchor(target),
+                      self.store, self.demands)
 
     @cached_property
     def named_anchors(self):
@@ -149,14 +165,14 @@ class Judge:
         return {(it.subject, it.public_key_bytes): position for position, it in items}
 
     def as_anchor(self, target):
-        """The anchor that a certificate is itself, by its name and key; none where it is none."""
+        """The anchor that a certificate is itself, by its name and key; none if it is none."""
         it = self.bundle.items[target]
         position = self.named_anchors.get((it.subject, it.public_key_bytes))
         return None if position is None else self.anchors.certificate(position)
 
     @cached_property
     def names(self):
-        """What reads names as OpenSSL does, none where that isn't there."""
+        """What reads names as OpenSSL does, none if that isn't there."""
         return spelling.reader()
 
     @cached_property
@@ -211,17 +227,20 @@ class Judge:
     def edges(self, report):
         for node in report.nodes.values():
             for link, words in node.links.items():
-                notes = [self.of_link(node.position, link, it).note or it for it in words]
+                said = (note for it in words for note in self.notes(node.position, link, it))
+                notes = [*dict.fromkeys(said)]
                 yield Edge(self.bundle.certificate(node.position), self.end(link), notes)
 
     def obstacles(self, report):
-        """All that `why` tells against the certificates and links that the target leads to."""
+        """All that `why` reports against the certificates and links that the target leads to."""
         for node in report.nodes.values():
             here = self.bundle.certificate(node.position)
+            for words, found in self.demands.against(node.position):
+                yield Obstacle(here, None, words, found)
             for words in [*node.not_usable, *node.no_issuer]:
                 yield Obstacle(here, None, words, reasons.sentence(words))
             for link, whys in node.links.items():
-                for words in whys:
+                for words in (it for it in whys if not self.is_demanded(node.position, link, it)):
                     yield Obstacle(here, self.end(link), words, self.of_link(node.position, link, words))
             if node.most is not None and report.is_too_long():
                 words = f"leads to an anchor with at most {node.most} below"
@@ -233,14 +252,28 @@ class Judge:
             elif [*node.links] == [Link(node.position, False)]:
                 yield Obstacle(here, None, ITS_OWN, reasons.sentence(ITS_OWN))
 
+    def key(self, link):
+        """The key of the certificate that a link leads to."""
+        return (self.anchors if link.is_anchor else self.bundle).items[link.to].public_key_bytes
+
+    def is_demanded(self, position, link, words):
+        """Whether what is asked for alone is why a link has no voucher."""
+        return words == NO_VOUCHER and self.demands.drops(position, self.key(link))
+
+    def notes(self, position, link, words):
+        """In few words what is against a link."""
+        if self.is_demanded(position, link, words):
+            return [words for words, _ in self.demands.against(position)]
+        return [self.of_link(position, link, words).note or words]
+
     def of_link(self, position, link, words):
-        """A reason against a link; where the signature isn't verified, OpenSSL's own words stand beside it, and beside a list its file."""
+        """A reason against a link; if the signature isn't verified, OpenSSL's own words are beside it, and beside a list its file."""
         found, by_list = reasons.sentence(words), REVOKED.fullmatch(words)
         if by_list:
             return found._replace(text=f"{found.text} ({self.bundle.file(int(by_list[1]))})")
-        if words != "no voucher":
+        if words != NO_VOUCHER:
             return found
-        key = (self.anchors if link.is_anchor else self.bundle).items[link.to].public_key_bytes
+        key = self.key(link)
         weak, refused = (of.get(position, {}).get(key) for of in (self.signatures.weak, self.signatures.refused))
         if weak:
             return found._replace(text=f"its signature is verified, but weak: {weak}", advice=TAKES_WEAK, note=f"weak signature: {weak}")
@@ -255,13 +288,13 @@ class Judge:
                 yield f"{it.place} {it.subject}: its signature is weak: {weak}"
 
     def weak_target(self, target):
-        """A warning where the target's own key is weak, which is no matter of any signature of the path."""
+        """A warning if the target's own key is weak, which is no matter of any signature of the path."""
         weak, it = self.signatures.weak_key(self.bundle.items[target]), self.bundle.certificate(target)
         if weak:
             yield f"{it.place} {it.subject}: its own key is weak: {weak}; a target isn't refused for that"
 
     def unused(self, position, words, path, target):
-        """A list that isn't used, and whether it would revoke a certificate of the path, or, where there is none, the target."""
+        """A list that isn't used, and whether it would revoke a certificate of the path, or, if there is none, the target."""
         it, certificates = self.bundle.items[position], path or [target]
         concerned = [one for one in certificates if alike(self.bundle.items[one.position].issuer, it.issuer)]
         if not concerned and position in self.idle:
@@ -296,13 +329,13 @@ class Judge:
         vouchers = certpath.Vouchers.from_text(self.signatures.vouchers.text())
         for question in self.questions[position]:
             vouchers.add(question.key_holder(self.bundle.items, self.anchors.items).public_key_bytes, it.public_bytes())
-        self.room.vouch(vouchers)
+        self.workspace.vouch(vouchers)
         try:
             for one in concerned:
-                again = Report(self.room.why(one.position, moment=it.last_update_utc))
+                again = Report(self.workspace.why(one.position, moment=it.last_update_utc))
                 found = again.nodes[one.position].links.values()
                 if any((its := REVOKED.fullmatch(why)) and int(its[1]) == position for whys in found for why in whys):
                     return YES, one
         finally:
-            self.room.vouch(self.signatures.vouchers)
+            self.workspace.vouch(self.signatures.vouchers)
         return NO, None

@@ -3,7 +3,7 @@ import os
 import subprocess
 import tempfile
 
-from program import programs, repo, usage
+from program import programs, usage
 from verify import faults, times, waiting
 from verify.faults import Fault
 
@@ -17,14 +17,14 @@ def text_of(file):
     return file.read().decode(errors="backslashreplace")
 
 
-class Room:
+class Workspace:
     """Files of the items, and the program that reads them."""
 
     def __init__(self, folder, bundle, anchors, words):
         self.folder, self.words = folder, words
-        self.program = repo.ready(programs.CERTPATH)
-        if self.program is None:
-            raise Fault(faults.NO_PROGRAM, "certpath, which answers, could not be built")
+        self.program, lack = programs.found(programs.CERTPATH)
+        if lack:
+            raise Fault(lack.status, lack.why)
         self.keep(BUNDLE, bundle.items.data)
         self.keep(ANCHORS, anchors.items.data)
 
@@ -48,7 +48,7 @@ class Room:
             return child.returncode, text_of(out), text_of(errors).strip()
 
     def ask(self, command, *words, moment=None):
-        """The lines of a report, at the moment of the command line where none is given."""
+        """The lines of a report, at the moment of the command line if none is given."""
         at = ["--at", times.as_asked(moment or self.words.moment), *(["--demand-lists"] if self.words.demands_lists else [])]
         status, report, said = self.ran(command, [*words, *at, *self.limits()])
         if status not in ANSWERS:
@@ -59,5 +59,5 @@ class Room:
         return self.ask("why", "--target", str(target), **further)
 
     def paths(self):
-        """The report on all items at once, none where this certpath has no such command."""
+        """The report on all items at once, none if this certpath has no such command."""
         return self.ask("paths") if "paths" in usage.COMMANDS else None

@@ -1,17 +1,15 @@
 """The package `certpath` of this repository, and what it shows of items."""
 import hashlib
-import os
 import sys
 from collections import OrderedDict
 from typing import NamedTuple
 
-from program import repo, streams
+from program import installed, programs, streams
 from verify import waiting
-from verify.faults import MEMORY, NO_PROGRAM, Fault
+from verify.faults import MEMORY, NO_PROGRAM, OUTDATED, Fault
 
-FOLDER = os.path.join(repo.TOP, "python")
-if FOLDER not in sys.path:
-    sys.path.insert(1, FOLDER)
+if installed.FOLDER not in sys.path:
+    sys.path.insert(1, installed.FOLDER)
 import certpath
 import certpath.openssl
 
@@ -21,7 +19,9 @@ MOST_SHOWN = 10_000
 
 
 def need():
-    """Ends the run where the library isn't there."""
+    """Ends the run if the library isn't there, or is older than the sources."""
+    if programs.is_library_old():
+        raise Fault(OUTDATED, programs.OLDER)
     try:
         certpath.version()
     except certpath.LibraryMissing as error:
@@ -29,7 +29,7 @@ def need():
 
 
 class Shown(NamedTuple):
-    """What is shown of a certificate: where it stands, its file, and its fields. Names are fit for a terminal."""
+    """What is shown of a certificate: its place, its file, and its fields. Names are fit for a terminal."""
     position: int
     is_anchor: bool
     file: str
@@ -46,7 +46,7 @@ class Shown(NamedTuple):
 
 
 def name_of(name):
-    """A name as text, in which what isn't printable is escaped; its octets where it has no text."""
+    """A name as text, in which what isn't printable is escaped; its octets if it has no text."""
     try:
         return escaped(name.text) or "(empty)"
     except certpath.BadName:
@@ -110,7 +110,7 @@ class Side:
 
 
 def run_of(call):
-    """What a call gives; the run ends where there is no memory."""
+    """What a call gives; the run ends if there is no memory."""
     try:
         return call()
     except (certpath.OutOfMemory, MemoryError) as error:

@@ -13,15 +13,6 @@ from program import repo, streams
 from verify import waiting
 from verify.faults import NO_PROGRAM, UNREAD, Fault
 
-# Where systems keep their trust anchors, the first that is there.
-STORES = (
-    "/etc/ssl/certs/ca-certificates.crt",
-    "/etc/pki/ca-trust/extracted/pem/tls-ca-bundle.pem",
-    "/etc/pki/tls/certs/ca-bundle.crt",
-    "/etc/ssl/ca-bundle.pem",
-    "/etc/ssl/cert.pem",
-    "/usr/local/share/certs/ca-root-nss.crt",
-)
 # What a PKCS #7 file of certificates and a PKCS #12 file begin with: headers of SEQUENCEs and an identifier (RFC 5652, 5.1; RFC 7292, 4).
 HEADER = rb"\x30(?:[\x00-\x80]|\x81.|\x82..|\x83.{3}|\x84.{4})"
 SIGNED_DATA, PLAIN_DATA = (re.escape(bytes.fromhex(it)) for it in ("06092a864886f70d010702", "06092a864886f70d010701"))
@@ -44,8 +35,8 @@ class Item(NamedTuple):
 
 
 class LeftOut(NamedTuple):
-    """What was left out of a file: where it stood, why, nothing where ./verify has no use for such a thing; the label of the PEM
-    block that it was, none where it was none or isn't known; and how many items were taken before it."""
+    """What was left out of a file: where it was, why, nothing if ./verify has no use for such a thing; the label of the PEM
+    block that it was, none if it was none or isn't known; and how many items were taken before it."""
     where: str
     why: str
     label: str
@@ -63,7 +54,7 @@ class LeftOut(NamedTuple):
         return self.why is not None and (self.label is None or self.label in OF_CERTIFICATES)
 
 
-class Held(NamedTuple):
+class FileContents(NamedTuple):
     """What a file holds, and what was left out of it."""
     items: list
     left_out: list
@@ -81,14 +72,14 @@ def loaded(script):
 BUNDLING = loaded("bundle")
 
 
-class Taken(BUNDLING.Bundle):
+class Collector(BUNDLING.Bundle):
     """Items of a file as ./bundle takes them, and those of PKCS #7 blocks; what ./bundle would report is kept."""
 
     def __init__(self, file):
         super().__init__()
         self.file, self.kept, self.unpacked = file, [], 0
 
-    def tell(self, where, why=None, label=None):
+    def report(self, where, why=None, label=None):
         self.kept.append(LeftOut(where, why, label, len(self.items)))
 
     def take(self, octets, where, label=None):
@@ -97,16 +88,16 @@ class Taken(BUNDLING.Bundle):
 
     def take_other(self, where, label, lines):
         if label not in labels.SEVEN:
-            self.tell(where, None, label)
+            self.report(where, None, label)
             return
         self.unpacked += 1
         if self.unpacked > MOST_BLOCKS:
             raise Fault(UNREAD, f"{self.file}: more than {MOST_BLOCKS} PKCS #7 blocks; split it")
         block = b"-----BEGIN PKCS7-----\n%s\n-----END PKCS7-----\n" % b"\n".join(lines.split())
-        self.add(Taken.of(where, of_seven(self.file, block, "PEM")))
+        self.add(Collector.of(where, of_seven(self.file, block, "PEM")))
 
     def add(self, other):
-        """Takes what another one took, behind what this one has."""
+        """Takes what another one took, after what this one has."""
         self.kept += [it._replace(before=it.before + len(self.items)) for it in other.kept]
         self.items += other.items
         self.lists += other.lists
@@ -136,7 +127,7 @@ def in_shell(file, tail=""):
 
 
 def unpacked(file, words, octets):
-    """What `openssl` makes of octets that it reads from a file, none where it fails."""
+    """What `openssl` makes of octets that it reads from a file, none if it fails."""
     with tempfile.NamedTemporaryFile(prefix="verify-") as it:
         it.write(octets)
         it.flush()
@@ -178,51 +169,17 @@ def plain(file, octets):
 
 def taken_from(file):
     """What a file holds, if anything."""
-    taken = Taken.of(file, plain(file, octets_of(file)))
-    return Held([Item(it, file) for it in taken.items], taken.kept)
+    taken = Collector.of(file, plain(file, octets_of(file)))
+    return FileContents([Item(it, file) for it in taken.items], taken.kept)
 
 
-def held(file):
-    """What a file holds; the run ends where that is nothing that can be read."""
+def contents_of(file):
+    """What a file holds; the run ends if that is nothing that can be read."""
     found = taken_from(file)
     faults = [it for it in found.left_out if it.why]
     if faults and not found.items:
         raise Fault(UNREAD, f"{faults[0].where}: {faults[0].why}; {REMEDY}")
     return found
-
-
-def files_in(folder):
-    """The files of a folder, by name."""
-    try:
-        paths = [os.path.join(folder, it) for it in sorted(os.listdir(folder)) if not it.startswith(".")]
-    except OSError as error:
-        raise Fault(UNREAD, f"{folder}: cannot read the folder ({error.strerror})") from error
-    return [it for it in paths if os.path.isfile(it)]
-
-
-class Anchors(NamedTuple):
-    """Trust anchors, each once; where they come from; whether that is the system's store; and what was left out."""
-    items: list
-    sources: list
-    is_system: bool
-    left_out: list
-
-
-def system_store():
-    """The file that the system keeps its trust anchors in."""
-    for path in STORES:
-        if os.path.isfile(path):
-            return path
-    raise Fault(UNREAD, "no store of trust anchors is known on this system; name anchors with --anchors FILE")
-
-
-def held_in(source):
-    """What a file or a folder holds. A folder's files without certificates, as notes, are passed over."""
-    if source == "-" or not os.path.isdir(source):
-        return held(source)
-    parts = [*map(taken_from, files_in(source))]
-    left_out = [it for part in parts for it in part.left_out if part.items or it.label in OF_CERTIFICATES]
-    return Held([it for part in parts for it in part.items], left_out)
 
 
 def once(items):
@@ -231,14 +188,3 @@ def once(items):
     for it in items:
         found.setdefault(it.octets, it)
     return [*found.values()]
-
-
-def anchors_of(words):
-    """The anchors of files and folders, or of the system's store where there are no words."""
-    sources = [*dict.fromkeys(words)] or [system_store()]
-    parts = [held_in(it) for it in sources]
-    for source, part in zip(sources, parts):
-        if not part.items:
-            what = "its files hold no certificate" if os.path.isdir(source) else "it holds no certificate"
-            raise Fault(UNREAD, f"{source}: {what}, so no anchor; name a file of certificates with --anchors FILE")
-    return Anchors(once(it for part in parts for it in part.items), sources, not words, [it for part in parts for it in part.left_out])

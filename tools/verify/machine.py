@@ -1,8 +1,12 @@
-"""The answer as JSON, an object a line for each target. docs/VERIFY.md names each field."""
+"""The answer as JSON, an object a line for each target, and a fault as one too. docs/verify.schema.json describes both, and
+docs/VERIFY.md names each field."""
 import json
 
 from verify import faults, people, times
-from verify.answers import NOT_JUDGED
+
+# The version of the form: a field that goes away, or means something else, changes it. A new field doesn't.
+VERSION = 1
+FAULT = "fault"
 
 
 def of_certificate(it):
@@ -29,17 +33,29 @@ def status_of(answer):
 
 
 def reasons_of(answer):
-    """What stands in the way of a path; nothing is known of a target that wasn't asked about."""
+    """What prevents a path; nothing is known of a target that wasn't asked about."""
     if not answer.is_asked_why:
         return None
     return [] if answer.path else [of_obstacle(it) for it in answer.obstacles]
 
 
-def text(answer, moment, anchors, notes):
+def fault(status, text):
+    """The line of a run that ends without an answer."""
+    return json.dumps({"version": VERSION, "outcome": FAULT, "status": status, "fault": text}, ensure_ascii=True) + "\n"
+
+
+def demanded(demands):
+    """The host and the purpose that are asked for; nothing if none is."""
+    asked = {"host": demands.host, "purpose": demands.shown} if demands else {}
+    return {name: it for name, it in asked.items() if it is not None}
+
+
+def text(answer, moment, beside):
     """The line of one target."""
     return json.dumps({
-        "headline": people.headline(answer, moment), "status": status_of(answer), "outcome": answer.outcome, "checked": answer.is_checked,
+        "version": VERSION, "headline": people.headline(answer, moment), "status": status_of(answer), "outcome": answer.outcome, "checked": answer.is_checked,
         "at": times.as_shown(moment), "target": of_certificate(answer.target), "path": [of_certificate(it) for it in answer.path],
         "anchor": of_certificate(answer.anchor), "reasons": reasons_of(answer),
-        "unused_lists": [of_list(it) for it in answer.unused], "doubts": people.doubts(answer), "warnings": [*people.warnings(answer, moment, notes)],
-        "anchors": anchors, "not_judged": [*NOT_JUDGED]}, ensure_ascii=True) + "\n"
+        "unused_lists": [of_list(it) for it in answer.unused], "doubts": people.doubts(answer), "warnings": [*people.warnings(answer, moment, beside.notes)],
+        "anchors": beside.anchors, "targets": beside.roles.targets, "helpers": beside.roles.helpers, "not_judged": [*answer.not_judged],
+        **demanded(answer.demands)}, ensure_ascii=True) + "\n"

@@ -2,7 +2,6 @@
 from html import escape
 
 from verify import people, picture, times
-from verify.answers import NOT_JUDGED
 
 # So many targets have a part of the page.
 MOST_TARGETS = 500
@@ -42,7 +41,7 @@ END = "</main></body></html>\n"
 
 
 def listed(title, lines):
-    """A title and a list; nothing where there are no lines."""
+    """A title and a list; nothing if there are no lines."""
     lines = [*lines]
     return f"<h2>{title}</h2><ul>{''.join(f'<li>{it}</li>' for it in lines)}</ul>\n" if lines else ""
 
@@ -53,7 +52,7 @@ def fingerprint(digits):
 
 
 def date(moment):
-    """A moment that stands in one line."""
+    """A moment that is in one line."""
     return f"<span>{times.as_shown(moment)}</span>"
 
 
@@ -95,17 +94,18 @@ def of_answer(answer, number, moment):
     return "".join([*found, "</section>\n"])
 
 
-def of_all(count, anchors, notes):
+def of_all(count, beside, not_judged):
     """The part that all targets share."""
     left_out = [f"{count - MOST_TARGETS} further targets; --json has them all"] if count > MOST_TARGETS else []
-    lists = (("Not on this page", left_out), ("Files", map(escape, notes)), ("Anchors", [escape(anchors)]), ("Not judged", map(escape, NOT_JUDGED)))
+    lists = (("Not on this page", left_out), ("Targets", map(escape, beside.roles.targets)), ("Helpers", map(escape, beside.roles.helpers)),
+             ("Files", map(escape, beside.notes)), ("Anchors", [escape(beside.anchors)]), ("Not judged", map(escape, not_judged)))
     return f'<section aria-label="All">{"".join(listed(*it) for it in lists)}</section>\n'
 
 
-def text(answers, moment, anchors, notes):
-    """The page of all answers, those without a path first where there are too many."""
+def text(answers, moment, beside):
+    """The page of all answers, those without a path first if there are too many."""
     count = len(answers)
     shown = answers if count <= MOST_TARGETS else sorted(answers, key=lambda it: ("bad", "doubt", "good").index(look(it)))[:MOST_TARGETS]
     parts = [of_answer(it, number, moment) for number, it in enumerate(shown)]
     title = escape(people.headline(answers[0], moment)) if count == 1 else f"{count} certificates at {times.as_shown(moment)}"
-    return "".join([HEAD.format(title=title, style=STYLE), *parts, of_all(count, anchors, notes), END])
+    return "".join([HEAD.format(title=title, style=STYLE), *parts, of_all(count, beside, answers[0].not_judged), END])

@@ -2,22 +2,31 @@
 import os
 import sys
 import textwrap
+from typing import NamedTuple
 
 from program import streams
 from verify import times
-from verify.answers import NO, NOT_JUDGED, YES
+from verify.answers import NO, YES
+from verify.roles import Roles
 
 COLUMNS = 96
 NOT_ASKED = "not asked, since many other targets were: ask about it alone, with --target"
-# What one can do where a list that isn't used stands in the way.
+# What one can do if a list that isn't used prevents a path.
 REMEDY = "give a list that can be used with --lists and leave this one out, or accept the path with --ignore-unused-lists"
 # What counts of an anchor.
 OF_ANCHOR = "its name and key alone (RFC 5280, 6.1.1, d)"
-ANCHOR_ITSELF = ("an anchor is trusted as it stands, and needs no path; as a target it is judged like any certificate, "
+ANCHOR_ITSELF = ("an anchor is trusted as it is, and needs no path; as a target it is judged like any certificate, "
                  "its own signature and validity too")
 # So many reasons are printed for a target.
 MOST_OBSTACLES = 100
 GREEN, RED, YELLOW, BOLD, PLAIN = "\x1b[32m", "\x1b[31m", "\x1b[33m", "\x1b[1m", "\x1b[0m"
+
+
+class Beside(NamedTuple):
+    """What all answers share: notes of the files, the line on anchors, and what was taken as what."""
+    notes: list
+    anchors: str
+    roles: Roles
 
 
 def with_colour():
@@ -37,8 +46,8 @@ def causes(unused):
 def doubt(unused):
     """What is said of a list that isn't used, and would or may revoke a certificate."""
     what = f"{unused.of.place} {unused.of.subject}"
-    told = f"list {unused.position} ({unused.file}), which isn't used: {causes(unused)}"
-    return f"{what} is revoked by {told}" if unused.revokes == YES else f"whether {what} is revoked isn't known from {told}"
+    list_named = f"list {unused.position} ({unused.file}), which isn't used: {causes(unused)}"
+    return f"{what} is revoked by {list_named}" if unused.revokes == YES else f"whether {what} is revoked isn't known from {list_named}"
 
 
 def doubts(answer):
@@ -52,7 +61,7 @@ def doubts(answer):
 
 def headline(answer, moment):
     """The first line: the answer, before any text of a certificate, and the subject."""
-    at = times.as_shown(moment)
+    at = times.as_shown(moment) + (f" by {answer.store}" if answer.store else "") + (f" for {streams.shown(answer.asked)}" if answer.asked else "")
     if answer.target is None:
         return f"no target: {streams.shown(answer.instead)}"
     if not answer.path:
@@ -63,12 +72,12 @@ def headline(answer, moment):
 
 
 def check_fault(answer):
-    """A warning where the check refuses the answer, which is never seen."""
+    """A warning if the check refuses the answer, which is never seen."""
     return [] if answer.is_checked else ["the check says no: a fault of this program; please report it"]
 
 
 class Text:
-    """Lines, with colours where they are wanted."""
+    """Lines, with colours if they are wanted."""
 
     def __init__(self, coloured):
         self.coloured, self.lines = coloured, []
@@ -82,7 +91,7 @@ class Text:
         return [f"{line}\n" for line in held]
 
     def section(self, title, lines):
-        """A title and its lines; nothing where there are none."""
+        """A title and its lines; nothing if there are none."""
         lines = [*lines]
         if lines:
             self.add(title, BOLD)
@@ -123,7 +132,7 @@ def of_list(it):
 
 
 def of_anchor(answer, moment):
-    """A warning where the moment is outside the validity of the path's anchor."""
+    """A warning if the moment is outside the validity of the path's anchor."""
     it = answer.anchor
     if it and not it.begin <= moment <= it.end:
         when = f"expired at {times.as_shown(it.end)}" if it.end < moment else f"isn't valid before {times.as_shown(it.begin)}"
@@ -167,24 +176,35 @@ def why_not(answer):
         yield f"and {len(answer.obstacles) - MOST_OBSTACLES} further reasons; --json has them all"
 
 
-def add_answer(made, answer, moment, is_single):
-    """The first line of a target, and the reasons where it has no path; of a single target the path's certificates too."""
+def add_roles(made, roles):
+    """What was taken as a target, and what as a helper."""
+    made.section("targets", roles.targets)
+    made.section("helpers", roles.helpers)
+
+
+def add_answer(made, answer, moment, roles):
+    """The first line of a target, and the reasons if it has no path; of a single target, which has roles, the path's certificates
+    too."""
     made.add(headline(answer, moment), RED if not answer.is_accepted() else YELLOW if doubts(answer) else GREEN)
     if answer.target is not None and not answer.is_accepted():
         made.section("why not", why_not(answer))
-    if is_single:
+    if roles:
+        add_roles(made, roles)
         made.section("path", (line for it in [*answer.path, answer.anchor] if it for line in of_certificate(it)))
 
 
-def text(answers, moment, anchors, notes, coloured, is_single):
-    """The whole text, line by line. Warnings that several targets share stand in it once, behind all targets."""
-    made, shared, of_lists = Text(coloured), {}, {}
+def text(answers, moment, beside, coloured, is_single):
+    """The whole text, line by line. Warnings that several targets share are in it once, after all targets."""
+    made, shared, of_lists, not_judged = Text(coloured), {}, {}, ()
     for it in answers:
-        add_answer(made, it, moment, is_single)
+        not_judged = it.not_judged
+        add_answer(made, it, moment, beside.roles if is_single else None)
         shared.update(dict.fromkeys(of_answer(it, moment)))
         of_lists.update((id(one), one) for one in lists_beside(it))
         yield from made.taken()
-    made.section("warnings", dict.fromkeys([*shared, *map(of_list, of_lists.values()), *notes]))
-    made.section("anchors", [anchors])
-    made.section("not judged", textwrap.wrap(", ".join(NOT_JUDGED), COLUMNS))
+    if not is_single:
+        add_roles(made, beside.roles)
+    made.section("warnings", dict.fromkeys([*shared, *map(of_list, of_lists.values()), *beside.notes]))
+    made.section("anchors", [beside.anchors])
+    made.section("not judged", textwrap.wrap(", ".join(not_judged), COLUMNS))
     yield from made.taken()

@@ -7,7 +7,7 @@ WIDTH, BOX, GAP, EDGE = 360, 74, 26, 8
 BAR_LEFT, BAR_WIDTH, BAR_TOP, BAR_HEIGHT = 20, 320, 45, 8
 # How far the mark of the moment stands out of a bar.
 MARK = 3
-# So many characters of a name stand in a box; the whole name stands in the box's title.
+# So many characters of a name are in a box; the whole name is in the box's title.
 MOST_CHARACTERS = 44
 
 
@@ -16,39 +16,39 @@ def shortened(text):
 
 
 def steps(answer):
-    """The certificates of the path, the anchor last; where there is none, those that the target leads to, one way, as far as it goes."""
+    """The certificates of the path, the anchor last; if there is none, those that the target leads to, one way, as far as it goes."""
     if answer.path:
         return [*answer.path, answer.anchor]
     found = [answer.target] if answer.target else []
     while found:
-        ways = [it for it in answer.edges if it.of == found[-1] and it.to not in found]
+        ways = [edge for edge in answer.edges if edge.of == found[-1] and edge.to not in found]
         if not ways:
             break
-        found.append(min(ways, key=lambda it: (len(it.notes), not it.to.is_anchor)).to)
+        found.append(min(ways, key=lambda way: (len(way.notes), not way.to.is_anchor)).to)
     return found
 
 
 class Scale:
-    """Where moments stand in the bars."""
+    """Where moments are in the bars."""
 
     def __init__(self, certificates, moment):
-        stamps = [it.timestamp() for one in certificates for it in (one.begin, one.end)] + [moment.timestamp()]
+        stamps = [entry.timestamp() for one in certificates for entry in (one.begin, one.end)] + [moment.timestamp()]
         self.first, self.length = min(stamps), max(max(stamps) - min(stamps), 1)
 
     def at(self, moment):
         return BAR_LEFT + BAR_WIDTH * (moment.timestamp() - self.first) / self.length
 
 
-def box(it, top, scale, moment, against):
-    """The box of a certificate. The bar of its validity is red where the moment is outside, whatever else is against it."""
-    look = "bad" if against else "anchor" if it.is_anchor else "good"
-    begin, end = scale.at(it.begin), scale.at(it.end)
-    bar = "bar" if it.begin <= moment <= it.end else "bar late"
-    dates = f"{it.begin:%Y-%m-%d} to {it.end:%Y-%m-%d}{', not judged' if it.is_anchor else ''}"
-    return (f'<g class="{look}"><title>{escape(it.place)}: {escape(it.subject)}; valid {dates}</title>'
+def box(member, top, scale, moment, against):
+    """The box of a certificate. The bar of its validity is red if the moment is outside, whatever else is against it."""
+    look = "bad" if against else "anchor" if member.is_anchor else "good"
+    begin, end = scale.at(member.begin), scale.at(member.end)
+    bar = "bar" if member.begin <= moment <= member.end else "bar late"
+    dates = f"{member.begin:%Y-%m-%d} to {member.end:%Y-%m-%d}{', not judged' if member.is_anchor else ''}"
+    return (f'<g class="{look}"><title>{escape(member.place)}: {escape(member.subject)}; valid {dates}</title>'
             f'<rect class="box" x="{EDGE}" y="{top}" width="{WIDTH - 2 * EDGE}" height="{BOX}" rx="6"/>'
-            f'<text class="place" x="20" y="{top + 18}">{escape(it.place)}{" &#10007;" if against else ""}</text>'
-            f'<text x="20" y="{top + 37}">{escape(shortened(it.subject))}</text>'
+            f'<text class="place" x="20" y="{top + 18}">{escape(member.place)}{" &#10007;" if against else ""}</text>'
+            f'<text x="20" y="{top + 37}">{escape(shortened(member.subject))}</text>'
             f'<rect class="{bar}" x="{begin:.1f}" y="{top + BAR_TOP}" width="{max(end - begin, 1.5):.1f}" height="{BAR_HEIGHT}" rx="3"/>'
             f'<text class="dates" x="20" y="{top + 67}">{dates}</text></g>')
 
@@ -62,22 +62,22 @@ def arrow(top, notes):
 
 
 def svg(answer, moment, number):
-    """The picture of one target; nothing where the target is no certificate."""
+    """The picture of one target; nothing if the target is no certificate."""
     found = steps(answer)
     if not found:
         return ""
     scale, height = Scale(found, moment), len(found) * (BOX + GAP) + 8
     against = answer.against()
-    notes, places = {(it.of.place, it.to.place): it.notes for it in answer.edges}, [it.place for it in found]
+    notes, places = {(edge.of.place, edge.to.place): edge.notes for edge in answer.edges}, [entry.place for entry in found]
     at = scale.at(moment)
     anchored = "end" if at > WIDTH / 2 else "start"
-    # (the boxes hide the line where names stand)
+    # (the boxes hide the line where names are)
     parts = [f'<g class="moment"><path class="all" d="M{at:.1f} 14V{height - GAP}"/></g>']
-    parts += [box(it, 18 + k * (BOX + GAP), scale, moment, it.place in against) for k, it in enumerate(found)]
+    parts += [box(entry, 18 + k * (BOX + GAP), scale, moment, entry.place in against) for k, entry in enumerate(found)]
     parts += [arrow(18 + BOX + k * (BOX + GAP), notes.get(step, [])) for k, step in enumerate(zip(places, places[1:]))]
     marks = "".join(f"M{at:.1f} {18 + k * (BOX + GAP) + BAR_TOP - MARK}v{BAR_HEIGHT + 2 * MARK}" for k in range(len(found)))
     parts.append(f'<g class="moment"><path d="{marks}"/><text x="{at:.1f}" y="11" text-anchor="{anchored}">{times.as_shown(moment)}</text></g>')
-    said = "; then ".join(f"{it.place} {it.subject}, valid {it.begin:%Y-%m-%d} to {it.end:%Y-%m-%d}" for it in found)
+    said = "; then ".join(f"{entry.place} {entry.subject}, valid {entry.begin:%Y-%m-%d} to {entry.end:%Y-%m-%d}" for entry in found)
     return (f'<svg viewBox="0 0 {WIDTH} {height}" role="img" aria-labelledby="t{number} d{number}">'
             f'<title id="t{number}">The way from the target up</title>'
             f'<desc id="d{number}">{escape(said)}; the moment is {times.as_shown(moment)}.</desc>'

@@ -19,7 +19,7 @@ ASK_EARLIER = "ask about another moment with --at, or get a renewed one"
 
 
 class Sentence(NamedTuple):
-    """A reason as a sentence, the section of its rule, what one can do, nothing where that is plain, and what a picture has room for, where
+    """A reason as a sentence, the section of its rule, what one can do, nothing if that is plain, and what a picture has room for, if
     the words of `certpath why` say it in terms of their own."""
     text: str
     rule: str
@@ -75,9 +75,9 @@ def named(word):
 
 @lru_cache(maxsize=4096)
 def sentence(words):
-    """The sentence of a reason's words; the words themselves where they are new here."""
-    for it in FORMS:
-        found = it.words.fullmatch(words)
+    """The sentence of a reason's words; the words themselves if they are new here."""
+    for form in FORMS:
+        found = form.words.fullmatch(words)
         if found:
-            return it.sentence._replace(text=it.sentence.text.format(*map(named, found.groups())))
+            return form.sentence._replace(text=form.sentence.text.format(*map(named, found.groups())))
     return Sentence(streams.shown(words), "")

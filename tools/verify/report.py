@@ -17,7 +17,7 @@ class Link(NamedTuple):
 
 
 class Node:
-    """A certificate that the target leads to by names, and what stands in its way."""
+    """A certificate that the target leads to by names, and what is in its way."""
 
     def __init__(self, position):
         self.position, self.not_usable, self.no_issuer = position, [], []
@@ -77,17 +77,17 @@ class Report:
     def revokers(self):
         """Which lists revoke which certificates: pairs of positions, the certificate's first."""
         found = {(node.position, REVOKED.fullmatch(why)) for node in self.nodes.values() for whys in node.links.values() for why in whys}
-        return {(position, int(it[1])) for position, it in found if it}
+        return {(position, int(entry[1])) for position, entry in found if entry}
 
     def is_too_long(self):
-        """Whether a way of good links and certificates leads to an anchor although there is no path: then a path length stands in its
+        """Whether a way of good links and certificates leads to an anchor although there is no path: then a path length is in its
         way."""
         if self.outcome != "none":
             return False
-        waiting = [it for it in [*self.nodes.values()][:1] if not it.not_usable]
-        seen = {it.position for it in waiting}
+        waiting = [node for node in [*self.nodes.values()][:1] if not node.not_usable]
+        seen = {entry.position for entry in waiting}
         while waiting:
-            for link in (it for it, whys in waiting.pop().links.items() if not whys):
+            for link in (link for link, whys in waiting.pop().links.items() if not whys):
                 node = None if link.is_anchor else self.nodes.get(link.to)
                 if link.is_anchor:
                     return True

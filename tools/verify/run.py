@@ -8,16 +8,17 @@ from pki import reading
 from pki.shapes import LIST, kind_of
 from program import repo, streams
 from program.streams import counted
-from verify import answers, asking, core, faults, files, graph, machine, page, people, signing, spelling, waiting, words
+from verify import (answers, asking, core, demands, faults, files, graph, machine, page, people, roles, signing, spelling, stores, waiting,
+                    words)
 from verify.core import Kind
 from verify.faults import Fault
 from verify.report import Report, answers_of
 
 OTHER = "neither a certificate nor a list in its one spelling"
 CAUSES = f"the causes stand in {os.path.join(repo.TOP, 'docs', 'OTHER.md')}"
-# So many targets without a path are asked about, why; fewer where the items have so many octets that it would take minutes.
+# So many targets without a path are asked about, why; fewer if the items have so many octets that it would take minutes.
 MOST_WHYS, MOST_WHY_OCTETS = 100, 200_000_000
-# Where there are no more questions than these, none is left out for one target's sake.
+# If there are no more questions than these, none is left out for one target's sake.
 FEW_QUESTIONS = 200
 # So many targets of the JSON are written at once.
 TOGETHER = 1_000
@@ -25,27 +26,31 @@ TOGETHER = 1_000
 MOST_LEFT_OUT = 100
 
 
-class Given:
+class Inputs:
     """The caller's files: items each once, targets, anchors, and what was left out."""
 
     def __init__(self, asked):
         self.asked = asked
-        self.first = files.held(asked.files[0])
-        further, lists = ([files.held(it) for it in of] for of in (asked.files[1:], asked.lists))
-        self.named = files.held(asked.target) if self.is_file(asked.target) else None
+        self.first = files.contents_of(asked.files[0])
+        further, lists = ([files.contents_of(it) for it in of] for of in (asked.files[1:], asked.lists))
+        self.named = files.contents_of(asked.target) if self.is_file(asked.target) else None
         self.of_files = [self.first, *further]
         parts = [*self.of_files, *lists, *([self.named] if self.named else [])]
-        found = files.anchors_of(asked.anchors)
+        self.counts = [*map(roles.count, asked.files, self.of_files)]
+        self.further = [*map(roles.count, asked.lists, lists), *([roles.count(asked.target, self.named)] if self.named else [])]
+        found = stores.anchors_of(asked.anchors)
         # (revocation lists in files of anchors are lists like others)
         items = [it for part in parts for it in part.items] + [it for it in found.items if self.is_list(it.octets)]
         self.bundle = core.Side(files.once(items), False, asked.limit)
         self.anchors = core.Side([it for it in found.items if not self.is_list(it.octets)], True, asked.limit)
-        self.sources, self.is_system = found.sources, found.is_system
+        self.sources, self.store = found.sources, found.store
         self.left_out, self.left_out_of_anchors = [it for part in parts for it in part.left_out], found.left_out
         if not self.anchors.of_kind[Kind.CERTIFICATE]:
             within = f" within --limit {asked.limit}" if self.anchors.too_large else ""
             raise Fault(faults.UNREAD, f"{', '.join(self.sources)}: holds no certificate{within}, so no anchor; name a file with --anchors FILE")
         self.targets = [*self.all_targets()]
+        certificates = [it for it in self.targets if not isinstance(it, str)]
+        self.demands = demands.Demands(asked.host, asked.purpose, self.bundle, certificates)
         waiting.LINE.begin("looking for the keys of issuers")
         self.questions = core.certpath.questions(self.bundle.items, self.anchors.items)
 
@@ -59,7 +64,7 @@ class Given:
         return True
 
     def all_targets(self):
-        """The targets: positions of certificates, and texts on what stands there instead."""
+        """The targets: positions of certificates, and texts on what is there instead."""
         word = self.asked.target
         if word is not None and self.named is None:
             return [self.position_of(word)]
@@ -92,7 +97,7 @@ class Given:
         return f"{', '.join(labels)} and " if labels else ""
 
     def target(self, position):
-        """A target by its position; a text where that is none."""
+        """A target by its position; a text if that is none."""
         if position >= len(self.bundle.items):
             return f"item {position}: there is none; the files hold {counted(len(self.bundle.items), 'item')}"
         kind = self.bundle.items[position].kind
@@ -134,10 +139,23 @@ class Given:
                 digest = core.fingerprint(side.items.octets(it))
                 yield f"{name} {it} ({side.file(it)}, SHA-256 {digest}){called(side.items.octets(it))}: {OTHER}, so not used; {CAUSES}"
 
+    def roles(self):
+        """What was taken as a target, and what as a helper."""
+        if self.asked.is_all:
+            return roles.of_all(self.counts, self.further)
+        word, file = self.asked.target, self.asked.files[0]
+        if word is None or self.named:
+            file = word or file
+            return roles.of_one(self.counts, self.further, f"the first certificate of {streams.shown(file)}", file, bool(word))
+        place = next((it for it in self.targets if not isinstance(it, str)), None)
+        file = None if place is None else self.bundle.given[place].file
+        what = f"--target {word}" if place is None else f"item {place} ({self.bundle.file(place)}), by --target"
+        return roles.of_one(self.counts, self.further, what, file, True)
+
     def anchors_line(self):
         """How many anchors there are, and from where."""
         count = len(self.anchors.of_kind[Kind.CERTIFICATE])
-        store = " (the system's store)" if self.is_system else ""
+        store = f" ({self.store})" if self.store else ""
         return f"{counted(count, 'certificate')} of {', '.join(self.sources)}{store}"
 
 
@@ -157,25 +175,25 @@ def is_fingerprint(word):
     return len(digits) == 64 and all(it in "0123456789abcdefABCDEF" for it in digits)
 
 
-def asked_of_openssl(given, room):
+def asked_of_openssl(inputs, workspace):
     """The questions that OpenSSL is asked. Of many only those that one target leads to by names matter, as `certpath why` tells without any
     voucher, and those of lists."""
-    if len(given.questions) <= FEW_QUESTIONS or len(given.targets) > 1:
-        return given.questions
-    room.vouch(core.certpath.Vouchers())
-    reached = Report(room.why(given.targets[0])).nodes
-    return [it for it in given.questions if it.item in reached or given.bundle.items[it.item].kind is Kind.LIST]
+    if len(inputs.questions) <= FEW_QUESTIONS or len(inputs.targets) > 1:
+        return inputs.questions
+    workspace.vouch(core.certpath.Vouchers())
+    reached = Report(workspace.why(inputs.targets[0])).nodes
+    return [it for it in inputs.questions if it.item in reached or inputs.bundle.items[it.item].kind is Kind.LIST]
 
 
-def all_answers(given, judge, room):
+def all_answers(inputs, judge, workspace):
     """The answer for each target, in their order. For several `certpath paths` says which of them have a path, and lists that aren't
     used are the same for all; why there is none is asked of the first ones alone."""
-    certificates = [it for it in given.targets if not isinstance(it, str)]
-    lines = room.paths() if len(certificates) > 1 else None
+    certificates = [it for it in inputs.targets if not isinstance(it, str)]
+    lines = workspace.paths() if len(certificates) > 1 else None
     known, asked = answers_of(lines) if lines else {}, 0
-    unused = Report(room.why(certificates[0])).unused if lines else None
-    most = max(1, min(MOST_WHYS, MOST_WHY_OCTETS // max(len(given.bundle.items.data), 1)))
-    for target in waiting.counted("answering", given.targets, len(given.targets)):
+    unused = Report(workspace.why(certificates[0])).unused if lines else None
+    most = max(1, min(MOST_WHYS, MOST_WHY_OCTETS // max(len(inputs.bundle.items.data), 1)))
+    for target in waiting.counted("answering", inputs.targets, len(inputs.targets)):
         report = known.get(target)
         if isinstance(target, str):
             yield answers.no_target(target)
@@ -190,17 +208,19 @@ def all_answers(given, judge, room):
 def answered(asked):
     """Answers the words, and gives the status."""
     core.need()
-    given = Given(asked)
+    demands.need(asked.host, asked.purpose)
+    inputs = Inputs(asked)
     with tempfile.TemporaryDirectory(prefix="verify-") as folder:
-        if given.targets == [it for it in given.targets if isinstance(it, str)]:
-            return written(asked, given, map(answers.no_target, given.targets))
-        room = asking.Room(folder, given.bundle, given.anchors, asked)
-        found = signing.signatures(given.bundle, given.anchors, asked_of_openssl(given, room), asked.takes_weak)
-        room.vouch(found.vouchers)
-        return written(asked, given, all_answers(given, answers.Judge(given, room, found), room))
+        if inputs.targets == [it for it in inputs.targets if isinstance(it, str)]:
+            return written(asked, inputs, map(answers.no_target, inputs.targets))
+        workspace = asking.Workspace(folder, inputs.bundle, inputs.anchors, asked)
+        found = signing.signatures(inputs.bundle, inputs.anchors, asked_of_openssl(inputs, workspace), asked.takes_weak)
+        found = found._replace(vouchers=inputs.demands.restricted(found.vouchers))
+        workspace.vouch(found.vouchers)
+        return written(asked, inputs, all_answers(inputs, answers.Judge(inputs, workspace, found), workspace))
 
 
-class Seen:
+class CountedAnswers:
     """Answers on their way, and the worst status among those that went by."""
 
     def __init__(self, found):
@@ -212,17 +232,18 @@ class Seen:
             yield it
 
 
-def written(asked, given, found):
+def written(asked, inputs, found):
     """Writes the answers in the form that is asked for; gives the status."""
-    notes, source, seen = [*map(streams.shown, given.notes())], streams.shown(given.anchors_line()), Seen(found)
+    beside = people.Beside([*map(streams.shown, inputs.notes())], streams.shown(inputs.anchors_line()), inputs.roles())
+    counted = CountedAnswers(found)
     if asked.page is not None:
-        seen.found = [*seen.found]
-        keep(asked.page, page.text(seen.found, asked.moment, source, notes))
+        counted.found = [*counted.found]
+        keep(asked.page, page.text(counted.found, asked.moment, beside))
     forms = {
-        None: lambda: people.text(seen, asked.moment, source, notes, people.with_colour(), len(given.targets) == 1),
-        "json": lambda: (machine.text(it, asked.moment, source, notes) for it in seen),
-        "dot": lambda: (graph.text(it, asked.moment) for it in seen),
-        "quiet": lambda: ("" for _ in seen),
+        None: lambda: people.text(counted, asked.moment, beside, people.with_colour(), len(inputs.targets) == 1),
+        "json": lambda: (machine.text(it, asked.moment, beside) for it in counted),
+        "dot": lambda: (graph.text(it, asked.moment) for it in counted),
+        "quiet": lambda: ("" for _ in counted),
     }
     parts = iter(forms["quiet" if asked.page == "-" else asked.form]())
     while together := [*islice(parts, TOGETHER)]:
@@ -230,7 +251,7 @@ def written(asked, given, found):
         waiting.LINE.clear()
         if text and not streams.wrote(text.encode(errors="backslashreplace")):
             return faults.UNWRITTEN
-    return seen.status
+    return counted.status
 
 
 def keep(file, text):
@@ -249,19 +270,21 @@ def keep(file, text):
 
 
 def end(number, _):
-    """Ends the run where a signal wants that; what it keeps in a folder goes away."""
+    """Ends the run if a signal wants that; what it keeps in a folder goes away."""
     raise SystemExit(faults.SIGNALLED + number)
 
 
-def main(given):
+def main(arguments):
     for number in (signal.SIGTERM, signal.SIGINT):
         if signal.getsignal(number) is not signal.SIG_IGN:
             signal.signal(number, end)
     try:
-        return core.run_of(lambda: answered(words.read(given)))
+        return core.run_of(lambda: answered(words.read(arguments)))
     except Fault as fault:
         waiting.LINE.clear()
-        streams.tell(f"verify: {fault}")
+        streams.report(f"verify: {fault}")
+        if words.asks_for_json(arguments) and fault.status != faults.UNWRITTEN:
+            streams.wrote(machine.fault(fault.status, streams.shown(str(fault))).encode())
         return fault.status
     except SystemExit:
         waiting.LINE.clear()

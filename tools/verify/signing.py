@@ -5,7 +5,7 @@ from verify import waiting
 from verify.core import certpath
 from verify.faults import NO_PROGRAM, Fault
 
-# Where there are no more questions than these, each is answered; else at most so many for an item.
+# If there are no more questions than these, each is answered; else at most so many for an item.
 FEW_QUESTIONS, MOST_TRIES = 20_000, certpath.openssl.MOST_TRIES
 NOT_TRIED = f"not tried: more than {MOST_TRIES} keys have its issuer's name"
 
@@ -19,11 +19,11 @@ class Signatures(NamedTuple):
     openssl: object
 
     def weak_key(self, certificate):
-        """In which words the key of a certificate is weak, none where it isn't."""
+        """In which words the key of a certificate is weak, none if it isn't."""
         return self.openssl.key(certificate.public_key_bytes).weak
 
     def weak_by_any(self, item):
-        """In which words an item's signature is weak by the first key that verifies it, none where it isn't."""
+        """In which words an item's signature is weak by the first key that verifies it, none if it isn't."""
         return next(iter(self.weak.get(item, {}).values()), None)
 
 

@@ -31,7 +31,7 @@ TYPES = {"PRINTABLESTRING": "PrintableString", "UTF8STRING": "UTF8String", "T61S
 
 
 class Difference(NamedTuple):
-    """The first attribute in which two names differ, and what either has there: the types where these differ, else the values."""
+    """The first attribute in which two names differ, and what either has there: the types if these differ, else the values."""
     attribute: str
     one: str
     other: str
@@ -65,17 +65,17 @@ class Reader:
             self.library.BIO_free(made)
 
     def attributes(self, name):
-        """The attributes of a name, in their order; none where OpenSSL can't read it."""
+        """The attributes of a name, in their order; none if OpenSSL can't read it."""
         read, _ = self.verifier.read("d2i_X509_NAME", name.public_bytes())
         if not read:
             return []
         try:
-            return [attribute_of(it) for it in self.printed(read, LINES).split("\n")]
+            return [attribute_of(word) for word in self.printed(read, LINES).split("\n")]
         finally:
             self.library.X509_NAME_free(read)
 
     def difference(self, one, other):
-        """The first difference of two names that read alike; none where OpenSSL sees none."""
+        """The first difference of two names that read alike; none if OpenSSL sees none."""
         for mine, theirs in zip(self.attributes(one), self.attributes(other)):
             if mine.type != theirs.type:
                 return Difference(mine.attribute, mine.type, theirs.type)
@@ -84,7 +84,7 @@ class Reader:
         return None
 
     def subject(self, octets):
-        """The subject of a certificate's octets; none where OpenSSL can't read them."""
+        """The subject of a certificate's octets; none if OpenSSL can't read them."""
         with self.verifier.reading("certificate", octets) as read:
             return self.printed(self.library.X509_get_subject_name(read.handle), ONE_LINE) if read else None
 
@@ -103,7 +103,7 @@ def shown(value):
 
 @lru_cache(maxsize=1)
 def reader():
-    """What reads names, made once; none where OpenSSL isn't there."""
+    """What reads names, made once; none if OpenSSL isn't there."""
     try:
         return Reader()
     except certpath.openssl.Missing:

@@ -9,7 +9,7 @@ CLEAR = "\r\x1b[K"
 
 
 class Line:
-    """The line of a run on a terminal: it is written anew, and goes away at the end. Nothing is written where there is no terminal."""
+    """The line of a run on a terminal: it is written anew, and goes away at the end. Nothing is written if there is no terminal."""
 
     def __init__(self):
         self.begun = time.monotonic()

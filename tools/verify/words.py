@@ -5,7 +5,9 @@ import os
 from typing import NamedTuple
 
 from pki import reading
+from program import installed
 from verify import times
+from verify.core import certpath
 from verify.faults import WORDS, Fault
 
 ABOUT = """\
@@ -17,9 +19,10 @@ that of `certpath why`, and signatures are verified by OpenSSL. docs/VERIFY.md h
 """
 ENDS = """\
 Exit status: 0 every target has a path; 1 one has none, or it is refused; 2 wrong words; 3 the target is no certificate;
-4 a file can't be read, or holds no anchor; 6 out of memory; 7 standard output fails; 70 no program
-could be run.
+4 a file can't be read, or holds no anchor; 6 out of memory; 7 standard output fails; 69 dist/ is
+older than the sources; 70 no program could be run.
 """
+NAME = installed.spelled("./verify")
 LARGEST = 4294967295
 # Words of other verifiers, and what goes for them.
 OF_OTHERS = (
@@ -28,8 +31,9 @@ OF_OTHERS = (
     (("crl", "crls", "crlfile", "load-crl"), "; revocation lists are further FILEs, or --lists"),
     (("crl-check", "crl-check-all"), "; --demand-lists wants a list of each issuer"),
     (("attime", "time", "date"), "; the moment is --at"),
-    (("host", "hostname", "verify-host", "verify-hostname", "servername", "email", "ip", "verify-ip", "purpose", "sslserver"),
-     ": neither names of hosts nor purposes are judged"),
+    (("hostname", "verify-host", "verify-hostname", "servername", "dnsname", "ip", "verify-ip"), "; the host is --host"),
+    (("sslserver", "usage", "eku"), "; the purpose is --purpose"),
+    (("email", "verify-email"), ": addresses of e-mail aren't judged"),
 )
 # So like must two options be that one is named for the other, and so many letters begin one.
 LIKENESS, LEAST = 0.75, 3
@@ -47,6 +51,8 @@ class Words(NamedTuple):
     takes_weak: bool
     ignores_unused: bool
     limit: str
+    host: str
+    purpose: str
     form: str
     page: str
 
@@ -55,7 +61,7 @@ class Parser(argparse.ArgumentParser):
     """Says what is wrong in one line."""
 
     def error(self, message):
-        raise Fault(WORDS, f"{reading.shortened(message)}; see ./verify --help")
+        raise Fault(WORDS, f"{reading.shortened(message)}; see {NAME} --help")
 
     def refuse_unknown(self, words):
         """Ends the run where a word looks like an option and is none; says what goes for it."""
@@ -88,14 +94,14 @@ def number(word):
 
 
 def parser():
-    made = Parser("./verify", usage="./verify [OPTIONS] FILE..", description=ABOUT, epilog=ENDS, allow_abbrev=False, formatter_class=argparse.RawDescriptionHelpFormatter)
+    made = Parser(NAME, usage=f"{NAME} [OPTIONS] FILE..", description=ABOUT, epilog=installed.spelled(ENDS), allow_abbrev=False, formatter_class=argparse.RawDescriptionHelpFormatter)
     made.add_argument("files", metavar="FILE", nargs="*", help="certificates and lists, the target first; - is standard input")
     which = made.add_mutually_exclusive_group()
     which.add_argument("--target", metavar="FILE|SHA256|N",
                        help="another target: a file's first certificate, a fingerprint, or a position from 0")
     which.add_argument("--all", dest="is_all", action="store_true", help="every certificate of every FILE is a target")
-    made.add_argument("--anchors", metavar="FILE|FOLDER", action="append", default=[],
-                      help="trust anchors; the system's store where it isn't given")
+    made.add_argument("--anchors", metavar="FILE|FOLDER|system", action="append", default=[],
+                      help="trust anchors; system, the system's store, if it isn't given")
     made.add_argument("--lists", metavar="FILE", action="append", default=[],
                       help="revocation lists, or more certificates, which are no targets of --all")
     made.add_argument("--at", dest="moment", metavar="TIME", default="now",
@@ -104,7 +110,10 @@ def parser():
                       help="each certificate needs a revocation list of its issuer")
     made.add_argument("--weak", dest="takes_weak", action="store_true", help="accept signatures with MD5, SHA-1 or a signing key worth fewer than 112 bits of security, and warn of them")
     made.add_argument("--ignore-unused-lists", dest="ignores_unused", action="store_true",
-                      help="accept a path also where a list that isn't used may revoke a certificate of it")
+                      help="accept a path also if a list that isn't used may revoke a certificate of it")
+    made.add_argument("--host", metavar="NAME", help="the target has to serve this host: a name, an IPv4 or an IPv6 address")
+    made.add_argument("--purpose", metavar="NAME|OID",
+                      help=f"each certificate has to be for this purpose: {', '.join(certpath.purposes.NAMES)}, or a number")
     made.add_argument("--limit", metavar="N", type=number, help="the most content octets of an item [default: 16777216]")
     form = made.add_mutually_exclusive_group()
     form.add_argument("--quiet", dest="form", action="store_const", const="quiet", help="print nothing; the status is the answer")
@@ -128,6 +137,11 @@ def split(words):
     return words[:at], words[at + 1:]
 
 
+def asks_for_json(words):
+    """Whether the words ask for JSON, also if they are refused."""
+    return "--json" in split(words)[0]
+
+
 def read(words):
     """The words of the command line; ends the run with the help where they ask for it."""
     made = parser()
@@ -140,10 +154,10 @@ def read(words):
         made.error("a FILE is missing")
     if [*given.files, *given.lists, *given.anchors].count("-") > 1:
         raise Fault(WORDS, "standard input can be one file only")
+    if given.host is not None and given.is_all:
+        raise Fault(WORDS, "--host is asked of one target, and not with --all")
     if given.page == "-" and given.form:
         raise Fault(WORDS, f"--html - and --{given.form} can't both have standard output")
     if any(is_same(given.page, it) for it in [*given.files, *given.lists, *given.anchors, given.target]):
         raise Fault(WORDS, f"--html {given.page}: this file is read; name another one for the page")
     return Words(**{**vars(given), "moment": times.moment_of(given.moment)})
-
-

@@ -188,6 +188,30 @@ fn short_header(i: &[u8]) -> Option<(&[u8], Header)>
     Some((rest, header))
 }
 
+// The answer with its header put together anew, field by field. So a caller that reads short headers in line keeps the
+// fields in registers, and copies no header through memory.
+#[inline(always)]
+fn by_fields(read: ParseResult<'_, Header>) -> ParseResult<'_, Header>
+    ensures { result ≡ read.entry }
+{
+    match read {
+        Ok((rest, header)) => {
+            let length = match header.length() {
+                Length::Definite(n) => Length::Definite(n),
+                Length::Indefinite => Length::Indefinite,
+            };
+            let whole = Header::new(
+                header.class(),
+                header.is_constructed(),
+                header.tag(),
+                length,
+            );
+            Ok((rest, whole))
+        }
+        Err(refusal) => Err(refusal),
+    }
+}
+
 /// A BER header.
 #[inline]
 pub(crate) fn ber_header(i: &[u8]) -> ParseResult<'_, Header>
@@ -195,7 +219,7 @@ pub(crate) fn ber_header(i: &[u8]) -> ParseResult<'_, Header>
 {
     match short_header(i) {
         Some(read) => Ok(read),
-        None => long_ber_header(i),
+        None => by_fields(long_ber_header(i)),
     }
 }
 
@@ -221,7 +245,7 @@ pub(crate) fn definite_header(i: &[u8]) -> ParseResult<'_, Header>
 {
     match short_header(i) {
         Some(read) => Ok(read),
-        None => long_definite_header(i),
+        None => by_fields(long_definite_header(i)),
     }
 }
 
@@ -270,7 +294,7 @@ pub(crate) fn strict_header(i: &[u8]) -> ParseResult<'_, Header>
 {
     match short_header(i) {
         Some(read) => Ok(read),
-        None => long_strict_header(i),
+        None => by_fields(long_strict_header(i)),
     }
 }
 

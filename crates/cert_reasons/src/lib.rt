@@ -9,6 +9,7 @@
 mod certificates;
 mod issuers;
 pub mod laws;
+pub mod laws_by;
 mod links;
 mod lists;
 

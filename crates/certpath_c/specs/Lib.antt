@@ -12,3 +12,4 @@ pub mod Asked
 pub mod Finding
 pub mod Checking
 pub mod Reports
+pub mod Serving

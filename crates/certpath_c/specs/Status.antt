@@ -24,3 +24,9 @@ bad_answer = pos 6
 
 abbrev pub bad_line : ℤ
 bad_line = pos 7
+
+abbrev pub not_certificate : ℤ
+not_certificate = pos 8
+
+abbrev pub bad_host : ℤ
+bad_host = pos 9

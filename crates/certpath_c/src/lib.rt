@@ -13,6 +13,7 @@ mod finding;
 mod framing;
 mod naming;
 mod reports;
+mod serving;
 mod status;
 mod tables;
 mod times;

@@ -23,3 +23,9 @@ pub const BAD_ANSWER: i32 = 6;
 
 /// A line of a voucher file is neither empty nor two digests.
 pub const BAD_LINE: i32 = 7;
+
+/// The item is no certificate.
+pub const NOT_CERTIFICATE: i32 = 8;
+
+/// A text is no host.
+pub const BAD_HOST: i32 = 9;

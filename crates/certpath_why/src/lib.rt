@@ -11,6 +11,7 @@ mod certificates;
 mod directory;
 mod found;
 pub mod laws;
+pub mod laws_by;
 mod lines;
 mod lists;
 mod marks;

@@ -27,14 +27,14 @@ one_left octets rest e others below here whole cut = record {
 }
 
 -- at most two elements
-pub few_none : (a : Ahead) → a.front ≡ None → ahead_of a ≡ []
+pub few_none : (a : Ahead) → a.front ≡ None → a.at ≡ 0 → a.others.items ≡ [] → ahead_of a ≡ []
 unfolding ahead_of
-few_none a none = rw none refl
+few_none a none start empty = rw (none, start, empty) refl
 
-pub few_one : (a : Ahead) (e : Element) → a.front ≡ Some e → a.second ≡ None → ahead_of a ≡ e ∷ []
+pub few_one : (a : Ahead) (e : Element) → a.front ≡ Some e → a.second ≡ None → a.at ≡ 0 → a.others.items ≡ [] → ahead_of a ≡ e ∷ []
 unfolding ahead_of
-few_one a e first none = rw (first, none) refl
+few_one a e first none start empty = rw (first, none, start, empty) refl
 
-pub few_two : (a : Ahead) (e f : Element) → a.front ≡ Some e → a.second ≡ Some f → a.third ≡ None → ahead_of a ≡ e ∷ f ∷ []
+pub few_two : (a : Ahead) (e f : Element) → a.front ≡ Some e → a.second ≡ Some f → a.third ≡ None → a.at ≡ 0 → a.others.items ≡ [] → ahead_of a ≡ e ∷ f ∷ []
 unfolding ahead_of
-few_two a e f first second none = rw (first, second, none) refl
+few_two a e f first second none start empty = rw (first, second, none, start, empty) refl

@@ -11,11 +11,11 @@ pub record Left : Type 0 where
   pub octets : List ℕ
   pub elements : ℕ
 
--- three elements by themselves, where they are there, and others behind them
+-- up to three elements by themselves, then others
 abbrev pub in_order : Option Element → Option Element → Option Element → List Element → List Element
-in_order None second third others = []
-in_order (Some front) None third others = front ∷ []
-in_order (Some front) (Some second) None others = front ∷ second ∷ []
+in_order None second third others = others
+in_order (Some front) None third others = front ∷ others
+in_order (Some front) (Some second) None others = front ∷ second ∷ others
 in_order (Some front) (Some second) (Some third) others = front ∷ second ∷ third ∷ others
 
 unfoldable pub ahead_of : Ahead → List Element

@@ -45,7 +45,7 @@ fn few<'a>(
 
 impl<'a> Ahead<'a> {
     /// The elements of a content: a header is tried for each of them, and one at octets that none begins. Memory is taken for
-    /// those behind the third.
+    /// those after the third.
     #[inline(always)]
     #[tactic(auto, unfolding(crate::specs::Parts::ahead_of))]
     pub(crate) fn cut(
@@ -81,28 +81,33 @@ impl<'a> Ahead<'a> {
         })
     }
 
-    /// The first of the elements.
+    /// The first of the elements: one of those held here, or the vector's next, which stays in its place.
     #[inline(always)]
     #[tactic(auto, unfolding(crate::specs::Parts::ahead_of))]
     pub(crate) fn front(&self) -> Option<Element<'a>>
         ensures some { IfSome result (λ e. (rest : List Cut) × (ahead_of self.now ≡ e ∷ rest)) }
         ensures none { IfNone result (ahead_of self.now ≡ []) }
-        ensures is { result ≡ self.now.front }
     {
-        self.front
+        if let Some(element) = self.front {
+            return Some(element);
+        }
+        if self.at < self.others.len() {
+            return Some(self.others[self.at]);
+        }
+        None
     }
 
-    /// On behind the first of the elements.
+    /// Passes over the first of the elements.
     #[inline(always)]
     #[tactic(auto, unfolding(crate::specs::Parts::ahead_of))]
     pub(crate) fn pass(&mut self)
-        ensures { (e : Cut) → self.old.front ≡ Some e → ahead_of self.old ≡ e ∷ ahead_of self.new }
+        ensures { (e : Cut) (rest : List Cut) → ahead_of self.old ≡ e ∷ rest → ahead_of self.new ≡ rest }
     {
-        self.front = self.second;
-        self.second = self.third;
-        self.third = None;
-        if self.at < self.others.len() {
-            self.third = Some(self.others[self.at]);
+        if self.front.is_some() {
+            self.front = self.second;
+            self.second = self.third;
+            self.third = None;
+        } else if self.at < self.others.len() {
             self.at += 1;
         }
     }
@@ -112,11 +117,12 @@ impl<'a> Ahead<'a> {
     pub(crate) fn len(&self) -> usize
         ensures { result ≡ length (ahead_of self.now) }
     {
+        let others = self.others.len().saturating_sub(self.at);
         match (self.front, self.second, self.third) {
-            (None, _, _) => 0,
-            (Some(_), None, _) => 1,
-            (Some(_), Some(_), None) => 2,
-            (Some(_), Some(_), Some(_)) => 3 + self.others.len().saturating_sub(self.at),
+            (None, _, _) => others,
+            (Some(_), None, _) => 1 + others,
+            (Some(_), Some(_), None) => 2 + others,
+            (Some(_), Some(_), Some(_)) => 3 + others,
         }
     }
 }

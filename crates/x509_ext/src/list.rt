@@ -19,8 +19,8 @@ use x509_core::{Parts, X509Error, cut_all, front_header, parts_of, push_in_room,
 /// For how many extensions memory is taken at once, at most.
 const MOST_ROOM: usize = 16;
 
-/// As many extensions as begin there, their values parsed too where `deep` says so. Where an element is none, the room
-/// that was taken for the elements behind it is given back.
+/// As many extensions as begin there, their values parsed too if `deep` says so. If an element is no extension, the room
+/// that was taken for the elements after it is given back.
 pub fn each_extension<'a>(
     alloc: Global,
     parts: &mut Parts<'a>,

@@ -13,8 +13,9 @@ table. What is said of items is said by the proved library and program; all else
 Needs Dask (`dask` and `distributed`), and pyarrow for a table in Parquet.
 """
 from .databases import write as write_sqlite
+from .parquet import write as write_parquet
 from .running import Done, run
 from .work import Settings
 from .writing import CannotWrite
 
-__all__ = ["CannotWrite", "Done", "Settings", "run", "write_sqlite"]
+__all__ = ["CannotWrite", "Done", "Settings", "run", "write_parquet", "write_sqlite"]

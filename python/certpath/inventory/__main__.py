@@ -9,7 +9,7 @@ from contextlib import contextmanager
 from typing import Callable, List, NamedTuple, Set
 
 from ..library import LibraryMissing, loaded
-from . import databases
+from . import databases, parquet, tables
 from . import words as taken
 from .anchors import BadAnchors
 from .jobs import Different, planned
@@ -20,7 +20,7 @@ from .running import Done, Lost, passes
 from .signatures import BadLine
 from .trees import BadTreeHead
 from .work import Settings
-from .writing import CannotWrite
+from .writing import CannotWrite, tested
 
 (BAD_WORDS, BAD_ANCHORS, CANNOT_READ, BAD_VOUCHERS, NO_MEMORY, CANNOT_WRITE, UNREACHABLE,
  BAD_TREE_HEAD, NOT_THERE, UNEXPECTED) = 2, 3, 4, 5, 6, 7, 9, 10, 70, 71
@@ -106,7 +106,8 @@ def refusals() -> List[Refusal]:
             Refusal(BadLine, BAD_VOUCHERS), Refusal(CannotWrite, CANNOT_WRITE),
             Refusal(clusters.Unreachable, UNREACHABLE),
             Refusal(Lost, UNREACHABLE), Refusal(Missing, NOT_THERE),
-            Refusal(LibraryMissing, NOT_THERE), Refusal(MemoryError, NO_MEMORY),
+            Refusal(LibraryMissing, NOT_THERE), Refusal(tables.NoParquet, NOT_THERE),
+            Refusal(MemoryError, NO_MEMORY),
             Refusal(OSError, CANNOT_READ)]
 
 
@@ -114,8 +115,11 @@ def made(words: argparse.Namespace) -> int:
     """Makes the table, and gives the status."""
     loaded()
     settings = Settings(**{it: getattr(words, it) for it in Settings._fields})
-    if words.sqlite and not words.resume:
-        databases.tested(words.sqlite)
+    if words.parquet:
+        tables.parquet_module()
+    for path in filter(None, (words.sqlite, words.parquet)):
+        if not words.resume:
+            tested(path)
     with planned(words.files, words.out, settings, words.resume, words.lists) as plan:
         if plan.finished is None:
             with client_of(words) as client, Progress(workers_of(client)) as progress:
@@ -125,6 +129,8 @@ def made(words: argparse.Namespace) -> int:
             done = passes(plan, None)
     if words.sqlite:
         databases.write(words.out, words.sqlite)
+    if words.parquet:
+        parquet.write(words.out, words.parquet)
     say(summary(done))
     return status_of(done)
 

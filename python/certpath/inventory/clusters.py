@@ -23,6 +23,10 @@ TLS = "tls://"
 # they answer each request with 404.
 NO_HTTP = {"distributed.scheduler.http.routes": [], "distributed.worker.http.routes": []}
 ANY_PORT = f"{LOOPBACK}:0"
+# What Dask's processes watch of themselves, that nobody sees here: it took a twentieth of a core.
+UNWATCHED = {"distributed.worker.profile.enabled": False,
+             "distributed.admin.tick.interval": "500ms",
+             "distributed.admin.system-monitor.interval": "5s"}
 # How long a scheduler is waited for.
 SECONDS = 15
 # How long its first worker is.
@@ -71,7 +75,7 @@ def own_processes(workers: int) -> Iterator[Client]:
     """A client of new processes of this machine, one for each core where `workers` is 0."""
     # (what a worker puts on its disk is read back as pickles, so nobody else may write there)
     with tempfile.TemporaryDirectory(prefix="inventory-") as scratch:
-        with dask.config.set({**NO_HTTP, "temporary-directory": scratch}), \
+        with dask.config.set({**NO_HTTP, **UNWATCHED, "temporary-directory": scratch}), \
                 cluster_of(workers or os.cpu_count(), Security.temporary()) as cluster, \
                 Client(cluster) as client:
             yield client

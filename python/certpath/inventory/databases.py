@@ -2,50 +2,26 @@
 import os
 import sqlite3
 from contextlib import closing
-from typing import Iterator, List, Optional, Tuple
+from typing import Iterator, List
 
 from . import tables
 from .jobs import RECORD
 from .work import ENTRIES, ISSUERS
-from .writing import CannotWrite, told, whole
+from .writing import CannotWrite, whole
 
-NUMBERS = ("offset", "log_index", "length")
 INDEXED = ("sha256", "subject", "issuer", "serial", "key_sha256", "not_after", "outcome",
            "log_index")
 
 
-def tested(path: str):
-    """CannotWrite where the file of a database is there, or its folder isn't."""
-    if os.path.exists(path):
-        raise CannotWrite(f"cannot write {path}: it is there already")
-    with told(path):
-        os.listdir(os.path.dirname(os.path.abspath(path)))
-
-
-def parts(folder: str) -> Iterator[Tuple[str, str]]:
-    """The parts of a table in their order, each with its format."""
-    for name in sorted(os.listdir(folder)):
-        yield os.path.join(folder, name), name.rpartition(".")[2]
-
-
-def value(heading: str, held) -> Optional[object]:
-    """What stands in a column; nothing where the row doesn't have it."""
-    if held in ("", None):
-        return None
-    if heading in NUMBERS:
-        return int(held)
-    return held.encode(errors="surrogateescape").decode(errors="backslashreplace")
-
-
 def rows(folder: str) -> Iterator[List]:
-    for path, form in parts(folder):
+    for path, form in tables.parts(folder):
         for row in tables.read(path, form):
-            yield [*map(value, tables.HEADINGS, row)]
+            yield [*map(tables.value, tables.HEADINGS, row)]
 
 
 def fill(opened: sqlite3.Connection, out: str):
     """Writes both tables, their indexes, and the record of the run."""
-    kinds = ((it, "INTEGER" if it in NUMBERS else "TEXT") for it in tables.HEADINGS)
+    kinds = ((it, "INTEGER" if it in tables.NUMBERS else "TEXT") for it in tables.HEADINGS)
     columns = ", ".join(f'"{heading}" {kind}' for heading, kind in kinds)
     places = ", ".join("?" * len(tables.HEADINGS))
     for name in (ENTRIES, ISSUERS):

@@ -8,7 +8,7 @@ from typing import Iterable, Iterator, List, NamedTuple
 from urllib.parse import quote
 
 from .rows import Read
-from .writing import CannotWrite, told
+from .writing import CannotWrite, reporting
 
 SCHEMA = """
 CREATE TABLE names (name TEXT PRIMARY KEY) WITHOUT ROWID;
@@ -48,7 +48,7 @@ def writing(path: str) -> Iterator[sqlite3.Connection]:
 
 def create(path: str):
     """A new index, in the place of one that is there."""
-    with told(path):
+    with reporting(path):
         if os.path.exists(path):
             os.remove(path)
     with writing(path) as opened:

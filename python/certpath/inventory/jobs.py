@@ -12,7 +12,7 @@ from typing import Iterator, List, NamedTuple, Optional
 from . import anchors, inputs, program, tables, trees
 from .files import Cut, Span
 from .work import ENTRIES, ISSUERS, WORK, Job, Settings
-from .writing import CannotWrite, told, whole
+from .writing import CannotWrite, reporting, whole
 
 JOB, STATE, RECORD, LOCK = "job.json", "state.json", "run.json", "lock"
 MOMENT = "%Y-%m-%dT%H:%M:%S"
@@ -47,7 +47,9 @@ class Plan(NamedTuple):
 
 
 def completed(settings: Settings) -> Settings:
-    """Settings with all that is left open chosen."""
+    """Settings with all that is left open chosen; NoParquet where that can't be written."""
+    if settings.form == tables.PARQUET:
+        tables.parquet_module()
     at = settings.at or datetime.now(timezone.utc)
     at = at.astimezone(timezone.utc).replace(tzinfo=None) if at.tzinfo else at
     vouchers = settings.vouchers and os.path.abspath(settings.vouchers)
@@ -93,7 +95,7 @@ def store_state(job: Job, state: State):
 
 def new_folders(job: Job, out: str):
     """The folder of a table, which is new or empty, with all that it needs."""
-    with told(out):
+    with reporting(out):
         os.makedirs(job.out, exist_ok=True)
         if os.listdir(job.out):
             more = "; a run has ended early there: --resume goes on with it" if os.path.exists(
@@ -131,7 +133,7 @@ def gone_on(job: Job, words: dict, at: Optional[datetime]) -> tuple:
         differing.append("at")
     if differing:
         raise Different(f"{job.out} holds a run that was asked for other {', '.join(differing)}")
-    with told(record):
+    with reporting(record):
         if os.path.exists(record):
             os.remove(record)
     return job._replace(settings=job.settings._replace(at=moment)), before["begun"]
@@ -140,7 +142,7 @@ def gone_on(job: Job, words: dict, at: Optional[datetime]) -> tuple:
 @contextmanager
 def locked(job: Job) -> Iterator[None]:
     """No other run works in the folder meanwhile; CannotWrite where one does."""
-    with told(job.work):
+    with reporting(job.work):
         file = open(os.path.join(job.work, LOCK), "w", encoding="ascii")
     with file:
         try:
@@ -157,7 +159,7 @@ def planned(names: List[str], out: str, settings: Settings, resume: bool = False
     folder is there, as long as the context lasts, for nobody else.
 
     Where the run ends before anything was read, nothing is left in the folder. OSError, BadAnchors,
-    Missing of the program, CannotWrite, Different.
+    Missing of the program, NoParquet, CannotWrite, Different.
     """
     files = inputs.listed(names, lists)
     held = anchors.read(settings.anchors, settings.limit)

@@ -1,7 +1,7 @@
 """Tables: files of rows, as CSV or as Parquet."""
 import csv
 import os
-from typing import Iterable, Iterator, List, Tuple
+from typing import Iterable, Iterator, List, Sequence, Tuple, Union
 
 from .rows import Row
 from .writing import whole
@@ -9,16 +9,39 @@ from .writing import whole
 CSV, PARQUET = "csv", "parquet"
 # The name of a column that is no word of Python.
 HEADINGS = ["class" if it == "kind" else it for it in Row._fields]
-NUMBERS = ("offset", "length")
+# Columns that are numbers, but for CSV; all others are text.
+NUMBERS = ("offset", "log_index", "length")
+
+
+class NoParquet(ImportError):
+    """Parquet is asked for, and pyarrow isn't there."""
+
+
+def parquet_module():
+    """The module that writes Parquet; NoParquet."""
+    try:
+        import pyarrow.parquet
+    except ImportError as error:
+        raise NoParquet(f"no Parquet: {error}; `pip install pyarrow`") from error
+    return pyarrow.parquet
 
 
 def default_format() -> str:
     """Parquet where pyarrow is installed, CSV otherwise."""
     try:
-        import pyarrow.parquet  # noqa: F401
-    except ImportError:
+        parquet_module()
+    except NoParquet:
         return CSV
     return PARQUET
+
+
+def value(heading: str, held: Union[str, int, None]) -> Union[str, int, None]:
+    """What is in a column of a database or of Parquet; None where the row doesn't have it."""
+    if held in ("", None):
+        return None
+    if heading in NUMBERS:
+        return int(held)
+    return held.encode(errors="surrogateescape").decode(errors="backslashreplace")
 
 
 def write_csv(path: str, rows: Iterable[Row]):
@@ -28,13 +51,17 @@ def write_csv(path: str, rows: Iterable[Row]):
         writer.writerows(rows)
 
 
-def write_parquet(path: str, rows: List[Row]):
+def arrow_table(rows: Sequence[Sequence]):
+    """Rows as a table of pyarrow."""
     import pyarrow
-    import pyarrow.parquet
-    columns = zip(*rows) if rows else [[] for _ in HEADINGS]
-    types = [pyarrow.int64() if it in NUMBERS else pyarrow.string() for it in HEADINGS]
-    arrays = [pyarrow.array(it, kind) for it, kind in zip(columns, types)]
-    pyarrow.parquet.write_table(pyarrow.table(arrays, names=HEADINGS), path)
+    fields = [(it, pyarrow.int64() if it in NUMBERS else pyarrow.string()) for it in HEADINGS]
+    columns = [[value(it, row[at]) for row in rows] for at, it in enumerate(HEADINGS)]
+    arrays = [pyarrow.array(column, kind) for column, (_, kind) in zip(columns, fields)]
+    return pyarrow.Table.from_arrays(arrays, schema=pyarrow.schema(fields))
+
+
+def write_parquet(path: str, rows: List[Row]):
+    parquet_module().write_table(arrow_table(rows), path)
 
 
 def read_csv(path: str) -> Iterator[Tuple[str, ...]]:
@@ -44,9 +71,8 @@ def read_csv(path: str) -> Iterator[Tuple[str, ...]]:
         yield from map(tuple, rows)
 
 
-def read_parquet(path: str) -> Iterator[Tuple[str, ...]]:
-    import pyarrow.parquet
-    for batch in pyarrow.parquet.ParquetFile(path).iter_batches():
+def read_parquet(path: str) -> Iterator[Tuple[Union[str, int, None], ...]]:
+    for batch in parquet_module().ParquetFile(path).iter_batches():
         yield from zip(*(it.to_pylist() for it in batch.columns))
 
 
@@ -59,7 +85,13 @@ def part(folder: str, number: int, form: str) -> str:
     return os.path.join(folder, f"part-{number:06}.{form}")
 
 
-def read(path: str, form: str) -> Iterator[Tuple[str, ...]]:
+def parts(folder: str) -> Iterator[Tuple[str, str]]:
+    """The parts of a table in their order, each with its format."""
+    for name in sorted(os.listdir(folder)):
+        yield os.path.join(folder, name), name.rpartition(".")[2]
+
+
+def read(path: str, form: str) -> Iterator[tuple]:
     """The rows of a part, without the headings."""
     return READERS[form](path)
 

@@ -83,6 +83,8 @@ def parser() -> argparse.ArgumentParser:
                       help="go on with a run that has ended early, asked for by equal words")
     made.add_argument("--sqlite", default="", metavar="FILE",
                       help="write the table as a database of SQLite, too: a new file")
+    made.add_argument("--parquet", default="", metavar="FILE",
+                      help="write the entries as one file of Parquet, too: a new file")
     made.add_argument("--format", dest="form", choices=[*WRITERS], default="", help="of the table")
     add_judging(made)
     add_running(made)

@@ -17,7 +17,7 @@ from .reasons import Reasons
 from .rows import CERT, LIST, Read, Row, moment, read, with_chains
 from .shards import NONE, Answer, Asked, Target, answers, shard_of
 from .trees import Subtree, of_leaves
-from .writing import told, whole
+from .writing import reporting, whole
 
 ENTRIES, ISSUERS, WORK = "entries", "issuers", "work"
 # What may go wrong with one shard while the others go on.
@@ -208,7 +208,7 @@ def survey(block: Block, job: Job) -> Survey:
 
 def keep(block: Block, job: Job, kept: Kept) -> Survey:
     """Keeps what was read of a block: what was written of something else doesn't count any more."""
-    with told(job.work):
+    with reporting(job.work):
         if os.path.exists(done_file(block, job)):
             os.remove(done_file(block, job))
     save(kept, kept_file(block, job), job)

@@ -12,7 +12,7 @@ class CannotWrite(Exception):
 
 
 @contextmanager
-def told(path: str) -> Iterator[None]:
+def reporting(path: str) -> Iterator[None]:
     """CannotWrite of a path, whatever error says so."""
     try:
         yield
@@ -20,12 +20,20 @@ def told(path: str) -> Iterator[None]:
         raise CannotWrite(f"cannot write {path}: {error.strerror}") from error
 
 
+def tested(path: str):
+    """CannotWrite where a file that is to be new is there, or its folder isn't."""
+    if os.path.exists(path):
+        raise CannotWrite(f"cannot write {path}: it is there already")
+    with reporting(path):
+        os.listdir(os.path.dirname(os.path.abspath(path)))
+
+
 @contextmanager
 def whole(path: str, work: str) -> Iterator[str]:
     """The name of a new file in the folder `work`, which gets the name `path` in the end: who
     writes it again, here or on another machine, replaces it by an equal one."""
     begun = os.path.join(work, f"{os.path.basename(path)}.{uuid.uuid4().hex}.{BEGUN}")
-    with told(path):
+    with reporting(path):
         try:
             yield begun
             os.replace(begun, path)

@@ -13,13 +13,13 @@ returns-then-is_empty-clause-cut c =
     let below = octets_below content (λ k. omega (arith, c.type_inv.content k)) in
     let none = eqb-true (length content) 0 (sym c.is_empty.ensures ∙ c.if-is_empty.true) in
     let nothing : ¬ HasElement content = λ has. let long = element_long content has.1 has.0 has.2 in omega (arith, long, none) in
-    subst (IsCut content) (sym (few_none c.few.result c.few.ensures.front)) (none_left content below nothing)
+    subst (IsCut content) (sym (few_none c.few.result c.few.ensures.front c.few.ensures.at c.few.ensures.others)) (none_left content below nothing)
 
 pub returns-in_default-clause-cut : goal.returns-in_default-clause-cut
 returns-in_default-clause-cut c =
     let content = c.args.content.now in
     let below = octets_below content (λ k. omega (arith, c.type_inv.content k)) in
-    subst (IsCut content) (sym (few_none c.few-in_default.result c.few-in_default.ensures.front)) (none_left content below c.in_default.ensures.none)
+    subst (IsCut content) (sym (few_none c.few-in_default.result c.few-in_default.ensures.front c.few-in_default.ensures.at c.few-in_default.ensures.others)) (none_left content below c.in_default.ensures.none)
 
 pub returns-in_default-first_element_counted-clause-cut : goal.returns-in_default-first_element_counted-clause-cut
 returns-in_default-first_element_counted-clause-cut c =
@@ -29,7 +29,7 @@ returns-in_default-first_element_counted-clause-cut c =
     let tail = c.in-Some.tail.now in
     let few = c.few-in_default-first_element_counted in
     let rest = below_rest content front.octets.now tail below c.in-Some.ensures.whole in
-    subst (IsCut content) (sym (few_one few.result front few.ensures.front few.ensures.second))
+    subst (IsCut content) (sym (few_one few.result front few.ensures.front few.ensures.second few.ensures.at few.ensures.others))
     (one_left content tail front _ below c.in-Some.ensures.found c.in-Some.ensures.whole (none_left tail rest c.in_default-first_element_counted.ensures.none))
 
 pub returns-in_default-first_element_counted-2-clause-cut : goal.returns-in_default-first_element_counted-2-clause-cut
@@ -43,7 +43,7 @@ returns-in_default-first_element_counted-2-clause-cut c =
     let few = c.few-in_default-first_element_counted-2 in
     let rest = below_rest content front.octets.now tail below c.in-Some.ensures.whole in
     let last = below_rest tail second.octets.now behind rest c.in-Some-first_element_counted.ensures.whole in
-    subst (IsCut content) (sym (few_two few.result front second few.ensures.front few.ensures.second few.ensures.third))
+    subst (IsCut content) (sym (few_two few.result front second few.ensures.front few.ensures.second few.ensures.third few.ensures.at few.ensures.others))
     (one_left content tail front _ below c.in-Some.ensures.found c.in-Some.ensures.whole
     (one_left tail behind second _ rest c.in-Some-first_element_counted.ensures.found c.in-Some-first_element_counted.ensures.whole
     (none_left behind last c.in_default-first_element_counted-2.ensures.none)))

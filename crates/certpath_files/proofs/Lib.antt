@@ -1,0 +1,10 @@
+mod AddFacts
+mod WalkFacts
+mod FrontFacts
+mod SomeFacts
+mod LawFacts
+mod WrittenFacts
+mod LineFacts
+mod LoopFacts
+mod Examples
+mod ShapeFacts

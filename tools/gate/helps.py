@@ -1,0 +1,106 @@
+"""Whether what each command takes is said alike: by its help, by its page, by the completion, and by the program's own grammar.
+
+The manual page is made of docs/CLI.md, and the completion of the helps (tools/dev/manual.py)."""
+import os
+import re
+import subprocess
+import sys
+
+from program import repo
+
+OPTION = re.compile(r"(?<![\w-])--[a-z][a-z-]*")
+# An option as a help lists it, and as a page's table does.
+LISTED, ROW = re.compile(r"(?m)^ +(?:-\w, )?(--[a-z][a-z-]*)"), re.compile(r"(?m)^\| `(--[a-z][a-z-]*)")
+# A file that a form of a command names, as BUNDLE; in the program's own help it is in angles.
+FILE = re.compile(r"(?<![\w-])<?([A-Z]{4,})>?(?![\w-])")
+NO_FILES = {"MOMENT", "OPTIONS", "YYYY"}
+HELP = "--help"
+PROGRAM, SCRIPT = os.path.join("dist", "certpath"), "./certpath"
+CLI, VERIFY, COMPLETION = "docs/CLI.md", "docs/VERIFY.md", "completion/certpath.bash"
+SECTION = r"(?ms)^## `{}[^`\n]*`\n(.*?)(?=^## |\Z)"
+COMPLETED = r'(?m)^ +{}\) words="([^"]*)"'
+SECONDS = 60
+
+
+def printed(words):
+    """What a command prints of itself, on either output; none if it doesn't run on this machine."""
+    try:
+        return subprocess.run(words, cwd=repo.TOP, stdin=subprocess.DEVNULL, stdout=subprocess.PIPE, stderr=subprocess.STDOUT, text=True,
+                              timeout=SECONDS, check=False).stdout
+    except OSError:
+        return None
+
+
+def own_help(*command):
+    return printed([os.path.join(repo.TOP, PROGRAM), *command, HELP])
+
+
+def help_of(script, *command):
+    return printed([sys.executable, "-IS", script, *command, HELP])
+
+
+def commands(text):
+    """The commands that a help lists, but for that of the help."""
+    return sorted({*re.findall(r"(?m)^  ([a-z]+) ", text.partition("Commands:")[2].partition("\n\n")[0])} - {"help"})
+
+
+def options(text):
+    """The options that a text names, but for that of the help."""
+    return {*OPTION.findall(text)} - {HELP}
+
+
+def listed(text):
+    """The options that a help lists."""
+    return {*LISTED.findall(text)} - {HELP}
+
+
+def files(text):
+    """The files that a form names, in their order, but for those of options."""
+    return [name for name in FILE.findall(re.sub(r"\[[^]]*\]|--\S+ \S+", "", text)) if name not in NO_FILES]
+
+
+def section(name):
+    """The section of docs/CLI.md on a command."""
+    found = re.search(SECTION.format(re.escape(name)), repo.read(CLI))
+    return found[1] if found else ""
+
+
+def form(text):
+    """The form that a section begins with, or the lines of a help from `usage:` to the next empty one."""
+    lines = re.search(r"(?ms)^(?:[Uu]sage:| {4}\./).*?(?:\n\n|\Z)", text)
+    return lines[0] if lines else ""
+
+
+def completed(name):
+    """The options that the completion has for a command."""
+    return {COMPLETION: options(match) for match in re.findall(COMPLETED.format(name), repo.read(COMPLETION))[:1]}
+
+
+def of_certpath(names):
+    """For each command of the program: who says what it takes, and what that is."""
+    for name in names:
+        own, help_text, page = own_help(name), help_of("certpath", name), section(f"certpath {name}")
+        lists = {f"{SCRIPT} {name} {HELP}": help_text} | ({f"{PROGRAM} {name} {HELP}": own} if own else {})
+        forms = {f"the form of {SCRIPT} {name} {HELP}": form(help_text), f"{CLI}, certpath {name}": form(page)}
+        yield name, {who: listed(text) for who, text in lists.items()} | {who: options(text) for who, text in forms.items()} | completed(name)
+        yield name, {who: files(form(text)) for who, text in (lists | forms).items()}
+
+
+def of_scripts():
+    """Likewise for ./verify and ./vouch."""
+    said = help_of("verify")
+    yield "verify", {f"./verify {HELP}": listed(said), f"the table of {VERIFY}": {*ROW.findall(repo.read(VERIFY))}} | completed("verify")
+    page = section("vouch")
+    yield "vouch", {f"./vouch {HELP}": options(help_of("vouch")), f"the table of {CLI}": {*ROW.findall(page)}, f"{CLI}, vouch": options(form(page))} | completed("vouch")
+
+
+def faults():
+    """Where two of them differ."""
+    names, own = commands(help_of("certpath")), own_help()
+    if own and commands(own) != names or not names:
+        yield f"{PROGRAM} has the commands {', '.join(commands(own or ''))}, and {SCRIPT} {', '.join(names)}"
+    for name, said in (*of_certpath(names), *of_scripts()):
+        (first, wanted), *others = said.items()
+        for who, takes in others:
+            if takes != wanted:
+                yield f"{name}: {who} has {', '.join(takes) or 'nothing'}, and {first} {', '.join(wanted) or 'nothing'}"

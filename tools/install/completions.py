@@ -1,0 +1,196 @@
+"""Completion of bash, zsh and fish, made of the commands' own helps and of docs/CLI.md."""
+import argparse
+import os
+import re
+import sys
+from typing import NamedTuple
+
+from program import installed, repo, usage
+from verify import words
+
+PAGE = "docs/CLI.md"
+# A line of a command's help that begins an option: its name, what it takes, and what it does.
+OPTION = re.compile(r"(?m)^  (?:-\w, )?(--[a-z][a-z-]*)(?: ([A-Z][A-Z|]*))?  *(\S.*)$")
+# A line of the list of commands in the help of all.
+COMMAND = re.compile(r"(?m)^  ([a-z]+)  +(\S.*)$")
+# A row of a table of options in a page.
+ROW = re.compile(r"(?m)^\| `(--[a-z-]+)(?: ([A-Z]+))?`[^|]*\| ([^|]*) \|")
+HELP = ("--help", None, "print the help")
+# So many characters say what an option does.
+MOST_SAID = 70
+FURTHER, OF_CHECKOUT = ("help", "--version"), ("--build",)
+
+
+class Option(NamedTuple):
+    """An option: its name, the word for what it takes, none if it takes nothing; what it does."""
+    name: str
+    takes: str
+    says: str
+
+    def is_of_files(self):
+        """Whether it takes a file or a folder."""
+        return bool(self.takes) and bool(re.search("FILE|FOLDER", self.takes))
+
+
+def short(text):
+    """What an option does, in one short line."""
+    text = " ".join(re.sub(r"\[([^\]]*)\]\([^)]*\)", r"\1", text).replace("`", "").split())
+    return text if len(text) <= MOST_SAID else f"{text[:MOST_SAID].rpartition(' ')[0]} .."
+
+
+def of_help(text):
+    """The options of a help text."""
+    return [Option(name, takes or None, short(says)) for name, takes, says in OPTION.findall(text)]
+
+
+def of_parser(made):
+    """The options of a parser of Python's argparse."""
+    found = []
+    for it in made._actions:
+        name = next((one for one in it.option_strings if one.startswith("--")), None)
+        if name and it.help != argparse.SUPPRESS:
+            takes = None if it.nargs == 0 else it.metavar or it.dest.upper()
+            found.append(Option(name, takes, short((it.help or "").replace("%(default)s", ""))))
+    return found
+
+
+def of_page(name):
+    """The options of a command by the table in its section of the page."""
+    section = re.search(rf"(?ms)^## `{name}`\n(.*?)(?=^## |\Z)", repo.read(PAGE))[1]
+    return [*(Option(option, takes or None, short(says)) for option, takes, says in ROW.findall(section)), Option(*HELP)]
+
+
+def inventory():
+    """The options of certpath-inventory."""
+    if installed.FOLDER not in sys.path:
+        sys.path.insert(1, installed.FOLDER)
+    from certpath.inventory import words as of_inventory
+    return of_parser(of_inventory.parser())
+
+
+def subcommands():
+    """What each command of certpath does, by its name."""
+    listed = usage.GENERAL.partition("Commands:\n")[2].partition("\n\n")[0]
+    said = dict(COMMAND.findall(listed))
+    return {it: short(said[it]) for it in sorted(usage.COMMANDS)}
+
+
+def of_subcommand(name):
+    return of_help(usage.help_of(name))
+
+
+def scripts():
+    """The options of each script, by its name."""
+    return {"verify": of_parser(words.parser()), "vouch": of_page("vouch"), "bundle": [Option(*HELP)],
+            "inventory": inventory()}
+
+
+def names(options):
+    return " ".join(sorted(it.name for it in options))
+
+
+def bash(is_installed):
+    """The completion of bash: for the commands of an installation, or for the scripts of a checkout."""
+    further = FURTHER if is_installed else FURTHER + OF_CHECKOUT
+    cases = "".join(f'    {it}) words="{names(of_subcommand(it))}" ;;\n' for it in subcommands())
+    others = {(installed.COMMANDS[it] if is_installed else it): options for it, options in scripts().items()
+              if is_installed or os.path.exists(os.path.join(repo.TOP, it))}
+    tables = "".join(f'    {name}) words="{names(options)}" ;;\n' for name, options in others.items())
+    return f"""# Completion of bash for certpath, {', '.join(others)}. Made of the commands' helps.
+_certpath() {{
+  local word=${{COMP_WORDS[COMP_CWORD]}} words
+  if [ "$COMP_CWORD" -eq 1 ]; then
+    COMPREPLY=($(compgen -W "{' '.join([*subcommands(), *further])}" -- "$word"))
+    return
+  fi
+  case ${{COMP_WORDS[1]}} in
+    help) words="{' '.join(subcommands())}" ;;
+{cases}  esac
+  _certpath_words "$word" "$words"
+}}
+_certpath_other() {{
+  local word=${{COMP_WORDS[COMP_CWORD]}} words
+  case ${{1##*/}} in
+{tables}  esac
+  _certpath_words "$word" "$words"
+}}
+_certpath_words() {{
+  case $1 in
+    -*) COMPREPLY=($(compgen -W "$2" -- "$1")) ;;
+    *) COMPREPLY=($(compgen -f -- "$1")) ;;
+  esac
+  if [ "${{COMP_WORDS[COMP_CWORD - 1]}}" = --anchors ]; then
+    COMPREPLY+=($(compgen -W system -- "$1"))
+  fi
+}}
+complete -o filenames -F _certpath certpath
+complete -o filenames -F _certpath_other {' '.join(others)}
+"""
+
+
+def quoted(text):
+    """A text between single quotes, for zsh and fish alike: of ours, which have no backslash."""
+    return "'" + text.replace("'", "’") + "'"
+
+
+def zsh_option(option):
+    """What _arguments of zsh takes for an option."""
+    said = option.says.replace("[", "(").replace("]", ")").replace(":", ";")
+    if not option.takes:
+        return quoted(f"*{option.name}[{said}]")
+    action = "_files" if option.is_of_files() else " "
+    return quoted(f"*{option.name}[{said}]:{option.takes}:{action}")
+
+
+def zsh_arguments(options, indent):
+    lines = [*map(zsh_option, options), quoted("*:file:_files")]
+    return f" \\\n{indent}  ".join([f"{indent}_arguments", *lines])
+
+
+def zsh():
+    """The completion of zsh."""
+    listed = " ".join(quoted(f"{name}:{says}") for name, says in subcommands().items())
+    cases = "".join(f"    {it})\n{zsh_arguments(of_subcommand(it), '      ')} ;;\n" for it in subcommands())
+    others = "".join(f"  {installed.COMMANDS[name]})\n{zsh_arguments(options, '    ')} ;;\n"
+                     for name, options in scripts().items())
+    return f"""#compdef {' '.join(installed.COMMANDS.values())}
+# Made of the commands' helps.
+_certpath_command() {{
+  local -a commands
+  commands=({listed} {' '.join(FURTHER)})
+  if (( CURRENT == 2 )); then
+    _describe command commands
+    return
+  fi
+  local command=$words[2]
+  shift words
+  (( CURRENT-- ))
+  case $command in
+{cases}    help)
+      _describe command commands ;;
+  esac
+}}
+case $service in
+  certpath) _certpath_command ;;
+{others}esac
+"""
+
+
+def fish_options(command, condition, options):
+    for it in options:
+        takes = "" if not it.takes else " -r -F" if it.is_of_files() else " -x"
+        yield f"complete -c {command}{condition} -l {it.name[2:]}{takes} -d {quoted(it.says)}"
+
+
+def fish():
+    """The completion of fish."""
+    lines = ["# Made of the commands' helps."]
+    for name, says in subcommands().items():
+        lines.append(f"complete -c certpath -n __fish_use_subcommand -f -a {name} -d {quoted(says)}")
+        lines += fish_options("certpath", f" -n '__fish_seen_subcommand_from {name}'", of_subcommand(name))
+    lines += [f"complete -c certpath -n __fish_use_subcommand {'-l' if it.startswith('--') else '-f -a'} {it.lstrip('-')}"
+              for it in FURTHER]
+    for name, options in scripts().items():
+        lines += fish_options(installed.COMMANDS[name], "", options)
+    lines.append("complete -c certpath-verify -l anchors -x -a \"system (__fish_complete_path)\"")
+    return "\n".join(lines) + "\n"

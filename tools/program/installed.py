@@ -1,0 +1,53 @@
+"""Where the scripts are: in a checkout, or installed, as part of the Python package `certpath`.
+
+An installation has no sources. The program lies beside the package's library there, the scripts in
+its folder `scripts`, and commands have names of their own: `certpath-verify` for `./verify`.
+"""
+import os
+import re
+
+TOP = os.path.dirname(os.path.dirname(os.path.dirname(os.path.abspath(__file__))))
+# The list of crates, which each checkout has.
+IS_INSTALLED = not os.path.exists(os.path.join(TOP, "crates.txt"))
+# The folder that has the package, the program, and its record.
+FOLDER = os.path.dirname(os.path.dirname(TOP)) if IS_INSTALLED else os.path.join(TOP, "python")
+PROGRAM = os.path.join(FOLDER, "certpath", "certpath")
+RECORD = os.path.join(FOLDER, "certpath", "BUILT")
+REMEDY = "install it anew"
+# The commands of an installation by the scripts of a checkout.
+COMMANDS = {"certpath": "certpath", "verify": "certpath-verify", "vouch": "certpath-vouch",
+            "bundle": "certpath-bundle", "inventory": "certpath-inventory"}
+MODULE = "python3 -m certpath.inventory"
+TYPED = re.compile(r"(?<![\w./-])\./(certpath|verify|vouch|bundle)\b(?!/)")
+# What a help says of the option --build, and of the status of a checkout whose sources are newer than dist/.
+OF_BUILDS = re.compile(r"(?m)^  --build  .*\n(?:  {4,}.*\n)*| \| --build(?: \[CRATE\])?|^Nothing is built but by --build\.\n|"
+                       r"\s69\s+dist/\s+is\s+older\s+than\s+the\s+sources(?:,\s+which\s+--build\s+mends)?;")
+
+
+def renamed(text):
+    """A text with the commands that an installation has, in the place of scripts."""
+    text = TYPED.sub(lambda found: COMMANDS[found[1]], text)
+    return text.replace(MODULE, COMMANDS["inventory"])
+
+
+def spelled(text):
+    """A text with commands as one types them here: `./verify`, or `certpath-verify`. Without sources
+    nothing is said of building."""
+    return OF_BUILDS.sub("", renamed(text)) if IS_INSTALLED else text
+
+
+def fault():
+    """What keeps the program of an installation from being run, none if nothing does."""
+    return None if os.access(PROGRAM, os.X_OK) else f"{PROGRAM} isn't there, or may not be executed"
+
+
+def version(number):
+    """What `certpath --version` prints of an installation: its version, the digest of the sources
+    of the program, where that is and what built it."""
+    try:
+        with open(RECORD, encoding="utf-8") as file:
+            said = dict(it.split(" ", 1) for it in file.read().splitlines() if " " in it)
+    except (OSError, ValueError):
+        said = {}
+    digest, kit = (said.get(it, "not known") for it in ("sources", "kit"))
+    return f"certpath {number}\nsources {digest}\nprogram {PROGRAM}, built by {kit}\n"

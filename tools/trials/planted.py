@@ -1,0 +1,67 @@
+"""Plants what the gate has to refuse: scripts that reach around the toolchain's commands, a crates.txt
+in which a crate has no line, two lines, or none of its own, and programs that dist/certpath isn't."""
+import contextlib
+import io
+import os
+import tempfile
+
+from gate import dist, listed, source_checks
+from program import repo, sources
+from trials.count import Trial
+
+GOOD = "# NAME: what it uses\none:\ntwo: one\n\nthree staticlib: one  two # all\n"
+# What is planted, and what is said of it.
+LISTS = (
+    ("three staticlib: one  two # all\n", "", "crates/three: crates.txt has no line"),
+    ("two: one\n", "two: one\ntwo: one\n", "there are 2 lines for two"),
+    ("two: one\n", "two: one\ntwo:\n", "there are 2 lines for two"),
+    ("two: one\n", "two: one\nfour: one\n", "there is no folder crates/four"),
+    ("one:\ntwo: one", "one: two: one", "crates.txt:2: it isn't the line of one crate"),
+    ("one:\ntwo: one", "onetwo: one", "there is no folder crates/onetwo"),
+    ("two: one", "two one", "crates.txt:3: it isn't the line of one crate"),
+    ("two: one", "<<<<<<< ours\ntwo: one", "crates.txt:3: it isn't the line of one crate"),
+)
+
+
+class Planted(Trial):
+    def setUp(self):
+        room = tempfile.TemporaryDirectory(prefix="planted-")
+        self.addCleanup(room.cleanup)
+        self.room = room.name
+
+    def test_lists(self):
+        """Each crate has one line of crates.txt."""
+        for it in ("one", "two", "three"):
+            os.makedirs(os.path.join(self.room, "crates", it))
+
+        def said(text):
+            sources.put(os.path.join(self.room, "crates.txt"), text.encode())
+            return [*listed.faults(self.room)]
+
+        self.same("a list as it should be", said(GOOD), [])
+        for old, new, wanted in LISTS:
+            found = said(GOOD.replace(old, new))
+            self.same(f"{new!r} planted: {found}", sum(wanted in it for it in found), 1)
+
+    def test_scripts(self):
+        """No script reaches around the toolchain's commands."""
+        self.same("scripts as they are", [*source_checks.toolchain_by_commands(repo.TOP)], [])
+        for name, head in (("planted.py", ""), ("planted", "#!/bin/sh\n")):
+            for line in source_checks.PLANTED:
+                sources.put(os.path.join(self.room, "tools", name), f"{head}{line}\n".encode(), 0o755)
+                place = f"{os.path.join('tools', name)}:{2 if head else 1}:"
+                found = [*source_checks.toolchain_by_commands(self.room)]
+                self.same(f"{name} with {line}", [it.startswith(place) for it in found], [True])
+            os.remove(os.path.join(self.room, "tools", name))
+
+    def test_programs(self):
+        """dist/certpath is compared with another program by octets, or by what both do."""
+        program, other = self.program(), os.path.join(self.room, "other")
+        sources.put(other, sources.octets_of(program)[:-1] + b"x", 0o755)
+        with contextlib.redirect_stdout(io.StringIO()):
+            self.same("equal octets", [*dist.unequal(program)], [])
+            self.same("other octets", ["differ first" in it for it in dist.unequal(other)], [True])
+            self.same("what the same program does", [*dist.unlike(program, "a kit", "another kit")], [])
+            sources.put(other, b"#!/bin/sh\nexec %s \"$@\" --demand-lists\n" % program.encode(), 0o755)
+            is_found = any("by the other program" in it for it in dist.unlike(other, "a kit", "another kit"))
+        self.row(is_found, "another program passes")
