@@ -208,10 +208,11 @@ def note_lines(crate):
     """What crates.txt says of a crate, and where its contracts are."""
     listed = repo.crates()
     lines = []
-    if crate in contracts.crates():
-        lines.append(f"- Contracts: [docs/CONTRACTS.md](../../docs/CONTRACTS.md#{crate}).")
+    said = [f"[Contracts](../../docs/CONTRACTS.md#{crate})."] if crate in contracts.crates() else []
     if believe.has_pages(crate):
-        lines.append(f"- Pages to believe: `python3 tools/dev/believe.py {crate}`.")
+        said.append(f"What to believe: `python3 tools/dev/believe.py {crate}`.")
+    if said:
+        lines.append("- " + "\n  ".join(said))
     if listed[crate]:
         lines.append(wrapped(f"- Depends on {linked(listed[crate])}.").rstrip("\n"))
     if not crate.endswith(TOPS) and not crate.startswith(EXAMPLES):
