@@ -1,8 +1,9 @@
 #!/usr/bin/env python3
-"""Makes of the sources the lists of docs/CRATES.md that say what a crate is and where an extension is, docs/INDEX.md, which says
-what each page of definitions defines, and of each crate's README.md the lines that say what it depends on and what runs it.
+"""Makes of the sources the lists of docs/CRATES.md that say what a crate is and where an extension is, docs/INDEX.md, which leads
+from the sections of standards to definitions, and of each crate's README.md the lines that say what it depends on and what runs it.
 
     python3 tools/dev/pages.py               writes them into the pages; makes a README.md if a crate has none
+    python3 tools/dev/pages.py index CRATE   prints the pages of definitions of a crate, with what each defines
     python3 tools/dev/pages.py above NAME..  prints the crates that depend on the named ones, which a change of these proves again
 
 `tools/gate/quick.py` asks `written` whether they are as the sources say.
@@ -146,35 +147,65 @@ def runs(crate):
     return direct or sorted(users, key=lambda user: len(repo.below([user], listed)))[:2]
 
 
-INDEX_HEAD = """# From a definition to its code
+INDEX_HEAD = """# From a section of a standard to its code
 
-For who wants to see a rule in the code: each page of definitions in `specs/` that a public contract
-depends on, with what it defines, the first section that it cites, and the first sources in `src/`
-whose contracts name it. Pages that say what values of types stand for (`View`, `Values`) aren't
-listed, nor examples. `python3 tools/dev/pages.py` makes the page of the sources. The rules in
-words are in [RULES.md](RULES.md) and [RULES_PORTS.md](RULES_PORTS.md); `crates/NAME/README.md`
-names the rows and tests that run the code.
+For who wants to see a rule in the code: each section that definitions of public contracts cite,
+with these pages of `specs/`, and in brackets the first source in `src/` whose contracts name it.
+`python3 tools/dev/pages.py` makes this page of the sources; `tools/dev/pages.py index CRATE` prints
+all pages of a crate, and what each defines. [RULES.md](RULES.md) and
+[RULES_PORTS.md](RULES_PORTS.md) have the rules in words.
 
 """
+# The standards that have a section of their own; all others come last.
+STANDARDS, OTHERS = ("X.690", "RFC 5280"), "Other standards"
+
+
+def users_of(crate, page):
+    """The sources of a crate whose contracts name one of its pages, by their places in src/."""
+    module = rf"Rattle\.{crate}\.specs\.{page}\b"
+    return [source.removeprefix(f"crates/{crate}/src/") for source in sources(crate, "src") if re.search(module, text(source))]
+
+
+def cited_by(crate, page):
+    """The sections that a page of definitions cites."""
+    return sections(re.sub(r"\s*\n--\s*", " ", text(f"crates/{crate}/specs/{page}.antt")))
 
 
 def rule_line(crate, page):
-    path = f"crates/{crate}/specs/{page}.antt"
-    module = rf"Rattle\.{crate}\.specs\.{page}\b"
-    users = [source.removeprefix(f"crates/{crate}/src/") for source in sources(crate, "src") if re.search(module, text(source))]
-    cited = sections(re.sub(r"\s*\n--\s*", " ", text(path)))[:1]
-    cited = f" ({cited[0]})" if cited else ""
-    used = f" {', '.join(map(code, users[:MOST_NAMED]))}." if users else ""
-    return f"- `{page}`: {what_of(path)}{cited}.{used}"
+    cited = f" ({'; '.join(cited_by(crate, page)[:1])})".replace(" ()", "")
+    used = f" {', '.join(map(code, users_of(crate, page)[:MOST_NAMED]))}.".replace(" .", "")
+    return f"- `{page}`: {what_of(f'crates/{crate}/specs/{page}.antt')}{cited}.{used}"
+
+
+def rule_lines(crate):
+    """The lines of a crate's pages of definitions, with what each defines."""
+    return [believe.wrapped(rule_line(crate, page)) for page in dict(believed()).get(crate, []) if not NO_RULE.search(page)]
+
+
+def by_section():
+    """Each standard with its sections, and with each of these the pages that cite it."""
+    found = {standard: {} for standard in (*STANDARDS, OTHERS)}
+    for crate, page in ((crate, page) for crate, pages in believed() for page in pages if not NO_RULE.search(page)):
+        used = "".join(f" ({code(user)})" for user in users_of(crate, page)[:1])
+        for section in cited_by(crate, page):
+            standard, _, number = section.partition(", ")
+            place = (standard, number) if standard in STANDARDS else (OTHERS, section)
+            found[place[0]].setdefault(place[1], []).append(f"{code(f'{crate}/specs/{page}')}{used}")
+    return found
+
+
+def order_of(section):
+    """By which sections are ordered: numbers by their value, appendices last."""
+    return [(not part.isdigit(), int(part) if part.isdigit() else 0, part) for part in re.split(r"[ ,.]+", section)]
 
 
 def index():
     """The text of docs/INDEX.md."""
-    rules = ((crate, [page for page in pages if not NO_RULE.search(page)]) for crate, pages in believed())
-    crates = [(crate, pages) for crate, pages in rules if pages]
-    found = [INDEX_HEAD, *(f"- [`{crate}`](#{crate})\n" for crate, _ in crates)]
-    for crate, pages in crates:
-        found += [f"\n## `{crate}`\n\n", *(believe.wrapped(rule_line(crate, page)) + "\n" for page in pages)]
+    standards = by_section()
+    found = [INDEX_HEAD, *(f"- [{standard}](#{standard.lower().replace('.', '').replace(' ', '-')})\n" for standard in standards)]
+    for standard, cited in standards.items():
+        found.append(f"\n## {standard}\n\n")
+        found += [believe.wrapped(f"- {section}: {', '.join(cited[section])}") + "\n" for section in sorted(cited, key=order_of)]
     return "".join(found)
 
 
@@ -269,8 +300,10 @@ def put(path, text):
 def main(words):
     if words[:1] == ["above"] and words[1:]:
         print(*above(words[1:]), sep="\n")
+    elif words[:1] == ["index"] and len(words) == 2:
+        print(*rule_lines(words[1]), sep="\n")
     elif words:
-        sys.exit("usage: tools/dev/pages.py [above NAME..]")
+        sys.exit("usage: tools/dev/pages.py [above NAME.. | index CRATE]")
     else:
         made = written(repo.read(PAGE))
         put(PAGE, made)
