@@ -22,8 +22,8 @@ For who looks for the clause that says something: each public call with the name
 and the laws of each crate. `python3 tools/dev/contracts.py` makes the page of the sources, and
 `./test quick` compares it. A clause is in the source, after `ensures` or `requires`, with its name
 if it has one; a premise is what a caller has to show. A law is a public function that does nothing:
-its clauses are what it says. A call without clauses of its own has those of its trait, in the words
-that its impl gives. [TRUST.md](TRUST.md) says which definitions clauses rest on.
+its clauses are what it says. A call without clauses of its own has those of its trait, and isn't
+listed. [TRUST.md](TRUST.md) says which definitions clauses rest on.
 
 """
 
@@ -47,9 +47,6 @@ def crate_lines(crate):
     for what, functions in (("", exports.traits(crate)), ("", calls)):
         for names, those in by_clauses(functions):
             yield f"- {', '.join(believe.grouped(those))}: {', '.join(names)}."
-    rest = [entry for entry in exports.public(crate) if not entry.clauses]
-    if rest:
-        yield f"- *By their traits*: {', '.join(believe.grouped(rest))}."
     laws = [entry for entry in exports.exported(crate) if entry.is_law]
     if laws:
         yield f"- *Laws*: {', '.join(believe.grouped(laws))}."
@@ -64,7 +61,7 @@ def crates():
 
 def written():
     """The text of the page."""
-    contents = "\n".join(f"- [`{name}`](#{name})" for name in crates())
+    contents = believe.wrapped(", ".join(f"[`{name}`](#{name})" for name in crates()))
     return HEADER + contents + "\n" + "".join("\n".join(["", f"## `{name}`", "", *lines, ""]) for name, lines in crates().items())
 
 
