@@ -53,6 +53,7 @@ class Row(NamedTuple):
     ours: str
     openssl: str
     common_name: str = "leaf"
+    go: str = ""
 
 
 class Holds(NamedTuple):
@@ -114,13 +115,13 @@ def rows_of(file):
 
 
 def host_rows():
-    for names, host, ours, openssl, why in rows_of("hosts.txt"):
+    for names, host, ours, openssl, go, why in rows_of("hosts.txt"):
         words = names.split()
         kinds = [it.partition(":")[::2] for it in words if ":" in it]
         common = next((text for kind, text in kinds if kind == "cn"), "leaf")
         given = [(kind, octets_of(kind, text)) for kind, text in kinds if kind != "cn"]
         held_by = [holds(given, (), words), holds(), holds()]
-        yield Row(f"{names} | {host}: {why}", held_by, host, None, ours, openssl, common)
+        yield Row(f"{names} | {host}: {why}", held_by, host, None, ours, openssl, common, go)
 
 
 def purpose_rows():
