@@ -30,7 +30,9 @@ EXAMPLES = "example_"
 # The crates that hand on others by name.
 PORTS = ("asn1_rs", "der_parser", "x509_parser")
 # What tries the crates that no rows and tests depend on.
-TRIALS = {"certpath_c": "tools/trials/embedding.py", "certpath_cli": "tools/trials/commands.py"}
+HOSTS = "tools/trials/hosts.py"
+TRIALS = {"certpath_c": "tools/trials/embedding.py", "certpath_cli": "tools/trials/commands.py",
+          "host_names": HOSTS, "cert_purpose": HOSTS, "cert_serving": HOSTS}
 
 
 @functools.cache
