@@ -1,6 +1,7 @@
 #!/usr/bin/env python3
 """Makes of the sources the lists of docs/CRATES.md that say what a crate is and where an extension is, docs/INDEX.md, which leads
-from the sections of standards to definitions, and of each crate's README.md the lines that say what it depends on and what runs it.
+from the sections of standards to definitions, the lists of scripts in tools/README.md, and of each crate's README.md the lines
+that say what it depends on and what runs it.
 
     python3 tools/dev/pages.py               writes them into the pages; makes a README.md if a crate has none
     python3 tools/dev/pages.py index CRATE   prints the pages of definitions of a crate, with what each defines
@@ -8,6 +9,7 @@ from the sections of standards to definitions, and of each crate's README.md the
 
 `tools/gate/quick.py` asks `written` whether they are as the sources say.
 """
+import ast
 import functools
 import glob
 import os
@@ -18,7 +20,7 @@ sys.path.insert(0, os.path.dirname(os.path.dirname(os.path.abspath(__file__))))
 from dev import believe, contracts
 from program import repo
 
-PAGE, INDEX = "docs/CRATES.md", "docs/INDEX.md"
+PAGE, INDEX, TOOLS = "docs/CRATES.md", "docs/INDEX.md", "tools/README.md"
 # How many files a line names.
 MOST_NAMED = 2
 # Pages of definitions that have no rule: what values of types stand for, and examples.
@@ -273,12 +275,30 @@ def notes():
         yield path, page, written_note(crate, page)
 
 
-TABLES = {"extensions": extensions, "crates": crates}
+# ---- scripts
+
+def said_of(path):
+    """What a script does, by the first sentence of the text at its head."""
+    head = ast.get_docstring(ast.parse(text(path))) or ""
+    return re.split(r"(?<=[^.\d])[.:](?:\s|$)", " ".join(head.split("\n\n")[0].split()))[0]
 
 
-def written(page):
-    """The page with its tables as the sources say."""
-    for name, make in TABLES.items():
+def scripts(folder):
+    """A line for each script of a folder of tools/."""
+    found = sorted(glob.glob(os.path.join(repo.TOP, "tools", folder, "*.py")))
+    paths = (os.path.relpath(path, repo.TOP) for path in found if not path.endswith("__init__.py"))
+    return "".join(believe.wrapped(f"- `{os.path.basename(path)}`: {said_of(path)}.") + "\n" for path in paths)
+
+
+# The pages with lists between marks, and what makes each list.
+TABLES = {PAGE: {"extensions": extensions, "crates": crates},
+          TOOLS: {folder: functools.partial(scripts, folder) for folder in ("program", "pki", "verify", "install", "gate", "trials", "dev")}}
+
+
+def written(path):
+    """A page with its lists as the sources say."""
+    page = repo.read(path)
+    for name, make in TABLES[path].items():
         begin, end = f"<!-- table {name}: made by tools/dev/pages.py -->\n", f"<!-- end of table {name} -->"
         before, _, after = page.partition(begin)
         page = before + begin + make() + end + after.partition(end)[2]
@@ -307,8 +327,8 @@ def main(words):
     elif words:
         sys.exit("usage: tools/dev/pages.py [above NAME.. | index CRATE]")
     else:
-        made = written(repo.read(PAGE))
-        put(PAGE, made)
+        for path in TABLES:
+            put(path, written(path))
         put(INDEX, index())
         for path, page, made in notes():
             if page != made:

@@ -160,10 +160,10 @@ def walk_stands():
 
 
 def tables_made():
-    """The lists of docs/CRATES.md, docs/INDEX.md and docs/CONTRACTS.md are what the sources say."""
-    page = repo.read(pages.PAGE)
-    if pages.written(page) != page:
-        yield f"{pages.PAGE}: a list isn't what the sources say: run tools/dev/pages.py"
+    """The lists of docs/CRATES.md, tools/README.md, docs/INDEX.md and docs/CONTRACTS.md are what the sources say."""
+    for path in pages.TABLES:
+        if pages.written(path) != repo.read(path):
+            yield f"{path}: a list isn't what the sources say: run tools/dev/pages.py"
     if not os.path.exists(os.path.join(repo.TOP, pages.INDEX)) or repo.read(pages.INDEX) != pages.index():
         yield f"{pages.INDEX}: it isn't what the sources say: run tools/dev/pages.py"
     yield from contracts.faults()

@@ -1,4 +1,4 @@
-"""What ./bundle makes of files that are written out here or stand in samples/: the octets, what is reported, and the status."""
+"""What ./bundle makes of files that are written out here or are in samples/: the octets, what is reported, and the status."""
 import base64
 import os
 import subprocess
