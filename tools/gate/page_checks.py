@@ -16,7 +16,7 @@ PROMISES, PROVED = "docs/PROMISES.md", "## What is proved"
 # Pages for a reader's first minutes.
 PLAIN_PAGES = (README, "docs/CLI.md")
 WALK = "docs/ARCHITECTURE.md"
-WALK_ROW = re.compile(r"\| [^|]*\| [^|]*\| `([\w/]+\.(?:rt|py))` \| ([^|]*)\|")
+WALK_ROW = re.compile(r"(?m)^\| [^|]*\| `([\w/]+\.(?:rt|py))` \| ([^|]*)\|")
 LINK = re.compile(r"\]\(([^()\s#]*)#([^()\s]+)\)")
 CODE = re.compile(r"`[^`\n]*`")
 # A row of a table that links can name.
