@@ -114,8 +114,8 @@ def extensions():
 def described(crate):
     """What a crate is, by the first paragraph of its page, on one line."""
     page = repo.read(note(crate)) if os.path.exists(os.path.join(repo.TOP, note(crate))) else ""
-    before = page.partition(NOTE_BEGIN)[0].partition("\n")[2]
-    return " ".join(before.split()).replace("](../../docs/", "](")
+    _, first, *_ = [*page.partition(NOTE_BEGIN)[0].split("\n\n"), ""]
+    return " ".join(first.split()).replace("](../../docs/", "](")
 
 
 def crates():
@@ -215,6 +215,7 @@ def index():
 
 # ---- the page of a crate
 
+# What is below the first mark is made. Of a page of an older form, what is below the second one is written by hand.
 NOTE_BEGIN, NOTE_END = "<!-- lines: made by tools/dev/pages.py -->\n", "<!-- end of lines -->\n"
 
 
@@ -262,9 +263,10 @@ def note_lines(crate):
 def written_note(crate, page):
     """A crate's page with its lines as crates.txt says."""
     if page is None:
-        page = f"# `{crate}`\n\n{NOTE_BEGIN}{NOTE_END}"
+        page = f"# `{crate}`\n\n{NOTE_BEGIN}"
     before, _, after = page.partition(NOTE_BEGIN)
-    return before + NOTE_BEGIN + note_lines(crate) + NOTE_END + after.partition(NOTE_END)[2]
+    by_hand = "\n\n".join(filter(None, (before.strip("\n"), after.partition(NOTE_END)[2].strip("\n"))))
+    return f"{by_hand}\n\n{NOTE_BEGIN}{note_lines(crate)}"
 
 
 def notes():
