@@ -105,13 +105,13 @@ pub(crate) const ROWS: [Row; 12] = [
         name: "critical, and the caller processes it",
         when: When::Within,
         extensions: &[UNCONSTRAINED, UNPROCESSED],
-        processes: UNPROCESSED.identifier,
+        processes: &[0x55, 0x1d, 0x25],
     },
     Row {
         name: "critical, and the caller processes another",
         when: When::Within,
         extensions: &[UNCONSTRAINED, UNPROCESSED],
-        processes: NAME_CONSTRAINTS.identifier,
+        processes: &[0x55, 0x1d, 0x1e],
     },
     Row {
         name: "default written",
