@@ -282,37 +282,31 @@ def printed(call):
 HEADER = """# What a promise rests on: the pages to believe
 
 For who reviews a contract: how much has to be read to believe it. A contract is proved, so its code
-and proofs needn't be read; the function's clauses have to be, and the definitions that their words
-name. The table counts these for the calls that judge, for the main readers, and for each call of
-`include/certpath.h`. `python3 tools/dev/believe.py --write` makes this page, and `./test quick`
-compares it. Which pages these are:
+and proofs needn't be read; its clauses have to be, and the definitions in `specs/` that their words
+name, on to the standard library and the crates of the kit. The table counts these for the calls
+that judge, for the main readers, and for each call of `include/certpath.h`. Which these are:
 
     $ python3 tools/dev/believe.py certcheck::check | tail -n 1
     {LAST_LINE}
     $ python3 tools/dev/believe.py cert_questions
     {OF_CRATE}
 
-The first prints each page of one call, with the definitions that are reached on it and how many
-lines these take; `CRATE::Type::function` names a function of a type, and a law can be named too.
-The second prints, for each public call of a crate, the pages of the crate and those of others.
-
-The way goes from the words of the clauses and of the signature, through the `ghost use` lines of
-the source, to the definitions in `specs/`, and from the words of each definition on. Only
-definitions that are reached this way count, with the comment above each. Types of the sources count
-beside them: their fields, their `Model`, and of a trait what its functions promise. It ends at the
-standard library and at the crates of the kit.
+The first prints each page of one call, with the definitions on it; `CRATE::Type::function` names a
+function of a type, and a law can be named too. The second prints, for each public call of a crate,
+its own pages and those of others. Types of the sources count beside them: their fields, their
+`Model`, and of a trait what its functions promise.
 
 """
 
 
 def summary(trusts):
     """A row for each call."""
-    yield "| call | pages | lines | of these by `exact` alone | sources |"
-    yield "|---|---|---|---|---|"
+    yield "| call | pages | lines |"
+    yield "|---|---|---|"
     for trust in trusts:
         pages = [page for page in trust.pages if is_page(page)]
         lines, exact = (sum(map(entry, pages)) for entry in (trust.lines, trust.exact))
-        yield f"| `{trust.call}` | {len(pages)} | {lines} | {exact or ''} | {len(trust.pages) - len(pages)} |"
+        yield f"| `{trust.call}` | {len(pages)} | {lines}{f', {exact} by `exact` alone' if exact else ''} |"
 
 
 @functools.cache
@@ -433,9 +427,8 @@ def written():
     head = HEADER.replace("{LAST_LINE}", [*printed("certcheck::check")][-1]).replace("    {OF_CRATE}", of_crate)
     lines = [head + "## How much", "", *summary(heads), "",
              wrapped(f"Of {len(every)} public calls {len(listed)} depend on a page. Of the crates of the kit definitions of these are reached: {', '.join(f'`{entry}`' for entry in kit)}."), "",
-             "A reader's clause `exact` says which error is returned. It is written in definitions that follow",
-             "the reader's steps, on pages named `Reading` and `Readers`. To know what a reader accepts, and as",
-             "which value, these needn't be read.", "",
+             "A reader's clause `exact` says which error is returned, in definitions that follow its steps. To",
+             "know what a reader accepts, and as which value, these needn't be read.", "",
              wrapped("Of the pages of the calls that judge, and of C's, these follow the code step by step: " + (", ".join(f"`{short(entry)}`" for entry in following(judged())) or "none") + ".")]
     return "\n".join(lines) + "\n"
 

@@ -1,5 +1,5 @@
 #!/usr/bin/env python3
-"""Writes docs/CONTRACTS.md: the clauses of every public call, and the laws, crate by crate.
+"""Writes docs/CONTRACTS.md: the named clauses of public calls, and the laws, crate by crate.
 
     python3 tools/dev/contracts.py
 
@@ -18,12 +18,12 @@ PAGE = "docs/CONTRACTS.md"
 ONE, PREMISE = "one clause", "*a premise*"
 HEADER = """# Contracts by name
 
-For who looks for the clause that says something: each public call with the names of its clauses,
-and the laws of each crate. `python3 tools/dev/contracts.py` makes the page of the sources, and
-`./test quick` compares it. A clause is in the source, after `ensures` or `requires`, with its name
-if it has one; a premise is what a caller has to show. A law is a public function that does nothing:
-its clauses are what it says. A call without clauses of its own has those of its trait, in the words
-that its impl gives. [TRUST.md](TRUST.md) says which definitions clauses rest on.
+For who looks for the clause that says something: the public calls whose clauses have names, with
+these names, and the laws of each crate. `python3 tools/dev/contracts.py` makes the page of the
+sources. A clause is in the source, after `ensures` or `requires`; a premise is what a caller has to
+show. A law is a public function that does nothing: its clauses are what it says. Not listed are
+calls with one clause without a name, and those that have the clauses of their trait.
+[TRUST.md](TRUST.md) says which definitions clauses rest on.
 
 """
 
@@ -44,12 +44,10 @@ def by_clauses(functions):
 def crate_lines(crate):
     """The lines of a crate: its traits, its calls, and its laws."""
     calls = [entry for entry in exports.public(crate) if entry.clauses]
-    for what, functions in (("", exports.traits(crate)), ("", calls)):
+    for functions in (exports.traits(crate), calls):
         for names, those in by_clauses(functions):
-            yield f"- {', '.join(believe.grouped(those))}: {', '.join(names)}."
-    rest = [entry for entry in exports.public(crate) if not entry.clauses]
-    if rest:
-        yield f"- *By their traits*: {', '.join(believe.grouped(rest))}."
+            if names != (ONE,):
+                yield f"- {', '.join(believe.grouped(those))}: {', '.join(names)}."
     laws = [entry for entry in exports.exported(crate) if entry.is_law]
     if laws:
         yield f"- *Laws*: {', '.join(believe.grouped(laws))}."
@@ -64,7 +62,7 @@ def crates():
 
 def written():
     """The text of the page."""
-    contents = "\n".join(f"- [`{name}`](#{name})" for name in crates())
+    contents = believe.wrapped(", ".join(f"[`{name}`](#{name})" for name in crates()))
     return HEADER + contents + "\n" + "".join("\n".join(["", f"## `{name}`", "", *lines, ""]) for name, lines in crates().items())
 
 

@@ -1,12 +1,15 @@
 #!/usr/bin/env python3
-"""Makes of the sources the lists of docs/CRATES.md that say what a crate is and where an extension is, docs/INDEX.md, which says
-what each page of definitions defines, and of each crate's README.md the lines that say what it depends on and what runs it.
+"""Makes of the sources the lists of docs/CRATES.md that say what a crate is and where an extension is, docs/INDEX.md, which leads
+from the sections of standards to definitions, the lists of scripts in tools/README.md, and of each crate's README.md the lines
+that say what it depends on and what runs it.
 
     python3 tools/dev/pages.py               writes them into the pages; makes a README.md if a crate has none
+    python3 tools/dev/pages.py index CRATE   prints the pages of definitions of a crate, with what each defines
     python3 tools/dev/pages.py above NAME..  prints the crates that depend on the named ones, which a change of these proves again
 
 `tools/gate/quick.py` asks `written` whether they are as the sources say.
 """
+import ast
 import functools
 import glob
 import os
@@ -17,7 +20,7 @@ sys.path.insert(0, os.path.dirname(os.path.dirname(os.path.abspath(__file__))))
 from dev import believe, contracts
 from program import repo
 
-PAGE, INDEX = "docs/CRATES.md", "docs/INDEX.md"
+PAGE, INDEX, TOOLS = "docs/CRATES.md", "docs/INDEX.md", "tools/README.md"
 # How many files a line names.
 MOST_NAMED = 2
 # Pages of definitions that have no rule: what values of types stand for, and examples.
@@ -29,7 +32,9 @@ EXAMPLES = "example_"
 # The crates that hand on others by name.
 PORTS = ("asn1_rs", "der_parser", "x509_parser")
 # What tries the crates that no rows and tests depend on.
-TRIALS = {"certpath_c": "tools/trials/embedding.py", "certpath_cli": "tools/trials/commands.py"}
+HOSTS = "tools/trials/hosts.py"
+TRIALS = {"certpath_c": "tools/trials/embedding.py", "certpath_cli": "tools/trials/commands.py",
+          "host_names": HOSTS, "cert_purpose": HOSTS, "cert_serving": HOSTS}
 
 
 @functools.cache
@@ -109,8 +114,8 @@ def extensions():
 def described(crate):
     """What a crate is, by the first paragraph of its page, on one line."""
     page = repo.read(note(crate)) if os.path.exists(os.path.join(repo.TOP, note(crate))) else ""
-    before = page.partition(NOTE_BEGIN)[0].partition("\n")[2]
-    return " ".join(before.split()).replace("](../../docs/", "](")
+    _, first, *_ = [*page.partition(NOTE_BEGIN)[0].split("\n\n"), ""]
+    return " ".join(first.split()).replace("](../../docs/", "](")
 
 
 def crates():
@@ -146,40 +151,71 @@ def runs(crate):
     return direct or sorted(users, key=lambda user: len(repo.below([user], listed)))[:2]
 
 
-INDEX_HEAD = """# From a definition to its code
+INDEX_HEAD = """# From a section of a standard to its code
 
-For who wants to see a rule in the code: each page of definitions in `specs/` that a public contract
-depends on, with what it defines, the first section that it cites, and the first sources in `src/`
-whose contracts name it. Pages that say what values of types stand for (`View`, `Values`) aren't
-listed, nor examples. `python3 tools/dev/pages.py` makes the page of the sources. The rules in
-words are in [RULES.md](RULES.md) and [RULES_PORTS.md](RULES_PORTS.md); `crates/NAME/README.md`
-names the rows and tests that run the code.
+For who wants to see a rule in the code: each section that definitions of public contracts cite,
+with these pages of `specs/`, and in brackets the first source in `src/` whose contracts name it.
+`python3 tools/dev/pages.py` makes this page of the sources; `tools/dev/pages.py index CRATE` prints
+all pages of a crate, and what each defines. [RULES.md](RULES.md) and
+[RULES_PORTS.md](RULES_PORTS.md) have the rules in words.
 
 """
+# The standards that have a section of their own; all others come last.
+STANDARDS, OTHERS = ("X.690", "RFC 5280"), "Other standards"
+
+
+def users_of(crate, page):
+    """The sources of a crate whose contracts name one of its pages, by their places in src/."""
+    module = rf"Rattle\.{crate}\.specs\.{page}\b"
+    return [source.removeprefix(f"crates/{crate}/src/") for source in sources(crate, "src") if re.search(module, text(source))]
+
+
+def cited_by(crate, page):
+    """The sections that a page of definitions cites."""
+    return sections(re.sub(r"\s*\n--\s*", " ", text(f"crates/{crate}/specs/{page}.antt")))
 
 
 def rule_line(crate, page):
-    path = f"crates/{crate}/specs/{page}.antt"
-    module = rf"Rattle\.{crate}\.specs\.{page}\b"
-    users = [source.removeprefix(f"crates/{crate}/src/") for source in sources(crate, "src") if re.search(module, text(source))]
-    cited = sections(re.sub(r"\s*\n--\s*", " ", text(path)))[:1]
-    cited = f" ({cited[0]})" if cited else ""
-    used = f" {', '.join(map(code, users[:MOST_NAMED]))}." if users else ""
-    return f"- `{page}`: {what_of(path)}{cited}.{used}"
+    cited = f" ({'; '.join(cited_by(crate, page)[:1])})".replace(" ()", "")
+    used = f" {', '.join(map(code, users_of(crate, page)[:MOST_NAMED]))}.".replace(" .", "")
+    return f"- `{page}`: {what_of(f'crates/{crate}/specs/{page}.antt')}{cited}.{used}"
+
+
+def rule_lines(crate):
+    """The lines of a crate's pages of definitions, with what each defines."""
+    return [believe.wrapped(rule_line(crate, page)) for page in dict(believed()).get(crate, []) if not NO_RULE.search(page)]
+
+
+def by_section():
+    """Each standard with its sections, and with each of these the pages that cite it."""
+    found = {standard: {} for standard in (*STANDARDS, OTHERS)}
+    for crate, page in ((crate, page) for crate, pages in believed() for page in pages if not NO_RULE.search(page)):
+        used = "".join(f" ({code(user)})" for user in users_of(crate, page)[:1])
+        for section in cited_by(crate, page):
+            standard, _, number = section.partition(", ")
+            place = (standard, number) if standard in STANDARDS else (OTHERS, section)
+            found[place[0]].setdefault(place[1], []).append(f"{code(f'{crate}/specs/{page}')}{used}")
+    return found
+
+
+def order_of(section):
+    """By which sections are ordered: numbers by their value, appendices last."""
+    return [(not part.isdigit(), int(part) if part.isdigit() else 0, part) for part in re.split(r"[ ,.]+", section)]
 
 
 def index():
     """The text of docs/INDEX.md."""
-    rules = ((crate, [page for page in pages if not NO_RULE.search(page)]) for crate, pages in believed())
-    crates = [(crate, pages) for crate, pages in rules if pages]
-    found = [INDEX_HEAD, *(f"- [`{crate}`](#{crate})\n" for crate, _ in crates)]
-    for crate, pages in crates:
-        found += [f"\n## `{crate}`\n\n", *(believe.wrapped(rule_line(crate, page)) + "\n" for page in pages)]
+    standards = by_section()
+    found = [INDEX_HEAD, *(f"- [{standard}](#{standard.lower().replace('.', '').replace(' ', '-')})\n" for standard in standards)]
+    for standard, cited in standards.items():
+        found.append(f"\n## {standard}\n\n")
+        found += [believe.wrapped(f"- {section}: {', '.join(cited[section])}") + "\n" for section in sorted(cited, key=order_of)]
     return "".join(found)
 
 
 # ---- the page of a crate
 
+# What is below the first mark is made. Of a page of an older form, what is below the second one is written by hand.
 NOTE_BEGIN, NOTE_END = "<!-- lines: made by tools/dev/pages.py -->\n", "<!-- end of lines -->\n"
 
 
@@ -208,10 +244,11 @@ def note_lines(crate):
     """What crates.txt says of a crate, and where its contracts are."""
     listed = repo.crates()
     lines = []
-    if crate in contracts.crates():
-        lines.append(f"- Contracts: [docs/CONTRACTS.md](../../docs/CONTRACTS.md#{crate}).")
+    said = [f"[Contracts](../../docs/CONTRACTS.md#{crate})."] if crate in contracts.crates() else []
     if believe.has_pages(crate):
-        lines.append(f"- Pages to believe: `python3 tools/dev/believe.py {crate}`.")
+        said.append(f"What to believe: `python3 tools/dev/believe.py {crate}`.")
+    if said:
+        lines.append("- " + "\n  ".join(said))
     if listed[crate]:
         lines.append(wrapped(f"- Depends on {linked(listed[crate])}.").rstrip("\n"))
     if not crate.endswith(TOPS) and not crate.startswith(EXAMPLES):
@@ -226,9 +263,10 @@ def note_lines(crate):
 def written_note(crate, page):
     """A crate's page with its lines as crates.txt says."""
     if page is None:
-        page = f"# `{crate}`\n\n{NOTE_BEGIN}{NOTE_END}"
+        page = f"# `{crate}`\n\n{NOTE_BEGIN}"
     before, _, after = page.partition(NOTE_BEGIN)
-    return before + NOTE_BEGIN + note_lines(crate) + NOTE_END + after.partition(NOTE_END)[2]
+    by_hand = "\n\n".join(filter(None, (before.strip("\n"), after.partition(NOTE_END)[2].strip("\n"))))
+    return f"{by_hand}\n\n{NOTE_BEGIN}{note_lines(crate)}"
 
 
 def notes():
@@ -239,12 +277,30 @@ def notes():
         yield path, page, written_note(crate, page)
 
 
-TABLES = {"extensions": extensions, "crates": crates}
+# ---- scripts
+
+def said_of(path):
+    """What a script does, by the first sentence of the text at its head."""
+    head = ast.get_docstring(ast.parse(text(path))) or ""
+    return re.split(r"(?<=[^.\d])[.:](?:\s|$)", " ".join(head.split("\n\n")[0].split()))[0]
 
 
-def written(page):
-    """The page with its tables as the sources say."""
-    for name, make in TABLES.items():
+def scripts(folder):
+    """A line for each script of a folder of tools/."""
+    found = sorted(glob.glob(os.path.join(repo.TOP, "tools", folder, "*.py")))
+    paths = (os.path.relpath(path, repo.TOP) for path in found if not path.endswith("__init__.py"))
+    return "".join(believe.wrapped(f"- `{os.path.basename(path)}`: {said_of(path)}.") + "\n" for path in paths)
+
+
+# The pages with lists between marks, and what makes each list.
+TABLES = {PAGE: {"extensions": extensions, "crates": crates},
+          TOOLS: {folder: functools.partial(scripts, folder) for folder in ("program", "pki", "verify", "install", "gate", "trials", "dev")}}
+
+
+def written(path):
+    """A page with its lists as the sources say."""
+    page = repo.read(path)
+    for name, make in TABLES[path].items():
         begin, end = f"<!-- table {name}: made by tools/dev/pages.py -->\n", f"<!-- end of table {name} -->"
         before, _, after = page.partition(begin)
         page = before + begin + make() + end + after.partition(end)[2]
@@ -268,11 +324,13 @@ def put(path, text):
 def main(words):
     if words[:1] == ["above"] and words[1:]:
         print(*above(words[1:]), sep="\n")
+    elif words[:1] == ["index"] and len(words) == 2:
+        print(*rule_lines(words[1]), sep="\n")
     elif words:
-        sys.exit("usage: tools/dev/pages.py [above NAME..]")
+        sys.exit("usage: tools/dev/pages.py [above NAME.. | index CRATE]")
     else:
-        made = written(repo.read(PAGE))
-        put(PAGE, made)
+        for path in TABLES:
+            put(path, written(path))
         put(INDEX, index())
         for path, page, made in notes():
             if page != made:

@@ -1,4 +1,4 @@
-"""Which functions of the sources a function calls, as far as the names in its body and the `use` lines of its file tell."""
+"""Which functions of the sources a function calls, as far as the names in its body and the `use` lines of its file say."""
 import functools
 import re
 

@@ -16,17 +16,20 @@ FILE = re.compile(r"(?<![\w-])<?([A-Z]{4,})>?(?![\w-])")
 NO_FILES = {"MOMENT", "OPTIONS", "YYYY"}
 HELP = "--help"
 PROGRAM, SCRIPT = os.path.join("dist", "certpath"), "./certpath"
-CLI, VERIFY, COMPLETION = "docs/CLI.md", "docs/VERIFY.md", "completion/certpath.bash"
+CLI, VERIFY, SCALE, COMPLETION = "docs/CLI.md", "docs/VERIFY.md", "docs/SCALE.md", "completion/certpath.bash"
+INVENTORY = "certpath.inventory"
+# The first cell of a table's row, of one option or several.
+CELL = re.compile(r"(?m)^\| (`--[^|]*)")
 SECTION = r"(?ms)^## `{}[^`\n]*`\n(.*?)(?=^## |\Z)"
 COMPLETED = r'(?m)^ +{}\) words="([^"]*)"'
 SECONDS = 60
 
 
-def printed(words):
+def printed(words, folder=""):
     """What a command prints of itself, on either output; none if it doesn't run on this machine."""
     try:
-        return subprocess.run(words, cwd=repo.TOP, stdin=subprocess.DEVNULL, stdout=subprocess.PIPE, stderr=subprocess.STDOUT, text=True,
-                              timeout=SECONDS, check=False).stdout
+        return subprocess.run(words, cwd=os.path.join(repo.TOP, folder), stdin=subprocess.DEVNULL, stdout=subprocess.PIPE,
+                              stderr=subprocess.STDOUT, text=True, timeout=SECONDS, check=False).stdout
     except OSError:
         return None
 
@@ -94,12 +97,19 @@ def of_scripts():
     yield "vouch", {f"./vouch {HELP}": options(help_of("vouch")), f"the table of {CLI}": {*ROW.findall(page)}, f"{CLI}, vouch": options(form(page))} | completed("vouch")
 
 
+def of_inventory():
+    """Likewise for the inventory, which is a module of the package."""
+    said = printed([sys.executable, "-B", "-m", INVENTORY, HELP], "python")
+    cells = "\n".join(CELL.findall(repo.read(SCALE)))
+    yield INVENTORY, {f"python3 -m {INVENTORY} {HELP}": listed(said), f"the table of {SCALE}": options(cells)}
+
+
 def faults():
     """Where two of them differ."""
     names, own = commands(help_of("certpath")), own_help()
     if own and commands(own) != names or not names:
         yield f"{PROGRAM} has the commands {', '.join(commands(own or ''))}, and {SCRIPT} {', '.join(names)}"
-    for name, said in (*of_certpath(names), *of_scripts()):
+    for name, said in (*of_certpath(names), *of_scripts(), *of_inventory()):
         (first, wanted), *others = said.items()
         for who, takes in others:
             if takes != wanted:

@@ -16,7 +16,7 @@ PROMISES, PROVED = "docs/PROMISES.md", "## What is proved"
 # Pages for a reader's first minutes.
 PLAIN_PAGES = (README, "docs/CLI.md")
 WALK = "docs/ARCHITECTURE.md"
-WALK_ROW = re.compile(r"\| [^|]*\| [^|]*\| `([\w/]+\.(?:rt|py))` \| ([^|]*)\|")
+WALK_ROW = re.compile(r"(?m)^\| [^|]*\| `([\w/]+\.(?:rt|py))` \| ([^|]*)\|")
 LINK = re.compile(r"\]\(([^()\s#]*)#([^()\s]+)\)")
 CODE = re.compile(r"`[^`\n]*`")
 # A row of a table that links can name.
@@ -160,10 +160,10 @@ def walk_stands():
 
 
 def tables_made():
-    """The lists of docs/CRATES.md, docs/INDEX.md and docs/CONTRACTS.md are what the sources say."""
-    page = repo.read(pages.PAGE)
-    if pages.written(page) != page:
-        yield f"{pages.PAGE}: a list isn't what the sources say: run tools/dev/pages.py"
+    """The lists of docs/CRATES.md, tools/README.md, docs/INDEX.md and docs/CONTRACTS.md are what the sources say."""
+    for path in pages.TABLES:
+        if pages.written(path) != repo.read(path):
+            yield f"{path}: a list isn't what the sources say: run tools/dev/pages.py"
     if not os.path.exists(os.path.join(repo.TOP, pages.INDEX)) or repo.read(pages.INDEX) != pages.index():
         yield f"{pages.INDEX}: it isn't what the sources say: run tools/dev/pages.py"
     yield from contracts.faults()

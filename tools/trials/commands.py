@@ -1,4 +1,4 @@
-"""Runs the built program `certpath` on a table of command lines, and tells of each whether its status and what it wrote are as wanted.
+"""Runs the built program `certpath` on a table of command lines, and says of each whether its status and what it wrote are as wanted.
 
 What leads from the words to the files isn't seen by a contract of a library, so it is run: the limit, each status, each message, and what is written where.
 """

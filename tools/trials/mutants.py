@@ -1,4 +1,4 @@
-"""Puts 2,000 seeded mutants of the items of crates/cert_rows/stdin through both readers of items, and tells each that they class otherwise.
+"""Puts 2,000 seeded mutants of the items of crates/cert_rows/stdin through both readers of items, and reports each that they class otherwise.
 
 `cert_rows` reads each row by trees and by types, and prints `two classes` where they differ. An octet is changed, taken out or put in, or
 octets are repeated; one in four mutants has another such change.

@@ -17,7 +17,7 @@ HEADERS = "/usr/include/openssl/x509.h"
 COMMAND = re.compile(r"(?:\(\w|\./\w|bench/|examples/|tools/|(?:python3?|pip|apt-get|apt|rt|openssl|cc|git|grep|od|echo|cat|export|curl|sudo|docker|go|rustc|cargo) )")
 # What no command line is: it has a word for something else.
 FORM = re.compile(r"\[|\.\.(?:\s|$)|\b(?:BUNDLE|CERTIFICATES|COMMAND|CRATE|FILE|FOLDER|HEX|KEYS|KIND|LINES|N|NAME|NEW|OLD|PAGE|PREFIX|WORD)\b")
-NEEDS_RT, OF_READERS, IS_GATE = "it needs rt", "it is about files of the reader's", "it is what the gate runs, or takes its time"
+NEEDS_RT = "it needs rt"
 # Page, how the line begins, and why it isn't run.
 NOT_RUN = (
     ("CONTRIBUTING.md", "", NEEDS_RT),
@@ -25,7 +25,6 @@ NOT_RUN = (
     ("bench/hostile/README.md", "", "it takes minutes, and the gate runs it"),
     ("docs/CLI.md", "./certpath --version", "it prints the digest of the sources, which each change of one changes"),
     ("docs/CLI.md", "./certpath --build", NEEDS_RT),
-    ("docs/CLI.md", "./test", IS_GATE),
     ("docs/GATE.md", "", NEEDS_RT),
     ("docs/INSTALL.md", "", "tools/trials/installing_wheel.py and installing_prefix.py run such lines, in folders that go away"),
     ("docs/PERF.md", "", "it needs rt, and another checkout"),

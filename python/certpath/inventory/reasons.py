@@ -206,7 +206,7 @@ class Reasons:
     def together(self, name: str, targets: List[Target], pairs: int) -> Dict[str, str]:
         """The columns of targets that were issued under a name and share a bundle, by the report
         for one of them, and another one that says of this one what its own leaves out
-        (docs/SCALE.md has the reason why). None where path lengths matter, which differ by target.
+        (docs/PROOFS.md has the reason why). None where path lengths matter, which differ by target.
         """
         shard = shard_of(self.index, targets[:1])
         own = {it.item for it in self.index.under(name)}

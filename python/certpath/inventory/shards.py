@@ -1,6 +1,6 @@
 """Shards: some targets with all that may stand in their paths, and what is answered of them.
 
-docs/SCALE.md shows why the answers are those of one run over everything.
+docs/PROOFS.md shows why the answers are those of one run over everything.
 """
 import re
 from typing import Dict, List, NamedTuple, Tuple
