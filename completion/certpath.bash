@@ -2,11 +2,12 @@
 _certpath() {
   local word=${COMP_WORDS[COMP_CWORD]} words
   if [ "$COMP_CWORD" -eq 1 ]; then
-    COMPREPLY=($(compgen -W "frame path paths questions recheck why help --version --build" -- "$word"))
+    COMPREPLY=($(compgen -W "bundle frame path paths questions recheck why help --version --build" -- "$word"))
     return
   fi
   case ${COMP_WORDS[1]} in
-    help) words="frame path paths questions recheck why" ;;
+    help) words="bundle frame path paths questions recheck why" ;;
+    bundle) words="--help" ;;
     frame) words="--help --limit" ;;
     path) words="--at --demand-lists --help --limit --target" ;;
     paths) words="--at --demand-lists --evidence --help --limit" ;;

@@ -35,7 +35,7 @@ def vouch() -> None:
 
 
 def bundle() -> None:
-    """`certpath-bundle`: the certificates and revocation lists of PEM and DER files, as DER."""
+    """`certpath-bundle`: the certificates and revocation lists of files of any form, as DER."""
     run("bundle")
 
 

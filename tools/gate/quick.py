@@ -10,7 +10,6 @@ sys.path.insert(0, os.path.dirname(os.path.dirname(os.path.abspath(__file__))))
 from dev import items, manual
 from gate import dist, edits, formatting, laws, library, listed, page_checks, source_checks, words
 from program import repo
-from trials import bundling
 
 # The gate tries the named wrong bodies alone: so many edits, in so many crates.
 MOST_EDITS, MOST_CRATES = 25, 12
@@ -225,11 +224,6 @@ def worked_causes():
             yield f"docs/OTHER.md: {title} is no worked row that is other"
 
 
-def bundles():
-    """./bundle joins what PEM and DER files hold, and tells what it leaves out."""
-    yield from bundling.faults()
-
-
 def items_spelled():
     """Each item of cert_rows is what the comment above it spells."""
     text = repo.read(items.STDIN)
@@ -259,7 +253,7 @@ def libraries_are_built():
 
 def checks():
     """All looks."""
-    found = (layout, edits_apply, few_edits, all_read, no_labels, no_machine, docs_name_files, crates_listed, few_ways, judge_alone, roads_apart, headers_counted, no_handles, short_files, items_spelled, worked_causes, bundles, manual_is_made, dist_is_built, libraries_are_built, plain_words)
+    found = (layout, edits_apply, few_edits, all_read, no_labels, no_machine, docs_name_files, crates_listed, few_ways, judge_alone, roads_apart, headers_counted, no_handles, short_files, items_spelled, worked_causes, manual_is_made, dist_is_built, libraries_are_built, plain_words)
     return found + source_checks.CHECKS + page_checks.CHECKS
 
 

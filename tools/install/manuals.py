@@ -11,7 +11,7 @@ PAGES = {
     "certpath": (CLI, "finds and checks certificate paths, proved"),
     "verify": ("docs/VERIFY.md", "says whether a certificate has a valid path to a trust anchor"),
     "vouch": (CLI, "writes which key signed which certificate or revocation list"),
-    "bundle": (CLI, "joins the certificates and revocation lists of PEM and DER files"),
+    "bundle": (CLI, "joins the certificates and revocation lists of PEM, DER and PKCS #7 files"),
     "inventory": ("docs/SCALE.md", "makes a table of many certificates or of a transparency log"),
 }
 # Sections of docs/CLI.md that an installation has no command for, or has a page of its own for.

@@ -1,1 +1,1 @@
-"""What ./bundle and ./vouch share: shapes of items, keys and signatures."""
+"""What ./verify and ./vouch share: shapes of items, keys and signatures."""

@@ -1,4 +1,4 @@
-"""What ./bundle tests of octets: elements of DER and BER with a definite length, and the shapes of certificates and revocation lists."""
+"""What ./verify tests of octets: elements of DER and BER with a definite length, and the shapes of certificates and revocation lists."""
 from typing import NamedTuple
 
 LIMIT = 16777216

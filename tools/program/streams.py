@@ -1,4 +1,4 @@
-"""What ./bundle and ./vouch write: words on standard error, octets on standard output."""
+"""What ./vouch and ./verify write: words on standard error, octets on standard output."""
 import os
 import sys
 

@@ -7,7 +7,7 @@ from program import installed, programs, repo, streams
 VERSION = "0.1.0"
 INPUT = "/dev/stdin"
 # Scripts beside this one, which one may take for commands of it.
-SCRIPTS = ("bundle", "rows", "verify", "vouch")
+SCRIPTS = ("rows", "verify", "vouch")
 # So many characters of a word stand in a message.
 MOST_SHOWN = 200
 HELP, VERSIONS, BUILD = ("-h", "--help", "help"), ("-V", "--version", "version"), "--build"
@@ -19,7 +19,7 @@ FORMS = {
     "path": ASKS, "why": ASKS, "paths": """BUNDLE ANCHORS VOUCHERS --at MOMENT [--demand-lists] [--limit N]
                       [--evidence FILE]""",
     "recheck": "BUNDLE ANCHORS VOUCHERS EVIDENCE --at MOMENT [--demand-lists] [--limit N]",
-    "questions": "BUNDLE ANCHORS [--limit N]", "frame": "FILE [--limit N]",
+    "questions": "BUNDLE ANCHORS [--limit N]", "frame": "FILE [--limit N]", "bundle": "FILE..",
     "help": "[COMMAND] | --version | --build [CRATE]",
 }
 USAGE = "usage: " + "       ".join(f"certpath {name} {form}\n" for name, form in FORMS.items())
@@ -36,6 +36,7 @@ Commands:
   recheck    checks what paths found elsewhere, by the evidence that it wrote, without a search
   questions  prints which keys may have signed which items
   frame      prints where each item of a file begins and how long it is
+  bundle     writes the certificates and revocation lists of PEM, DER and PKCS #7 files as DER
   help       prints this help, or that of the command after it
 
 Options:
@@ -45,7 +46,7 @@ Options:
                  with a CRATE the program of that crate, as cert_rows for ./rows
 
 The word - as a file is standard input. Files of items are DER: of a PEM file frame says end fault 0
-and path finds no certificate in it, and ./bundle makes a DER file of it.
+and path finds no certificate in it, and bundle makes a DER file of it.
 
 Exit status: 69 dist/ is older than the sources, which --build mends; 70 no program could be run.
 Nothing is built but by --build.
@@ -99,6 +100,13 @@ Prints where each item of a file begins and how long it is, and how the file end
               "Arguments:\n  FILE  items in DER, one after another\n", LIMIT, "0 nothing follows the last item",
               "1 the file ends within an item, or with what is no item", "2 wrong words",
               "4 the file can't be read", MEMORY, OUTPUT),
+    "bundle": ("""\
+Writes every certificate and revocation list of the files to standard output: DER, one right after
+another, in their order and with their octets. On standard error it prints a line for each thing
+that is left out, with its place and the reason, and then how many there are. No octet of a block is
+printed, nor a label that isn't known.""",
+               "Arguments:\n  FILE..  files of PEM, of DER items one after another, or of PKCS #7\n", "",
+               "0 nothing was left out", "1 something was left out", "2 wrong words", UNREAD, MEMORY, OUTPUT),
 }
 COMMANDS = sorted(HELPS)
 # An installation has no sources.
@@ -148,12 +156,13 @@ def asks_for_help(words):
 
 
 def run(words):
-    """Becomes the program, with standard input in the place of a file that is called -."""
+    """Becomes the program, with standard input in the place of a file that is called -; bundle does that itself, since it
+    prints the names of files."""
     if words.count("-") > 1:
         return refused("standard input can be one file only")
     if ("--evidence", "-") in zip(words, words[1:]) or "--evidence=-" in words:
         return refused("--evidence needs a file: - is standard input")
-    return repo.run(programs.CERTPATH, [INPUT if it == "-" else it for it in words])
+    return repo.run(programs.CERTPATH, words if words[0] == "bundle" else [INPUT if it == "-" else it for it in words])
 
 
 def refused(why):

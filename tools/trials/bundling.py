@@ -1,14 +1,22 @@
-"""What ./bundle makes of files that are written out here or are in samples/: the octets, what is reported, and the status."""
+"""What `certpath bundle` makes of files that are written out here or are in samples/: the octets, what
+is said of what is left out, and the status; and of files that are made to be slow, or to leak."""
 import base64
 import os
 import subprocess
-import sys
 import tempfile
+import threading
+import time
 
 from program import repo
+from trials.count import Trial, size
 
 CERTIFICATE = "CERTIFICATE"
-NO_LINE, NO_FILE = "that is no line of its own (are newlines missing?)", "no such file; is the name right?"
+NO_LINE = "that is no line of its own (are newlines missing?)"
+BOUNDARY = f"a BEGIN or an END {NO_LINE}"
+NO_ITEM = "neither certificate nor revocation list"
+SECONDS = 60
+# A file of 10^6 lines takes so long at most, on a machine that does other things too.
+SECONDS_OF_LINES = 20
 
 
 def sample(name):
@@ -33,84 +41,173 @@ KEY = bytes.fromhex("3010 020100 3005 06032b6570 0404 deadbeef")
 # The leaf with a length of one octet more than need be.
 LONG = LEAF[:1] + b"\x83\x00" + LEAF[2:]
 BROKEN = [pem(KEY, "PRIVATE KEY"), pem(KEY), pem(REQUEST, "CERTIFICATE REQUEST"), pem(REQUEST), pem(LONG), pem(LEAF[:-1]), pem(b""),
-          pem(LEAF).replace(b"MII", b"M*I", 1), pem(LEAF).replace(b"\n", b"\nProc-Type: 4,ENCRYPTED\n", 1),
+          pem(LEAF).replace(b"MII", b"M*I", 1), pem(LEAF).replace(b"-----\n", b"-----\nProc-Type: 4,ENCRYPTED\n\n", 1),
           pem(LEAF).replace(b"END C", b"END X509 C"), pem(LEAF).split(b"-----END")[0], pem(ROOT + b"\0")]
+# The line at which each of them begins, and the one after the last.
+AT = [1]
+for block in BROKEN:
+    AT.append(AT[-1] + block.count(b"\n") + (not block.endswith(b"\n")))
+
+
+def element(first, content):
+    """An element in DER."""
+    length = bytes([len(content)]) if len(content) < 128 else b"\x82" + len(content).to_bytes(2, "big")
+    return bytes([first]) + length + content
+
+
+def signed_data(certificates, lists):
+    """A ContentInfo with SignedData that has these sets, and no signers (RFC 5652, 5.1)."""
+    inner = b"\x02\x01\x01\x31\x00" + element(0x30, bytes.fromhex("06092a864886f70d010701"))
+    sets = element(0xA0, b"".join(certificates)) + element(0xA1, b"".join(lists))
+    return element(0x30, bytes.fromhex("06092a864886f70d010702") + element(0xA0, element(0x30, inner + sets + b"\x31\x00")))
+
+
+SEVEN = signed_data([LEAF, REQUEST, ROOT], [LIST])
+SUMMARY = "bundle: {} ({}, {}), {} left out"
+
+
+def summary(certificates, lists, left_out):
+    """The last line."""
+    def counted(number, word):
+        return f"{number} {word}" if number == 1 else f"{number} {word}s"
+    return SUMMARY.format(counted(certificates + lists, "item"), counted(certificates, "certificate"), counted(lists, "list"), left_out)
+
+
+def left(place, why):
+    return f"{place}: {why}; left out"
+
 
 # Each case: files by their names, the words, the octets wanted, the lines on standard error, the status.
 CASES = (
-    ({}, ["leaf", "intermediate", "root", "list"], sample("bundle"), ["bundle: 4 items (3 certificates, 1 list), 0 left out"], 0),
+    ({}, ["leaf", "intermediate", "root", "list"], sample("bundle"), [summary(3, 1, 0)], 0),
     ({"two.pem": pem(LEAF) + b"subject=someone\n" + pem(LIST, "X509 CRL"), "junk": b"junk\n"}, ["two.pem", "root", "junk"], LEAF + LIST + ROOT,
-     ["junk: neither PEM nor DER; left out", "bundle: 3 items (2 certificates, 1 list), 1 left out"], 1),
+     [left("junk", "the file is neither PEM nor DER"), summary(2, 1, 1)], 1),
     ({"mark": b"\xef\xbb\xbf" + pem(LEAF, end=b"\r\n") + pem(ROOT, "X509 CERTIFICATE", b"\r").rstrip(),
-      "trusted": pem(LEAF + b"\x30\x02\x0c\x00", "TRUSTED CERTIFICATE")}, ["mark", "trusted"], LEAF + ROOT + LEAF,
-     ["bundle: 3 items (3 certificates, 0 lists), 0 left out"], 0),
-    ({"broken": b"".join(BROKEN)}, ["broken"], ROOT,
-     ["broken block 1 (PRIVATE KEY): left out",
-      "broken block 2 (CERTIFICATE): neither certificate nor revocation list; left out",
-      "broken block 3 (CERTIFICATE REQUEST): left out",
-      "broken block 4 (CERTIFICATE): neither certificate nor revocation list; left out",
-      "broken block 5 (CERTIFICATE): its length is not in the shortest form (BER); left out",
-      "broken block 6 (CERTIFICATE): 1 octet of it missing; left out",
-      "broken block 7 (CERTIFICATE): not base64; left out",
-      "broken block 8 (CERTIFICATE): not base64; left out",
-      "broken block 9 (CERTIFICATE): headers stand within; left out",
-      "broken block 10 (CERTIFICATE): it ends as X509 CERTIFICATE; left out",
-      "broken block 11 (CERTIFICATE): its END is missing; left out",
-      "broken block 12 (CERTIFICATE): 1 octet after the item; left out",
-      "bundle: 1 item (1 certificate, 0 lists), 12 left out"], 1),
+      "trusted": pem(LEAF + b"\x30\x02\x0c\x00", "TRUSTED CERTIFICATE"), "old": pem(ROOT, "X.509 CERTIFICATE")}, ["mark", "trusted", "old"],
+     LEAF + ROOT + LEAF + ROOT, [summary(4, 0, 0)], 0),
+    ({"broken": b"".join(BROKEN[:10]) + BROKEN[10] + BROKEN[11]}, ["broken"], ROOT,
+     [left(f"broken line {AT[0]} (PRIVATE KEY)", "the block holds neither certificate nor revocation list"),
+      left(f"broken line {AT[1]} (CERTIFICATE)", NO_ITEM),
+      left(f"broken line {AT[2]} (CERTIFICATE REQUEST)", "the block holds neither certificate nor revocation list"),
+      left(f"broken line {AT[3]} (CERTIFICATE)", NO_ITEM),
+      left(f"broken line {AT[4]} (CERTIFICATE)", "its length is not in the shortest form (BER)"),
+      left(f"broken line {AT[5]} (CERTIFICATE)", "1 octet of it missing"),
+      left(f"broken line {AT[6]} (CERTIFICATE)", "there is nothing in it"),
+      left(f"broken line {AT[7]} (CERTIFICATE)", "not base64"),
+      left(f"broken line {AT[8]} (CERTIFICATE)", "header lines within"),
+      left(f"broken line {AT[9]} (CERTIFICATE)", "its END is missing"),
+      left(f"broken line {AT[10] - 1}", "an END that ends no block"),
+      left(f"broken line {AT[10]} (CERTIFICATE)", "its END is missing"),
+      left(f"broken line {AT[11]} (CERTIFICATE)", "1 octet after the item"), summary(1, 0, 13)], 1),
     ({"lines": b"# -----BEGIN CERTIFICATE-----\n-----END CERTIFICATE-----\n" + LIST + b"\n" + pem(LEAF)}, ["lines"], LEAF,
-     [f"lines line 1: a BEGIN {NO_LINE}; left out",
-      "lines line 2: an END (CERTIFICATE) without a BEGIN; left out",
-      "lines line 3: octets around the blocks that are no text; left out",
-      "bundle: 1 item (1 certificate, 0 lists), 3 left out"], 1),
+     [left("lines line 1", BOUNDARY), left("lines line 2", "an END that ends no block"),
+      left("lines line 3", "octets around the blocks that are no text"), summary(1, 0, 3)], 1),
     ({"flat": pem(LEAF).replace(b"\n", b" ") + b"\n" + pem(KEY, "PRIVATE KEY", b"")}, ["flat", "leaf"], LEAF,
-     [f"flat line 1: a BEGIN {NO_LINE}; left out", f"flat line 2: a BEGIN {NO_LINE}; left out",
-      "bundle: 1 item (1 certificate, 0 lists), 2 left out"], 1),
+     [left("flat line 1", BOUNDARY), left("flat line 2", BOUNDARY), summary(1, 0, 2)], 1),
     ({"labels": b"".join([pem(LEAF, "A" * 64), pem(LEAF, "A" * 65), pem(LEAF, "A--B"), pem(LEAF, " A"), pem(LEAF, "A B-C"), pem(LEAF, ""), pem(ROOT)])},
      ["labels"], ROOT,
-     ["labels block 1 (line 1): its label isn't known; left out",
-      *(f"labels line {line}: {kind} {NO_LINE}; left out" for line in (LINES + 1, 2 * LINES + 1, 3 * LINES + 1) for kind, line in
-        (("a BEGIN", line), ("an END", line + LINES - 1))),
-      f"labels block 2 (line {4 * LINES + 1}): its label isn't known; left out",
-      f"labels block 3 (line {5 * LINES + 1}): its label isn't known; left out",
-      "bundle: 1 item (1 certificate, 0 lists), 9 left out"], 1),
+     [left("labels line 1", "the label isn't known"),
+      *(left(f"labels line {line}", BOUNDARY) for at in (1, 2, 3) for line in (at * LINES + 1, (at + 1) * LINES)),
+      left(f"labels line {4 * LINES + 1}", "the label isn't known"), left(f"labels line {5 * LINES + 1}", "the label isn't known"), summary(1, 0, 9)], 1),
     ({"ends": pem(LEAF).replace(b"END CERTIFICATE", b"END %s" % (b"A" * 64)) + b"-----END " + b"A" * 64 + b"-----\n" + pem(ROOT).replace(b"-----END", b"----END")},
      ["ends", "leaf"], LEAF,
-     ["ends block 1 (CERTIFICATE): its END has another label; left out", f"ends line {LINES + 1}: an END without a BEGIN; left out",
-      "ends block 2 (CERTIFICATE): its END is missing; left out", "bundle: 1 item (1 certificate, 0 lists), 3 left out"], 1),
+     [left("ends line 1 (CERTIFICATE)", "its END is missing"), left(f"ends line {LINES}", "an END that ends no block"),
+      left(f"ends line {LINES + 1}", "an END that ends no block"), left(f"ends line {LINES + 2} (CERTIFICATE)", "its END is missing"), summary(1, 0, 4)], 1),
     ({"random.der": bytes.fromhex("3084 c1dead00 0102"), "odd.pem": b"-----BEGINCERTIFICATE-----\n"}, ["random.der", "odd.pem"], b"",
-     ["random.der octet 0: its length is above 16777216, 8 octets to the file's end; left out", f"odd.pem line 1: a BEGIN {NO_LINE}; left out",
-      "bundle: 0 items (0 certificates, 0 lists), 2 left out"], 1),
+     [left("random.der octet 0", "its length is above 16777216, 8 octets to the end"), left("odd.pem line 1", BOUNDARY), summary(0, 0, 2)], 1),
     ({"some": REQUEST + LEAF + LONG + LIST + b"\x30\x80\0\0", "tail": ROOT + b"\n", "cut": LEAF[:-1], "none": b""},
      ["some", "tail", "cut", "none"], LEAF + LIST + ROOT,
-     ["some octet 0: neither certificate nor revocation list; left out",
-      "some octet 902: its length is not in the shortest form (BER); left out",
-      "some octet 2220: its length is indefinite (BER) or cut, 4 octets to the file's end; left out",
-      "tail octet 813: neither certificate nor revocation list, 1 octet to the file's end; left out",
-      "cut octet 0: 1 octet of it missing, 883 octets to the file's end; left out",
-      "none: empty; left out",
-      "bundle: 3 items (2 certificates, 1 list), 6 left out"], 1),
-    ({}, [], b"", ["usage: ./bundle FILE.. > bundle.der"], 2),
-    ({}, ["-", "leaf", "-"], b"", ["bundle: standard input can be one file only"], 2),
-    ({}, ["leaf", "missing"], b"", [f"cannot read missing: {NO_FILE}"], 4),
-    ({}, ["leaf", ""], b"", [f"cannot read '': {NO_FILE}"], 4),
-    ({}, ["."], b"", ["cannot read .: it is a folder; name its files"], 4),
-    ({}, ["m" * 1000], b"", [f"cannot read {'m' * 200}..: File name too long"], 4),
-    ({}, ["miss\x1b[2Jing\n"], b"", [f"cannot read miss\\x1b[2Jing\\n: {NO_FILE}"], 4),
-    ({"es\x9bcape": b"junk\n"}, ["es\x9bcape", "leaf"], LEAF,
-     ["es\\x9bcape: neither PEM nor DER; left out", "bundle: 1 item (1 certificate, 0 lists), 1 left out"], 1),
+     [left("some octet 0", NO_ITEM), left("some octet 902", "its length is not in the shortest form (BER)"),
+      left("some octet 2220", "its length is indefinite (BER) or cut, 4 octets to the end"), left("tail octet 813", f"{NO_ITEM}, 1 octet to the end"),
+      left("cut octet 0", "1 octet of it missing, 883 octets to the end"), left("none", "the file is empty"), summary(2, 1, 6)], 1),
+    ({"seven.p7b": SEVEN, "seven.pem": pem(SEVEN, "PKCS7"), "cms.pem": pem(signed_data([LEAF], []), "CMS"), "bare.pem": pem(b"\x30\x00", "PKCS7"),
+      "two.der": ROOT + SEVEN}, ["seven.p7b", "seven.pem", "cms.pem", "bare.pem", "two.der"],
+     LEAF + ROOT + LIST + LEAF + ROOT + LIST + LEAF + ROOT + LEAF + ROOT + LIST,
+     [left("seven.p7b octet 0 certificate 1", NO_ITEM), left("seven.pem line 1 (PKCS7) certificate 1", NO_ITEM),
+      left("bare.pem line 1 (PKCS7)", "no SignedData in DER"), left("two.der octet 813 certificate 1", NO_ITEM), summary(8, 3, 4)], 1),
+    ({"wide": pem(LEAF).decode().encode("utf-16"), "low": pem(LEAF).decode().encode("utf-16-le"), "high": pem(LEAF).decode().encode("utf-16-be")},
+     ["wide", "low", "high"], b"", [*(left(it, "the file is a text in UTF-16") for it in ("wide", "low", "high")), summary(0, 0, 3)], 1),
+    ({"zeros": b"\0" * 100 + b"\n" + pem(LEAF), "within": pem(LEAF).replace(b"MII", b"M\0I", 1) + pem(ROOT)}, ["zeros", "within"], LEAF + ROOT,
+     [left("zeros line 1", "octets around the blocks that are no text"), left("within line 1 (CERTIFICATE)", "not base64"), summary(2, 0, 2)], 1),
+    ({"escape\x1b[2J\n\u202e\u00e4": b"junk\n"}, ["escape\x1b[2J\n\u202e\u00e4", "leaf"], LEAF,
+     [left("escape\\u{1b}[2J\\u{a}\\u{202e}\u00e4", "the file is neither PEM nor DER"), summary(1, 0, 1)], 1),
+    ({}, ["leaf", "missing"], b"", ["cannot read missing"], 4),
+    ({}, ["leaf", ""], b"", ["cannot read "], 4),
+    ({}, ["leaf", "."], b"", ["cannot read ."], 4),
 )
 
 
-def faults():
-    """A line for each case that goes otherwise."""
-    for files, words, octets, lines, status in CASES:
+def kept(room, files):
+    """Keeps files in a folder, the samples beside them."""
+    for name, held in {"leaf": LEAF, "intermediate": INTERMEDIATE, "root": ROOT, "list": LIST, **files}.items():
+        with open(os.path.join(room, name), "wb") as file:
+            file.write(held)
+
+
+class Bundling(Trial):
+    def ran(self, words, room, octets=b"", output=subprocess.PIPE):
+        """A run's output, the lines that it said, and its status."""
+        it = subprocess.run([self.program(), "bundle", *words], cwd=room, input=octets, stdout=output, stderr=subprocess.PIPE, timeout=SECONDS)
+        return it.stdout, it.stderr.decode().splitlines(), it.returncode
+
+    def test_cases(self):
+        for files, words, octets, lines, status in CASES:
+            with tempfile.TemporaryDirectory(prefix="bundling-") as room:
+                kept(room, files)
+                self.same(f"bundle {words}", self.ran(words, room), (octets, lines, status))
+
+    def test_words(self):
         with tempfile.TemporaryDirectory(prefix="bundling-") as room:
-            for name, held in {"leaf": LEAF, "intermediate": INTERMEDIATE, "root": ROOT, "list": LIST, **files}.items():
-                with open(os.path.join(room, name), "wb") as file:
-                    file.write(held)
-            ran = subprocess.run([sys.executable, "-IS", os.path.join(repo.TOP, "bundle"), *words], cwd=room, stdin=subprocess.DEVNULL, capture_output=True)
-        reported = ran.stderr.decode().splitlines()
-        for what, found, wanted in (("octets", ran.stdout, octets), ("lines", reported, lines), ("status", ran.returncode, status)):
-            if found != wanted:
-                yield f"bundle {' '.join(words)}: its {what} are {found!r:.300}, and {wanted!r:.300} are wanted"
+            kept(room, {})
+            self.same("standard input", self.ran(["leaf", "-"], room, pem(ROOT)), (LEAF + ROOT, [summary(2, 0, 0)], 0))
+            self.same("standard input that is left out", self.ran(["-"], room, b"junk"), (b"", [left("-", "the file is neither PEM nor DER"), summary(0, 0, 1)], 1))
+            for words in ([], ["--no-option"]):
+                octets, lines, status = self.ran(words, room)
+                self.same(f"bundle {words}", (octets, lines[0][:6], status), (b"", "error:", 2))
+            with open("/dev/full", "wb") as full:
+                self.same("a full disk", self.ran(["leaf"], room, output=full), (None, ["cannot write"], 7))
+            many = [it for number in range(1500) for it in ("leaf", "list")]
+            self.same("3000 files", self.ran(many, room), ((LEAF + LIST) * 1500, [summary(1500, 1500, 0)], 0))
+
+    def test_large(self):
+        """Files of strangers: what is said of them, and that it takes seconds."""
+        lines, width = size(1_000_000, 50_000), size(64 << 20, 4 << 20)
+        begin, end = b"-----BEGIN CERTIFICATE-----\n", b"-----END CERTIFICATE-----\n"
+        no_end = left("file line {} (CERTIFICATE)", "its END is missing")
+        with tempfile.TemporaryDirectory(prefix="bundling-") as room:
+            for title, octets, count, first in (
+                    ("lines with a BEGIN", begin * lines, lines, no_end.format(1)), ("lines with an END", end * lines, lines + 1, left("file line 1", "")),
+                    ("one line", b"A" * width, 1, left("file", "the file is neither PEM nor DER")),
+                    ("one line in a block", begin + b"A" * width + b"\n" + end, 1, left("file line 1 (CERTIFICATE)", NO_ITEM)),
+                    ("hyphens", begin + b"-" * width + b"\n", 1, no_end.format(1)),
+                    ("a label", b"-----BEGIN " + b"A" * lines + b"-----\n" + pem(LEAF), 1, left("file line 1", BOUNDARY)),
+                    ("no END at the end", pem(LEAF) + begin + b"MIIB" * lines, 1, no_end.format(LINES + 1)),
+                    ("NULs", b"\0" * width + b"\n" + pem(LEAF), 1, left("file line 1", "octets around the blocks that are no text"))):
+                kept(room, {"file": octets})
+                begun = time.monotonic()
+                _, said, status = self.ran(["file"], room)
+                took = time.monotonic() - begun
+                self.row(took < SECONDS_OF_LINES, f"{title}: {took:.1f} s")
+                if title == "lines with an END":
+                    count, first = 1, left("file", "the file is neither PEM nor DER")
+                self.same(title, (status, len(said) - 1, said[0]), (1, count, first))
+
+    def test_growing(self):
+        """A file that changes while it is read: what was read is taken, and the run ends."""
+        with tempfile.TemporaryDirectory(prefix="bundling-") as room:
+            kept(room, {"growing": pem(LEAF) * 20_000})
+            is_over = threading.Event()
+
+            def grow():
+                with open(os.path.join(room, "growing"), "r+b") as file:
+                    while not is_over.is_set():
+                        file.seek(0)
+                        file.write(pem(ROOT))
+                        file.flush()
+                        file.truncate(len(pem(LEAF)) * 10_000)
+            changing = threading.Thread(target=grow)
+            changing.start()
+            octets, said, status = self.ran(["growing"], room)
+            is_over.set()
+            changing.join()
+            self.row(status in (0, 1) and said[-1].startswith("bundle: ") and len(octets) > 0, f"a file that changes: {status}, {said[-1:]}")

@@ -14,6 +14,7 @@ from typing import Callable, NamedTuple
 
 from program import repo
 from trials import paths, pieces
+from trials.bundling import KEY, LEAF, SEVEN, pem
 from trials.count import Trial
 
 REFUSER = os.path.join("tools", "trials", "embedding", "refuse.c")
@@ -144,6 +145,8 @@ def command_trials(program, room):
     parts = one[:1], one[1:40], one[40:]
     files = "/dev/stdin", "anchors0", "vouchers0"
     yield trial("frame, three pieces", ["frame", files[0]], parts)
+    mixed = made("mixed", pem(LEAF) + pem(KEY, "PRIVATE KEY") + pem(SEVEN, "PKCS7"))
+    yield trial("bundle, PEM and PKCS #7", ["bundle", mixed, "bundle0"])
     words = paths.words_of("path", files, {"target": "0"}, case)
     yield trial("path, three pieces", words, parts)
 

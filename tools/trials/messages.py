@@ -12,7 +12,7 @@ import tempfile
 from concurrent.futures import ThreadPoolExecutor
 
 from program import repo
-from trials import bundling, messages_files
+from trials import messages_files
 from trials.count import size
 from trials.messages_rows import ABSENT, ELSEWHERE, ROWS
 from trials.vouching_pki import Workshop
@@ -20,7 +20,7 @@ from trials.vouching_pki import Workshop
 RUNS, SECONDS = 3, 600
 # The smaller size has one row of so many.
 SAMPLED = 4
-SOURCES = ("bundle", "vouch", "verify", "tools/pki/*.py", "tools/verify/*.py")
+SOURCES = ("vouch", "verify", "tools/pki/*.py", "tools/verify/*.py")
 # Patterns of what `certpath why` prints, and no messages.
 PATTERNS = "tools/verify/report.py"
 # Arguments of argparse that are help, and no message.
@@ -132,7 +132,7 @@ def tried(commands, row):
 
 def untried(printed):
     """The messages that nothing printed, and that aren't known to be tried elsewhere."""
-    lines = {*printed, *(line for case in bundling.CASES for line in case[3])}
+    lines = {*printed}
     for message, place in messages().items():
         if message not in ELSEWHERE and message not in ABSENT and not is_printed(message, lines):
             yield f"{place}: {message!r}"

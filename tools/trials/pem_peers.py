@@ -27,7 +27,7 @@ except ImportError:
 
 PAGE = "docs/PEM.md"
 HEAD = ("| file | `openssl storeutl` | Python `ssl` | `cryptography` | Go `pem.Decode` "
-        "| `./bundle` |")
+        "| `certpath bundle` |")
 GO = shutil.which("go")
 ERROR, ABSENT = "error", None
 MARK = b"\xef\xbb\xbf"

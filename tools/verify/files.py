@@ -1,6 +1,4 @@
-"""The items of the caller's files: ./bundle takes them out of PEM and DER, `openssl` unpacks the containers."""
-import importlib.machinery
-import importlib.util
+"""The items of the caller's files: of PEM and DER by blocks.py, and `openssl` unpacks the containers."""
 import os
 import re
 import shlex
@@ -9,8 +7,8 @@ import tempfile
 from typing import NamedTuple
 
 from pki import labels, reading
-from program import repo, streams
-from verify import waiting
+from program import streams
+from verify import blocks, waiting
 from verify.faults import NO_PROGRAM, UNREAD, Fault
 
 # What a PKCS #7 file of certificates and a PKCS #12 file begin with: headers of SEQUENCEs and an identifier (RFC 5652, 5.1; RFC 7292, 4).
@@ -60,20 +58,8 @@ class FileContents(NamedTuple):
     left_out: list
 
 
-def loaded(script):
-    """A script of the repository as a module."""
-    path = os.path.join(repo.TOP, script)
-    loader = importlib.machinery.SourceFileLoader(f"script_{script}", path)
-    module = importlib.util.module_from_spec(importlib.util.spec_from_loader(loader.name, loader))
-    loader.exec_module(module)
-    return module
-
-
-BUNDLING = loaded("bundle")
-
-
-class Collector(BUNDLING.Bundle):
-    """Items of a file as ./bundle takes them, and those of PKCS #7 blocks; what ./bundle would report is kept."""
+class Collector(blocks.Taken):
+    """Items of a file, and those of PKCS #7 blocks; what is left out is kept."""
 
     def __init__(self, file):
         super().__init__()
@@ -106,7 +92,7 @@ class Collector(BUNDLING.Bundle):
     def of(cls, name, octets):
         """What octets hold."""
         taken = cls(name)
-        BUNDLING.take_file(taken, name, octets)
+        blocks.take_file(taken, name, octets)
         return taken
 
 
@@ -161,7 +147,7 @@ def of_twelve(file, octets):
 
 
 def plain(file, octets):
-    """The octets as ./bundle reads them."""
+    """The octets as PEM or DER."""
     if DER_OF_SEVEN.match(octets):
         return of_seven(file, octets)
     return of_twelve(file, octets) if DER_OF_TWELVE.match(octets) else octets

@@ -17,13 +17,16 @@ use Rattle.cert_graph.specs.Entries.{IsAt}
 use Rattle.cert_groups.specs.Links.{IsWithin, Adds}
 use Rattle.cert_model.specs.Fields.{CivilTime}
 use Rattle.cert_judge.specs.declared.judged.JudgedItem.{JudgedItem}
+use Rattle.cert_judge.specs.Vouching.{Vouching}
 use Rattle.cert_judge.specs.Judging.{IsUsable, IsFitIssuer}
+use Rattle.cert_judge.specs.Further.{any_identifier}
 use Rattle.cert_judge.specs.Revoking.{Item}
 use Rattle.cert_judge.specs.Items.{rules_at}
 use Rattle.cert_judge.specs.ItemGraph.{IsCertificateWith, self_issued_of, limit_of, graph_of_items}
 use Rattle.cert_judge.specs.JudgedItems.{IsNodeOf, IsNodeFor, IsJudged, AreJudged, AreNodesFor}
 use Rattle.cert_judge.specs.NamedLinks.{IsSomeLink, IsSomeAnchor}
 use Rattle.cert_judge.proofs.Grouping.{element}
+use Rattle.cert_judge.proofs.FurtherFacts.{fit_more}
 use Rattle.cert_judge.proofs.Bridging.{edge_iff, anchor_edge_iff}
 
 -- one element more, related to the element at its place
@@ -39,14 +42,15 @@ pushed_all R xs ys k y count h new v x d lt =
           subst (R (get_or xs v x)) (sym at) (subst (λ i. R (get_or xs i x) y) same (new x))
     ]
 
-pub nodes_none : (js : List JudgedItem) → AreNodesFor js [] 0
-nodes_none js = record { count = refl; each = λ v j n lt. absurd (omega arith) }
+pub nodes_none : (Q : List ℕ → List ℕ → Type 0) (js : List JudgedItem) → AreNodesFor Q js [] 0
+nodes_none Q js = record { count = refl; each = λ v j n lt. absurd (omega arith) }
 
-pub nodes_more : (js : List JudgedItem) (nodes : List Node) (k : ℕ) (n : Node) → AreNodesFor js nodes k → ((j : JudgedItem) → IsNodeFor (get_or js k j) n) → AreNodesFor js (nodes ++ n ∷ []) (k + 1)
-nodes_more js nodes k n h new =
+pub nodes_more : (Q : List ℕ → List ℕ → Type 0) (js : List JudgedItem) (nodes : List Node) (k : ℕ) (n : Node) → AreNodesFor Q js nodes k → ((j : JudgedItem) → IsNodeFor Q (get_or js k j) n)
+    → AreNodesFor Q js (nodes ++ n ∷ []) (k + 1)
+nodes_more Q js nodes k n h new =
     let long = length-append nodes (n ∷ []) in
     let count = h.count in
-    record { count = omega arith; each = pushed_all IsNodeFor js nodes k n h.count h.each new }
+    record { count = omega arith; each = pushed_all (IsNodeFor Q) js nodes k n h.count h.each new }
 
 -- so many items are judged
 pub record JudgedUpTo (moment : CivilTime) (xs : List Item) (js : List JudgedItem) (k : ℕ) : Type 0 where
@@ -90,35 +94,42 @@ seen xs ys f g z same v eq =
 none_yet : {X : Type 0} (P : X → Type 0) → Any P [] → ⊥
 none_yet P h = let lt = h.2 in absurd (omega arith)
 
-module _ (moment : CivilTime) (demand : Bool) (V : List ℕ → List ℕ → Type 0) (xs ys : List Item) (js hs : List JudgedItem) (judged : AreJudged moment xs js) (anchored : AreJudged moment ys hs) (nodes : Nodes)
-    (are : AreNodesFor js nodes.items.items (length js)) (adds : Adds (length js) [] nodes.groups.items (IsSomeLink V demand js hs) (IsSomeAnchor V demand js hs)) where
+module _ (moment : CivilTime) (demand : Bool) (W : Vouching) (xs ys : List Item) (js hs : List JudgedItem) (judged : AreJudged moment xs js) (anchored : AreJudged moment ys hs) (nodes : Nodes)
+    (are : AreNodesFor W.Processes js nodes.items.items (length js)) (adds : Adds (length js) [] nodes.groups.items (IsSomeLink W.Vouches demand js hs) (IsSomeAnchor W.Vouches demand js hs)) where
   same_count : length nodes.items.items ≡ length xs
   same_count = are.count ∙ judged.count
 
-  node_at : (v : ℕ) (n : Node) (x : Item) → v < length xs → IsNodeOf moment (get_or xs v x) (get_or nodes.items.items v n)
+  node_at : (v : ℕ) (n : Node) (x : Item) → v < length xs → IsNodeOf (W.Processes (get_or xs v x).octets) moment (get_or xs v x) (get_or nodes.items.items v n)
   node_at v n x lt =
       let count = judged.count in
       let below : v < length js = omega arith in
       let j = element js v below in
       are.each v j.0 n below moment (get_or xs v x) (judged.each v x j.0 lt)
 
-  fit_iff : (v : ℕ) → IsAt nodes.items.items v (λ n. n.fit ≡ true) ↔ IsAt xs v (IsCertificateWith (IsFitIssuer moment))
-  fit_iff v = at_iff nodes.items.items xs (λ (n : Node). n.fit ≡ true) (IsCertificateWith (IsFitIssuer moment)) same_count v (λ n x lt. (node_at v n x lt).fit)
+  abbrev IsFitThere : Item → Type 0
+  IsFitThere x = IsCertificateWith (IsFitIssuer (W.Processes x.octets) moment) x
 
-  pub built_agrees : Agrees (graph_of nodes) (graph_of_items (rules_at moment demand V) xs ys)
+  fit_iff : (v : ℕ) → IsAt nodes.items.items v (λ n. n.fit ≡ true) ↔ IsAt xs v IsFitThere
+  fit_iff v = at_iff nodes.items.items xs (λ (n : Node). n.fit ≡ true) IsFitThere same_count v (λ n x lt. (node_at v n x lt).fit)
+
+  -- whoever is fit is so if more is processed
+  fit_anyhow : (v : ℕ) → IsAt xs v IsFitThere → IsAt xs v (IsCertificateWith (IsFitIssuer any_identifier moment))
+  fit_anyhow v h = (h.0, λ d. let f = h.1 d in (f.0, f.1, fit_more (W.Processes (get_or xs v d).octets) any_identifier moment f.0 (λ id p. tt) f.2))
+
+  pub built_agrees : Agrees (graph_of nodes) (graph_of_items (rules_at moment demand W) xs ys)
   unfolding Links LinksToAnchor
   built_agrees = record {
     items = same_count;
     certificate = λ v. at_iff nodes.items.items xs (λ (n : Node). n.certificate ≡ true) (IsCertificateWith (λ c. Unit {0})) same_count v (λ n x lt. (node_at v n x lt).certificate);
-    usable = λ v. at_iff nodes.items.items xs (λ (n : Node). n.usable ≡ true) (IsCertificateWith (IsUsable moment)) same_count v (λ n x lt. (node_at v n x lt).usable);
+    usable = λ v. at_iff nodes.items.items xs (λ (n : Node). n.usable ≡ true) (λ (x : Item). IsCertificateWith (IsUsable (W.Processes x.octets) moment) x) same_count v (λ n x lt. (node_at v n x lt).usable);
     fit = fit_iff;
     self_issued = λ v. seen xs nodes.items.items (λ (x : Item). self_issued_of x.class) (λ (n : Node). n.self_issued) false (sym same_count) v (λ lt x n. let c = same_count in let below : v < length xs = omega arith in (node_at v n x below).self_issued);
     limit = λ v fit. seen xs nodes.items.items (λ (x : Item). limit_of x.class) (λ (n : Node). reach_of n.limit) No (sym same_count) v (λ lt x n. let c = same_count in let below : v < length xs = omega arith in (node_at v n x below).limit (fit.1 n));
-    edge = λ v w fit. let e = edge_iff moment demand V xs ys js hs judged anchored v w ((fit_iff w).0 fit) in (
+    edge = λ v w fit. let e = edge_iff moment demand W xs ys js hs judged anchored v w (fit_anyhow w ((fit_iff w).0 fit)) in (
       λ h. elim ((adds.links v w).0 h) [ inl x ↦ absurd (none_yet (HasLink v w) x) | inr x ↦ e.0 x ],
       λ h. (adds.links v w).1 (inr (e.1 h)),
     );
-    anchored = λ v a. let e = anchor_edge_iff moment demand V xs ys js hs judged anchored v a in (
+    anchored = λ v a. let e = anchor_edge_iff moment demand W xs ys js hs judged anchored v a in (
       λ h. elim ((adds.anchored v a).0 h) [ inl x ↦ absurd (none_yet (HasAnchorLink v a) x) | inr x ↦ e.0 x ],
       λ h. (adds.anchored v a).1 (inr (e.1 h)),
     );

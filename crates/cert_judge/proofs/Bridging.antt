@@ -17,7 +17,10 @@ use Rattle.cert_judge.specs.declared.judged.JudgedCertificate.{JudgedCertificate
 use Rattle.cert_judge.specs.declared.judged.JudgedList.{JudgedList}
 use Rattle.cert_judge.specs.declared.judged.JudgedItem.{JudgedItem}
 use Rattle.cert_judge.specs.declared.judged.JudgedItem.TheVariants.{Certificate as certificate_judged, List as list_judged, Other as other_judged}
+use Rattle.cert_judge.specs.Vouching.{Vouching}
 use Rattle.cert_judge.specs.Judging.{IsFitIssuer}
+use Rattle.cert_judge.specs.Further.{any_identifier}
+use Rattle.cert_judge.specs.Items.{rules_at}
 use Rattle.cert_judge.specs.Revoking.{Item, Rules, IsCurrent, IsPlain, IsUsedList, IsSatisfied}
 use Rattle.cert_judge.specs.Named.{NamesKeyId, HasKeyId}
 use Rattle.cert_judge.specs.ItemGraph.{IsCertificateWith, IsIssuedUnder, HaveSameKeyId, IsLink, IsAnchorLink}
@@ -54,9 +57,6 @@ list_is_certificate l c k p q = let e = sym p ∙ q in cc
 other_is_certificate : (c : Certificate) (k : Class) → k ≡ other → k ≡ certificate c → ⊥
 other_is_certificate c k p q = let e = sym p ∙ q in cc
 
-abbrev rules : CivilTime → Bool → (List ℕ → List ℕ → Type 0) → Rules
-rules moment demand V = record { moment = moment; demand_lists = demand; Vouches = V }
-
 abbrev numbers : JudgedList → List (List ℕ)
 numbers l = map (λ (s : Bor (List ℕ)). s.now) l.serials.items
 
@@ -64,25 +64,25 @@ abbrev serials : RevocationList → List (List ℕ)
 serials l = map (λ (n : Entry). n.serial) l.entries
 
 -- a list that is used, as the code holds it and as the definitions say, with what its serial numbers have
-used_from : (moment : CivilTime) (demand : Bool) (V : List ℕ → List ℕ → Type 0) (name key : List ℕ) (Q : List (List ℕ) → Type 0) (x : Item) (j : JudgedItem) → IsJudged moment x j → shown_at Name (Some (as_issued j)) ≡ Some name
-    → WithList (λ l. IsUsedBy V key l × Q (numbers l)) j → (l : RevocationList) × IsUsedList (rules moment demand V) name key x l × Q (serials l)
-used_from moment demand V name key Q x (certificate_judged c) h is u = absurd u
-used_from moment demand V name key Q x (list_judged l) h is u = (
+used_from : (moment : CivilTime) (demand : Bool) (W : Vouching) (name key : List ℕ) (Q : List (List ℕ) → Type 0) (x : Item) (j : JudgedItem) → IsJudged moment x j → shown_at Name (Some (as_issued j)) ≡ Some name
+    → WithList (λ l. IsUsedBy W.Vouches key l × Q (numbers l)) j → (l : RevocationList) × IsUsedList (rules_at moment demand W) name key x l × Q (serials l)
+used_from moment demand W name key Q x (certificate_judged c) h is u = absurd u
+used_from moment demand W name key Q x (list_judged l) h is u = (
   h.fields,
-  record { is_list = h.class; issuer = sym h.issuer ∙ held is; vouched = subst (V key) h.octets u.0.vouched; current = h.current u.0.in_force; plain = h.plain u.0.in_force },
+  record { is_list = h.class; issuer = sym h.issuer ∙ held is; vouched = subst (W.Vouches key) h.octets u.0.vouched; current = h.current u.0.in_force; plain = h.plain u.0.in_force },
   subst Q h.serials u.1,
 )
-used_from moment demand V name key Q x other_judged h is u = absurd u
+used_from moment demand W name key Q x other_judged h is u = absurd u
 
-used_to : (moment : CivilTime) (demand : Bool) (V : List ℕ → List ℕ → Type 0) (name key : List ℕ) (Q : List (List ℕ) → Type 0) (x : Item) (j : JudgedItem) → IsJudged moment x j → (l : RevocationList) → IsUsedList (rules moment demand V) name key x l → Q (serials l)
-    → (shown_at Name (Some (as_issued j)) ≡ Some name) × WithList (λ l. IsUsedBy V key l × Q (numbers l)) j
-used_to moment demand V name key Q x (certificate_judged c) h l u q = absurd (certificate_is_list h.fields l x.class h.class u.is_list)
-used_to moment demand V name key Q x (list_judged m) h l u q =
+used_to : (moment : CivilTime) (demand : Bool) (W : Vouching) (name key : List ℕ) (Q : List (List ℕ) → Type 0) (x : Item) (j : JudgedItem) → IsJudged moment x j → (l : RevocationList) → IsUsedList (rules_at moment demand W) name key x l → Q (serials l)
+    → (shown_at Name (Some (as_issued j)) ≡ Some name) × WithList (λ l. IsUsedBy W.Vouches key l × Q (numbers l)) j
+used_to moment demand W name key Q x (certificate_judged c) h l u q = absurd (certificate_is_list h.fields l x.class h.class u.is_list)
+used_to moment demand W name key Q x (list_judged m) h l u q =
     let same : l ≡ h.fields = one_list x.class l h.fields u.is_list h.class in (
       ap Some (h.issuer ∙ ap (λ (z : RevocationList). name_octets z.issuer) (sym same) ∙ u.issuer),
-      (record { in_force = h.in_force (subst (IsCurrent moment) same u.current) (subst IsPlain same u.plain); vouched = subst (V key) (sym h.octets) u.vouched }, subst Q (sym h.serials) (subst (λ z. Q (serials z)) same q)),
+      (record { in_force = h.in_force (subst (IsCurrent moment) same u.current) (subst IsPlain same u.plain); vouched = subst (W.Vouches key) (sym h.octets) u.vouched }, subst Q (sym h.serials) (subst (λ z. Q (serials z)) same q)),
     )
-used_to moment demand V name key Q x other_judged h l u q = absurd (other_is_list l x.class h u.is_list)
+used_to moment demand W name key Q x other_judged h l u q = absurd (other_is_list l x.class h u.is_list)
 
 list_mapped : (P Q : JudgedList → Type 0) → ((l : JudgedList) → P l → Q l) → (j : JudgedItem) → WithList P j → WithList Q j
 list_mapped P Q f (certificate_judged c) h = h
@@ -93,12 +93,12 @@ abbrev HasNumber : List ℕ → List (List ℕ) → Type 0
 HasNumber serial ss = Any (λ s. s ≡ serial) ss
 
 -- Items, anchors and what is judged of them.
-module _ (moment : CivilTime) (demand : Bool) (V : List ℕ → List ℕ → Type 0) (xs ys : List Item) (js hs : List JudgedItem) (judged : AreJudged moment xs js) (anchored : AreJudged moment ys hs) where
+module _ (moment : CivilTime) (demand : Bool) (W : Vouching) (xs ys : List Item) (js hs : List JudgedItem) (judged : AreJudged moment xs js) (anchored : AreJudged moment ys hs) where
   abbrev all : List Place
   all = places_of js hs
 
   abbrev r : Rules
-  r = rules moment demand V
+  r = rules_at moment demand W
 
   as_many : {v : ℕ} → v < length xs → v < length js
   as_many lt = let c = judged.count in omega arith
@@ -113,25 +113,25 @@ module _ (moment : CivilTime) (demand : Bool) (V : List ℕ → List ℕ → Typ
   issued_shows p j q lt at s = ap (shown_at Name) (issued_place js hs p j lt) ∙ ap (λ z. shown_at Name (Some (as_issued z))) (sym at) ∙ s
 
   -- a list at a place
-  used_there : (name key : List ℕ) (Q : List (List ℕ) → Type 0) (p : ℕ) → IsUnder js all name p → IsAt js p (WithList (λ l. IsUsedBy V key l × Q (numbers l))) → (x : Item) × (l : RevocationList) × Contains xs x × IsUsedList r name key x l × Q (serials l)
+  used_there : (name key : List ℕ) (Q : List (List ℕ) → Type 0) (p : ℕ) → IsUnder js all name p → IsAt js p (WithList (λ l. IsUsedBy W.Vouches key l × Q (numbers l))) → (x : Item) × (l : RevocationList) × Contains xs x × IsUsedList r name key x l × Q (serials l)
   used_there name key Q p under h =
       let lt = as_few under.0 in
       let x = element xs p lt in
       let j = element js p under.0 in
       let is : IsJudged moment x.0 j.0 = subst (λ z. IsJudged moment z j.0) (sym x.1) (subst (IsJudged moment (get_or xs p x.0)) (sym j.1) (judged.each p x.0 j.0 lt)) in
-      let u = used_from moment demand V name key Q x.0 j.0 is (issued_text p j.0 name under.0 j.1 under.1) (has_at js p j.0 j.1 (WithList (λ l. IsUsedBy V key l × Q (numbers l))) h) in
+      let u = used_from moment demand W name key Q x.0 j.0 is (issued_text p j.0 name under.0 j.1 under.1) (has_at js p j.0 j.1 (WithList (λ l. IsUsedBy W.Vouches key l × Q (numbers l))) h) in
       (x.0, u.0, (p, lt, sym x.1), u.1, u.2)
 
-  used_here : (name key : List ℕ) (Q : List (List ℕ) → Type 0) (x : Item) (l : RevocationList) → Contains xs x → IsUsedList r name key x l → Q (serials l) → (p : ℕ) × IsUnder js all name p × IsAt js p (WithList (λ l. IsUsedBy V key l × Q (numbers l)))
+  used_here : (name key : List ℕ) (Q : List (List ℕ) → Type 0) (x : Item) (l : RevocationList) → Contains xs x → IsUsedList r name key x l → Q (serials l) → (p : ℕ) × IsUnder js all name p × IsAt js p (WithList (λ l. IsUsedBy W.Vouches key l × Q (numbers l)))
   used_here name key Q x l at u q =
       let p = at.0 in
       let lt = as_many at.1 in
       let j = element js p lt in
       let is : IsJudged moment x j.0 = subst (λ z. IsJudged moment z j.0) at.2 (subst (IsJudged moment (get_or xs p x)) (sym j.1) (judged.each p x j.0 at.1)) in
-      let w = used_to moment demand V name key Q x j.0 is l u q in
-      (p, (lt, issued_shows p j.0 name lt j.1 w.0), is_at js p j.0 lt j.1 (WithList (λ l. IsUsedBy V key l × Q (numbers l))) w.1)
+      let w = used_to moment demand W name key Q x j.0 is l u q in
+      (p, (lt, issued_shows p j.0 name lt j.1 w.0), is_at js p j.0 lt j.1 (WithList (λ l. IsUsedBy W.Vouches key l × Q (numbers l))) w.1)
 
-  satisfied_iff : (name key : List ℕ) (serial : Number) → StandsUnder V demand js all name key serial ↔ IsSatisfied r xs name key serial
+  satisfied_iff : (name key : List ℕ) (serial : Number) → StandsUnder W.Vouches demand js all name key serial ↔ IsSatisfied r xs name key serial
   satisfied_iff name key serial = (
     λ s. record {
       kept = λ v.
@@ -180,7 +180,7 @@ member_holds moment y (certificate_judged c) name key h n k =
 member_holds moment y (list_judged l) name key h n k = absurd (empty n)
 member_holds moment y other_judged name key h n k = absurd (empty n)
 
-member_shows : (moment : CivilTime) (y : Item) (j : JudgedItem) (d : Certificate) → IsJudged moment y j → IsCertificateWith (IsFitIssuer moment) y → y.class ≡ certificate d
+member_shows : (moment : CivilTime) (y : Item) (j : JudgedItem) (d : Certificate) → IsJudged moment y j → IsCertificateWith (IsFitIssuer any_identifier moment) y → y.class ≡ certificate d
     → (shown_at Name (Some (as_member j)) ≡ Some (name_octets d.subject)) × (shown_at Key (Some (as_member j)) ≡ Some (key_octets d.key)) × HasKeyId d (shown_at Id (Some (as_member j)))
 member_shows moment y (certificate_judged c) d h fit is_d =
     let same : h.fields ≡ d = one_certificate y.class h.fields d h.class is_d in
@@ -246,10 +246,10 @@ judged_at : (moment : CivilTime) (xs : List Item) (js : List JudgedItem) → Are
 judged_at moment xs js h v x j lt a b = subst (λ z. IsJudged moment z j) (sym a) (subst (IsJudged moment (get_or xs v x)) (sym b) (h.each v x j lt))
 
 -- The same of links.
-module _ (moment : CivilTime) (demand : Bool) (V : List ℕ → List ℕ → Type 0) (xs ys : List Item) (js hs : List JudgedItem) (judged : AreJudged moment xs js) (anchored : AreJudged moment ys hs) where
-  pub edge_iff : (v w : ℕ) → IsAt xs w (IsCertificateWith (IsFitIssuer moment)) → IsSomeLink V demand js hs v w ↔ IsAt xs v (λ x. IsAt xs w (λ y. IsLink (rules moment demand V) xs x y))
+module _ (moment : CivilTime) (demand : Bool) (W : Vouching) (xs ys : List Item) (js hs : List JudgedItem) (judged : AreJudged moment xs js) (anchored : AreJudged moment ys hs) where
+  pub edge_iff : (v w : ℕ) → IsAt xs w (IsCertificateWith (IsFitIssuer any_identifier moment)) → IsSomeLink W.Vouches demand js hs v w ↔ IsAt xs v (λ x. IsAt xs w (λ y. IsLink (rules_at moment demand W) xs x y))
   edge_iff v w fit =
-      let r = rules moment demand V in
+      let r = rules_at moment demand W in
       let all = places_of js hs in
       let n = judged.count in (
         λ l.
@@ -262,10 +262,10 @@ module _ (moment : CivilTime) (demand : Bool) (V : List ℕ → List ℕ → Typ
             let j = element js v from.0.0 in
             let y = element xs w ltw in
             let k = element js w l.1.3 in
-            let P = StandsUnder V demand js all name key in
-            let a = issued_to moment V key P x.0 j.0 name (judged_at moment xs js judged v x.0 j.0 lt x.1 j.1) (sym (issued_is js hs Name v j.0 from.0.0 j.1) ∙ from.0.1) (has_at js v j.0 j.1 (WithCertificate (λ c. V key c.octets.now × P c.serial.now)) from.1) in
+            let P = StandsUnder W.Vouches demand js all name key in
+            let a = issued_to moment W.Vouches key P x.0 j.0 name (judged_at moment xs js judged v x.0 j.0 lt x.1 j.1) (sym (issued_is js hs Name v j.0 from.0.0 j.1) ∙ from.0.1) (has_at js v j.0 j.1 (WithCertificate (λ c. W.Vouches key c.octets.now × P c.serial.now)) from.1) in
             let b = member_holds moment y.0 k.0 name key (judged_at moment xs js judged w y.0 k.0 ltw y.1 k.1) (sym (held_is js hs Name w k.0 l.1.3 k.1) ∙ l.1.2.0) (sym (held_is js hs Key w k.0 l.1.3 k.1) ∙ l.1.2.1) in
-            let issued : IsIssuedUnder r xs x.0 a.0 name key = record { issuer = a.2; vouched = a.3; satisfied = (satisfied_iff moment demand V xs ys js hs judged anchored name key a.0.serial).0 a.4 } in
+            let issued : IsIssuedUnder r xs x.0 a.0 name key = record { issuer = a.2; vouched = a.3; satisfied = (satisfied_iff moment demand W xs ys js hs judged anchored name key a.0.serial).0 a.4 } in
             let ids = ids_to a.0 b.0 (shown_at Id (Some (as_issued j.0))) (shown_at Id (Some (as_member k.0))) a.5 b.4 (λ p q ep eq. l.1.4 p q (issued_is js hs Id v j.0 from.0.0 j.1 ∙ ep) (held_is js hs Id w k.0 l.1.3 k.1 ∙ eq)) in
             let link : IsLink r xs x.0 y.0 = (a.0, a.1, (b.0, b.1, (under_names r xs x.0 a.0 name _ key _ b.2 b.3 issued, ids))) in
             is_at xs v x.0 lt x.1 (λ x. IsAt xs w (λ y. IsLink r xs x y)) (is_at xs w y.0 ltw y.1 (λ y. IsLink r xs x.0 y) link),
@@ -279,19 +279,19 @@ module _ (moment : CivilTime) (demand : Bool) (V : List ℕ → List ℕ → Typ
             let issued = l.2.2.0 in
             let name = name_octets d.subject in
             let key = key_octets d.key in
-            let P = StandsUnder V demand js all name key in
+            let P = StandsUnder W.Vouches demand js all name key in
             let lt : v < length js = let b = e.0 in omega arith in
             let ltw : w < length js = let b = e'.0 in omega arith in
             let j = element js v lt in
             let k = element js w ltw in
-            let a = issued_of moment V key P x.0 j.0 name c (judged_at moment xs js judged v x.0 j.0 e.0 x.1 j.1) l.1 issued.issuer issued.vouched ((satisfied_iff moment demand V xs ys js hs judged anchored name key c.serial).1 issued.satisfied) in
-            let b = member_shows moment y.0 k.0 d (judged_at moment xs js judged w y.0 k.0 e'.0 y.1 k.1) (has_at xs w y.0 y.1 (IsCertificateWith (IsFitIssuer moment)) fit) l.2.1 in
+            let a = issued_of moment W.Vouches key P x.0 j.0 name c (judged_at moment xs js judged v x.0 j.0 e.0 x.1 j.1) l.1 issued.issuer issued.vouched ((satisfied_iff moment demand W xs ys js hs judged anchored name key c.serial).1 issued.satisfied) in
+            let b = member_shows moment y.0 k.0 d (judged_at moment xs js judged w y.0 k.0 e'.0 y.1 k.1) (has_at xs w y.0 y.1 (IsCertificateWith (IsFitIssuer any_identifier moment)) fit) l.2.1 in
             let at = issued_is js hs Id v j.0 lt j.1 in
             let to = held_is js hs Id w k.0 ltw k.1 in (
               name,
               (
                 key,
-                ((lt, issued_is js hs Name v j.0 lt j.1 ∙ a.0), is_at js v j.0 lt j.1 (WithCertificate (λ c. V key c.octets.now × P c.serial.now)) a.1),
+                ((lt, issued_is js hs Name v j.0 lt j.1 ∙ a.0), is_at js v j.0 lt j.1 (WithCertificate (λ c. W.Vouches key c.octets.now × P c.serial.now)) a.1),
                 (held_is js hs Name w k.0 ltw k.1 ∙ b.0, held_is js hs Key w k.0 ltw k.1 ∙ b.1),
                 ltw,
                 λ p q sp sq. ids_from c d _ _ a.2 b.2 l.2.2.1 p q (sym at ∙ sp) (sym to ∙ sq),
@@ -299,9 +299,9 @@ module _ (moment : CivilTime) (demand : Bool) (V : List ℕ → List ℕ → Typ
             ),
       )
 
-  pub anchor_edge_iff : (v w : ℕ) → IsSomeAnchor V demand js hs v w ↔ IsAt xs v (λ x. IsAt ys w (λ y. IsAnchorLink (rules moment demand V) xs x y))
+  pub anchor_edge_iff : (v w : ℕ) → IsSomeAnchor W.Vouches demand js hs v w ↔ IsAt xs v (λ x. IsAt ys w (λ y. IsAnchorLink (rules_at moment demand W) xs x y))
   anchor_edge_iff v w =
-      let r = rules moment demand V in
+      let r = rules_at moment demand W in
       let all = places_of js hs in
       let n = judged.count in
       let m = anchored.count in (
@@ -315,10 +315,10 @@ module _ (moment : CivilTime) (demand : Bool) (V : List ℕ → List ℕ → Typ
             let j = element js v from.0.0 in
             let y = element ys w ltw in
             let k = element hs w l.1.3 in
-            let P = StandsUnder V demand js all name key in
-            let a = issued_to moment V key P x.0 j.0 name (judged_at moment xs js judged v x.0 j.0 lt x.1 j.1) (sym (issued_is js hs Name v j.0 from.0.0 j.1) ∙ from.0.1) (has_at js v j.0 j.1 (WithCertificate (λ c. V key c.octets.now × P c.serial.now)) from.1) in
+            let P = StandsUnder W.Vouches demand js all name key in
+            let a = issued_to moment W.Vouches key P x.0 j.0 name (judged_at moment xs js judged v x.0 j.0 lt x.1 j.1) (sym (issued_is js hs Name v j.0 from.0.0 j.1) ∙ from.0.1) (has_at js v j.0 j.1 (WithCertificate (λ c. W.Vouches key c.octets.now × P c.serial.now)) from.1) in
             let b = anchor_holds moment y.0 k.0 name key (judged_at moment ys hs anchored w y.0 k.0 ltw y.1 k.1) (sym (anchor_is js hs Name w k.0 l.1.3 k.1) ∙ l.1.2.0) (sym (anchor_is js hs Key w k.0 l.1.3 k.1) ∙ l.1.2.1) in
-            let issued : IsIssuedUnder r xs x.0 a.0 name key = record { issuer = a.2; vouched = a.3; satisfied = (satisfied_iff moment demand V xs ys js hs judged anchored name key a.0.serial).0 a.4 } in
+            let issued : IsIssuedUnder r xs x.0 a.0 name key = record { issuer = a.2; vouched = a.3; satisfied = (satisfied_iff moment demand W xs ys js hs judged anchored name key a.0.serial).0 a.4 } in
             let link : IsAnchorLink r xs x.0 y.0 = (a.0, a.1, (b.0, b.1, under_names r xs x.0 a.0 name _ key _ b.2 b.3 issued)) in
             is_at xs v x.0 lt x.1 (λ x. IsAt ys w (λ y. IsAnchorLink r xs x y)) (is_at ys w y.0 ltw y.1 (λ y. IsAnchorLink r xs x.0 y) link),
         λ e.
@@ -331,17 +331,17 @@ module _ (moment : CivilTime) (demand : Bool) (V : List ℕ → List ℕ → Typ
             let issued = l.2.2 in
             let name = name_octets d.subject in
             let key = key_octets d.key in
-            let P = StandsUnder V demand js all name key in
+            let P = StandsUnder W.Vouches demand js all name key in
             let lt : v < length js = let b = e.0 in omega arith in
             let ltw : w < length hs = let b = e'.0 in omega arith in
             let j = element js v lt in
             let k = element hs w ltw in
-            let a = issued_of moment V key P x.0 j.0 name c (judged_at moment xs js judged v x.0 j.0 e.0 x.1 j.1) l.1 issued.issuer issued.vouched ((satisfied_iff moment demand V xs ys js hs judged anchored name key c.serial).1 issued.satisfied) in
+            let a = issued_of moment W.Vouches key P x.0 j.0 name c (judged_at moment xs js judged v x.0 j.0 e.0 x.1 j.1) l.1 issued.issuer issued.vouched ((satisfied_iff moment demand W xs ys js hs judged anchored name key c.serial).1 issued.satisfied) in
             let b = anchor_shows moment y.0 k.0 d (judged_at moment ys hs anchored w y.0 k.0 e'.0 y.1 k.1) l.2.1 in (
               name,
               (
                 key,
-                ((lt, issued_is js hs Name v j.0 lt j.1 ∙ a.0), is_at js v j.0 lt j.1 (WithCertificate (λ c. V key c.octets.now × P c.serial.now)) a.1),
+                ((lt, issued_is js hs Name v j.0 lt j.1 ∙ a.0), is_at js v j.0 lt j.1 (WithCertificate (λ c. W.Vouches key c.octets.now × P c.serial.now)) a.1),
                 (anchor_is js hs Name w k.0 ltw k.1 ∙ b.0, anchor_is js hs Key w k.0 ltw k.1 ∙ b.1),
                 ltw,
               ),

@@ -27,26 +27,28 @@ use Rattle.cert_judge.specs.ItemGraph.{IsCertificateWith, IsIssuedUnder, IsLink,
 use Rattle.cert_judge.specs.LawsOfItems.{VouchesForMore, Keeps, HasPathsOf, HasPathOf, IsValidAt}
 use Rattle.cert_judge.proofs.Grouping.{element}
 use Rattle.cert_judge.proofs.Linking.{fit_is_usable}
+use Rattle.cert_judge.proofs.FurtherFacts.{usable_more, fit_more}
 
 contained : (items : List Item) (v : ℕ) (x : Item) → v < length items → x ≡ get_or items v x → Contains items x
 contained items v x lt is = (v, lt, sym is)
 
 -- a certificate at a place goes to its other place
-moved : (f : ℕ → ℕ) (items others : List Item) → Keeps f items others → (P Q : Certificate → Type 0) → ((c : Certificate) → P c → Q c) → (v : ℕ) → IsAt items v (IsCertificateWith P) → IsAt others (f v) (IsCertificateWith Q)
+moved : (f : ℕ → ℕ) (items others : List Item) → Keeps f items others → (P Q : Item → Certificate → Type 0) → ((x : Item) (c : Certificate) → Contains items x → x.class ≡ certificate c → P x c → Q x c) → (v : ℕ)
+    → IsAt items v (λ x. IsCertificateWith (P x) x) → IsAt others (f v) (λ x. IsCertificateWith (Q x) x)
 moved f items others k P Q g v h =
     let x = element items v h.0 in
-    let p = has_at items v x.0 x.1 (IsCertificateWith P) h in
+    let p = has_at items v x.0 x.1 (λ y. IsCertificateWith (P y) y) h in
     let there = k.certificates v x.0 p.0 (is_at items v x.0 h.0 x.1 (λ y. y ≡ x.0) refl) p.1 in
-    (there.0, λ d. subst (IsCertificateWith Q) (sym (there.1 d)) (p.0, p.1, g p.0 p.2))
+    (there.0, λ d. subst (λ y. IsCertificateWith (Q y) y) (sym (there.1 d)) (p.0, p.1, g x.0 p.0 (contained items v x.0 h.0 x.1) p.1 p.2))
 
 -- what a place shows of its item
 shown : {Z : Type 0} (g : Item → Z) (z : Z) (items : List Item) (v : ℕ) (x : Item) → IsAt items v (λ y. y ≡ x) → get_or (map g items) v z ≡ g x
 shown g z items v x h = get_or-map g items v x z h.0 ∙ ap g (h.1 x)
 
-same_shown : {Z : Type 0} (g : Item → Z) (z : Z) (f : ℕ → ℕ) (items others : List Item) → Keeps f items others → (P : Certificate → Type 0) (v : ℕ) → IsAt items v (IsCertificateWith P) → get_or (map g others) (f v) z ≡ get_or (map g items) v z
+same_shown : {Z : Type 0} (g : Item → Z) (z : Z) (f : ℕ → ℕ) (items others : List Item) → Keeps f items others → (P : Item → Certificate → Type 0) (v : ℕ) → IsAt items v (λ x. IsCertificateWith (P x) x) → get_or (map g others) (f v) z ≡ get_or (map g items) v z
 same_shown g z f items others k P v h =
     let x = element items v h.0 in
-    let p = has_at items v x.0 x.1 (IsCertificateWith P) h in
+    let p = has_at items v x.0 x.1 (λ y. IsCertificateWith (P y) y) h in
     let here = is_at items v x.0 h.0 x.1 (λ y. y ≡ x.0) refl in
     shown g z others (f v) x.0 (k.certificates v x.0 p.0 here p.1) ∙ sym (shown g z items v x.0 here)
 
@@ -79,10 +81,14 @@ issued_more f r s items others m k x c name key at is h = record { issuer = h.is
 
 pub items_carry : (f : ℕ → ℕ) (r s : Rules) (items others anchors : List Item) → VouchesForMore r s items → Keeps f items others → Carries f (graph_of_items r items anchors) (graph_of_items s others anchors)
 items_carry f r s items others anchors m k = record {
-  usable = λ v h. moved f items others k (IsUsable r.moment) (IsUsable s.moment) (λ c u. subst (λ t. IsUsable t c) m.moment u) v h;
-  fit = λ v h. moved f items others k (IsFitIssuer r.moment) (IsFitIssuer s.moment) (λ c u. subst (λ t. IsFitIssuer t c) m.moment u) v h;
-  self_issued = λ v h. same_shown (λ (x : Item). self_issued_of x.class) false f items others k (IsFitIssuer r.moment) v h;
-  limit = λ v c h t. subst (λ (z : Reach). Takes z c) (sym (same_shown (λ (x : Item). limit_of x.class) No f items others k (IsFitIssuer r.moment) v h)) t;
+  usable = λ v h.
+      moved f items others k (λ x. IsUsable (r.Processes x.octets) r.moment) (λ x. IsUsable (s.Processes x.octets) s.moment)
+      (λ x c at is u. usable_more (r.Processes x.octets) (s.Processes x.octets) s.moment c (λ id. m.processed x c id at is) (subst (λ t. IsUsable (r.Processes x.octets) t c) m.moment u)) v h;
+  fit = λ v h.
+      moved f items others k (λ x. IsFitIssuer (r.Processes x.octets) r.moment) (λ x. IsFitIssuer (s.Processes x.octets) s.moment)
+      (λ x c at is u. fit_more (r.Processes x.octets) (s.Processes x.octets) s.moment c (λ id. m.processed x c id at is) (subst (λ t. IsFitIssuer (r.Processes x.octets) t c) m.moment u)) v h;
+  self_issued = λ v h. same_shown (λ (x : Item). self_issued_of x.class) false f items others k (λ x. IsFitIssuer (r.Processes x.octets) r.moment) v h;
+  limit = λ v c h t. subst (λ (z : Reach). Takes z c) (sym (same_shown (λ (x : Item). limit_of x.class) No f items others k (λ x. IsFitIssuer (r.Processes x.octets) r.moment) v h)) t;
   edge = λ v w fit h.
       let x = element items v h.0 in
       let h' = has_at items v x.0 x.1 (λ x. IsAt items w (λ y. IsLink r items x y)) h in
@@ -107,7 +113,7 @@ items_keep_paths f r s items others anchors m k = λ target ps a v.
     (map f ps, length-map ps f, path_carried f (graph_of_items r items anchors) (graph_of_items s others anchors) (items_carry f r s items others anchors m k) (fit_is_usable s others anchors) target ps a v)
 
 pub same_rules : (r : Rules) (items : List Item) → VouchesForMore r r items
-same_rules r items = record { moment = refl; demand = refl; certificates = λ x c key at is v. v; lists = λ x l key at is. (λ v. v, λ v. v) }
+same_rules r items = record { moment = refl; demand = refl; certificates = λ x c key at is v. v; lists = λ x l key at is. (λ v. v, λ v. v); processed = λ x c id at is p. p }
 
 pub same_items : (items : List Item) → Keeps (λ v. v) items items
 same_items items = record { certificates = λ v x c at is. at; lists = λ x l is. (λ h. h, λ h. h) }
@@ -206,7 +212,7 @@ exchanged_agrees r front back anchors x y is_x is_y =
     let b = items_carry (λ v. v) r r others items anchors (same_rules r others) l in
     record {
       items = as_long front back x y;
-      certificate = λ v. (moved (λ v. v) items others k (λ c. Unit {0}) (λ c. Unit {0}) (λ c u. u) v, moved (λ v. v) others items l (λ c. Unit {0}) (λ c. Unit {0}) (λ c u. u) v);
+      certificate = λ v. (moved (λ v. v) items others k (λ x c. Unit {0}) (λ x c. Unit {0}) (λ x c at is u. u) v, moved (λ v. v) others items l (λ x c. Unit {0}) (λ x c. Unit {0}) (λ x c at is u. u) v);
       usable = λ v. (a.usable v, b.usable v);
       fit = λ v. (a.fit v, b.fit v);
       self_issued = λ v. ap (λ (s : List Bool). get_or s v false) (shown_alike self_issued_of front back y x is_y is_x);

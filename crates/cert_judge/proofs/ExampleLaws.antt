@@ -6,7 +6,7 @@ use Rattle.cert_graph.specs.Entries.{IsAt}
 use Rattle.cert_graph.specs.Graph.{IsValidPath}
 use Rattle.cert_graph.proofs.PathLaws.{valid_from}
 use Rattle.cert_model.specs.Fields.{Number, Certificate, RevocationList}
-use Rattle.cert_model.specs.Class.{certificate, list}
+use Rattle.cert_model.specs.Class.{list}
 use Rattle.cert_model.specs.Examples.{issued_by_b, authority_b}
 use Rattle.cert_judge.specs.Revoking.{Item, IsSatisfied}
 use Rattle.cert_judge.specs.ItemGraph.{graph_of_items}
@@ -40,6 +40,7 @@ one_voucher_more = record {
     | inr e ↦ subst (λ (i : Item). IsTrue (vouching_for_both 1 2 key i.octets)) (sym e) refl
   ];
   lists = λ x l key at is. absurd (no_list_apart x l at is);
+  processed = λ x c id at is p. p;
 }
 
 pub not_before : (key : List ℕ) → IsTrue (vouching_for 2 key (1 ∷ [])) → ⊥

@@ -9,6 +9,7 @@ use Rattle.cert_model.specs.Class.{Class, certificate, list, other}
 use Rattle.cert_model.specs.Examples.{key, new_year, plain, issued_by_b, authority_b, revoking}
 use Rattle.cert_judge.specs.Revoking.{Item, AreUncritical, IsCurrent, IsPlain, IsSatisfied}
 use Rattle.cert_judge.specs.Judging.{IsUsable}
+use Rattle.cert_judge.specs.Further.{no_identifier}
 use Rattle.cert_judge.specs.ItemGraph.{HaveSameKeyId, graph_of_items}
 use Rattle.cert_judge.specs.Examples.{in_june, revoking_two, anchor_named, certificate_item, list_item, vouching_for_all, vouching_but_for}
 use Rattle.cert_judge.proofs.Linking.{fit_is_usable}
@@ -98,7 +99,7 @@ names_no_key = λ a s names own.
     let long = ap (λ (es : List Extension). length es) names.stands.place ∙ length-append names.stands.front (names.stands.extension ∷ names.stands.back) in
     absurd (omega arith)
 
-pub target_usable : IsUsable in_june issued_by_b
+pub target_usable : IsUsable no_identifier in_june issued_by_b
 target_usable = record { valid = june_valid; extensions = no_extensions }
 
 pub path_of_two : IsValidPath (graph_of_items (vouching_for_all false) bundle (certificate_item (anchor_named 0x63) ∷ [])) 0 (0 ∷ 1 ∷ []) 0

@@ -1,21 +1,21 @@
 -- The definitions at worked cases: paths.
-use Rattle.std.proofs.Common.{◌≡◌, ◌≢◌, ◌∙◌, ap, sym, subst, refl, zero, suc, ℕ, ◌+◌, ◌<◌, true, false, List, [], ◌∷◌, ◌++◌, map, length, length-append, drop, arith, get_or, Some, None, inl, inr, lit<}
+use Rattle.std.proofs.Common.{◌≡◌, ◌≢◌, ◌∙◌, ap, sym, subst, refl, zero, suc, ℕ, ◌<◌, true, false, List, [], ◌∷◌, ◌++◌, map, length, length-append, drop, arith, get_or, Some, None, inl, inr, lit<}
 use Rattle.std.specs.List.{Contains}
 use Rattle.cert_graph.specs.Graph.{counted, IsValidPath, IsFirstPath, HasNoPath, Graph}
 use Rattle.cert_graph.specs.Steps.{one_of, Tail, FromTarget}
 use Rattle.cert_graph.proofs.PathLaws.{valid_from}
 use Rattle.cert_graph.proofs.True.{from_valid}
-use Rattle.cert_model.specs.Fields.{Number, Extension, Key, Certificate, RevocationList}
+use Rattle.cert_model.specs.Fields.{Number, Extension, Key, Certificate}
 use Rattle.cert_model.specs.Octets.{name_octets, relative_name_octets, attribute_octets, key_octets}
 use Rattle.cert_model.specs.Extended.{basic_constraints, key_usage, name_constraints, policy_constraints, EachUnder, SomeUnder, IsWithout}
-use Rattle.cert_model.specs.Class.{certificate, list}
+use Rattle.cert_model.specs.Class.{certificate}
 use Rattle.cert_model.specs.Examples.{key, common_name, issued_by_b, authority_b}
-use Rattle.cert_model.specs.KeyIds.{IsAuthorityKeyId}
 use Rattle.cert_judge.specs.Constraints.{BasicConstraints, basic_constraints_octets, IsBasicConstraints}
-use Rattle.cert_judge.specs.Judging.{HasConstraints, HasUsage, IsProcessed, IsUsable, IsSigner, IsFitIssuer}
+use Rattle.cert_judge.specs.Judging.{HasConstraints, HasUsage, IsProcessed, IsSigner, IsFitIssuer}
 use Rattle.cert_judge.specs.Revoking.{Item, Rules, IsSatisfied}
 use Rattle.cert_judge.specs.ItemGraph.{IsIssuedUnder, HaveSameKeyId, IsLink, IsAnchorLink, graph_of_items}
-use Rattle.cert_judge.specs.Examples.{in_june, extension, anchor_named, certificate_item, vouching_for_all, vouching_by, vouches_for, key_of, unlimited, limited_to, authority, self_issued_b, limited_above, b_from_c, one_rollover, one_rollover_rules, b_from_e, e_from_c, c_from_d, two_rollovers, two_rollover_rules, equal_issuers}
+use Rattle.cert_judge.specs.Further.{no_identifier}
+use Rattle.cert_judge.specs.Examples.{in_june, extension, anchor_named, certificate_item, vouching_for_all, key_of, unlimited, limited_to, authority, self_issued_b, limited_above, b_from_c, one_rollover, one_rollover_rules, c_from_d, two_rollovers, two_rollover_rules, equal_issuers}
 use Rattle.cert_judge.proofs.Grouping.{one_certificate}
 use Rattle.cert_judge.proofs.Linking.{fit_is_usable}
 use Rattle.cert_judge.proofs.Examples.{one, june_valid, alone_distinct, authority_is_fit}
@@ -44,7 +44,7 @@ zero_written : IsBasicConstraints (limited_to 0) (with_limit 0)
 unfolding basic_constraints_octets
 zero_written = record { in_range = record { number = record { shortest = refl; sign = refl }; small = lit< tt }; spelled = refl }
 
-fit : (subject issuer : ℕ) (own : Key) (value : List ℕ) (b : BasicConstraints) → IsBasicConstraints value b → b.ca ≡ true → IsFitIssuer in_june (authority subject issuer own value)
+fit : (subject issuer : ℕ) (own : Key) (value : List ℕ) (b : BasicConstraints) → IsBasicConstraints value b → b.ca ≡ true → IsFitIssuer no_identifier in_june (authority subject issuer own value)
 unfolding EachUnder SomeUnder IsWithout IsProcessed
 fit subject issuer own value b written ca =
     let e = extension basic_constraints true value in
@@ -53,7 +53,7 @@ fit subject issuer own value b written ca =
         valid = june_valid;
         extensions = record {
           distinct = alone_distinct e;
-          processed = one IsProcessed e (λ c. inl refl);
+          processed = one (IsProcessed no_identifier) e (λ c. inl (inl refl));
           constraints = one (λ (e : Extension). e.identifier ≡ basic_constraints → HasConstraints e.value) e (λ same. (b, written));
           usage = one (λ (e : Extension). e.identifier ≡ key_usage → HasUsage e.value) e (λ same. absurd cc);
         };

@@ -15,6 +15,7 @@ use Rattle.cert_judge.specs.Moments.{IsNotAfter, IsBetween}
 use Rattle.cert_judge.specs.Constraints.{BasicConstraints, basic_constraints_octets, IsBasicConstraints}
 use Rattle.cert_judge.specs.Usage.{IsKeyUsage}
 use Rattle.cert_judge.specs.Judging.{HasConstraints, HasUsage, HasPathLen, IsProcessed, AreUsable, IsUsable, IsSigner, IsFitIssuer}
+use Rattle.cert_judge.specs.Further.{no_identifier}
 use Rattle.cert_judge.specs.Limits.{path_limit}
 use Rattle.cert_judge.specs.Examples.{in_june, too_early, too_late, extended_by, extension, unconstrained, default_written, extended_key_usage, path_length_zero, authority_with_usage, encipherment, signing}
 
@@ -30,28 +31,28 @@ two P x y h k = All-cons P x (y ∷ []) h (one P y k)
 between_2025 : (moment : CivilTime) → IsNotAfter (new_year 2025) moment → IsNotAfter moment (new_year 2026) → IsBetween (new_year 2025) moment (new_year 2026)
 between_2025 moment begun lasts = record { begun = begun; lasts = lasts }
 
-pub no_extensions : AreUsable []
+pub no_extensions : AreUsable no_identifier []
 unfolding EachUnder
 no_extensions = record {
   distinct = λ i j d below within. absurd (omega arith);
-  processed = none IsProcessed;
+  processed = none (IsProcessed no_identifier);
   constraints = none _;
   usage = none _;
 }
 
-pub first_second : IsUsable (new_year 2025) plain
+pub first_second : IsUsable no_identifier (new_year 2025) plain
 first_second = record { valid = between_2025 (new_year 2025) (inr (refl, refl)) (inl (omega arith)); extensions = no_extensions }
 
-pub last_second : IsUsable (new_year 2026) plain
+pub last_second : IsUsable no_identifier (new_year 2026) plain
 last_second = record { valid = between_2025 (new_year 2026) (inl (omega arith)) (inr (refl, refl)); extensions = no_extensions }
 
-pub second_before : IsUsable too_early plain → ⊥
+pub second_before : IsUsable no_identifier too_early plain → ⊥
 second_before h = elim h.valid.begun [
   | inl less ↦ omega arith
   | inr same ↦ let e : true ≡ false = ap (λ y. unsigned_abs y == 2025) same.0 in cc
 ]
 
-pub second_behind : IsUsable too_late plain → ⊥
+pub second_behind : IsUsable no_identifier too_late plain → ⊥
 second_behind h = elim h.valid.lasts [
   | inl less ↦ omega arith
   | inr same ↦ let late = same.1 in cc
@@ -70,33 +71,48 @@ well_written = (says_nothing, record { in_range = tt; spelled = refl })
 pub alone_distinct : (e : Extension) → AreDistinct (e ∷ [])
 alone_distinct e = λ i j d below within. absurd (omega arith)
 
-under_constraints : (critical : Bool) → IsUsable in_june (extended_by (extension basic_constraints critical unconstrained ∷ []))
+under_constraints : (critical : Bool) → IsUsable no_identifier in_june (extended_by (extension basic_constraints critical unconstrained ∷ []))
 unfolding EachUnder IsProcessed
 under_constraints critical = record {
   valid = june_valid;
   extensions = record {
     distinct = alone_distinct _;
-    processed = one IsProcessed (extension basic_constraints critical unconstrained) (λ c. inl refl);
+    processed = one (IsProcessed no_identifier) (extension basic_constraints critical unconstrained) (λ c. inl (inl refl));
     constraints = one (λ (e : Extension). e.identifier ≡ basic_constraints → HasConstraints e.value) (extension basic_constraints critical unconstrained) (λ same. well_written);
     usage = one (λ (e : Extension). e.identifier ≡ key_usage → HasUsage e.value) (extension basic_constraints critical unconstrained) (λ same. absurd cc);
   };
 }
 
-pub plain_extension : IsUsable in_june (extended_by (extension basic_constraints false unconstrained ∷ []))
+pub plain_extension : IsUsable no_identifier in_june (extended_by (extension basic_constraints false unconstrained ∷ []))
 plain_extension = under_constraints false
 
-pub critical_extension : IsUsable in_june (extended_by (extension basic_constraints true unconstrained ∷ []))
+pub critical_extension : IsUsable no_identifier in_june (extended_by (extension basic_constraints true unconstrained ∷ []))
 critical_extension = under_constraints true
 
-pub unknown_extension : IsUsable in_june (extended_by (extension extended_key_usage true unconstrained ∷ [])) → ⊥
+pub unknown_extension : IsUsable no_identifier in_june (extended_by (extension extended_key_usage true unconstrained ∷ [])) → ⊥
 unfolding IsProcessed
 unknown_extension h =
     elim (h.extensions.processed 0 (extension extended_key_usage true unconstrained) (lit< tt) refl) [
-      | inl same ↦ cc
-      | inr same ↦ cc
+      | inl here ↦ elim here [ inl same ↦ cc | inr same ↦ cc ]
+      | inr more ↦ more
     ]
 
-pub twice : IsUsable in_june (extended_by (extension basic_constraints false unconstrained ∷ extension basic_constraints false unconstrained ∷ [])) → ⊥
+-- the same where the caller processes it
+pub processed_extension : IsUsable (λ identifier. identifier ≡ extended_key_usage) in_june (extended_by (extension extended_key_usage true unconstrained ∷ []))
+unfolding EachUnder IsProcessed
+processed_extension =
+    let e = extension extended_key_usage true unconstrained in
+    record {
+      valid = june_valid;
+      extensions = record {
+        distinct = alone_distinct _;
+        processed = one (IsProcessed (λ identifier. identifier ≡ extended_key_usage)) e (λ c. inr refl);
+        constraints = one (λ (e : Extension). e.identifier ≡ basic_constraints → HasConstraints e.value) e (λ same. absurd cc);
+        usage = one (λ (e : Extension). e.identifier ≡ key_usage → HasUsage e.value) e (λ same. absurd cc);
+      };
+    }
+
+pub twice : IsUsable no_identifier in_june (extended_by (extension basic_constraints false unconstrained ∷ extension basic_constraints false unconstrained ∷ [])) → ⊥
 twice h = h.extensions.distinct 0 1 (extension basic_constraints false unconstrained) (lit< tt) (lit< tt) refl
 
 -- elements of one identifier with equal octets have one content
@@ -116,7 +132,7 @@ no_default n true same = let third = ap (λ (s : List ℕ). get_or s 2 0) same i
 no_default None false same = let first = ap (λ (s : List ℕ). get_or s 0 0) same in omega arith
 no_default (Some n) false same = let first = ap (λ (s : List ℕ). get_or s 0 0) same in omega arith
 
-pub default_is_written : IsUsable in_june (extended_by (extension basic_constraints false default_written ∷ [])) → ⊥
+pub default_is_written : IsUsable no_identifier in_june (extended_by (extension basic_constraints false default_written ∷ [])) → ⊥
 unfolding EachUnder basic_constraints_octets
 default_is_written h =
     let c = h.extensions.constraints 0 (extension basic_constraints false default_written) (lit< tt) refl in
@@ -130,14 +146,14 @@ authority_written : IsBasicConstraints path_length_zero.value zero_length
 unfolding basic_constraints_octets
 authority_written = record { in_range = record { number = record { shortest = refl; sign = refl }; small = lit< tt }; spelled = refl }
 
-pub authority_is_fit : IsFitIssuer in_june authority_b
+pub authority_is_fit : IsFitIssuer no_identifier in_june authority_b
 unfolding EachUnder SomeUnder IsWithout IsProcessed
 authority_is_fit = record {
   usable = record {
     valid = june_valid;
     extensions = record {
       distinct = alone_distinct path_length_zero;
-      processed = one IsProcessed path_length_zero (λ c. inl refl);
+      processed = one (IsProcessed no_identifier) path_length_zero (λ c. inl (inl refl));
       constraints = one (λ (e : Extension). e.identifier ≡ basic_constraints → HasConstraints e.value) path_length_zero (λ same. (zero_length, authority_written));
       usage = one (λ (e : Extension). e.identifier ≡ key_usage → HasUsage e.value) path_length_zero (λ same. absurd cc);
     };
@@ -173,7 +189,7 @@ apart_at x y n zero (suc (suc j)) d below within = absurd (omega arith)
 apart : AreDistinct (path_length_zero ∷ extension key_usage false signing ∷ [])
 apart = apart_at path_length_zero (extension key_usage false signing) (λ same. cc)
 
-pub signer_is_fit : IsFitIssuer in_june (authority_with_usage signing)
+pub signer_is_fit : IsFitIssuer no_identifier in_june (authority_with_usage signing)
 unfolding EachUnder SomeUnder IsWithout IsProcessed
 signer_is_fit =
     let z = path_length_zero in
@@ -183,7 +199,7 @@ signer_is_fit =
         valid = june_valid;
         extensions = record {
           distinct = apart;
-          processed = two IsProcessed z u (λ c. inl refl) (λ c. inr refl);
+          processed = two (IsProcessed no_identifier) z u (λ c. inl (inl refl)) (λ c. inl (inr refl));
           constraints = two (λ (e : Extension). e.identifier ≡ basic_constraints → HasConstraints e.value) z u (λ same. (zero_length, authority_written)) (λ same. absurd cc);
           usage = two (λ (e : Extension). e.identifier ≡ key_usage → HasUsage e.value) z u (λ same. absurd cc) (λ same. (sign_bits, sign_usage));
         };
@@ -196,7 +212,7 @@ signer_is_fit =
       };
     }
 
-pub encipherer_is_not : IsFitIssuer in_june (authority_with_usage encipherment) → ⊥
+pub encipherer_is_not : IsFitIssuer no_identifier in_june (authority_with_usage encipherment) → ⊥
 unfolding EachUnder
 encipherer_is_not h =
     let s = h.issues.signer 1 path_length_zero (lit< tt) refl in

@@ -19,4 +19,5 @@ pub mod Vouched
 pub mod NamedFacts
 pub mod PlaceFacts
 pub mod Bridging
+pub mod FurtherFacts
 pub mod Agreement

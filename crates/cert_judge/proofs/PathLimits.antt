@@ -17,6 +17,7 @@ use Rattle.cert_model.specs.Range.{IfThere}
 use Rattle.cert_model.specs.Extended.{SomeUnder, AreDistinct, basic_constraints}
 use Rattle.cert_judge.specs.Constraints.{BasicConstraints, basic_constraints_octets, IsPathLength, IsBasicConstraints, value_of}
 use Rattle.cert_judge.specs.Judging.{HasPathLen, IsFitIssuer}
+use Rattle.cert_judge.specs.Further.{any_identifier}
 use Rattle.cert_judge.specs.Limits.{first_value, path_limit}
 
 later : (b : Bool) (here there rest : List ℕ) → (b ≡ true → ⊥) → rest ≡ there → (if b then here else rest) ≡ there
@@ -90,7 +91,7 @@ unfolding basic_constraints_octets
 spelled_by value b ca h = h.spelled ∙ ap (λ flag. sequence_octets (flag_octets flag ++ optional_octets number_octets b.path_len)) ca
 
 -- the limit of a fit issuer is its path length constraint
-pub limit_is : (moment : CivilTime) (c : Certificate) (n : Option ℕ) → IsFitIssuer moment c → SomeUnder basic_constraints (HasPathLen n) c.extensions → path_limit c ≡ reach_of n
+pub limit_is : (moment : CivilTime) (c : Certificate) (n : Option ℕ) → IsFitIssuer any_identifier moment c → SomeUnder basic_constraints (HasPathLen n) c.extensions → path_limit c ≡ reach_of n
 unfolding SomeUnder
 limit_is moment c n fit s =
     let e = s.0 in

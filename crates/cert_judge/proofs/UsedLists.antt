@@ -10,6 +10,7 @@ use Rattle.jiff_core.specs.declared.civil.datetime.DateTime.{DateTime}
 use Rattle.cert_judge.specs.declared.items.ListItem.{ListItem}
 use Rattle.cert_judge.specs.declared.items.ReadItem.{ReadItem}
 use Rattle.cert_judge.specs.declared.items.ReadItem.TheVariants.{Certificate as certificate_read, List as list_read, Other as other_read}
+use Rattle.cert_judge.specs.Vouching.{Vouching}
 use Rattle.cert_judge.specs.Revoking.{Item, IsCurrent, IsPlain, IsUsedList, HasUsedList, IsRevoked, IsSatisfied}
 use Rattle.cert_judge.specs.Items.{list_of, list_item, item_of, rules_by, IsUsed, IsUsedAgainst, IsListWith}
 
@@ -35,10 +36,10 @@ listed P (certificate_read y) h = absurd h
 listed P (list_read y) h = (y, refl, h)
 listed P (other_read y) h = absurd h
 
-pub used_to : (V : List ℕ → List ℕ → Type 0) (moment : DateTime) (demand : Bool) (name key : List ℕ) (x : ListItem) → IsUsed V moment name key x → IsUsedList (rules_by moment demand V) name key (list_item x) (list_of x)
+pub used_to : (V : Vouching) (moment : DateTime) (demand : Bool) (name key : List ℕ) (x : ListItem) → IsUsed V moment name key x → IsUsedList (rules_by moment demand V) name key (list_item x) (list_of x)
 used_to V moment demand name key x u = record { is_list = refl; issuer = sym x.issuer_is ∙ u.issuer; vouched = u.vouched; current = u.current; plain = u.plain }
 
-pub used_from : (V : List ℕ → List ℕ → Type 0) (moment : DateTime) (demand : Bool) (name key : List ℕ) (x : ReadItem) (item : Item) (l : RevocationList) → item ≡ item_of x → IsUsedList (rules_by moment demand V) name key item l
+pub used_from : (V : Vouching) (moment : DateTime) (demand : Bool) (name key : List ℕ) (x : ReadItem) (item : Item) (l : RevocationList) → item ≡ item_of x → IsUsedList (rules_by moment demand V) name key item l
     → IsListWith (λ y. IsUsed V moment name key y × (l ≡ list_of y)) x
 used_from V moment demand name key (certificate_read y) item l e u = let k = sym u.is_list ∙ ap (λ (i : Item). i.class) e in cc
 used_from V moment demand name key (other_read y) item l e u = let k = sym u.is_list ∙ ap (λ (i : Item). i.class) e in cc
@@ -46,7 +47,7 @@ used_from V moment demand name key (list_read x) item l e u =
     let same : l ≡ list_of x = ap (list_in l) (sym u.is_list ∙ ap (λ (i : Item). i.class) e) in (
       record {
         issuer = x.issuer_is ∙ ap (λ (m : RevocationList). name_octets m.issuer) (sym same) ∙ u.issuer;
-        vouched = subst (λ (i : Item). V key i.octets) e u.vouched;
+        vouched = subst (λ (i : Item). V.Vouches key i.octets) e u.vouched;
         current = subst (IsCurrent _) same u.current;
         plain = subst IsPlain same u.plain;
       },
@@ -59,7 +60,7 @@ one_of P Q (certificate_read y) f h = h
 one_of P Q (list_read y) f h = f y h
 one_of P Q (other_read y) f h = h
 
-pub has_iff : (V : List ℕ → List ℕ → Type 0) (moment : DateTime) (demand : Bool) (name key : List ℕ) (xs : List ReadItem)
+pub has_iff : (V : Vouching) (moment : DateTime) (demand : Bool) (name key : List ℕ) (xs : List ReadItem)
     → Any (IsListWith (IsUsed V moment name key)) xs ↔ HasUsedList (rules_by moment demand V) (map item_of xs) name key
 has_iff V moment demand name key xs = (
   λ h.
@@ -70,7 +71,7 @@ has_iff V moment demand name key xs = (
       (f.0, f.1, f.2, f.3, one_of (λ y. IsUsed V moment name key y × (h.1 ≡ list_of y)) (IsUsed V moment name key) f.1 (λ y u. u.0) (used_from V moment demand name key f.1 h.0 h.1 f.4 h.3)),
 )
 
-pub revoked_iff : (V : List ℕ → List ℕ → Type 0) (moment : DateTime) (demand : Bool) (name key : List ℕ) (serial : Number) (xs : List ReadItem)
+pub revoked_iff : (V : Vouching) (moment : DateTime) (demand : Bool) (name key : List ℕ) (serial : Number) (xs : List ReadItem)
     → Any (IsListWith (IsUsedAgainst V moment name key serial)) xs ↔ IsRevoked (rules_by moment demand V) (map item_of xs) name key serial
 unfolding IsUsedAgainst
 revoked_iff V moment demand name key serial xs = (
@@ -88,7 +89,7 @@ revoked_iff V moment demand name key serial xs = (
       ),
 )
 
-pub satisfied_iff : (V : List ℕ → List ℕ → Type 0) (moment : DateTime) (demand : Bool) (name key : List ℕ) (serial : Number) (xs : List ReadItem)
+pub satisfied_iff : (V : Vouching) (moment : DateTime) (demand : Bool) (name key : List ℕ) (serial : Number) (xs : List ReadItem)
     → ((Any (IsListWith (IsUsedAgainst V moment name key serial)) xs → ⊥) × (demand ≡ true → Any (IsListWith (IsUsed V moment name key)) xs)) ↔ IsSatisfied (rules_by moment demand V) (map item_of xs) name key serial
 satisfied_iff V moment demand name key serial xs =
     let r = revoked_iff V moment demand name key serial xs in

@@ -7,6 +7,7 @@ use Rattle.cert_model.specs.Class.{certificate, list}
 use Rattle.cert_model.specs.Extended.{basic_constraints, key_usage}
 use Rattle.cert_model.specs.Examples.{key, common_name, plain, issued_by_b, revoking, authority_b}
 use Rattle.cert_judge.specs.Revoking.{Item, Rules}
+use Rattle.cert_judge.specs.Vouching.{nothing}
 
 -- the first of June 2025 at midnight
 abbrev pub in_june : CivilTime
@@ -66,10 +67,10 @@ list_item l = record { octets = list_octets l; class = list l }
 
 -- every key vouches for everything, or for everything but one item
 abbrev pub vouching_for_all : Bool → Rules
-vouching_for_all demand = record { moment = in_june; demand_lists = demand; Vouches = λ key item. Unit {0} }
+vouching_for_all demand = record { moment = in_june; demand_lists = demand; Vouches = λ key item. Unit {0}; Processes = nothing }
 
 abbrev pub vouching_but_for : List ℕ → Rules
-vouching_but_for octets = record { moment = in_june; demand_lists = false; Vouches = λ key item. item ≡ octets → ⊥ }
+vouching_but_for octets = record { moment = in_june; demand_lists = false; Vouches = λ key item. item ≡ octets → ⊥; Processes = nothing }
 
 -- ---- paths
 
@@ -94,7 +95,7 @@ abbrev pub vouches_for : Key → Certificate → List ℕ × List ℕ
 vouches_for own c = (key_octets own, certificate_octets c)
 
 abbrev pub vouching_by : List (List ℕ × List ℕ) → Rules
-vouching_by pairs = record { moment = in_june; demand_lists = false; Vouches = λ own item. Contains pairs (own, item) }
+vouching_by pairs = record { moment = in_june; demand_lists = false; Vouches = λ own item. Contains pairs (own, item); Processes = nothing }
 
 abbrev pub self_issued_b : ℕ → Certificate
 self_issued_b octet = authority 0x62 0x62 (key_of octet) unlimited

@@ -52,8 +52,8 @@ abbrev pub graph_of_items : Rules → List Item → List Item → Graph
 graph_of_items r items anchor_items = record {
   items = length items;
   IsCertificate = λ v. IsAt items v (IsCertificateWith (λ c. Unit {0}));
-  Usable = λ v. IsAt items v (IsCertificateWith (IsUsable r.moment));
-  Fit = λ v. IsAt items v (IsCertificateWith (IsFitIssuer r.moment));
+  Usable = λ v. IsAt items v (λ x. IsCertificateWith (IsUsable (r.Processes x.octets) r.moment) x);
+  Fit = λ v. IsAt items v (λ x. IsCertificateWith (IsFitIssuer (r.Processes x.octets) r.moment) x);
   self_issued = λ v. slice_index_or (map (λ x. self_issued_of x.class) items) v false;
   limit = λ v. slice_index_or (map (λ x. limit_of x.class) items) v No;
   Edge = λ v w. IsAt items v (λ x. IsAt items w (λ y. IsLink r items x y));

@@ -9,6 +9,7 @@ use Rattle.cert_judge.specs.declared.items.ListItem.{ListItem}
 use Rattle.cert_judge.specs.declared.items.ReadItem.{ReadItem}
 use Rattle.cert_judge.specs.declared.items.ReadItem.TheVariants.{Certificate as certificate_read, List as list_read, Other as other_read}
 use Rattle.cert_judge.specs.Revoking.{Item, Rules, IsCurrent, IsPlain}
+use Rattle.cert_judge.specs.Vouching.{Vouching}
 
 abbrev pub certificate_of : CertificateItem → Certificate
 certificate_of x = certificate_view x.fields
@@ -27,22 +28,22 @@ item_of (certificate_read x) = certificate_item x
 item_of (list_read x) = list_item x
 item_of (other_read octets) = record { octets = octets.now; class = other }
 
-abbrev pub rules_at : CivilTime → Bool → (List ℕ → List ℕ → Type 0) → Rules
-rules_at moment demand vouches = record { moment = moment; demand_lists = demand; Vouches = vouches }
+abbrev pub rules_at : CivilTime → Bool → Vouching → Rules
+rules_at moment demand v = record { moment = moment; demand_lists = demand; Vouches = v.Vouches; Processes = v.Processes }
 
-abbrev pub rules_by : DateTime → Bool → (List ℕ → List ℕ → Type 0) → Rules
-rules_by moment demand vouches = record { moment = time_view moment; demand_lists = demand; Vouches = vouches }
+abbrev pub rules_by : DateTime → Bool → Vouching → Rules
+rules_by moment demand v = rules_at (time_view moment) demand v
 
 -- The code's list is used under a name and key.
-pub record IsUsed (Vouches : List ℕ → List ℕ → Type 0) (moment : DateTime) (name key : List ℕ) (x : ListItem) : Type 0 where
+pub record IsUsed (v : Vouching) (moment : DateTime) (name key : List ℕ) (x : ListItem) : Type 0 where
   pub issuer : x.issuer.now ≡ name
-  pub vouched : Vouches key x.octets.now
+  pub vouched : v.Vouches key x.octets.now
   pub current : IsCurrent (time_view moment) (list_of x)
   pub plain : IsPlain (list_of x)
 
 -- it is used and has an entry of this serial number
-unfoldable pub IsUsedAgainst : (List ℕ → List ℕ → Type 0) → DateTime → List ℕ → List ℕ → Number → ListItem → Type 0
-IsUsedAgainst Vouches moment name key serial x = IsUsed Vouches moment name key x × Any (λ (n : Entry). n.serial ≡ serial) (list_of x).entries
+unfoldable pub IsUsedAgainst : Vouching → DateTime → List ℕ → List ℕ → Number → ListItem → Type 0
+IsUsedAgainst v moment name key serial x = IsUsed v moment name key x × Any (λ (n : Entry). n.serial ≡ serial) (list_of x).entries
 
 -- an item is a list with a property
 abbrev pub IsListWith : (ListItem → Type 0) → ReadItem → Type 0

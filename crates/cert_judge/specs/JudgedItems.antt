@@ -3,7 +3,7 @@ use Rattle.std.specs.Prelude.{◌≡◌, ◌↔◌, ◌<◌, ℕ, true, if◌the
 use Rattle.cert_graph.specs.declared.nodes.Node.{Node}
 use Rattle.cert_graph.specs.Reach.{reach_of}
 use Rattle.cert_groups.specs.declared.places.Place.{Place}
-use Rattle.cert_model.specs.Fields.{CivilTime, Entry, Certificate, RevocationList}
+use Rattle.cert_model.specs.Fields.{Identifier, CivilTime, Entry, Certificate, RevocationList}
 use Rattle.cert_model.specs.Octets.{name_octets, key_octets}
 use Rattle.cert_model.specs.Class.{certificate, list, other}
 use Rattle.cert_judge.specs.declared.judged.JudgedCertificate.{JudgedCertificate}
@@ -11,15 +11,16 @@ use Rattle.cert_judge.specs.declared.judged.JudgedList.{JudgedList}
 use Rattle.cert_judge.specs.declared.judged.JudgedItem.{JudgedItem}
 use Rattle.cert_judge.specs.declared.judged.JudgedItem.TheVariants.{Certificate as certificate_judged, List as list_judged, Other as other_judged}
 use Rattle.cert_judge.specs.Judging.{IsUsable, IsFitIssuer}
+use Rattle.cert_judge.specs.Further.{any_identifier, AreFurther}
 use Rattle.cert_judge.specs.Revoking.{Item, IsCurrent, IsPlain}
 use Rattle.cert_judge.specs.Named.{NamesKeyId, HasKeyId}
 use Rattle.cert_judge.specs.ItemGraph.{IsCertificateWith, self_issued_of, limit_of}
 
--- What is judged of an item by itself stands in its node.
-pub record IsNodeOf (moment : CivilTime) (x : Item) (n : Node) : Type 0 where
+-- What is judged of an item by itself stands in its node, where the caller processes extensions of some identifiers.
+pub record IsNodeOf (P : Identifier → Type 0) (moment : CivilTime) (x : Item) (n : Node) : Type 0 where
   pub certificate : (n.certificate ≡ true) ↔ IsCertificateWith (λ c. Unit {0}) x
-  pub usable : (n.usable ≡ true) ↔ IsCertificateWith (IsUsable moment) x
-  pub fit : (n.fit ≡ true) ↔ IsCertificateWith (IsFitIssuer moment) x
+  pub usable : (n.usable ≡ true) ↔ IsCertificateWith (IsUsable P moment) x
+  pub fit : (n.fit ≡ true) ↔ IsCertificateWith (IsFitIssuer P moment) x
   pub self_issued : self_issued_of x.class ≡ n.self_issued
   pub limit : n.fit ≡ true → limit_of x.class ≡ reach_of n.limit
 
@@ -34,7 +35,9 @@ pub record IsJudgedCertificate (moment : CivilTime) (x : Item) (j : JudgedCertif
   pub serial : j.serial.now ≡ fields.serial
   pub names : NamesKeyId fields (option_map (λ s. s.now) j.authority_key_id)
   pub has : HasKeyId fields (option_map (λ s. s.now) j.subject_key_id)
-  pub node : IsNodeOf moment x j.node
+  -- as if the caller processed the further extensions, whichever there are
+  pub node : IsNodeOf any_identifier moment x j.node
+  pub further : AreFurther fields.extensions (map (λ s. s.now) j.further.items)
 
 -- A list as the definitions judge it.
 pub record IsJudgedList (moment : CivilTime) (x : Item) (j : JudgedList) : Type 0 where
@@ -58,13 +61,13 @@ pub record AreJudged (moment : CivilTime) (xs : List Item) (js : List JudgedItem
   pub each : (v : ℕ) (x : Item) (j : JudgedItem) → v < length xs → IsJudged moment (slice_index_or xs v x) (slice_index_or js v j)
 
 -- what a node says of an item that is so judged
-abbrev pub IsNodeFor : JudgedItem → Node → Type 0
-IsNodeFor j n = (moment : CivilTime) (x : Item) → IsJudged moment x j → IsNodeOf moment x n
+abbrev pub IsNodeFor : (List ℕ → List ℕ → Type 0) → JudgedItem → Node → Type 0
+IsNodeFor Q j n = (moment : CivilTime) (x : Item) → IsJudged moment x j → IsNodeOf (Q x.octets) moment x n
 
 -- so many items have nodes
-pub record AreNodesFor (js : List JudgedItem) (nodes : List Node) (k : ℕ) : Type 0 where
+pub record AreNodesFor (Q : List ℕ → List ℕ → Type 0) (js : List JudgedItem) (nodes : List Node) (k : ℕ) : Type 0 where
   pub count : length nodes ≡ k
-  pub each : (v : ℕ) (j : JudgedItem) (n : Node) → v < k → IsNodeFor (slice_index_or js v j) (slice_index_or nodes v n)
+  pub each : (v : ℕ) (j : JudgedItem) (n : Node) → v < k → IsNodeFor Q (slice_index_or js v j) (slice_index_or nodes v n)
 
 abbrev pub no_place : Place
 no_place = record { name = None; key = None; id = None }

@@ -1,6 +1,6 @@
 -- What may stand in a path at a moment, and what may issue (RFC 5280, 6.1.3 and 6.1.4, as far as this profile goes).
 use Rattle.std.specs.Prelude.{◌≡◌, true, List, ℕ, All, ◌⊎◌, Option, option_map}
-use Rattle.cert_model.specs.Fields.{CivilTime, Bits, Extension, Certificate}
+use Rattle.cert_model.specs.Fields.{Identifier, CivilTime, Bits, Extension, Certificate}
 use Rattle.cert_judge.specs.Moments.{IsBetween}
 use Rattle.cert_judge.specs.Constraints.{BasicConstraints, IsBasicConstraints, value_of}
 use Rattle.cert_judge.specs.Usage.{IsKeyUsage, MaySignCertificates}
@@ -13,26 +13,30 @@ HasConstraints value = (b : BasicConstraints) × IsBasicConstraints value b
 abbrev pub HasUsage : List ℕ → Type 0
 HasUsage value = (b : Bits) × IsKeyUsage value b
 
--- a critical extension is one that is judged here (RFC 5280, 6.1.4, o)
-unfoldable pub IsProcessed : Extension → Type 0
-IsProcessed e = e.critical ≡ true → ((e.identifier ≡ basic_constraints) ⊎ (e.identifier ≡ key_usage))
+-- an extension of this identifier is judged here
+abbrev pub IsJudgedHere : Identifier → Type 0
+IsJudgedHere identifier = (identifier ≡ basic_constraints) ⊎ (identifier ≡ key_usage)
 
--- Extensions that let a certificate stand in a path.
-pub record AreUsable (es : List Extension) : Type 0 where
+-- a critical extension is one that is judged here, or one that the caller processes (RFC 5280, 6.1.4, o)
+unfoldable pub IsProcessed : (Identifier → Type 0) → Extension → Type 0
+IsProcessed P e = e.critical ≡ true → (IsJudgedHere e.identifier ⊎ P e.identifier)
+
+-- Extensions that let a certificate stand in a path, where the caller processes those of some identifiers.
+pub record AreUsable (P : Identifier → Type 0) (es : List Extension) : Type 0 where
   -- RFC 5280, 4.2
   pub distinct : AreDistinct es
   -- RFC 5280, 6.1.4, o, and 6.1.5, f
-  pub processed : All IsProcessed es
+  pub processed : All (IsProcessed P) es
   -- RFC 5280, 4.2.1.9
   pub constraints : EachUnder basic_constraints HasConstraints es
   -- RFC 5280, 4.2.1.3
   pub usage : EachUnder key_usage HasUsage es
 
 -- A certificate may stand in a path.
-pub record IsUsable (moment : CivilTime) (c : Certificate) : Type 0 where
+pub record IsUsable (P : Identifier → Type 0) (moment : CivilTime) (c : Certificate) : Type 0 where
   -- RFC 5280, 6.1.3, a 2
   pub valid : IsBetween c.not_before moment c.not_after
-  pub extensions : AreUsable c.extensions
+  pub extensions : AreUsable P c.extensions
 
 -- the value says that the subject may issue certificates
 abbrev pub IsAuthority : List ℕ → Type 0
@@ -64,6 +68,6 @@ pub record MayIssue (es : List Extension) : Type 0 where
   pub no_policy_constraints : IsWithout policy_constraints es
 
 -- A certificate may issue others.
-pub record IsFitIssuer (moment : CivilTime) (c : Certificate) : Type 0 where
-  pub usable : IsUsable moment c
+pub record IsFitIssuer (P : Identifier → Type 0) (moment : CivilTime) (c : Certificate) : Type 0 where
+  pub usable : IsUsable P moment c
   pub issues : MayIssue c.extensions

@@ -6,18 +6,21 @@ use Rattle.cert_model.specs.Fields.{CivilTime, Certificate, RevocationList}
 use Rattle.cert_model.specs.Class.{certificate, list}
 use Rattle.cert_judge.specs.Moments.{IsBetween}
 use Rattle.cert_judge.specs.Revoking.{Item, Rules}
+use Rattle.cert_judge.specs.Vouching.{nothing}
 use Rattle.cert_judge.specs.ItemGraph.{IsCertificateWith, graph_of_items}
 
--- rules by a test of what is vouched for
+-- rules by a test of what is vouched for; no further extension is processed
 abbrev pub rules_from : CivilTime → Bool → (List ℕ → List ℕ → Bool) → Rules
-rules_from moment demand vouches = record { moment = moment; demand_lists = demand; Vouches = λ key item. IsTrue (vouches key item) }
+rules_from moment demand vouches = record { moment = moment; demand_lists = demand; Vouches = λ key item. IsTrue (vouches key item); Processes = nothing }
 
--- the second rules vouch for each certificate among the items that the first vouch for, and for the same lists among them
+-- the second rules vouch for each certificate among the items that the first vouch for, and for the same lists among them, and
+-- process each extension of the certificates that the first process
 pub record VouchesForMore (r s : Rules) (items : List Item) : Type 0 where
   pub moment : r.moment ≡ s.moment
   pub demand : r.demand_lists ≡ s.demand_lists
   pub certificates : (x : Item) (c : Certificate) (key : List ℕ) → Contains items x → x.class ≡ certificate c → r.Vouches key x.octets → s.Vouches key x.octets
   pub lists : (x : Item) (l : RevocationList) (key : List ℕ) → Contains items x → x.class ≡ list l → r.Vouches key x.octets ↔ s.Vouches key x.octets
+  pub processed : (x : Item) (c : Certificate) (identifier : List ℕ) → Contains items x → x.class ≡ certificate c → r.Processes x.octets identifier → s.Processes x.octets identifier
 
 -- Each certificate goes to a place where it stands among other items, and the lists among both are the same.
 pub record Keeps (f : ℕ → ℕ) (items others : List Item) : Type 0 where

@@ -1,7 +1,9 @@
 pub mod Moments
 pub mod Constraints
 pub mod Usage
+pub mod Vouching
 pub mod Judging
+pub mod Further
 pub mod Revoking
 pub mod Limits
 pub mod Classed

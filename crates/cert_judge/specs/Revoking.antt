@@ -25,11 +25,13 @@ pub record IsPlain (l : RevocationList) : Type 0 where
   pub extensions : AreUncritical l.extensions
   pub entries : All (λ (n : Entry). AreUncritical n.extensions) l.entries
 
--- What is judged by: a moment, whether lists are demanded, and for which key and item the keys vouch.
+-- What is judged by: a moment, whether lists are demanded, for which key and item the keys vouch, and which extensions of an item
+-- the caller processes.
 pub record Rules : Type 1 where
   pub moment : CivilTime
   pub demand_lists : Bool
   pub Vouches : List ℕ → List ℕ → Type 0
+  pub Processes : List ℕ → List ℕ → Type 0
 
 -- A list is used under a name and key.
 pub record IsUsedList (r : Rules) (name key : List ℕ) (item : Item) (l : RevocationList) : Type 0 where

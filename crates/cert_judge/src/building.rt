@@ -18,12 +18,16 @@ use cert_graph::{Node, Nodes};
 use jiff::civil::DateTime;
 use std::alloc::{AllocError, Global};
 
-fn judged_nodes(alloc: Global, items: &[JudgedItem<'_>]) -> Result<Vec<Node>, AllocError>
-    ensures { IfOk result (λ nodes. AreNodesFor items.now nodes.items (length items.now)) }
+fn judged_nodes<V: Vouch>(
+    alloc: Global,
+    items: &[JudgedItem<'_>],
+    vouch: &V,
+) -> Result<Vec<Node>, AllocError>
+    ensures { IfOk result (λ nodes. AreNodesFor (V.vouches_for vouch.now).Processes items.now nodes.items (length items.now)) }
 {
     let mut nodes = Vec::with_capacity(alloc, items.len())?;
     for item in items {
-        nodes.push(item.node())?;
+        nodes.push(item.node_by(vouch))?;
     }
     Ok(nodes)
 }
@@ -36,7 +40,8 @@ fn judged_nodes(alloc: Global, items: &[JudgedItem<'_>]) -> Result<Vec<Node>, Al
 /// type implements `vouches` alone, that asks once for each of these keys and items, and this
 /// product is the caller's to bear. The entries of a list in force are sorted once. A key that
 /// vouches for it then costs one look-up there for each certificate that it vouches for, or one
-/// step for each entry where these are fewer or at most 16. All else takes the time of sorted maps:
+/// step for each entry where these are fewer or at most 16. `processes` is called once for each
+/// critical extension that isn't judged here. All else takes the time of sorted maps:
 /// places are brought together by name, then by key, and then by key identifier, so no two items
 /// are ever compared.
 pub fn nodes_by<'a, V: Vouch>(
@@ -49,7 +54,7 @@ pub fn nodes_by<'a, V: Vouch>(
     ensures { (moment : CivilTime) (xs ys : List Item) → AreJudged moment xs items.now → AreJudged moment ys anchors.now
         → IfOk result (λ nodes. Agrees (graph_of nodes) (graph_of_items (rules_at moment demand_lists (V.vouches_for vouch.now)) xs ys)) }
 {
-    let nodes = judged_nodes(alloc, items)?;
+    let nodes = judged_nodes(alloc, items, vouch)?;
     let groups = groups_of(alloc, items, anchors, vouch, demand_lists)?;
     Ok(Nodes {
         items: nodes,

@@ -1,14 +1,18 @@
 //! Items as they are judged: what the building of nodes asks of each.
 
-ghost use Rattle.std.specs.Prelude.{◌≡◌, ◌↔◌, map, IfOk};
+ghost use Rattle.std.specs.Prelude.{◌≡◌, ◌↔◌, map, All, IsTrue, IfOk};
+ghost use Rattle.cert_model.specs.Fields.{CivilTime};
 ghost use Rattle.cert_model.specs.View.{time_view, list_view, entry_view};
 ghost use Rattle.cert_judge.specs.ItemGraph.{self_issued_of};
 ghost use Rattle.cert_judge.specs.Items.{certificate_item, list_item, item_of};
 ghost use Rattle.cert_judge.specs.Standing.{octets_in};
-ghost use Rattle.cert_judge.specs.JudgedItems.{IsNodeOf, IsNodeFor, IsJudged, as_issued, as_member, as_anchor};
+ghost use Rattle.cert_judge.specs.Further.{any_identifier};
+ghost use Rattle.cert_judge.specs.Revoking.{Item};
+ghost use Rattle.cert_judge.specs.JudgedItems.{IsNodeOf, IsNodeFor, IsJudgedCertificate, IsJudged, as_issued, as_member, as_anchor};
 
+use crate::Vouch;
 use crate::items::{CertificateItem, ListItem, ReadItem};
-use crate::judging::judge_certificate;
+use crate::judging::{further_of, judge_certificate};
 use crate::revoking::is_in_force;
 use cert_graph::Node;
 use cert_groups::Place;
@@ -26,7 +30,37 @@ pub struct JudgedCertificate<'a> {
     pub authority_key_id: Option<&'a [u8]>,
     pub subject_key_id: Option<&'a [u8]>,
     pub serial: &'a [u8],
+    /// What is judged of it if its further critical extensions are processed.
     pub node: Node,
+    /// The identifiers of these extensions: critical, and not judged here.
+    pub further: Vec<&'a [u8]>,
+}
+
+impl JudgedCertificate<'_> {
+    /// Whether its further critical extensions are processed.
+    fn is_processed<V: Vouch>(&self, vouch: &V) -> bool
+        ensures { IsTrue result ↔ All ((V.vouches_for vouch.now).Processes self.now.octets.now) (map (λ s. s.now) self.now.further.items) }
+    {
+        self.further
+            .iter()
+            .all(|identifier| vouch.processes(self.octets, identifier))
+    }
+
+    /// Its node, by what is processed.
+    fn node_by<V: Vouch>(&self, vouch: &V) -> Node
+        ensures { (moment : CivilTime) (x : Item) → IsJudgedCertificate moment x self.now → IsNodeOf ((V.vouches_for vouch.now).Processes x.octets) moment x result }
+    {
+        if self.is_processed(vouch) {
+            return self.node;
+        }
+        Node {
+            certificate: true,
+            usable: false,
+            fit: false,
+            self_issued: self.node.self_issued,
+            limit: None,
+        }
+    }
 }
 
 /// A list: its octets, its issuer, and the serial numbers of its entries.
@@ -59,18 +93,19 @@ impl<'a> JudgedItem<'a> {
         }
     }
 
-    pub(crate) fn node(&self) -> Node
-        ensures { IsNodeFor self.now result }
+    /// Its node, by what is processed.
+    pub(crate) fn node_by<V: Vouch>(&self, vouch: &V) -> Node
+        ensures { IsNodeFor (V.vouches_for vouch.now).Processes self.now result }
     {
-        match self {
-            JudgedItem::Certificate(certificate) => certificate.node,
-            _ => Node {
-                certificate: false,
-                usable: false,
-                fit: false,
-                self_issued: false,
-                limit: None,
-            },
+        if let JudgedItem::Certificate(certificate) = self {
+            return certificate.node_by(vouch);
+        }
+        Node {
+            certificate: false,
+            usable: false,
+            fit: false,
+            self_issued: false,
+            limit: None,
         }
     }
 
@@ -97,7 +132,7 @@ impl<'a> JudgedItem<'a> {
         }
     }
 
-    /// What it shows as an issuer, where it is fit to be one.
+    /// What it shows as an issuer, where it may be fit to be one.
     pub(crate) fn as_member(&self) -> Place<'a>
         ensures { result ≡ as_member self.now }
     {
@@ -145,7 +180,7 @@ fn certificate_node(
     item: &CertificateItem<'_>,
     moment: &DateTime,
 ) -> Result<Node, AllocError>
-    ensures { IfOk result (IsNodeOf (time_view moment.now) (certificate_item item.now)) }
+    ensures { IfOk result (IsNodeOf any_identifier (time_view moment.now) (certificate_item item.now)) }
 {
     let judged = judge_certificate(alloc, &item.fields, moment)?;
     let self_issued = is_self_issued(item);
@@ -176,6 +211,7 @@ fn judged_certificate<'a>(
     ensures { IfOk result (IsJudged (time_view moment.now) (certificate_item item.now)) }
 {
     let node = certificate_node(alloc, item, moment)?;
+    let further = further_of(alloc, &item.fields.extensions)?;
     Ok(JudgedItem::Certificate(JudgedCertificate {
         octets: item.octets,
         issuer: item.issuer,
@@ -185,6 +221,7 @@ fn judged_certificate<'a>(
         subject_key_id: item.subject_key_id,
         serial: item.fields.serial,
         node,
+        further,
     }))
 }
 
@@ -205,7 +242,8 @@ fn judged_list<'a>(
     }))
 }
 
-/// Judges an item by itself at a moment.
+/// Judges an item by itself at a moment. Which further extensions are processed is not asked here:
+/// `nodes_by` asks who vouches.
 pub fn judge_item<'a>(
     alloc: Global,
     item: &ReadItem<'a>,

@@ -3,8 +3,10 @@
 ghost use Rattle.std.specs.Prelude.{◌≡◌, ◌≢◌, ◌↔◌, ℕ, List, map, option_map, All, true, IsTrue, IfSome, IsNone, IfOk, length};
 ghost use Rattle.cert_model.specs.View.{ext_view, time_view, certificate_view};
 ghost use Rattle.cert_model.specs.Extended.{under_ce, basic_constraints, key_usage, name_constraints, policy_constraints, EachUnder, SomeUnder, IsWithout};
-ghost use Rattle.cert_judge.specs.Judging.{HasConstraints, HasUsage, IsProcessed, IsAuthority, HasPathLen, IsSigner, IsAuthorityExtension, IsPathLenExtension, AreUsable, IsUsable, MayIssue, IsFitIssuer};
+ghost use Rattle.cert_judge.specs.Further.{any_identifier, no_identifier, AreFurther};
+ghost use Rattle.cert_judge.specs.Judging.{HasConstraints, HasUsage, IsJudgedHere, IsProcessed, IsAuthority, HasPathLen, IsSigner, IsAuthorityExtension, IsPathLenExtension, AreUsable, IsUsable, MayIssue, IsFitIssuer};
 
+use crate::Vouch;
 use crate::constraints::constraints_of;
 use crate::distinct::are_distinct;
 use crate::moments::is_between;
@@ -16,24 +18,63 @@ use cert_model::identifiers::{
 use jiff::civil::DateTime;
 use std::alloc::{AllocError, Global};
 
-/// Whether an extension is not critical, or is one that is judged here (RFC 5280, 6.1.4, o).
+/// Whether extensions of this identifier are judged here.
+fn is_judged_here(identifier: &[u8]) -> bool
+    ensures { IsTrue result ↔ IsJudgedHere identifier.now }
+{
+    is_ce(identifier, BASIC_CONSTRAINTS) || is_ce(identifier, KEY_USAGE)
+}
+
+/// Whether an extension of an item is not critical, is one that is judged here, or is processed by
+/// the caller (RFC 5280, 6.1.4, o).
 #[tactic(auto, unfolding(crate::specs::Judging::IsProcessed))]
-pub fn is_processed(extension: &ExtField<'_>) -> bool
-    ensures { IsTrue result ↔ IsProcessed (ext_view extension.now) }
+pub fn is_processed<V: Vouch>(extension: &ExtField<'_>, vouch: &V, item: &[u8]) -> bool
+    ensures { IsTrue result ↔ IsProcessed ((V.vouches_for vouch.now).Processes item.now) (ext_view extension.now) }
 {
     if !extension.critical {
         return true;
     }
-    if is_ce(extension.identifier, BASIC_CONSTRAINTS) {
+    if is_judged_here(extension.identifier) {
         return true;
     }
-    is_ce(extension.identifier, KEY_USAGE)
+    vouch.processes(item, extension.identifier)
 }
 
-fn are_processed(extensions: &[ExtField<'_>]) -> bool
-    ensures { IsTrue result ↔ All IsProcessed (map ext_view extensions.now) }
+/// Whether each extension of an item is processed, as `is_processed` says of one.
+pub fn are_processed<V: Vouch>(extensions: &[ExtField<'_>], vouch: &V, item: &[u8]) -> bool
+    ensures { IsTrue result ↔ All (IsProcessed ((V.vouches_for vouch.now).Processes item.now)) (map ext_view extensions.now) }
 {
-    extensions.iter().all(|extension| is_processed(extension))
+    extensions
+        .iter()
+        .all(|extension| is_processed(extension, vouch, item))
+}
+
+/// Whether an extension is not critical, or is one that is judged here.
+#[tactic(auto, unfolding(crate::specs::Judging::IsProcessed))]
+fn is_processed_here(extension: &ExtField<'_>) -> bool
+    ensures { IsTrue result ↔ IsProcessed no_identifier (ext_view extension.now) }
+{
+    if !extension.critical {
+        return true;
+    }
+    is_judged_here(extension.identifier)
+}
+
+/// The identifiers of the critical extensions that aren't judged here: whether they are processed is
+/// the caller's.
+pub(crate) fn further_of<'a>(
+    alloc: Global,
+    extensions: &[ExtField<'a>],
+) -> Result<Vec<&'a [u8]>, AllocError>
+    ensures { IfOk result (λ further. AreFurther (map ext_view extensions.now) (map (λ s. s.now) further.items)) }
+{
+    let mut further = Vec::new(alloc);
+    for extension in extensions {
+        if !is_processed_here(extension) {
+            further.push(extension.identifier)?;
+        }
+    }
+    Ok(further)
 }
 
 /// Whether an extension value is that of basicConstraints in its one spelling (RFC 5280, 4.2.1.9).
@@ -133,13 +174,10 @@ pub fn authority_of(extensions: &[ExtField<'_>]) -> Option<Option<u32>>
     None
 }
 
-/// Whether extensions let a certificate stand in a path.
+/// Whether extensions let a certificate stand in a path, if the further critical ones are processed.
 fn are_usable(alloc: Global, extensions: &[ExtField<'_>]) -> Result<bool, AllocError>
-    ensures { IfOk result (λ yes. IsTrue yes ↔ AreUsable (map ext_view extensions.now)) }
+    ensures { IfOk result (λ yes. IsTrue yes ↔ AreUsable any_identifier (map ext_view extensions.now)) }
 {
-    if !are_processed(extensions) {
-        return Ok(false);
-    }
     if !are_constrained(extensions) {
         return Ok(false);
     }
@@ -149,13 +187,14 @@ fn are_usable(alloc: Global, extensions: &[ExtField<'_>]) -> Result<bool, AllocE
     are_distinct(alloc, extensions)
 }
 
-/// Whether a certificate may stand in a path at a moment.
+/// Whether a certificate may stand in a path at a moment, if its further critical extensions are
+/// processed.
 pub(crate) fn is_usable(
     alloc: Global,
     fields: &CertFields<'_>,
     moment: &DateTime,
 ) -> Result<bool, AllocError>
-    ensures { IfOk result (λ yes. IsTrue yes ↔ IsUsable (time_view moment.now) (certificate_view fields.now)) }
+    ensures { IfOk result (λ yes. IsTrue yes ↔ IsUsable any_identifier (time_view moment.now) (certificate_view fields.now)) }
 {
     if !is_between(&fields.not_before, moment, &fields.not_after) {
         return Ok(false);
@@ -182,7 +221,8 @@ pub fn issuing_of(extensions: &[ExtField<'_>]) -> Option<Option<u32>>
     Some(limit)
 }
 
-/// What is judged of a certificate by itself.
+/// What is judged of a certificate by itself, as if the caller processed its critical extensions
+/// beside those that are judged here. `are_processed` says whether the caller does.
 #[derive(Clone, Copy, Debug)]
 pub struct Judged {
     pub usable: bool,
@@ -198,8 +238,8 @@ pub fn judge_certificate(
     fields: &CertFields<'_>,
     moment: &DateTime,
 ) -> Result<Judged, AllocError>
-    ensures usable { IfOk result (λ j. IsTrue j.usable ↔ IsUsable (time_view moment.now) (certificate_view fields.now)) }
-    ensures fit { IfOk result (λ j. IsTrue j.fit ↔ IsFitIssuer (time_view moment.now) (certificate_view fields.now)) }
+    ensures usable { IfOk result (λ j. IsTrue j.usable ↔ IsUsable any_identifier (time_view moment.now) (certificate_view fields.now)) }
+    ensures fit { IfOk result (λ j. IsTrue j.fit ↔ IsFitIssuer any_identifier (time_view moment.now) (certificate_view fields.now)) }
     ensures limit { IfOk result (λ j. IsTrue j.fit → SomeUnder basic_constraints (HasPathLen j.limit) (certificate_view fields.now).extensions) }
 {
     let usable = is_usable(alloc, fields, moment)?;

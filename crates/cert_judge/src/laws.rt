@@ -12,6 +12,7 @@ ghost use Rattle.cert_model.specs.Octets.{name_octets, key_octets, list_octets};
 ghost use Rattle.cert_model.specs.Extended.{SomeUnder, basic_constraints};
 ghost use Rattle.cert_model.specs.Examples.{key, new_year, plain, issued_by_b, authority_b, revoking};
 ghost use Rattle.cert_judge.specs.Judging.{HasPathLen, IsUsable, IsFitIssuer};
+ghost use Rattle.cert_judge.specs.Further.{any_identifier, no_identifier};
 ghost use Rattle.cert_judge.specs.Limits.{path_limit};
 ghost use Rattle.cert_judge.specs.Revoking.{Item, IsSatisfied};
 ghost use Rattle.cert_judge.specs.LawsOfItems.{rules_from, VouchesForMore, Keeps, HasPathsOf, HasPathOf, IsValidAt};
@@ -19,35 +20,37 @@ ghost use Rattle.cert_model.specs.Class.{certificate, other};
 ghost use Rattle.cert_judge.specs.ItemGraph.{graph_of_items};
 ghost use Rattle.cert_judge.specs.Examples.{in_june, too_early, too_late, extended_by, extension, unconstrained, default_written, extended_key_usage, authority_with_usage, encipherment, signing, anchor_named, revoking_two, certificate_item, list_item, vouching_for_all, vouching_but_for, vouching_for, vouching_for_both, told_apart, told_backwards, exchanged, limited_above, one_rollover, one_rollover_rules, two_rollovers, two_rollover_rules, equal_issuers};
 
-/// What a fit issuer lets through is its path length constraint (RFC 5280, 4.2.1.9).
+/// What a fit issuer lets through is its path length constraint (RFC 5280, 4.2.1.9), whichever extensions the caller processes.
 pub fn limit_is_path_length()
-    ensures { (moment : CivilTime) (c : Certificate) (n : Option ℕ) → IsFitIssuer moment c → SomeUnder basic_constraints (HasPathLen n) c.extensions → path_limit c ≡ reach_of n }
+    ensures { (moment : CivilTime) (c : Certificate) (n : Option ℕ) → IsFitIssuer any_identifier moment c → SomeUnder basic_constraints (HasPathLen n) c.extensions → path_limit c ≡ reach_of n }
 {}
 
 /// The definitions say of worked cases what they ought to: of the first and the last second of a validity.
 pub fn examples_of_moments()
-    ensures first { IsUsable (new_year 2025) plain }
-    ensures last { IsUsable (new_year 2026) plain }
-    ensures before { IsUsable too_early plain → ⊥ }
-    ensures behind { IsUsable too_late plain → ⊥ }
+    ensures first { IsUsable no_identifier (new_year 2025) plain }
+    ensures last { IsUsable no_identifier (new_year 2026) plain }
+    ensures before { IsUsable no_identifier too_early plain → ⊥ }
+    ensures behind { IsUsable no_identifier too_late plain → ⊥ }
 {}
 
-/// Of extensions: one that is judged may be critical and another not, none may stand twice, a default may not be written.
+/// Of extensions: one that is judged may be critical and another not, unless the caller processes it; none may stand twice, a
+/// default may not be written.
 pub fn examples_of_extensions()
-    ensures plain { IsUsable in_june (extended_by (extension basic_constraints false unconstrained ∷ [])) }
-    ensures critical { IsUsable in_june (extended_by (extension basic_constraints true unconstrained ∷ [])) }
-    ensures unknown { IsUsable in_june (extended_by (extension extended_key_usage true unconstrained ∷ [])) → ⊥ }
-    ensures twice { IsUsable in_june (extended_by (extension basic_constraints false unconstrained ∷ extension basic_constraints false unconstrained ∷ [])) → ⊥ }
-    ensures default { IsUsable in_june (extended_by (extension basic_constraints false default_written ∷ [])) → ⊥ }
+    ensures plain { IsUsable no_identifier in_june (extended_by (extension basic_constraints false unconstrained ∷ [])) }
+    ensures critical { IsUsable no_identifier in_june (extended_by (extension basic_constraints true unconstrained ∷ [])) }
+    ensures unknown { IsUsable no_identifier in_june (extended_by (extension extended_key_usage true unconstrained ∷ [])) → ⊥ }
+    ensures processed { IsUsable (λ identifier. identifier ≡ extended_key_usage) in_june (extended_by (extension extended_key_usage true unconstrained ∷ [])) }
+    ensures twice { IsUsable no_identifier in_june (extended_by (extension basic_constraints false unconstrained ∷ extension basic_constraints false unconstrained ∷ [])) → ⊥ }
+    ensures default { IsUsable no_identifier in_june (extended_by (extension basic_constraints false default_written ∷ [])) → ⊥ }
 {}
 
 /// Of issuers: an authority of path length 0; with a key usage, exactly where it has keyCertSign.
 pub fn examples_of_issuers()
-    ensures authority { IsFitIssuer in_june authority_b }
+    ensures authority { IsFitIssuer no_identifier in_june authority_b }
     ensures limit { path_limit authority_b ≡ UpTo 0 }
     ensures path_length { SomeUnder basic_constraints (HasPathLen (Some 0)) authority_b.extensions }
-    ensures signing { IsFitIssuer in_june (authority_with_usage signing) }
-    ensures encipherment { IsFitIssuer in_june (authority_with_usage encipherment) → ⊥ }
+    ensures signing { IsFitIssuer no_identifier in_june (authority_with_usage signing) }
+    ensures encipherment { IsFitIssuer no_identifier in_june (authority_with_usage encipherment) → ⊥ }
 {}
 
 /// Of lists: one that is vouched for revokes what it names and nothing else; where lists are demanded, one must be used.

@@ -2,19 +2,37 @@
 //! function that does nothing: its contract is the law. `laws` has them by tests of what is vouched
 //! for, and examples that meet their premises.
 
-ghost use Rattle.std.specs.Prelude.{◌≡◌, ◌↔◌, ℕ, Bool, List, All, [], ◌∷◌, ◌++◌};
+ghost use Rattle.std.specs.Prelude.{◌≡◌, ◌↔◌, ◌⊎◌, ℕ, Bool, true, List, All, [], ◌∷◌, ◌++◌};
 ghost use Rattle.cert_graph.specs.Graph.{IsValidPath};
 ghost use Rattle.cert_graph.specs.Adequate.{IsAdequate, IsTrueAnswer};
 ghost use Rattle.cert_graph.specs.LawsOfNodes.{SayTheSame};
 ghost use Rattle.cert_graph.specs.declared.answer.Answer.{Answer};
 ghost use Rattle.cert_model.specs.Class.{certificate, other};
-ghost use Rattle.cert_model.specs.Fields.{CivilTime, Certificate};
+ghost use Rattle.cert_model.specs.Extended.{basic_constraints, key_usage};
+ghost use Rattle.cert_model.specs.Fields.{CivilTime, Extension, Certificate};
 ghost use Rattle.cert_judge.specs.ItemGraph.{graph_of_items};
+ghost use Rattle.cert_judge.specs.Further.{any_identifier};
+ghost use Rattle.cert_judge.specs.Judging.{IsProcessed, IsUsable};
 ghost use Rattle.cert_judge.specs.Items.{rules_at};
 ghost use Rattle.cert_judge.specs.LawsOfItems.{VouchesForMore, Keeps, HasPathsOf, HasPathOf, IsValidAt};
 ghost use Rattle.cert_judge.specs.Revoking.{Item};
 
 use crate::Vouch;
+
+/// Where a value processes no extension of an item, a critical one there has to be basicConstraints
+/// or keyUsage (RFC 5280, 6.1.4, o).
+pub fn processed_by_nobody_else<V: Vouch>(_vouch: &V)
+    ensures { (item : List ℕ) → ((identifier : List ℕ) → (V.vouches_for _vouch.now).Processes item identifier → ⊥)
+        → (e : Extension) → IsProcessed ((V.vouches_for _vouch.now).Processes item) e ↔ (e.critical ≡ true → (e.identifier ≡ basic_constraints) ⊎ (e.identifier ≡ key_usage)) }
+{}
+
+/// Whether a certificate is usable depends on what is processed in its further critical extensions
+/// alone: it is usable exactly where it is if the caller processes each extension, and each is
+/// processed.
+pub fn usable_by<V: Vouch>(_vouch: &V)
+    ensures { (moment : CivilTime) (item : List ℕ) (c : Certificate) → let P = (V.vouches_for _vouch.now).Processes item in
+        IsUsable P moment c ↔ (IsUsable any_identifier moment c × All (IsProcessed P) c.extensions) }
+{}
 
 /// An adequate answer is true.
 pub fn adequate_is_true_by<V: Vouch>(_vouch: &V)
@@ -28,7 +46,7 @@ pub fn one_true_answer_by<V: Vouch>(_vouch: &V)
         → let g = graph_of_items (rules_at moment demand (V.vouches_for _vouch.now)) items anchors in IsTrueAnswer g target answer → IsTrueAnswer g target another → SayTheSame answer another }
 {}
 
-/// Who vouches for more certificates, and for the same lists, never loses a path.
+/// Who vouches for more certificates, and for the same lists, and processes more, never loses a path.
 pub fn vouching_for_more_by<V: Vouch, W: Vouch>(_vouch: &V, _more: &W)
     ensures { (moment : CivilTime) (demand : Bool) (items anchors : List Item)
         → let r = rules_at moment demand (V.vouches_for _vouch.now) in let s = rules_at moment demand (W.vouches_for _more.now) in

@@ -24,8 +24,8 @@ pub use crate::building::{nodes_by, nodes_of};
 pub use crate::items::{CertificateItem, ListItem, ReadItem};
 pub use crate::judged::{JudgedCertificate, JudgedItem, JudgedList, judge_item};
 pub use crate::judging::{
-    Judged, authority_of, has_constraints, has_usage, is_processed, is_signer, issuing_of,
-    judge_certificate,
+    Judged, are_processed, authority_of, has_constraints, has_usage, is_processed, is_signer,
+    issuing_of, judge_certificate,
 };
 pub use crate::moments::is_not_after;
 pub use crate::policy::Policy;

@@ -84,8 +84,8 @@ fn link_name<V: Vouch>(
     requires keyless { (v : ℕ) (key : List ℕ) → v < length items.now → Shows Key all.now v key → ⊥ }
     requires counted { length all.now ≡ length items.now + length items.now + anchors }
     requires octets { map (λ o. o.now) octets.now ≡ map octets_in items.now }
-    ensures { OnOk result (Adds (length items.now) groups.old.items groups.new.items (IsNamedLink (V.vouches_for vouch.now) demand_lists items.now all.now name.now)
-        (IsNamedAnchor (V.vouches_for vouch.now) demand_lists items.now all.now anchors name.now)) }
+    ensures { OnOk result (Adds (length items.now) groups.old.items groups.new.items (IsNamedLink (V.vouches_for vouch.now).Vouches demand_lists items.now all.now name.now)
+        (IsNamedAnchor (V.vouches_for vouch.now).Vouches demand_lists items.now all.now anchors name.now)) }
 {
     let issued = between(alloc, places, 0, items.len())?;
     let buckets = alike(alloc, all, Part::Key, places)?;
@@ -115,8 +115,8 @@ pub(crate) fn groups_of<'a, V: Vouch>(
     vouch: &V,
     demand_lists: bool,
 ) -> Result<Vec<Group>, AllocError>
-    ensures { IfOk result (λ groups. Adds (length items.now) [] groups.items (IsSomeLink (V.vouches_for vouch.now) demand_lists items.now anchors.now)
-        (IsSomeAnchor (V.vouches_for vouch.now) demand_lists items.now anchors.now)) }
+    ensures { IfOk result (λ groups. Adds (length items.now) [] groups.items (IsSomeLink (V.vouches_for vouch.now).Vouches demand_lists items.now anchors.now)
+        (IsSomeAnchor (V.vouches_for vouch.now).Vouches demand_lists items.now anchors.now)) }
 {
     let all = places_of(alloc, items, anchors)?;
     let chosen = numbers_below(alloc, all.len())?;

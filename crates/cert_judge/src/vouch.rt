@@ -1,24 +1,32 @@
-ghost use Rattle.std.specs.Prelude.{◌↔◌, ℕ, List, IsTrue, IfOk};
+ghost use Rattle.std.specs.Prelude.{◌↔◌, IsTrue, IfOk};
 ghost use Rattle.std.specs.List.Sorted.{IsStrictlyIncreasing};
 ghost use Rattle.cert_judge.specs.Rows.{VouchesAt, IsRow, AreRows};
+ghost use Rattle.cert_judge.specs.Vouching.{Vouching};
 
 use std::alloc::{AllocError, Global};
 
-/// Who says that a key signed an item.
+/// Who says that a key signed an item, and which extensions the caller processes itself.
 pub trait Vouch {
-    /// What the value vouches for: the octets of a key element and of a whole item. A fixed
-    /// relation of the value.
-    ghost vouches_for: { Self → List ℕ → List ℕ → Type 0 };
+    /// What the value vouches for, and what it processes. Fixed relations of the value.
+    ghost vouches_for: { Self → Vouching };
 
     /// Whether a key vouches for an item: the octets of a key element (SubjectPublicKeyInfo) and of
     /// a whole certificate or list.
     fn vouches(&self, key: &[u8], item: &[u8]) -> bool
-        ensures { IsTrue result ↔ vouches_for self.now key.now item.now };
+        ensures { IsTrue result ↔ (vouches_for self.now).Vouches key.now item.now };
+
+    /// Whether the caller processes the extensions of an identifier in an item, so that they may be
+    /// critical there (RFC 5280, 6.1.4, o, and 6.1.5, f): the octets of a whole certificate and the
+    /// content octets of the identifier. Whoever says so has to judge the value: nothing here does.
+    /// basicConstraints and keyUsage are judged here, whatever is answered. `false` is right for
+    /// whoever processes no extension.
+    fn processes(&self, item: &[u8], identifier: &[u8]) -> bool
+        ensures { IsTrue result ↔ (vouches_for self.now).Processes item.now identifier.now };
 
     /// Whether a key vouches for the item at a place among items. `false` where no item has this
     /// place.
     fn vouches_at(&self, key: &[u8], items: &[&[u8]], place: usize) -> bool
-        ensures { IsTrue result ↔ VouchesAt (vouches_for self.now) items.now key.now place }
+        ensures { IsTrue result ↔ VouchesAt (vouches_for self.now).Vouches items.now key.now place }
     {
         match items.get(place) {
             Some(item) => self.vouches(key, item),
@@ -36,7 +44,7 @@ pub trait Vouch {
         chosen: &[usize],
     ) -> Result<Vec<usize>, AllocError>
         requires { IsStrictlyIncreasing chosen.now }
-        ensures { IfOk result (λ row. IsRow (vouches_for self.now) items.now chosen.now key.now row.items) }
+        ensures { IfOk result (λ row. IsRow (vouches_for self.now).Vouches items.now chosen.now key.now row.items) }
     {
         let mut row = Vec::new(alloc);
         for place in chosen {
@@ -59,7 +67,7 @@ pub trait Vouch {
         chosen: &[usize],
     ) -> Result<Vec<Vec<usize>>, AllocError>
         requires { IsStrictlyIncreasing chosen.now }
-        ensures { IfOk result (λ rows. AreRows (vouches_for self.now) keys.now items.now chosen.now rows.items) }
+        ensures { IfOk result (λ rows. AreRows (vouches_for self.now).Vouches keys.now items.now chosen.now rows.items) }
     {
         let mut rows = Vec::with_capacity(alloc, keys.len())?;
         for key in keys {

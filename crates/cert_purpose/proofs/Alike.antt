@@ -1,11 +1,9 @@
 -- Rules that vouch alike, and rules that vouch for less.
 use Rattle.std.specs.Prelude.{◌↔◌}
-use Rattle.std.proofs.Common.{◌≡◌, ◌∙◌, ap, sym, subst, refl, ℕ, ◌+◌, ◌<◌, ◌≤◌, Bool, List, [], ◌∷◌, ◌++◌, length, length-append, get_or, take, drop, arith}
+use Rattle.std.proofs.Common.{◌≡◌, ◌∙◌, ap, sym, subst, refl, ℕ, ◌+◌, ◌<◌, Bool, List, [], ◌∷◌, ◌++◌, length, length-append, get_or, take, drop, arith}
 use Rattle.std.specs.List.{All, Contains}
 use Rattle.std.proofs.Math.Seq.{get_or-append_seam}
-use Rattle.std.proofs.lemmas.List.{take-append-drop, drop_more, get_or_default}
-use Rattle.cert_graph.specs.declared.answer.Answer.{Answer}
-use Rattle.cert_graph.specs.Adequate.{IsTrueAnswer}
+use Rattle.std.proofs.lemmas.List.{take-append-drop, drop_more}
 use Rattle.cert_graph.specs.Entries.{IsAt}
 use Rattle.cert_graph.specs.Graph.{IsValidPath, AreNeighbours, EndsIn}
 use Rattle.cert_graph.specs.Laws.{Agrees}
@@ -14,7 +12,7 @@ use Rattle.cert_graph.proofs.PathLaws.{path_carried, map_same}
 use Rattle.cert_graph.proofs.EntryFacts.{is_at, has_at}
 use Rattle.cert_model.specs.Fields.{CivilTime, Number, Certificate, RevocationList}
 use Rattle.cert_model.specs.Class.{certificate, list}
-use Rattle.cert_judge.specs.Judging.{IsUsable}
+use Rattle.cert_judge.specs.Vouching.{Vouching, processing_too}
 use Rattle.cert_judge.specs.Items.{rules_at}
 use Rattle.cert_judge.specs.Revoking.{Item, Rules, IsUsedList, IsSatisfied}
 use Rattle.cert_judge.specs.ItemGraph.{IsCertificateWith, IsIssuedUnder, IsLink, IsAnchorLink, graph_of_items}
@@ -22,10 +20,10 @@ use Rattle.cert_judge.specs.LawsOfItems.{VouchesForMore}
 use Rattle.cert_judge.proofs.Carrying.{items_carry, same_items}
 use Rattle.cert_judge.proofs.Grouping.{element, one_certificate}
 use Rattle.cert_judge.proofs.Linking.{fit_is_usable}
-use Rattle.cert_purpose.specs.Restricting.{VouchAlike, HaveSameTrueAnswers, PermitsThose, IsCertificateSuch, HasPathsOfThose}
+use Rattle.cert_purpose.specs.Restricting.{restricted_by, VouchAlike, HaveSameTrueAnswers, PermitsThose, IsCertificateSuch, HasPathsOfThose}
 
 more_from : (r s : Rules) (items : List Item) → VouchAlike r s items → VouchesForMore r s items
-more_from r s items h = record { moment = h.moment; demand = h.demand; certificates = λ x c key at is. (h.certificates x c key at is).0; lists = λ x l key at is. h.lists x l key at is }
+more_from r s items h = record { moment = h.moment; demand = h.demand; certificates = λ x c key at is. (h.certificates x c key at is).0; lists = λ x l key at is. h.lists x l key at is; processed = λ x c id at is. (h.processed x c id at is).0 }
 
 pub alike_back : (r s : Rules) (items : List Item) → VouchAlike r s items → VouchAlike s r items
 alike_back r s items h = record {
@@ -33,6 +31,7 @@ alike_back r s items h = record {
   demand = sym h.demand;
   certificates = λ x c key at is. let i = h.certificates x c key at is in (i.1, i.0);
   lists = λ x l key at is. let i = h.lists x l key at is in (i.1, i.0);
+  processed = λ x c id at is. let i = h.processed x c id at is in (i.1, i.0);
 }
 
 pub alike_agrees : (r s : Rules) (items anchors : List Item) → VouchAlike r s items → Agrees (graph_of_items r items anchors) (graph_of_items s items anchors)
@@ -56,15 +55,15 @@ alike_answers r s items h = λ anchors target answer.
 pub alike_valid : (r s : Rules) (items anchors : List Item) → VouchAlike r s items → (target : ℕ) (ps : List ℕ) (a : ℕ) → IsValidPath (graph_of_items r items anchors) target ps a → IsValidPath (graph_of_items s items anchors) target ps a
 alike_valid r s items anchors h = valid_same (graph_of_items r items anchors) (graph_of_items s items anchors) (alike_agrees r s items anchors h) (fit_is_usable s items anchors)
 
-module _ (moment : CivilTime) (demand : Bool) (V : List ℕ → List ℕ → Type 0) (P : List ℕ → Type 0) (items : List Item) (lists : (x : Item) (l : RevocationList) → Contains items x → x.class ≡ list l → P x.octets) where
+module _ (moment : CivilTime) (demand : Bool) (V : Vouching) (P : List ℕ → Type 0) (R : List ℕ → List ℕ → Type 0) (items : List Item) (lists : (x : Item) (l : RevocationList) → Contains items x → x.class ≡ list l → P x.octets) where
   abbrev base : Rules
-  base = rules_at moment demand V
+  base = rules_at moment demand (processing_too R V)
 
   abbrev less : Rules
-  less = rules_at moment demand (λ key item. V key item × P item)
+  less = rules_at moment demand (restricted_by P R V)
 
   less_is_less : VouchesForMore less base items
-  less_is_less = record { moment = refl; demand = refl; certificates = λ x c key at is h. h.0; lists = λ x l key at is. (λ h. h.0, λ h. (h, lists x l at is)) }
+  less_is_less = record { moment = refl; demand = refl; certificates = λ x c key at is h. h.0; lists = λ x l key at is. (λ h. h.0, λ h. (h, lists x l at is)); processed = λ x c id at is p. p }
 
   used_still : (name key : List ℕ) (x : Item) (l : RevocationList) → Contains items x → IsUsedList base name key x l → IsUsedList less name key x l
   used_still name key x l at u = record { is_list = u.is_list; issuer = u.issuer; vouched = (u.vouched, lists x l at u.is_list); current = u.current; plain = u.plain }
@@ -156,15 +155,15 @@ place_iff P Q items p v is =
 are_certificates : (r : Rules) (items anchors : List Item) (target : ℕ) (ps : List ℕ) (a : ℕ) → IsValidPath (graph_of_items r items anchors) target ps a → All (λ v. IsAt items v (IsCertificateWith (λ c. Unit {0}))) ps
 are_certificates r items anchors target ps a v = λ k d lt. let u = v.usable k d lt in (u.0, λ e. let c = u.1 e in (c.0, c.1, tt))
 
-pub restricted_paths : (moment : CivilTime) (demand : Bool) (V : List ℕ → List ℕ → Type 0) (P : List ℕ → Type 0) (Q : Item → Certificate → Type 0) (items : List Item)
-    → PermitsThose P Q items → HasPathsOfThose (rules_at moment demand V) (rules_at moment demand (λ key item. V key item × P item)) Q items
-restricted_paths moment demand V P Q items p = λ anchors target ps a.
-    let i = valid_iff moment demand V P items p.lists anchors target ps a in (
+pub restricted_paths : (moment : CivilTime) (demand : Bool) (V : Vouching) (P : List ℕ → Type 0) (R : List ℕ → List ℕ → Type 0) (Q : Item → Certificate → Type 0) (items : List Item)
+    → PermitsThose P Q items → HasPathsOfThose (rules_at moment demand (processing_too R V)) (rules_at moment demand (restricted_by P R V)) Q items
+restricted_paths moment demand V P R Q items p = λ anchors target ps a.
+    let i = valid_iff moment demand V P R items p.lists anchors target ps a in (
       λ v.
           let h = i.0 v in
-          let c = are_certificates (rules_at moment demand V) items anchors target ps a h.0 in
+          let c = are_certificates (rules_at moment demand (processing_too R V)) items anchors target ps a h.0 in
           (h.0, λ k d lt. (place_iff P Q items p (get_or ps k d) (c k d lt)).0 (h.1 k d lt)),
       λ h.
-          let c = are_certificates (rules_at moment demand V) items anchors target ps a h.0 in
+          let c = are_certificates (rules_at moment demand (processing_too R V)) items anchors target ps a h.0 in
           i.1 (h.0, λ k d lt. (place_iff P Q items p (get_or ps k d) (c k d lt)).1 (h.1 k d lt)),
     )

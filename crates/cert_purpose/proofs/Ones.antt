@@ -1,9 +1,8 @@
 -- How many extensions have an identifier.
-use Rattle.std.proofs.Common.{◌≡◌, ◌≢◌, ◌∙◌, ap, sym, subst, refl, ℕ, ◌+◌, ◌<◌, ◌≤◌, suc, List, [], ◌∷◌, ◌++◌, map, length, length-append, append_assoc, arith, take, get_or, inl, inr, false}
-use Rattle.std.specs.List.{All}
-use Rattle.std.proofs.lemmas.List.{map-append, append-nil, get_or-map, length-map}
+use Rattle.std.proofs.Common.{◌≡◌, ◌≢◌, ◌∙◌, ap, sym, subst, refl, ℕ, ◌+◌, ◌<◌, suc, List, [], ◌∷◌, ◌++◌, map, length, length-append, append_assoc, arith, take, get_or, false}
+use Rattle.std.proofs.lemmas.List.{map-append}
 use Rattle.std.proofs.lemmas.List.Elements.{All-push, All-nil, All-tail}
-use Rattle.std.proofs.Math.Seq.{take-suc, take-length, get_or-append_seam}
+use Rattle.std.proofs.Math.Seq.{take-suc, get_or-append_seam}
 use Rattle.cert_model.proofs.FirstUnder.{one_value}
 use Rattle.cert_model.specs.Fields.{Identifier, Extension}
 use Rattle.cert_model.specs.Extended.{IsWithout}

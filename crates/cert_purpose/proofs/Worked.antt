@@ -1,13 +1,14 @@
 -- The premises of laws, and what the definitions say, at worked cases.
 use Rattle.std.proofs.Common.{◌≡◌, ◌∙◌, ap, sym, subst, refl, zero, suc, ℕ, ◌<◌, List, [], ◌∷◌, get_or, false, arith, inl, inr, lit<}
 use Rattle.std.specs.Prelude.{IsTrue, ◌↔◌}
-use Rattle.std.specs.List.{All, Contains}
+use Rattle.std.specs.List.{Contains}
 use Rattle.cert_graph.specs.Graph.{IsValidPath}
 use Rattle.cert_model.specs.Fields.{Certificate, RevocationList}
-use Rattle.cert_model.specs.Class.{certificate, list}
+use Rattle.cert_model.specs.Class.{list}
 use Rattle.cert_model.specs.Examples.{issued_by_b, authority_b}
 use Rattle.cert_judge.specs.Items.{rules_at}
 use Rattle.cert_judge.specs.Revoking.{Item}
+use Rattle.cert_judge.specs.Vouching.{Vouching, nothing, vouching_alone, processing_too}
 use Rattle.cert_judge.specs.ItemGraph.{graph_of_items}
 use Rattle.cert_judge.specs.LawsOfItems.{rules_from}
 use Rattle.cert_judge.specs.Examples.{in_june, anchor_named, certificate_item, numbered, told_apart, vouching_for_both}
@@ -15,9 +16,9 @@ use Rattle.cert_judge.proofs.ExampleLists.{pick}
 use Rattle.cert_judge.proofs.ExampleLaws.{path_by_both}
 use Rattle.cert_purpose.specs.Purposes.{extended_key_usage, Allows}
 use Rattle.cert_purpose.specs.Found.{AreMore}
-use Rattle.cert_purpose.specs.Restricting.{VouchAlike, PermitsThose, IsCertificateSuch}
+use Rattle.cert_purpose.specs.Restricting.{restricted_by, VouchAlike, PermitsThose, IsCertificateSuch}
 use Rattle.cert_purpose.specs.Examples.{server_auth, for_servers, usage, vouching_beyond}
-use Rattle.cert_purpose.proofs.Alike.{restricted_paths}
+use Rattle.cert_purpose.proofs.Alike.{restricted_paths, alike_valid}
 use Rattle.cert_purpose.proofs.Ones.{without_none, more_not_none, more_not_one}
 
 no_list_numbered : (octet : ℕ) (x : Item) (c : Certificate) (l : RevocationList) → x ≡ numbered octet c → x.class ≡ list l → ⊥
@@ -38,6 +39,7 @@ alike_apart = record {
     | inr e ↦ subst (λ (i : Item). IsTrue (vouching_for_both 1 2 key i.octets) ↔ IsTrue (vouching_beyond key i.octets)) (sym e) (λ h. refl, λ h. refl)
   ];
   lists = λ x l key at is. absurd (no_list_apart x l at is);
+  processed = λ x c id at is. (λ p. p, λ p. p);
 }
 
 pub not_before : (key : List ℕ) → IsTrue (vouching_for_both 1 2 key (9 ∷ [])) → ⊥
@@ -58,12 +60,25 @@ such zero d lt = (lit< tt, λ e. (issued_by_b, refl, λ z. cc))
 such (suc zero) d lt = (lit< tt, λ e. (authority_b, refl, λ z. cc))
 such (suc (suc k)) d lt = absurd (omega (arith, lt))
 
-pub path_stays : IsValidPath (graph_of_items (rules_at in_june false (λ key item. IsTrue (vouching_for_both 1 2 key item) × (item ≡ 9 ∷ [] → ⊥))) told_apart (certificate_item (anchor_named 0x63) ∷ [])) 0 (0 ∷ 1 ∷ []) 0
-path_stays = (restricted_paths in_june false (λ key item. IsTrue (vouching_for_both 1 2 key item)) (AllBut 9) (λ x c. AllBut 9 x.octets) told_apart (all_but 9) (certificate_item (anchor_named 0x63) ∷ []) 0 (0 ∷ 1 ∷ []) 0).1 (path_by_both, such)
+abbrev by_both : Vouching
+by_both = vouching_alone (λ key item. IsTrue (vouching_for_both 1 2 key item))
 
-pub path_goes : IsValidPath (graph_of_items (rules_at in_june false (λ key item. IsTrue (vouching_for_both 1 2 key item) × (item ≡ 2 ∷ [] → ⊥))) told_apart (certificate_item (anchor_named 0x63) ∷ [])) 0 (0 ∷ 1 ∷ []) 0 → ⊥
+-- whoever processes nothing too processes nothing
+still_nothing : VouchAlike (rules_from in_june false (vouching_for_both 1 2)) (rules_at in_june false (processing_too nothing by_both)) told_apart
+still_nothing = record {
+  moment = refl;
+  demand = refl;
+  certificates = λ x c key at is. (λ v. v, λ v. v);
+  lists = λ x l key at is. (λ v. v, λ v. v);
+  processed = λ x c id at is. (λ p. absurd p, λ p. elim p [ inl q ↦ q | inr q ↦ q ]);
+}
+
+pub path_stays : IsValidPath (graph_of_items (rules_at in_june false (restricted_by (λ item. item ≡ 9 ∷ [] → ⊥) nothing by_both)) told_apart (certificate_item (anchor_named 0x63) ∷ [])) 0 (0 ∷ 1 ∷ []) 0
+path_stays = (restricted_paths in_june false by_both (AllBut 9) nothing (λ x c. AllBut 9 x.octets) told_apart (all_but 9) (certificate_item (anchor_named 0x63) ∷ []) 0 (0 ∷ 1 ∷ []) 0).1 (alike_valid _ _ told_apart (certificate_item (anchor_named 0x63) ∷ []) still_nothing 0 (0 ∷ 1 ∷ []) 0 path_by_both, such)
+
+pub path_goes : IsValidPath (graph_of_items (rules_at in_june false (restricted_by (λ item. item ≡ 2 ∷ [] → ⊥) nothing by_both)) told_apart (certificate_item (anchor_named 0x63) ∷ [])) 0 (0 ∷ 1 ∷ []) 0 → ⊥
 path_goes v =
-    let h = (restricted_paths in_june false (λ key item. IsTrue (vouching_for_both 1 2 key item)) (AllBut 2) (λ x c. AllBut 2 x.octets) told_apart (all_but 2) (certificate_item (anchor_named 0x63) ∷ []) 0 (0 ∷ 1 ∷ []) 0).0 v in
+    let h = (restricted_paths in_june false by_both (AllBut 2) nothing (λ x c. AllBut 2 x.octets) told_apart (all_but 2) (certificate_item (anchor_named 0x63) ∷ []) 0 (0 ∷ 1 ∷ []) 0).0 v in
     let s = h.1 1 0 (lit< tt) in
     let c = s.1 (numbered 2 authority_b) in
     c.2 refl

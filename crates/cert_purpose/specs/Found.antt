@@ -1,5 +1,5 @@
 -- What stands under an identifier.
-use Rattle.std.specs.Prelude.{◌≡◌, ℕ, List, ◌∷◌, ◌++◌}
+use Rattle.std.specs.Prelude.{◌≡◌, List, ◌∷◌, ◌++◌}
 use Rattle.cert_model.specs.Fields.{Identifier, Extension}
 use Rattle.cert_model.specs.Extended.{IsWithout}
 use Rattle.cert_purpose.specs.declared.extension.Value.{Value}

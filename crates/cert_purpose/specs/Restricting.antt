@@ -1,20 +1,26 @@
 -- Rules that vouch for less, and rules that vouch alike.
-use Rattle.std.specs.Prelude.{◌≡◌, ◌↔◌, ℕ, List, Contains, All}
+use Rattle.std.specs.Prelude.{◌≡◌, ◌↔◌, ◌⊎◌, ℕ, List, Contains, All}
 use Rattle.cert_graph.specs.declared.answer.Answer.{Answer}
 use Rattle.cert_graph.specs.Adequate.{IsTrueAnswer}
 use Rattle.cert_graph.specs.Entries.{IsAt}
 use Rattle.cert_graph.specs.Graph.{IsValidPath}
-use Rattle.cert_model.specs.Fields.{CivilTime, Certificate, RevocationList}
+use Rattle.cert_model.specs.Fields.{Certificate, RevocationList}
 use Rattle.cert_model.specs.Class.{certificate, list}
 use Rattle.cert_judge.specs.Revoking.{Item, Rules}
+use Rattle.cert_judge.specs.Vouching.{Vouching}
 use Rattle.cert_judge.specs.ItemGraph.{graph_of_items}
 
--- two rules vouch for the same certificates and the same lists among the items
+-- who vouches for what is permitted alone, and processes these extensions too
+abbrev pub restricted_by : (List ℕ → Type 0) → (List ℕ → List ℕ → Type 0) → Vouching → Vouching
+restricted_by P R v = record { Vouches = λ key item. v.Vouches key item × P item; Processes = λ item identifier. v.Processes item identifier ⊎ R item identifier }
+
+-- two rules vouch for the same certificates and the same lists among the items, and process the same extensions of the certificates
 pub record VouchAlike (r s : Rules) (items : List Item) : Type 0 where
   pub moment : r.moment ≡ s.moment
   pub demand : r.demand_lists ≡ s.demand_lists
   pub certificates : (x : Item) (c : Certificate) (key : List ℕ) → Contains items x → x.class ≡ certificate c → r.Vouches key x.octets ↔ s.Vouches key x.octets
   pub lists : (x : Item) (l : RevocationList) (key : List ℕ) → Contains items x → x.class ≡ list l → r.Vouches key x.octets ↔ s.Vouches key x.octets
+  pub processed : (x : Item) (c : Certificate) (identifier : List ℕ) → Contains items x → x.class ≡ certificate c → r.Processes x.octets identifier ↔ s.Processes x.octets identifier
 
 -- whatever the anchors and the target are
 abbrev pub HaveSameTrueAnswers : Rules → Rules → List Item → Type 0

@@ -10,8 +10,8 @@ use crate::purpose::is_for;
 use cert_model::fields::ExtField;
 use cert_model::identifiers::is_ce;
 
-/// extKeyUsage, 2.5.29.37.
-const EXTENDED_KEY_USAGE: u8 = 37;
+/// extKeyUsage, 2.5.29.37: the last arc, as `is_ce` takes it.
+pub const EXTENDED_KEY_USAGE: u8 = 37;
 
 /// The values under 2.5.29.n: none, the only one, or that there are more.
 #[derive(Clone, Copy)]

@@ -8,8 +8,9 @@ ghost use Rattle.cert_judge.specs.Items.{rules_at};
 ghost use Rattle.cert_judge.specs.ItemGraph.{graph_of_items};
 ghost use Rattle.cert_judge.specs.LawsOfItems.{rules_from};
 ghost use Rattle.cert_judge.specs.Revoking.{Item};
+ghost use Rattle.cert_judge.specs.Vouching.{nothing, vouching_alone};
 ghost use Rattle.cert_purpose.specs.Purposes.{purposes_octets, Allows};
-ghost use Rattle.cert_purpose.specs.Restricting.{VouchAlike, HaveSameTrueAnswers};
+ghost use Rattle.cert_purpose.specs.Restricting.{restricted_by, VouchAlike, HaveSameTrueAnswers};
 ghost use Rattle.cert_purpose.specs.Examples.{server_auth, for_servers, usage, vouching_beyond};
 
 /// Of purposes: how one is written, no extension, and two.
@@ -20,7 +21,7 @@ pub fn examples_of_purposes()
 {}
 
 /// Two tests that vouch alike for the certificates and lists among the items have the same true
-/// answers. `example_of_alikes` meets the premise.
+/// answers. They process no extension. `example_of_alikes` meets the premise.
 pub fn same_true_answers()
     ensures { (moment : CivilTime) (demand : Bool) (vouches others : List ℕ → List ℕ → Bool) (items : List Item)
         → VouchAlike (rules_from moment demand vouches) (rules_from moment demand others) items → HaveSameTrueAnswers (rules_from moment demand vouches) (rules_from moment demand others) items }
@@ -37,6 +38,6 @@ pub fn example_of_alikes()
 /// Of restricting: a path stays where its certificates are permitted, and goes where its issuer
 /// isn't.
 pub fn example_of_restricting()
-    ensures stays { IsValidPath (graph_of_items (rules_at in_june false (λ key item. IsTrue (vouching_for_both 1 2 key item) × (item ≡ 9 ∷ [] → ⊥))) told_apart (certificate_item (anchor_named 0x63) ∷ [])) 0 (0 ∷ 1 ∷ []) 0 }
-    ensures goes { IsValidPath (graph_of_items (rules_at in_june false (λ key item. IsTrue (vouching_for_both 1 2 key item) × (item ≡ 2 ∷ [] → ⊥))) told_apart (certificate_item (anchor_named 0x63) ∷ [])) 0 (0 ∷ 1 ∷ []) 0 → ⊥ }
+    ensures stays { IsValidPath (graph_of_items (rules_at in_june false (restricted_by (λ item. item ≡ 9 ∷ [] → ⊥) nothing (vouching_alone (λ key item. IsTrue (vouching_for_both 1 2 key item))))) told_apart (certificate_item (anchor_named 0x63) ∷ [])) 0 (0 ∷ 1 ∷ []) 0 }
+    ensures goes { IsValidPath (graph_of_items (rules_at in_june false (restricted_by (λ item. item ≡ 2 ∷ [] → ⊥) nothing (vouching_alone (λ key item. IsTrue (vouching_for_both 1 2 key item))))) told_apart (certificate_item (anchor_named 0x63) ∷ [])) 0 (0 ∷ 1 ∷ []) 0 → ⊥ }
 {}

@@ -6,13 +6,15 @@ ghost use Rattle.cert_model.specs.Class.{list};
 ghost use Rattle.cert_model.specs.Fields.{CivilTime, RevocationList};
 ghost use Rattle.cert_judge.specs.Items.{rules_at};
 ghost use Rattle.cert_judge.specs.Revoking.{Item};
+ghost use Rattle.cert_judge.specs.Vouching.{processing_too};
 ghost use Rattle.cert_purpose.specs.Purposes.{Allows};
-ghost use Rattle.cert_purpose.specs.Restricting.{VouchAlike, HaveSameTrueAnswers, PermitsThose, HasPathsOfThose};
+ghost use Rattle.cert_purpose.specs.Restricting.{restricted_by, VouchAlike, HaveSameTrueAnswers, PermitsThose, HasPathsOfThose};
 
 use crate::permit::Permit;
 use cert_judge::Vouch;
 
-/// Two that vouch for the same certificates and lists among the items have the same true answers.
+/// Two that vouch for the same certificates and lists among the items, and process the same extensions
+/// of the certificates, have the same true answers.
 /// `laws::example_of_alikes` meets the premise.
 pub fn same_true_answers_by<V: Vouch, W: Vouch>(_vouch: &V, _other: &W)
     ensures { (moment : CivilTime) (demand : Bool) (items : List Item)
@@ -20,17 +22,20 @@ pub fn same_true_answers_by<V: Vouch, W: Vouch>(_vouch: &V, _other: &W)
 {}
 
 /// Where every list is permitted, the valid paths of the restricted relation are those of the whole
-/// one all of whose certificates are permitted.
+/// one all of whose certificates are permitted. Both process what the permit does.
 pub fn restricted_paths_by<V: Vouch, P: Permit>(_vouch: &V, _permit: &P)
     ensures { (moment : CivilTime) (demand : Bool) (items : List Item)
         → ((x : Item) (l : RevocationList) → Contains items x → x.class ≡ list l → P.permits _permit.now x.octets)
-        → HasPathsOfThose (rules_at moment demand (V.vouches_for _vouch.now)) (rules_at moment demand (λ key item. V.vouches_for _vouch.now key item × P.permits _permit.now item)) (λ x c. P.permits _permit.now x.octets) items }
+        → HasPathsOfThose (rules_at moment demand (processing_too (P.processes _permit.now) (V.vouches_for _vouch.now)))
+        (rules_at moment demand (restricted_by (P.permits _permit.now) (P.processes _permit.now) (V.vouches_for _vouch.now))) (λ x c. P.permits _permit.now x.octets) items }
 {}
 
 /// Where the certificates that allow a purpose and the lists are permitted, the valid paths of the
-/// restricted relation are those of the whole one all of whose certificates allow the purpose.
+/// restricted relation are those of the whole one all of whose certificates allow the purpose. Both
+/// process what the permit does.
 pub fn purpose_paths_by<V: Vouch, P: Permit>(_vouch: &V, _permit: &P)
     ensures { (moment : CivilTime) (demand : Bool) (items : List Item) (purpose : List ℕ)
         → PermitsThose (P.permits _permit.now) (λ x c. Allows purpose c.extensions) items
-        → HasPathsOfThose (rules_at moment demand (V.vouches_for _vouch.now)) (rules_at moment demand (λ key item. V.vouches_for _vouch.now key item × P.permits _permit.now item)) (λ x c. Allows purpose c.extensions) items }
+        → HasPathsOfThose (rules_at moment demand (processing_too (P.processes _permit.now) (V.vouches_for _vouch.now)))
+        (rules_at moment demand (restricted_by (P.permits _permit.now) (P.processes _permit.now) (V.vouches_for _vouch.now))) (λ x c. Allows purpose c.extensions) items }
 {}

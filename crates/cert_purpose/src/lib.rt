@@ -1,4 +1,4 @@
-//! Purposes, and relations that vouch for less.
+//! Purposes, and relations that vouch for less and process more.
 #![tactic(auto)]
 
 mod extension;
@@ -8,7 +8,7 @@ mod permit;
 mod purpose;
 mod restricted;
 
-pub use crate::extension::{Value, allows, value_under};
+pub use crate::extension::{EXTENDED_KEY_USAGE, Value, allows, value_under};
 pub use crate::permit::Permit;
 pub use crate::purpose::is_for;
 pub use crate::restricted::Restricted;

@@ -14,7 +14,8 @@ use Rattle.cert_model.specs.Octets.{name_octets, key_octets}
 use Rattle.cert_model.specs.Class.{certificate}
 use Rattle.cert_judge.specs.Judging.{IsUsable, IsFitIssuer}
 use Rattle.cert_judge.specs.Revoking.{Item, Rules, IsCurrent, IsUsedList, IsSatisfied}
-use Rattle.cert_judge.specs.ItemGraph.{IsCertificateWith, IsIssuedUnder, IsLink, IsAnchorLink, graph_of_items}
+use Rattle.cert_judge.specs.ItemGraph.{IsIssuedUnder, IsLink, IsAnchorLink, graph_of_items}
+use Rattle.cert_judge.proofs.FurtherFacts.{usable_more, fit_more}
 use Rattle.cert_judge.proofs.Linking.{fit_is_usable}
 use Rattle.cert_questions.specs.Shown.{issuer_of, subject_of, key_of, at_item}
 use Rattle.cert_questions.specs.Questions.{Holds, IsQuestion}
@@ -126,20 +127,35 @@ back r s items anchors a = record {
   moment = sym a.moment;
   demand = sym a.demand;
   vouches = λ v h x key q at keyed. let w = a.vouches v h x key q at keyed in (w.1, w.0);
+  processed = λ x c id at is. let p = a.processed x c id at is in (p.1, p.0);
 }
+
+usable_same : (r s : Rules) (items anchors : List Item) → AgreeOnQuestions r s items anchors → (v : ℕ) → (graph_of_items r items anchors).Usable v → (graph_of_items s items anchors).Usable v
+usable_same r s items anchors a v h = (
+  h.0,
+  λ d.
+      let u = h.1 d in
+      let x = get_or items v d in
+      let before : IsUsable (r.Processes x.octets) s.moment u.0 = subst (λ (m : CivilTime). IsUsable (r.Processes x.octets) m u.0) a.moment u.2 in
+      (u.0, u.1, usable_more (r.Processes x.octets) (s.Processes x.octets) s.moment u.0 (λ id. (a.processed x u.0 id (contains_at items v d h.0) u.1).0) before),
+)
+
+fit_same : (r s : Rules) (items anchors : List Item) → AgreeOnQuestions r s items anchors → (v : ℕ) → (graph_of_items r items anchors).Fit v → (graph_of_items s items anchors).Fit v
+fit_same r s items anchors a v h = (
+  h.0,
+  λ d.
+      let u = h.1 d in
+      let x = get_or items v d in
+      let before : IsFitIssuer (r.Processes x.octets) s.moment u.0 = subst (λ (m : CivilTime). IsFitIssuer (r.Processes x.octets) m u.0) a.moment u.2 in
+      (u.0, u.1, fit_more (r.Processes x.octets) (s.Processes x.octets) s.moment u.0 (λ id. (a.processed x u.0 id (contains_at items v d h.0) u.1).0) before),
+)
 
 pub links_agree : (r s : Rules) (items anchors : List Item) → AgreeOnQuestions r s items anchors → Agrees (graph_of_items r items anchors) (graph_of_items s items anchors)
 links_agree r s items anchors a = record {
   items = refl;
   certificate = λ v. (λ h. h, λ h. h);
-  usable = λ v. (
-    λ h. subst (λ (m : CivilTime). IsAt items v (IsCertificateWith (IsUsable m))) a.moment h,
-    λ h. subst (λ (m : CivilTime). IsAt items v (IsCertificateWith (IsUsable m))) (sym a.moment) h,
-  );
-  fit = λ v. (
-    λ h. subst (λ (m : CivilTime). IsAt items v (IsCertificateWith (IsFitIssuer m))) a.moment h,
-    λ h. subst (λ (m : CivilTime). IsAt items v (IsCertificateWith (IsFitIssuer m))) (sym a.moment) h,
-  );
+  usable = λ v. (usable_same r s items anchors a v, usable_same s r items anchors (back r s items anchors a) v);
+  fit = λ v. (fit_same r s items anchors a v, fit_same s r items anchors (back r s items anchors a) v);
   self_issued = λ v. refl;
   limit = λ v f. refl;
   edge = λ v w f. (edge_same r s items anchors a v w, edge_same s r items anchors (back r s items anchors a) v w);

@@ -38,6 +38,7 @@ agreeing = record {
   moment = refl;
   demand = refl;
   vouches = λ v h x k q at keyed. let both = vouched v x k at in (λ _. both.1, λ _. both.0);
+  processed = λ x c id at is. (λ p. p, λ p. p);
 }
 
 pub third_vouched : (k : List ℕ) → IsTrue (vouching_for_a_third k (3 ∷ []))

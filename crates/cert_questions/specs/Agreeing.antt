@@ -1,19 +1,23 @@
 -- Rules that say the same of each question.
-use Rattle.std.specs.Prelude.{◌≡◌, ◌↔◌, ℕ, List, ◌++◌, Some, slice_get}
+use Rattle.std.specs.Prelude.{◌≡◌, ◌↔◌, ℕ, List, ◌++◌, Some, Contains, slice_get}
 use Rattle.cert_graph.specs.declared.answer.Answer.{Answer}
 use Rattle.cert_graph.specs.Graph.{Graph, IsValidPath}
 use Rattle.cert_graph.specs.Adequate.{IsAdequate, IsTrueAnswer}
+use Rattle.cert_model.specs.Fields.{Certificate}
+use Rattle.cert_model.specs.Class.{certificate}
 use Rattle.cert_judge.specs.Revoking.{Item, Rules}
 use Rattle.cert_judge.specs.ItemGraph.{graph_of_items}
 use Rattle.cert_questions.specs.Shown.{key_at}
 use Rattle.cert_questions.specs.Questions.{IsQuestion}
 
--- the moment and the demand are the same, and of each question both say that the key vouches for the item, or neither
+-- the moment and the demand are the same, of each question both say that the key vouches for the item, or neither, and of each
+-- certificate both process the same extensions
 pub record AgreeOnQuestions (r s : Rules) (items anchors : List Item) : Type 0 where
   pub moment : r.moment ≡ s.moment
   pub demand : r.demand_lists ≡ s.demand_lists
   pub vouches : (v h : ℕ) (x : Item) (key : List ℕ) → IsQuestion items anchors v h → slice_get items v ≡ Some x → key_at (items ++ anchors) h ≡ Some key
       → r.Vouches key x.octets ↔ s.Vouches key x.octets
+  pub processed : (x : Item) (c : Certificate) (identifier : List ℕ) → Contains items x → x.class ≡ certificate c → r.Processes x.octets identifier ↔ s.Processes x.octets identifier
 
 -- two graphs have the same valid paths, the same true answers and the same adequate ones
 pub record SayTheSameOfAll (g h : Graph) : Type 0 where

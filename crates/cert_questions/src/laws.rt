@@ -13,14 +13,15 @@ ghost use Rattle.cert_questions.specs.Questions.{IsQuestion};
 use cert_judge::Vouch;
 
 /// Two tests that say the same of each question of items and anchors have the same valid paths, the
-/// same true answers and the same adequate ones: nothing else is ever asked of them.
+/// same true answers and the same adequate ones: nothing else is ever asked of them. They process no
+/// extension.
 pub fn questions_suffice()
     ensures { (moment : CivilTime) (demand : Bool) (vouches others : List ℕ → List ℕ → Bool) (items anchors : List Item)
         → AgreeOnQuestions (rules_from moment demand vouches) (rules_from moment demand others) items anchors
         → SayTheSameOf (rules_from moment demand vouches) (rules_from moment demand others) items anchors }
 {}
 
-/// `questions_suffice`, of values that vouch.
+/// `questions_suffice`, of values that vouch, and that process the same extensions of certificates.
 pub fn questions_suffice_by<V: Vouch, W: Vouch>(_vouch: &V, _other: &W)
     ensures { (moment : CivilTime) (demand : Bool) (items anchors : List Item)
         → let r = rules_at moment demand (V.vouches_for _vouch.now) in let s = rules_at moment demand (W.vouches_for _other.now) in

@@ -13,6 +13,7 @@ use Rattle.cert_judge.specs.declared.items.ReadItem.{ReadItem}
 use Rattle.cert_judge.specs.declared.items.ReadItem.TheVariants.{Certificate as certificate_read, List as list_read, Other as other_read}
 use Rattle.cert_judge.specs.ItemGraph.{IsCertificateWith, IsIssuedUnder, HaveSameKeyId, IsLink, IsAnchorLink}
 use Rattle.cert_judge.specs.Items.{list_of, item_of, rules_by, IsUsed, IsListWith}
+use Rattle.cert_judge.specs.Vouching.{Vouching}
 use Rattle.cert_judge.specs.Named.{NamesKeyId, HasKeyId}
 use Rattle.cert_judge.specs.Revoking.{Item, Rules, HasUsedList}
 use Rattle.cert_judge.proofs.Agreement.{pushed_all}
@@ -52,10 +53,10 @@ none_own c d has a s ea es = ∥∥₁_elim has (one_name a s) (λ g. absurd (em
 pub there_at : {X : Type 0} (xs : List X) (k : ℕ) (x : X) → k < length xs → x ≡ get_or xs k x → (P : X → Type 0) → P x ↔ IsAt xs k P
 there_at xs k x lt at P = (λ p. (lt, λ d. subst P (at ∙ get_or_default xs k x d lt) p), λ h. subst P (sym at) (h.1 x))
 
-pub marked_none : (V : List ℕ → List ℕ → Type 0) (moment : DateTime) (name key : List ℕ) (xs : List ReadItem) → AreMarked V moment name key xs [] 0
+pub marked_none : (V : Vouching) (moment : DateTime) (name key : List ℕ) (xs : List ReadItem) → AreMarked V moment name key xs [] 0
 marked_none V moment name key xs = record { count = refl; each = λ p x mark lt. absurd (omega arith) }
 
-pub marked_more : (V : List ℕ → List ℕ → Type 0) (moment : DateTime) (name key : List ℕ) (xs : List ReadItem) (used : List Bool) (k : ℕ) (x : ReadItem) (mark : Bool) → AreMarked V moment name key xs used k → k < length xs → x ≡ get_or xs k x
+pub marked_more : (V : Vouching) (moment : DateTime) (name key : List ℕ) (xs : List ReadItem) (used : List Bool) (k : ℕ) (x : ReadItem) (mark : Bool) → AreMarked V moment name key xs used k → k < length xs → x ≡ get_or xs k x
     → (IsTrue mark ↔ IsListWith (IsUsed V moment name key) x) → AreMarked V moment name key xs (used ++ mark ∷ []) (k + 1)
 marked_more V moment name key xs used k x mark h lt at is =
     let long = length-append used (mark ∷ []) in
@@ -66,7 +67,7 @@ marked_more V moment name key xs used k x mark h lt at is =
           (λ d. subst (λ (y : ReadItem). IsTrue mark ↔ IsListWith (IsUsed V moment name key) y) (at ∙ get_or_default xs k x d lt) is);
     }
 
-module _ (V : List ℕ → List ℕ → Type 0) (moment : DateTime) (demand : Bool) (name key : List ℕ) where
+module _ (V : Vouching) (moment : DateTime) (demand : Bool) (name key : List ℕ) where
   -- a list that is used and has a serial number, as the code has it and as the definitions have it
   revokes_item : (serial : List ℕ) (x : ReadItem) → (IsListWith (IsUsed V moment name key) x × IsListWith (HasSerial serial) x) ↔ Revokes (rules_by moment demand V) name key serial (item_of x)
   revokes_item serial (certificate_read y) = (λ h. absurd h.0, λ h. absurd (used_from V moment demand name key (certificate_read y) (item_of (certificate_read y)) h.0 refl h.1))
@@ -118,7 +119,7 @@ module _ (V : List ℕ → List ℕ → Type 0) (moment : DateTime) (demand : Bo
       (λ t. u.0 (m.0 (is.0 t)), λ x. is.1 (m.1 (u.1 x)))
 
   -- each reason that was found is one of the link
-  pub found_iff : (f : Findings) (x : Item) (c : Certificate) → f.serial.now ≡ c.serial → (IsTrue f.vouched ↔ V key x.octets) → AreMarked V moment name key f.items.now f.used.now (length f.items.now)
+  pub found_iff : (f : Findings) (x : Item) (c : Certificate) → f.serial.now ≡ c.serial → (IsTrue f.vouched ↔ V.Vouches key x.octets) → AreMarked V moment name key f.items.now f.used.now (length f.items.now)
       → (IsTrue f.lacking ↔ ((demand ≡ true) × (HasUsedList (rules_by moment demand V) (map item_of f.items.now) name key → ⊥)))
       → (reason : Unlinked) → HasFoundReason f reason ↔ HasLinkReason (rules_by moment demand V) (map item_of f.items.now) x c name key (IsTrue f.agree) reason
   found_iff f x c serial vouched marked lacking NotVouched = (λ n v. n (vouched.1 v), λ n v. n (vouched.0 v))
@@ -132,12 +133,12 @@ decided true P h n = h.0 refl
 decided false P h n = absurd (n (λ p. let e = h.1 p in cc))
 
 -- where no reason applies, what was found shows the link
-pub linked : (V : List ℕ → List ℕ → Type 0) (moment : DateTime) (demand : Bool) (items : List Item) (x : Item) (c : Certificate) (name key : List ℕ) (vouched agree listed : Bool) → name_octets c.issuer ≡ name → (IsTrue vouched ↔ V key x.octets) → (IsTrue listed ↔ HasUsedList (rules_by moment demand V) items name key)
+pub linked : (V : Vouching) (moment : DateTime) (demand : Bool) (items : List Item) (x : Item) (c : Certificate) (name key : List ℕ) (vouched agree listed : Bool) → name_octets c.issuer ≡ name → (IsTrue vouched ↔ V.Vouches key x.octets) → (IsTrue listed ↔ HasUsedList (rules_by moment demand V) items name key)
     → ((reason : Unlinked) → HasLinkReason (rules_by moment demand V) items x c name key (IsTrue agree) reason → ⊥) → IsIssuedUnder (rules_by moment demand V) items x c name key × IsTrue agree
 linked V moment demand items x c name key vouched agree listed named vouch list none = (
   record {
     issuer = named;
-    vouched = decided vouched (V key x.octets) vouch (none NotVouched);
+    vouched = decided vouched (V.Vouches key x.octets) vouch (none NotVouched);
     satisfied = record {
       kept = λ v. none (RevokedBy v.2.0) (v.2.1, λ d. subst (Revokes (rules_by moment demand V) name key c.serial) (sym v.2.2 ∙ get_or_default items v.2.0 v.0 d v.2.1) (v.1, v.3, v.4));
       listed = λ d. decided listed (HasUsedList (rules_by moment demand V) items name key) list (λ n. none NoUsedList (d, n));

@@ -16,6 +16,7 @@ use Rattle.std.specs.List.{Contains, Any}
 use Rattle.jiff_core.specs.declared.civil.datetime.DateTime.{DateTime}
 use Rattle.cert_model.specs.View.{time_view}
 use Rattle.cert_judge.specs.declared.items.ListItem.{ListItem}
+use Rattle.cert_judge.specs.Vouching.{Vouching, vouching_alone}
 use Rattle.cert_judge.specs.Items.{list_of, list_item, rules_by}
 use Rattle.cert_reasons.specs.Order.{AreAll}
 use Rattle.cert_reasons.specs.Lists.{HasListReason, HasReasonAmong, list_order}
@@ -160,11 +161,11 @@ not_unused_among r name keys item l is named none refuted =
     none NotVouched
     (λ k d lt v. not_unused r name (get_or keys k d) item l is named (keyed r keys item l (get_or keys k d) v none) (λ u. refuted (k, get_or keys k d, lt, get_or_default keys k (get_or keys k d) d lt, u)))
 
-module _ (moment : DateTime) (demand : Bool) (V : List ℕ → List ℕ → Type 0) (vouched : Bool) (keys : List (List ℕ)) where
-  pub among_iff : (item : Item) (l : RevocationList) → (IsTrue vouched ↔ Any (λ key. V key item.octets) keys) → (reason : Unused) → HasListReason (rules_by moment false (λ k i. IsTrue vouched)) [] item l reason ↔ HasReasonAmong (rules_by moment demand V) keys item l reason
+module _ (moment : DateTime) (demand : Bool) (V : Vouching) (vouched : Bool) (keys : List (List ℕ)) where
+  pub among_iff : (item : Item) (l : RevocationList) → (IsTrue vouched ↔ Any (λ key. V.Vouches key item.octets) keys) → (reason : Unused) → HasListReason (rules_by moment false (vouching_alone (λ k i. IsTrue vouched))) [] item l reason ↔ HasReasonAmong (rules_by moment demand V) keys item l reason
   among_iff item l is NotVouched = (
     λ n k d lt v. n (is.1 (k, get_or keys k d, lt, get_or_default keys k (get_or keys k d) d lt, v)),
-    λ all t. let u = is.0 t in all u.0 u.1 u.2 (subst (λ key. V key item.octets) (sym u.3) u.4),
+    λ all t. let u = is.0 t in all u.0 u.1 u.2 (subst (λ key. V.Vouches key item.octets) (sym u.3) u.4),
   )
   among_iff item l is NoNextUpdate = (λ h. h, λ h. h)
   among_iff item l is NotYetCurrent = (λ h. h, λ h. h)
@@ -172,7 +173,7 @@ module _ (moment : DateTime) (demand : Bool) (V : List ℕ → List ℕ → Type
   among_iff item l is (CriticalOfList k) = (λ h. h, λ h. h)
   among_iff item l is (CriticalOfEntry k) = (λ h. h, λ h. h)
 
-  pub used_among_iff : (x : ListItem) → (IsTrue vouched ↔ Any (λ key. V key x.octets.now) keys)
+  pub used_among_iff : (x : ListItem) → (IsTrue vouched ↔ Any (λ key. V.Vouches key x.octets.now) keys)
       → (IsTrue vouched × IsCurrent (time_view moment) (list_of x) × IsPlain (list_of x)) ↔ Any (λ key. IsUsedList (rules_by moment demand V) x.issuer.now key (list_item x) (list_of x)) keys
   used_among_iff x is = (
     λ h. let u = is.0 h.0 in (u.0, u.1, u.2, u.3, record { is_list = refl; issuer = sym x.issuer_is; vouched = u.4; current = h.1; plain = h.2 }),

@@ -9,6 +9,7 @@ use Rattle.cert_model.specs.Extended.{basic_constraints, key_usage, name_constra
 use Rattle.cert_model.specs.Examples.{key, new_year, plain, revoking}
 use Rattle.cert_judge.specs.Moments.{IsNotAfter}
 use Rattle.cert_judge.specs.Constraints.{BasicConstraints, basic_constraints_octets, IsBasicConstraints}
+use Rattle.cert_judge.specs.Further.{no_identifier}
 use Rattle.cert_judge.specs.Judging.{HasConstraints, HasUsage, IsProcessed, IsAuthority, IsSigner}
 use Rattle.cert_judge.specs.Revoking.{Item, Rules, AreUncritical, IsUsedList}
 use Rattle.cert_judge.specs.Examples.{in_june, too_late, extended_by, extension, unconstrained, default_written, extended_key_usage, path_length_zero, certificate_item, list_item, vouching_for_all, vouching_but_for}
@@ -96,7 +97,7 @@ late h = elim h [
 begun : IsNotAfter (new_year 2025) too_late
 begun = inl (omega arith)
 
-expired_only : (r : Unusable) → HasReason too_late plain r → unusable.Expired ≡ r
+expired_only : (r : Unusable) → HasReason no_identifier too_late plain r → unusable.Expired ≡ r
 expired_only unusable.NotYetValid h = absurd (h begun)
 expired_only unusable.Expired h = refl
 expired_only (unusable.Repeats k) h = absurd (omega (arith, h.0))
@@ -104,8 +105,8 @@ expired_only (unusable.Unprocessed k) h = absurd (omega (arith, h.0))
 expired_only (unusable.BadConstraints k) h = absurd (omega (arith, h.0))
 expired_only (unusable.BadUsage k) h = absurd (omega (arith, h.0))
 
-pub expired : AreAll order_of (HasReason too_late plain) (unusable.Expired ∷ [])
-expired = one_reason order_of (HasReason too_late plain) unusable.Expired late expired_only
+pub expired : AreAll order_of (HasReason no_identifier too_late plain) (unusable.Expired ∷ [])
+expired = one_reason order_of (HasReason no_identifier too_late plain) unusable.Expired late expired_only
 
 abbrev nothing_said : BasicConstraints
 nothing_said = record { ca = false; path_len = None }
@@ -117,7 +118,7 @@ well_written = (nothing_said, record { in_range = tt; spelled = refl })
 abbrev e : Extension
 e = extension basic_constraints false unconstrained
 
-uncritical : IsProcessed e
+uncritical : IsProcessed no_identifier e
 unfolding IsProcessed
 uncritical = λ c. absurd (cc)
 
@@ -131,8 +132,8 @@ of_both P zero h = h.1 e
 of_both P (suc zero) h = h.1 e
 of_both P (suc (suc k)) h = absurd (omega (arith, h.0))
 
-both_processed : (k : ℕ) → IsAt constrained_twice.extensions k (λ x. IsProcessed x → ⊥) → ⊥
-both_processed k h = of_both (λ x. IsProcessed x → ⊥) k h uncritical
+both_processed : (k : ℕ) → IsAt constrained_twice.extensions k (λ x. IsProcessed no_identifier x → ⊥) → ⊥
+both_processed k h = of_both (λ x. IsProcessed no_identifier x → ⊥) k h uncritical
 
 both_written : (k : ℕ) → IsAt constrained_twice.extensions k (λ x. (x.identifier ≡ basic_constraints) × (HasConstraints x.value → ⊥)) → ⊥
 both_written k h = let u = of_both (λ x. (x.identifier ≡ basic_constraints) × (HasConstraints x.value → ⊥)) k h in u.1 well_written
@@ -140,7 +141,7 @@ both_written k h = let u = of_both (λ x. (x.identifier ≡ basic_constraints) �
 no_usage : (k : ℕ) → IsAt constrained_twice.extensions k (λ x. (x.identifier ≡ key_usage) × (HasUsage x.value → ⊥)) → ⊥
 no_usage k h = let u = of_both (λ x. (x.identifier ≡ key_usage) × (HasUsage x.value → ⊥)) k h in basic_not_usage u.0
 
-repeated_only : (r : Unusable) → HasReason too_late constrained_twice r → (unusable.Expired ≡ r) ⊎ (unusable.Repeats 1 ≡ r)
+repeated_only : (r : Unusable) → HasReason no_identifier too_late constrained_twice r → (unusable.Expired ≡ r) ⊎ (unusable.Repeats 1 ≡ r)
 repeated_only unusable.NotYetValid h = absurd (h begun)
 repeated_only unusable.Expired h = inl refl
 repeated_only (unusable.Repeats k) h = inr (ap unusable.Repeats (sym (second k h)))
@@ -149,9 +150,9 @@ repeated_only (unusable.BadConstraints k) h = absurd (both_written k h)
 repeated_only (unusable.BadUsage k) h = absurd (no_usage k h)
 
 -- two reasons at once: the moment, and the second of two equal extensions
-pub expired_and_repeated : AreAll order_of (HasReason too_late constrained_twice) (unusable.Expired ∷ unusable.Repeats 1 ∷ [])
+pub expired_and_repeated : AreAll order_of (HasReason no_identifier too_late constrained_twice) (unusable.Expired ∷ unusable.Repeats 1 ∷ [])
 expired_and_repeated =
-    two_reasons order_of (HasReason too_late constrained_twice) unusable.Expired (unusable.Repeats 1) (inl (lit< tt)) late (lit< tt, λ d. (0, e, lit< tt, refl, refl)) repeated_only
+    two_reasons order_of (HasReason no_identifier too_late constrained_twice) unusable.Expired (unusable.Repeats 1) (inl (lit< tt)) late (lit< tt, λ d. (0, e, lit< tt, refl, refl)) repeated_only
 
 of_one : (x : Extension) (P : Extension → Type 0) (k : ℕ) → IsAt (x ∷ []) k P → P x
 of_one x P zero h = h.1 x
@@ -164,26 +165,26 @@ first_of_one x P (suc k) h = absurd (omega (arith, h.0))
 abbrev unknown : Extension
 unknown = extension extended_key_usage true unconstrained
 
-not_processed : IsProcessed unknown → ⊥
+not_processed : IsProcessed no_identifier unknown → ⊥
 unfolding IsProcessed
-not_processed p = elim (p refl) [ inl same ↦ cc | inr same ↦ cc ]
+not_processed p = elim (p refl) [ inl here ↦ elim here [ inl same ↦ cc | inr same ↦ cc ] | inr more ↦ more ]
 
-unprocessed_only : (r : Unusable) → HasReason in_june (extended_by (unknown ∷ [])) r → unusable.Unprocessed 0 ≡ r
+unprocessed_only : (r : Unusable) → HasReason no_identifier in_june (extended_by (unknown ∷ [])) r → unusable.Unprocessed 0 ≡ r
 unprocessed_only unusable.NotYetValid h = absurd (h june_valid.begun)
 unprocessed_only unusable.Expired h = absurd (h june_valid.lasts)
 unprocessed_only (unusable.Repeats zero) h = let a = h.1 unknown in absurd (omega (arith, a.2))
 unprocessed_only (unusable.Repeats (suc k)) h = absurd (omega (arith, h.0))
-unprocessed_only (unusable.Unprocessed k) h = ap unusable.Unprocessed (sym (first_of_one unknown (λ x. IsProcessed x → ⊥) k h))
+unprocessed_only (unusable.Unprocessed k) h = ap unusable.Unprocessed (sym (first_of_one unknown (λ x. IsProcessed no_identifier x → ⊥) k h))
 unprocessed_only (unusable.BadConstraints k) h = let u = of_one unknown (λ x. (x.identifier ≡ basic_constraints) × (HasConstraints x.value → ⊥)) k h in absurd (purpose_not_basic u.0)
 unprocessed_only (unusable.BadUsage k) h = let u = of_one unknown (λ x. (x.identifier ≡ key_usage) × (HasUsage x.value → ⊥)) k h in absurd (purpose_not_usage u.0)
 
-pub unprocessed : AreAll order_of (HasReason in_june (extended_by (unknown ∷ []))) (unusable.Unprocessed 0 ∷ [])
-unprocessed = one_reason order_of (HasReason in_june (extended_by (unknown ∷ []))) (unusable.Unprocessed 0) (lit< tt, λ d. not_processed) unprocessed_only
+pub unprocessed : AreAll order_of (HasReason no_identifier in_june (extended_by (unknown ∷ []))) (unusable.Unprocessed 0 ∷ [])
+unprocessed = one_reason order_of (HasReason no_identifier in_june (extended_by (unknown ∷ []))) (unusable.Unprocessed 0) (lit< tt, λ d. not_processed) unprocessed_only
 
 abbrev written : Extension
 written = extension basic_constraints false default_written
 
-written_uncritical : IsProcessed written
+written_uncritical : IsProcessed no_identifier written
 unfolding IsProcessed
 written_uncritical = λ c. absurd (cc)
 
@@ -194,24 +195,24 @@ not_written b =
       valid = june_valid;
       extensions = record {
         distinct = alone_distinct written;
-        processed = one IsProcessed written written_uncritical;
+        processed = one (IsProcessed no_identifier) written written_uncritical;
         constraints = one (λ (x : Extension). x.identifier ≡ basic_constraints → HasConstraints x.value) written (λ same. b);
         usage = one (λ (x : Extension). x.identifier ≡ key_usage → HasUsage x.value) written (λ same. absurd (cc));
       };
     })
 
-badly_only : (r : Unusable) → HasReason in_june (extended_by (written ∷ [])) r → unusable.BadConstraints 0 ≡ r
+badly_only : (r : Unusable) → HasReason no_identifier in_june (extended_by (written ∷ [])) r → unusable.BadConstraints 0 ≡ r
 badly_only unusable.NotYetValid h = absurd (h june_valid.begun)
 badly_only unusable.Expired h = absurd (h june_valid.lasts)
 badly_only (unusable.Repeats zero) h = let a = h.1 written in absurd (omega (arith, a.2))
 badly_only (unusable.Repeats (suc k)) h = absurd (omega (arith, h.0))
-badly_only (unusable.Unprocessed k) h = absurd (of_one written (λ x. IsProcessed x → ⊥) k h written_uncritical)
+badly_only (unusable.Unprocessed k) h = absurd (of_one written (λ x. IsProcessed no_identifier x → ⊥) k h written_uncritical)
 badly_only (unusable.BadConstraints k) h = ap unusable.BadConstraints (sym (first_of_one written (λ x. (x.identifier ≡ basic_constraints) × (HasConstraints x.value → ⊥)) k h))
 badly_only (unusable.BadUsage k) h = let u = of_one written (λ x. (x.identifier ≡ key_usage) × (HasUsage x.value → ⊥)) k h in absurd (basic_not_usage u.0)
 
 -- the default written out is no DER (X.690, 11.5)
-pub badly_written : AreAll order_of (HasReason in_june (extended_by (written ∷ []))) (unusable.BadConstraints 0 ∷ [])
-badly_written = one_reason order_of (HasReason in_june (extended_by (written ∷ []))) (unusable.BadConstraints 0) (lit< tt, λ d. (refl, not_written)) badly_only
+pub badly_written : AreAll order_of (HasReason no_identifier in_june (extended_by (written ∷ []))) (unusable.BadConstraints 0 ∷ [])
+badly_written = one_reason order_of (HasReason no_identifier in_june (extended_by (written ∷ []))) (unusable.BadConstraints 0) (lit< tt, λ d. (refl, not_written)) badly_only
 
 -- ---- issuers
 

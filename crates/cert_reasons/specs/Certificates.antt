@@ -2,7 +2,7 @@
 -- (RFC 5280, 6.1.3 and 6.1.4).
 use Rattle.std.specs.Prelude.{◌≡◌, ℕ, List, take, Any}
 use Rattle.cert_graph.specs.Entries.{IsAt}
-use Rattle.cert_model.specs.Fields.{CivilTime, Extension, Certificate}
+use Rattle.cert_model.specs.Fields.{Identifier, CivilTime, Extension, Certificate}
 use Rattle.cert_model.specs.Extended.{basic_constraints, key_usage}
 use Rattle.cert_judge.specs.Moments.{IsNotAfter}
 use Rattle.cert_judge.specs.Judging.{HasConstraints, HasUsage, IsProcessed}
@@ -13,14 +13,15 @@ use Rattle.cert_reasons.specs.declared.certificates.Unusable.TheVariants.{NotYet
 abbrev pub IsRepeat : List Extension → ℕ → Type 0
 IsRepeat es k = IsAt es k (λ e. Any (λ d. d.identifier ≡ e.identifier) (take k es))
 
--- A reason applies to a certificate at a moment. Extensions are counted from 0.
-abbrev pub HasReason : CivilTime → Certificate → Unusable → Type 0
-HasReason moment c NotYetValid = IsNotAfter c.not_before moment → ⊥
-HasReason moment c Expired = IsNotAfter moment c.not_after → ⊥
-HasReason moment c (Repeats k) = IsRepeat c.extensions k
-HasReason moment c (Unprocessed k) = IsAt c.extensions k (λ e. IsProcessed e → ⊥)
-HasReason moment c (BadConstraints k) = IsAt c.extensions k (λ e. (e.identifier ≡ basic_constraints) × (HasConstraints e.value → ⊥))
-HasReason moment c (BadUsage k) = IsAt c.extensions k (λ e. (e.identifier ≡ key_usage) × (HasUsage e.value → ⊥))
+-- A reason applies to a certificate at a moment, where the caller processes extensions of some identifiers. Extensions are counted
+-- from 0.
+abbrev pub HasReason : (Identifier → Type 0) → CivilTime → Certificate → Unusable → Type 0
+HasReason P moment c NotYetValid = IsNotAfter c.not_before moment → ⊥
+HasReason P moment c Expired = IsNotAfter moment c.not_after → ⊥
+HasReason P moment c (Repeats k) = IsRepeat c.extensions k
+HasReason P moment c (Unprocessed k) = IsAt c.extensions k (λ e. IsProcessed P e → ⊥)
+HasReason P moment c (BadConstraints k) = IsAt c.extensions k (λ e. (e.identifier ≡ basic_constraints) × (HasConstraints e.value → ⊥))
+HasReason P moment c (BadUsage k) = IsAt c.extensions k (λ e. (e.identifier ≡ key_usage) × (HasUsage e.value → ⊥))
 
 -- the order of reasons: that of the clauses, then that of the extensions in the certificate
 abbrev pub order_of : Unusable → ℕ × ℕ

@@ -5,6 +5,7 @@ use Rattle.cert_model.specs.Examples.{authority_b}
 use Rattle.cert_model.specs.Fields.{Certificate}
 use Rattle.cert_judge.specs.Examples.{in_june, too_late, extended_by, extension, unconstrained, path_length_zero}
 use Rattle.cert_judge.specs.Revoking.{Rules}
+use Rattle.cert_judge.specs.Vouching.{nothing}
 
 -- basic constraints that stand twice
 abbrev pub constrained_twice : Certificate
@@ -16,11 +17,11 @@ authority_with_names = record authority_b { extensions = path_length_zero ∷ ex
 
 -- a second after the lists of the examples end
 abbrev pub vouching_too_late : Rules
-vouching_too_late = record { moment = too_late; demand_lists = false; Vouches = λ key item. Unit {0} }
+vouching_too_late = record { moment = too_late; demand_lists = false; Vouches = λ key item. Unit {0}; Processes = nothing }
 
 -- no key vouches for anything, and lists are demanded
 abbrev pub vouching_for_none : Rules
-vouching_for_none = record { moment = in_june; demand_lists = true; Vouches = λ key item. ⊥ }
+vouching_for_none = record { moment = in_june; demand_lists = true; Vouches = λ key item. ⊥; Processes = nothing }
 
 -- a certificate that names its issuer's key by the octet 1, and one whose key has the identifier 2
 abbrev pub key_identifier_one : List ℕ

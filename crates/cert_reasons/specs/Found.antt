@@ -5,6 +5,7 @@ use Rattle.cert_graph.specs.Entries.{IsAt}
 use Rattle.cert_model.specs.Fields.{Entry}
 use Rattle.cert_judge.specs.declared.items.ListItem.{ListItem}
 use Rattle.cert_judge.specs.declared.items.ReadItem.{ReadItem}
+use Rattle.cert_judge.specs.Vouching.{Vouching}
 use Rattle.cert_judge.specs.Items.{list_of, IsUsed, IsListWith}
 use Rattle.cert_reasons.specs.declared.links.Findings.{Findings}
 use Rattle.cert_reasons.specs.declared.links.Unlinked.{Unlinked}
@@ -15,9 +16,9 @@ abbrev pub HasSerial : List ℕ → ListItem → Type 0
 HasSerial serial l = Any (λ (n : Entry). n.serial ≡ serial) (list_of l).entries
 
 -- the first k items are marked: whether each is a list that is used under a name and key
-pub record AreMarked (Vouches : List ℕ → List ℕ → Type 0) (moment : DateTime) (name key : List ℕ) (xs : List ReadItem) (used : List Bool) (k : ℕ) : Type 0 where
+pub record AreMarked (v : Vouching) (moment : DateTime) (name key : List ℕ) (xs : List ReadItem) (used : List Bool) (k : ℕ) : Type 0 where
   pub count : length used ≡ k
-  pub each : (p : ℕ) (x : ReadItem) (mark : Bool) → p < k → IsTrue (slice_index_or used p mark) ↔ IsListWith (IsUsed Vouches moment name key) (slice_index_or xs p x)
+  pub each : (p : ℕ) (x : ReadItem) (mark : Bool) → p < k → IsTrue (slice_index_or used p mark) ↔ IsListWith (IsUsed v moment name key) (slice_index_or xs p x)
 
 -- the item at a position is marked as used, and has an entry of a serial number
 abbrev pub RevokesAt : List ReadItem → List Bool → List ℕ → ℕ → Type 0

@@ -9,7 +9,9 @@ ghost use Rattle.cert_judge.specs.Judging.{HasConstraints, HasUsage, IsProcessed
 ghost use Rattle.cert_reasons.specs.Order.{AreAll, AreUpTo, behind};
 ghost use Rattle.cert_reasons.specs.Certificates.{IsRepeat, HasReason, order_of};
 
-use cert_judge::{has_constraints, has_usage, is_not_after, is_processed, judge_certificate};
+use cert_judge::{
+    Vouch, are_processed, has_constraints, has_usage, is_not_after, is_processed, judge_certificate,
+};
 use cert_model::fields::{CertFields, ExtField};
 use cert_model::identifiers::{BASIC_CONSTRAINTS, KEY_USAGE, is_ce};
 use jiff::civil::DateTime;
@@ -24,7 +26,8 @@ pub enum Unusable {
     Expired,
     /// An extension of the same identifier stands before the one at this position (RFC 5280, 4.2).
     Repeats(usize),
-    /// The extension at this position is critical, and not one that is judged here (RFC 5280, 6.1.4, o).
+    /// The extension at this position is critical, and neither one that is judged here nor one that the
+    /// caller processes (RFC 5280, 6.1.4, o).
     Unprocessed(usize),
     /// The extension at this position is basicConstraints, and its value is not in the one spelling of
     /// DER (RFC 5280, 4.2.1.9).
@@ -60,11 +63,16 @@ fn is_repeat(extensions: &[ExtField<'_>], place: usize) -> bool
     }
 }
 
-fn is_unprocessed(extensions: &[ExtField<'_>], place: usize) -> bool
-    ensures { IsTrue result ↔ IsAt (map ext_view extensions.now) place (λ (e : Extension). IsProcessed e → ⊥) }
+fn is_unprocessed<V: Vouch>(
+    extensions: &[ExtField<'_>],
+    vouch: &V,
+    item: &[u8],
+    place: usize,
+) -> bool
+    ensures { IsTrue result ↔ IsAt (map ext_view extensions.now) place (λ (e : Extension). IsProcessed ((V.vouches_for vouch.now).Processes item.now) e → ⊥) }
 {
     match extensions.get(place) {
-        Some(extension) => !is_processed(extension),
+        Some(extension) => !is_processed(extension, vouch, item),
         None => false,
     }
 }
@@ -99,131 +107,191 @@ fn has_bad_usage(extensions: &[ExtField<'_>], place: usize) -> bool
     }
 }
 
-/// Whether a reason applies to a certificate at a moment.
-pub fn has_reason(fields: &CertFields<'_>, moment: &DateTime, reason: Unusable) -> bool
-    ensures { IsTrue result ↔ HasReason (time_view moment.now) (certificate_view fields.now) reason }
+/// Whether a reason applies to a certificate at a moment, by what is processed in the item that it
+/// is, whose octets are told.
+pub fn has_reason<V: Vouch>(
+    fields: &CertFields<'_>,
+    vouch: &V,
+    item: &[u8],
+    moment: &DateTime,
+    reason: Unusable,
+) -> bool
+    ensures { IsTrue result ↔ HasReason ((V.vouches_for vouch.now).Processes item.now) (time_view moment.now) (certificate_view fields.now) reason }
 {
     match reason {
         Unusable::NotYetValid => !is_not_after(&fields.not_before, moment),
         Unusable::Expired => !is_not_after(moment, &fields.not_after),
         Unusable::Repeats(place) => is_repeat(&fields.extensions, place),
-        Unusable::Unprocessed(place) => is_unprocessed(&fields.extensions, place),
+        Unusable::Unprocessed(place) => is_unprocessed(&fields.extensions, vouch, item, place),
         Unusable::BadConstraints(place) => has_bad_constraints(&fields.extensions, place),
         Unusable::BadUsage(place) => has_bad_usage(&fields.extensions, place),
     }
 }
 
 /// Adds a reason, where it applies.
-fn add(
+fn add<V: Vouch>(
     found: &mut Vec<Unusable>,
     fields: &CertFields<'_>,
+    vouch: &V,
+    item: &[u8],
     moment: &DateTime,
     reason: Unusable,
 ) -> Result<(), AllocError>
-    requires { AreUpTo order_of (HasReason (time_view moment.now) (certificate_view fields.now)) (order_of reason) found.old.items }
-    ensures { OnOk result (AreUpTo order_of (HasReason (time_view moment.now) (certificate_view fields.now)) (behind (order_of reason)) found.new.items) }
+    requires { AreUpTo order_of (HasReason ((V.vouches_for vouch.now).Processes item.now) (time_view moment.now) (certificate_view fields.now)) (order_of reason) found.old.items }
+    ensures { OnOk result (AreUpTo order_of (HasReason ((V.vouches_for vouch.now).Processes item.now) (time_view moment.now) (certificate_view fields.now)) (behind (order_of reason)) found.new.items) }
 {
-    if has_reason(fields, moment, reason) {
+    if has_reason(fields, vouch, item, moment, reason) {
         found.push(reason)?;
     }
     Ok(())
 }
 
-fn add_moments(
+fn add_moments<V: Vouch>(
     found: &mut Vec<Unusable>,
     fields: &CertFields<'_>,
+    vouch: &V,
+    item: &[u8],
     moment: &DateTime,
 ) -> Result<(), AllocError>
-    requires { AreUpTo order_of (HasReason (time_view moment.now) (certificate_view fields.now)) (0, 0) found.old.items }
-    ensures { OnOk result (AreUpTo order_of (HasReason (time_view moment.now) (certificate_view fields.now)) (2, 0) found.new.items) }
+    requires { AreUpTo order_of (HasReason ((V.vouches_for vouch.now).Processes item.now) (time_view moment.now) (certificate_view fields.now)) (0, 0) found.old.items }
+    ensures { OnOk result (AreUpTo order_of (HasReason ((V.vouches_for vouch.now).Processes item.now) (time_view moment.now) (certificate_view fields.now)) (2, 0) found.new.items) }
 {
-    add(found, fields, moment, Unusable::NotYetValid)?;
-    add(found, fields, moment, Unusable::Expired)?;
+    add(found, fields, vouch, item, moment, Unusable::NotYetValid)?;
+    add(found, fields, vouch, item, moment, Unusable::Expired)?;
     Ok(())
 }
 
-fn add_repeats(
+fn add_repeats<V: Vouch>(
     found: &mut Vec<Unusable>,
     fields: &CertFields<'_>,
+    vouch: &V,
+    item: &[u8],
     moment: &DateTime,
 ) -> Result<(), AllocError>
-    requires { AreUpTo order_of (HasReason (time_view moment.now) (certificate_view fields.now)) (2, 0) found.old.items }
-    ensures { OnOk result (AreUpTo order_of (HasReason (time_view moment.now) (certificate_view fields.now)) (3, 0) found.new.items) }
+    requires { AreUpTo order_of (HasReason ((V.vouches_for vouch.now).Processes item.now) (time_view moment.now) (certificate_view fields.now)) (2, 0) found.old.items }
+    ensures { OnOk result (AreUpTo order_of (HasReason ((V.vouches_for vouch.now).Processes item.now) (time_view moment.now) (certificate_view fields.now)) (3, 0) found.new.items) }
 {
     let extensions = fields.extensions.as_slice();
     for place in 0..extensions.len() {
-        add(found, fields, moment, Unusable::Repeats(place))?;
+        add(found, fields, vouch, item, moment, Unusable::Repeats(place))?;
     }
     Ok(())
 }
 
-fn add_unprocessed(
+fn add_unprocessed<V: Vouch>(
     found: &mut Vec<Unusable>,
     fields: &CertFields<'_>,
+    vouch: &V,
+    item: &[u8],
     moment: &DateTime,
 ) -> Result<(), AllocError>
-    requires { AreUpTo order_of (HasReason (time_view moment.now) (certificate_view fields.now)) (3, 0) found.old.items }
-    ensures { OnOk result (AreUpTo order_of (HasReason (time_view moment.now) (certificate_view fields.now)) (4, 0) found.new.items) }
+    requires { AreUpTo order_of (HasReason ((V.vouches_for vouch.now).Processes item.now) (time_view moment.now) (certificate_view fields.now)) (3, 0) found.old.items }
+    ensures { OnOk result (AreUpTo order_of (HasReason ((V.vouches_for vouch.now).Processes item.now) (time_view moment.now) (certificate_view fields.now)) (4, 0) found.new.items) }
 {
     let extensions = fields.extensions.as_slice();
     for place in 0..extensions.len() {
-        add(found, fields, moment, Unusable::Unprocessed(place))?;
+        add(
+            found,
+            fields,
+            vouch,
+            item,
+            moment,
+            Unusable::Unprocessed(place),
+        )?;
     }
     Ok(())
 }
 
-fn add_bad_constraints(
+fn add_bad_constraints<V: Vouch>(
     found: &mut Vec<Unusable>,
     fields: &CertFields<'_>,
+    vouch: &V,
+    item: &[u8],
     moment: &DateTime,
 ) -> Result<(), AllocError>
-    requires { AreUpTo order_of (HasReason (time_view moment.now) (certificate_view fields.now)) (4, 0) found.old.items }
-    ensures { OnOk result (AreUpTo order_of (HasReason (time_view moment.now) (certificate_view fields.now)) (5, 0) found.new.items) }
+    requires { AreUpTo order_of (HasReason ((V.vouches_for vouch.now).Processes item.now) (time_view moment.now) (certificate_view fields.now)) (4, 0) found.old.items }
+    ensures { OnOk result (AreUpTo order_of (HasReason ((V.vouches_for vouch.now).Processes item.now) (time_view moment.now) (certificate_view fields.now)) (5, 0) found.new.items) }
 {
     let extensions = fields.extensions.as_slice();
     for place in 0..extensions.len() {
-        add(found, fields, moment, Unusable::BadConstraints(place))?;
+        add(
+            found,
+            fields,
+            vouch,
+            item,
+            moment,
+            Unusable::BadConstraints(place),
+        )?;
     }
     Ok(())
 }
 
-fn add_bad_usage(
+fn add_bad_usage<V: Vouch>(
     found: &mut Vec<Unusable>,
     fields: &CertFields<'_>,
+    vouch: &V,
+    item: &[u8],
     moment: &DateTime,
 ) -> Result<(), AllocError>
-    requires { AreUpTo order_of (HasReason (time_view moment.now) (certificate_view fields.now)) (5, 0) found.old.items }
-    ensures { OnOk result (AreUpTo order_of (HasReason (time_view moment.now) (certificate_view fields.now)) (6, 0) found.new.items) }
+    requires { AreUpTo order_of (HasReason ((V.vouches_for vouch.now).Processes item.now) (time_view moment.now) (certificate_view fields.now)) (5, 0) found.old.items }
+    ensures { OnOk result (AreUpTo order_of (HasReason ((V.vouches_for vouch.now).Processes item.now) (time_view moment.now) (certificate_view fields.now)) (6, 0) found.new.items) }
 {
     let extensions = fields.extensions.as_slice();
     for place in 0..extensions.len() {
-        add(found, fields, moment, Unusable::BadUsage(place))?;
+        add(
+            found,
+            fields,
+            vouch,
+            item,
+            moment,
+            Unusable::BadUsage(place),
+        )?;
     }
     Ok(())
 }
 
-/// The reasons why a certificate may not stand in a path at a moment. Exactly those that apply, in their
-/// order; none where it is usable.
+/// Whether a certificate is usable at a moment, by what is processed in the item that it is.
+fn is_usable<V: Vouch>(
+    alloc: Global,
+    fields: &CertFields<'_>,
+    vouch: &V,
+    item: &[u8],
+    moment: &DateTime,
+) -> Result<bool, AllocError>
+    ensures { IfOk result (λ yes. IsTrue yes ↔ IsUsable ((V.vouches_for vouch.now).Processes item.now) (time_view moment.now) (certificate_view fields.now)) }
+{
+    let judged = judge_certificate(alloc, fields, moment)?;
+    if judged.usable {
+        return Ok(are_processed(&fields.extensions, vouch, item));
+    }
+    Ok(false)
+}
+
+/// The reasons why a certificate may not stand in a path at a moment, by what is processed in the item
+/// that it is, whose octets are told. Exactly those that apply, in their order; none where it is
+/// usable.
 ///
 /// The only error is out of memory. A certificate that isn't usable costs time that grows with the square
 /// of the number of its extensions, since each is compared with those before it.
-pub fn why_unusable(
+pub fn why_unusable<V: Vouch>(
     alloc: Global,
     fields: &CertFields<'_>,
+    vouch: &V,
+    item: &[u8],
     moment: &DateTime,
 ) -> Result<Vec<Unusable>, AllocError>
-    ensures all { IfOk result (λ found. AreAll order_of (HasReason (time_view moment.now) (certificate_view fields.now)) found.items) }
-    ensures none { IfOk result (λ found. (found.items ≡ []) ↔ IsUsable (time_view moment.now) (certificate_view fields.now)) }
+    ensures all { IfOk result (λ found. AreAll order_of (HasReason ((V.vouches_for vouch.now).Processes item.now) (time_view moment.now) (certificate_view fields.now)) found.items) }
+    ensures none { IfOk result (λ found. (found.items ≡ []) ↔ IsUsable ((V.vouches_for vouch.now).Processes item.now) (time_view moment.now) (certificate_view fields.now)) }
 {
     let mut found = Vec::new(alloc);
-    let judged = judge_certificate(alloc, fields, moment)?;
-    if judged.usable {
+    let usable = is_usable(alloc, fields, vouch, item, moment)?;
+    if usable {
         return Ok(found);
     }
-    add_moments(&mut found, fields, moment)?;
-    add_repeats(&mut found, fields, moment)?;
-    add_unprocessed(&mut found, fields, moment)?;
-    add_bad_constraints(&mut found, fields, moment)?;
-    add_bad_usage(&mut found, fields, moment)?;
+    add_moments(&mut found, fields, vouch, item, moment)?;
+    add_repeats(&mut found, fields, vouch, item, moment)?;
+    add_unprocessed(&mut found, fields, vouch, item, moment)?;
+    add_bad_constraints(&mut found, fields, vouch, item, moment)?;
+    add_bad_usage(&mut found, fields, vouch, item, moment)?;
     Ok(found)
 }

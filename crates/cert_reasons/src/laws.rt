@@ -1,11 +1,12 @@
 //! Laws of reasons. Each is a function that does nothing: its contract is the law.
 
-ghost use Rattle.std.specs.Prelude.{◌≡◌, ℕ, Bool, List, Any, false, true, [], ◌∷◌};
+ghost use Rattle.std.specs.Prelude.{◌≡◌, ℕ, Bool, IsTrue, List, Any, false, true, [], ◌∷◌};
 ghost use Rattle.cert_model.specs.Fields.{CivilTime, Certificate, RevocationList};
 ghost use Rattle.cert_model.specs.Octets.{name_octets, key_octets, list_octets};
 ghost use Rattle.cert_model.specs.Extended.{basic_constraints};
 ghost use Rattle.cert_model.specs.Examples.{key, plain, authority_b, revoking};
 ghost use Rattle.cert_model.specs.Class.{list};
+ghost use Rattle.cert_judge.specs.Further.{no_identifier};
 ghost use Rattle.cert_judge.specs.Judging.{IsUsable, MayIssue};
 ghost use Rattle.cert_judge.specs.Revoking.{Item, IsUsedList};
 ghost use Rattle.cert_judge.specs.ItemGraph.{IsIssuedUnder, HaveSameKeyId};
@@ -26,14 +27,17 @@ ghost use Rattle.cert_reasons.specs.Certificates.{HasReason, order_of};
 ghost use Rattle.cert_reasons.specs.declared.certificates.Unusable.{Unusable};
 ghost use Rattle.cert_reasons.specs.declared.certificates.Unusable.TheVariants as unusable;
 
-/// To a usable certificate no reason applies.
+/// To a usable certificate no reason applies, by a test of the identifiers whose extensions the
+/// caller processes.
 pub fn usable_has_no_reason()
-    ensures { (moment : CivilTime) (c : Certificate) (r : Unusable) → IsUsable moment c → HasReason moment c r → ⊥ }
+    ensures { (processes : List ℕ → Bool) (moment : CivilTime) (c : Certificate) (r : Unusable)
+        → let P : List ℕ → Type 0 = λ identifier. IsTrue (processes identifier) in IsUsable P moment c → HasReason P moment c r → ⊥ }
 {}
 
 /// A certificate to which no reason applies is not unusable.
 pub fn certificate_without_reasons_is_not_unusable()
-    ensures { (moment : CivilTime) (c : Certificate) → ((r : Unusable) → HasReason moment c r → ⊥) → (IsUsable moment c → ⊥) → ⊥ }
+    ensures { (processes : List ℕ → Bool) (moment : CivilTime) (c : Certificate)
+        → let P : List ℕ → Type 0 = λ identifier. IsTrue (processes identifier) in ((r : Unusable) → HasReason P moment c r → ⊥) → (IsUsable P moment c → ⊥) → ⊥ }
 {}
 
 /// To a certificate that may issue others no reason applies.
@@ -97,11 +101,12 @@ pub fn list_without_reasons_is_not_unused_by_all()
 
 /// Examples of certificates, each with its whole list of reasons.
 pub fn examples_of_certificates()
-    ensures expired { AreAll order_of (HasReason too_late plain) (unusable.Expired ∷ []) }
-    ensures twice { AreAll order_of (HasReason too_late constrained_twice) (unusable.Expired ∷ unusable.Repeats 1 ∷ []) }
-    ensures unprocessed { AreAll order_of (HasReason in_june (extended_by (extension extended_key_usage true unconstrained ∷ []))) (unusable.Unprocessed 0 ∷ []) }
-    ensures written { AreAll order_of (HasReason in_june (extended_by (extension basic_constraints false default_written ∷ []))) (unusable.BadConstraints 0 ∷ []) }
-    ensures usable { (r : Unusable) → HasReason in_june (extended_by (extension basic_constraints true unconstrained ∷ [])) r → ⊥ }
+    ensures expired { AreAll order_of (HasReason no_identifier too_late plain) (unusable.Expired ∷ []) }
+    ensures twice { AreAll order_of (HasReason no_identifier too_late constrained_twice) (unusable.Expired ∷ unusable.Repeats 1 ∷ []) }
+    ensures unprocessed { AreAll order_of (HasReason no_identifier in_june (extended_by (extension extended_key_usage true unconstrained ∷ []))) (unusable.Unprocessed 0 ∷ []) }
+    ensures processed { (r : Unusable) → HasReason (λ identifier. identifier ≡ extended_key_usage) in_june (extended_by (extension extended_key_usage true unconstrained ∷ [])) r → ⊥ }
+    ensures written { AreAll order_of (HasReason no_identifier in_june (extended_by (extension basic_constraints false default_written ∷ []))) (unusable.BadConstraints 0 ∷ []) }
+    ensures usable { (r : Unusable) → HasReason no_identifier in_june (extended_by (extension basic_constraints true unconstrained ∷ [])) r → ⊥ }
 {}
 
 /// Examples of issuers: an end entity, an authority with name constraints, and a fit authority.
@@ -130,7 +135,8 @@ pub fn examples_of_links()
 
 /// Two lists of exactly the reasons that apply are equal: each call returns the one list.
 pub fn one_list_of_reasons()
-    ensures certificates { (moment : CivilTime) (c : Certificate) (rs ss : List Unusable) → AreAll order_of (HasReason moment c) rs → AreAll order_of (HasReason moment c) ss → rs ≡ ss }
+    ensures certificates { (processes : List ℕ → Bool) (moment : CivilTime) (c : Certificate) (rs ss : List Unusable)
+        → let P : List ℕ → Type 0 = λ identifier. IsTrue (processes identifier) in AreAll order_of (HasReason P moment c) rs → AreAll order_of (HasReason P moment c) ss → rs ≡ ss }
     ensures issuers { (c : Certificate) (rs ss : List NoIssuer) → AreAll issuer_order (HasIssuerReason c) rs → AreAll issuer_order (HasIssuerReason c) ss → rs ≡ ss }
     ensures lists { (moment : CivilTime) (demand : Bool) (vouches : List ℕ → List ℕ → Bool) (keys : List (List ℕ)) (item : Item) (l : RevocationList) (rs ss : List Unused)
         → let r = rules_from moment demand vouches in AreAll list_order (HasReasonAmong r keys item l) rs → AreAll list_order (HasReasonAmong r keys item l) ss → rs ≡ ss }

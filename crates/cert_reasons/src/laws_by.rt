@@ -5,16 +5,30 @@ ghost use Rattle.std.specs.Prelude.{◌≡◌, ℕ, Bool, List, Any};
 ghost use Rattle.cert_model.specs.Class.{list};
 ghost use Rattle.cert_model.specs.Fields.{CivilTime, Certificate, RevocationList};
 ghost use Rattle.cert_model.specs.Octets.{name_octets, key_octets};
+ghost use Rattle.cert_judge.specs.Judging.{IsUsable};
 ghost use Rattle.cert_judge.specs.Items.{rules_at};
 ghost use Rattle.cert_judge.specs.ItemGraph.{IsIssuedUnder, HaveSameKeyId};
 ghost use Rattle.cert_judge.specs.Revoking.{Item, IsUsedList};
+ghost use Rattle.cert_reasons.specs.Certificates.{HasReason, order_of};
 ghost use Rattle.cert_reasons.specs.Links.{HasLinkReason, link_order};
 ghost use Rattle.cert_reasons.specs.Lists.{HasListReason, HasReasonAmong, list_order};
 ghost use Rattle.cert_reasons.specs.Order.{AreAll};
+ghost use Rattle.cert_reasons.specs.declared.certificates.Unusable.{Unusable};
 ghost use Rattle.cert_reasons.specs.declared.links.Unlinked.{Unlinked};
 ghost use Rattle.cert_reasons.specs.declared.lists.Unused.{Unused};
 
 use cert_judge::Vouch;
+
+/// A certificate is usable exactly if no reason applies to it: to a usable one none applies, and one
+/// to which none applies isn't unusable. Two lists of exactly the reasons that apply are equal.
+pub fn certificate_reasons_by<V: Vouch>(_vouch: &V)
+    ensures usable { (item : List ℕ) (moment : CivilTime) (c : Certificate) (reason : Unusable)
+        → let P = (V.vouches_for _vouch.now).Processes item in IsUsable P moment c → HasReason P moment c reason → ⊥ }
+    ensures unusable { (item : List ℕ) (moment : CivilTime) (c : Certificate)
+        → let P = (V.vouches_for _vouch.now).Processes item in ((reason : Unusable) → HasReason P moment c reason → ⊥) → (IsUsable P moment c → ⊥) → ⊥ }
+    ensures one { (item : List ℕ) (moment : CivilTime) (c : Certificate) (rs ss : List Unusable)
+        → let P = (V.vouches_for _vouch.now).Processes item in AreAll order_of (HasReason P moment c) rs → AreAll order_of (HasReason P moment c) ss → rs ≡ ss }
+{}
 
 /// A list is used exactly if no reason applies to it, under one key and under one of several: to a
 /// used list none applies, and an issuer's list to which none applies isn't unused.

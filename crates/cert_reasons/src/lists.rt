@@ -6,6 +6,7 @@ ghost use Rattle.cert_model.specs.Fields.{CivilTime, Extension, Entry};
 ghost use Rattle.cert_model.specs.View.{ext_view, entry_view, time_view};
 ghost use Rattle.cert_judge.specs.Moments.{IsNotAfter};
 ghost use Rattle.cert_judge.specs.Revoking.{AreUncritical, IsCurrent, IsPlain, IsUsedList};
+ghost use Rattle.cert_judge.specs.Vouching.{vouching_alone};
 ghost use Rattle.cert_judge.specs.Items.{list_of, list_item, rules_by};
 ghost use Rattle.cert_reasons.specs.Order.{AreAll, AreUpTo, behind};
 ghost use Rattle.cert_reasons.specs.Lists.{HasListReason, HasReasonAmong, list_order};
@@ -88,7 +89,7 @@ pub fn has_list_reason(
     vouched: bool,
     reason: Unused,
 ) -> bool
-    ensures { IsTrue result ↔ (HasListReason (rules_by moment.now false (λ k i. IsTrue vouched)) [] (list_item list.now) (list_of list.now)) reason }
+    ensures { IsTrue result ↔ (HasListReason (rules_by moment.now false (vouching_alone (λ k i. IsTrue vouched))) [] (list_item list.now) (list_of list.now)) reason }
 {
     match reason {
         Unused::NotVouched => !vouched,
@@ -108,8 +109,8 @@ fn add(
     vouched: bool,
     reason: Unused,
 ) -> Result<(), AllocError>
-    requires { AreUpTo list_order (HasListReason (rules_by moment.now false (λ k i. IsTrue vouched)) [] (list_item list.now) (list_of list.now)) (list_order reason) found.old.items }
-    ensures { OnOk result (AreUpTo list_order (HasListReason (rules_by moment.now false (λ k i. IsTrue vouched)) [] (list_item list.now) (list_of list.now)) (behind (list_order reason)) found.new.items) }
+    requires { AreUpTo list_order (HasListReason (rules_by moment.now false (vouching_alone (λ k i. IsTrue vouched))) [] (list_item list.now) (list_of list.now)) (list_order reason) found.old.items }
+    ensures { OnOk result (AreUpTo list_order (HasListReason (rules_by moment.now false (vouching_alone (λ k i. IsTrue vouched))) [] (list_item list.now) (list_of list.now)) (behind (list_order reason)) found.new.items) }
 {
     if has_list_reason(list, moment, vouched, reason) {
         found.push(reason)?;
@@ -123,8 +124,8 @@ fn add_moments(
     moment: &DateTime,
     vouched: bool,
 ) -> Result<(), AllocError>
-    requires { AreUpTo list_order (HasListReason (rules_by moment.now false (λ k i. IsTrue vouched)) [] (list_item list.now) (list_of list.now)) (0, 0) found.old.items }
-    ensures { OnOk result (AreUpTo list_order (HasListReason (rules_by moment.now false (λ k i. IsTrue vouched)) [] (list_item list.now) (list_of list.now)) (4, 0) found.new.items) }
+    requires { AreUpTo list_order (HasListReason (rules_by moment.now false (vouching_alone (λ k i. IsTrue vouched))) [] (list_item list.now) (list_of list.now)) (0, 0) found.old.items }
+    ensures { OnOk result (AreUpTo list_order (HasListReason (rules_by moment.now false (vouching_alone (λ k i. IsTrue vouched))) [] (list_item list.now) (list_of list.now)) (4, 0) found.new.items) }
 {
     add(found, list, moment, vouched, Unused::NotVouched)?;
     add(found, list, moment, vouched, Unused::NoNextUpdate)?;
@@ -139,8 +140,8 @@ fn add_of_list(
     moment: &DateTime,
     vouched: bool,
 ) -> Result<(), AllocError>
-    requires { AreUpTo list_order (HasListReason (rules_by moment.now false (λ k i. IsTrue vouched)) [] (list_item list.now) (list_of list.now)) (4, 0) found.old.items }
-    ensures { OnOk result (AreUpTo list_order (HasListReason (rules_by moment.now false (λ k i. IsTrue vouched)) [] (list_item list.now) (list_of list.now)) (5, 0) found.new.items) }
+    requires { AreUpTo list_order (HasListReason (rules_by moment.now false (vouching_alone (λ k i. IsTrue vouched))) [] (list_item list.now) (list_of list.now)) (4, 0) found.old.items }
+    ensures { OnOk result (AreUpTo list_order (HasListReason (rules_by moment.now false (vouching_alone (λ k i. IsTrue vouched))) [] (list_item list.now) (list_of list.now)) (5, 0) found.new.items) }
 {
     let extensions = list.fields.extensions.as_slice();
     for place in 0..extensions.len() {
@@ -155,8 +156,8 @@ fn add_of_entries(
     moment: &DateTime,
     vouched: bool,
 ) -> Result<(), AllocError>
-    requires { AreUpTo list_order (HasListReason (rules_by moment.now false (λ k i. IsTrue vouched)) [] (list_item list.now) (list_of list.now)) (5, 0) found.old.items }
-    ensures { OnOk result (AreUpTo list_order (HasListReason (rules_by moment.now false (λ k i. IsTrue vouched)) [] (list_item list.now) (list_of list.now)) (6, 0) found.new.items) }
+    requires { AreUpTo list_order (HasListReason (rules_by moment.now false (vouching_alone (λ k i. IsTrue vouched))) [] (list_item list.now) (list_of list.now)) (5, 0) found.old.items }
+    ensures { OnOk result (AreUpTo list_order (HasListReason (rules_by moment.now false (vouching_alone (λ k i. IsTrue vouched))) [] (list_item list.now) (list_of list.now)) (6, 0) found.new.items) }
 {
     let entries = list.fields.entries.as_slice();
     for place in 0..entries.len() {
@@ -184,7 +185,7 @@ pub fn why_list_unused(
     moment: &DateTime,
     vouched: bool,
 ) -> Result<Vec<Unused>, AllocError>
-    ensures all { IfOk result (λ found. AreAll list_order (HasListReason (rules_by moment.now false (λ k i. IsTrue vouched)) [] (list_item list.now) (list_of list.now)) found.items) }
+    ensures all { IfOk result (λ found. AreAll list_order (HasListReason (rules_by moment.now false (vouching_alone (λ k i. IsTrue vouched))) [] (list_item list.now) (list_of list.now)) found.items) }
     ensures none { IfOk result (λ found. (found.items ≡ []) ↔ (IsTrue vouched × IsCurrent (time_view moment.now) (list_of list.now) × IsPlain (list_of list.now))) }
 {
     let mut found = Vec::new(alloc);
@@ -198,7 +199,7 @@ pub fn why_list_unused(
 }
 
 fn is_vouched_by_any<V: Vouch>(vouch: &V, keys: &[&[u8]], item: &[u8]) -> bool
-    ensures { IsTrue result ↔ Any (λ key. V.vouches_for vouch.now key.now item.now) keys.now }
+    ensures { IsTrue result ↔ Any (λ key. (V.vouches_for vouch.now).Vouches key.now item.now) keys.now }
 {
     for key in keys {
         if vouch.vouches(key, item) {

@@ -208,13 +208,18 @@ impl Digests for RememberedVouchers<'_> {
 }
 
 impl Vouch for RememberedVouchers<'_> {
+    ghost use Rattle.cert_judge.specs.Vouching.{vouching_alone};
     ghost use Rattle.certcheck.specs.Vouching.{VouchesBy};
 
-    /// They vouch for what their vouchers vouch for.
-    ghost vouches_for = { λ v key item. VouchesBy v.vouchers.now.pairs key item };
+    /// They vouch for what their vouchers vouch for, and process no extension.
+    ghost vouches_for = { λ v. vouching_alone (VouchesBy v.vouchers.now.pairs) };
 
     fn vouches(&self, key: &[u8], item: &[u8]) -> bool {
         has_pair(&self.vouchers.pairs, self, key, item)
+    }
+
+    fn processes(&self, _item: &[u8], _identifier: &[u8]) -> bool {
+        false
     }
 
     fn vouched_by_each(

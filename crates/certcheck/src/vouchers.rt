@@ -64,13 +64,19 @@ impl Vouchers {
 }
 
 impl Vouch for Vouchers {
+    ghost use Rattle.cert_judge.specs.Vouching.{vouching_alone};
     ghost use Rattle.certcheck.specs.Vouching.{VouchesBy};
 
-    /// The pairs vouch for a key and an item whose digests are one of them.
-    ghost vouches_for = { λ v key item. VouchesBy v.pairs key item };
+    /// The pairs vouch for a key and an item whose digests are one of them. No extension is
+    /// processed.
+    ghost vouches_for = { λ v. vouching_alone (VouchesBy v.pairs) };
 
     fn vouches(&self, key: &[u8], item: &[u8]) -> bool {
         has_pair(&self.pairs, &Computed, key, item)
+    }
+
+    fn processes(&self, _item: &[u8], _identifier: &[u8]) -> bool {
+        false
     }
 
     fn vouched_by_each(

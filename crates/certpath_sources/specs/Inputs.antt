@@ -2,6 +2,7 @@
 use Rattle.std.specs.Prelude.{◌≡◌, ℕ, List, Option}
 use Rattle.sha2.specs.Sha256.{sha256}
 use Rattle.cert_framing.specs.Held.{Framed}
+use Rattle.cert_judge.specs.Vouching.{Vouching, vouching_alone}
 use Rattle.certcheck.specs.declared.vouchers.Vouchers.{Vouchers}
 use Rattle.certcheck.specs.Vouching.{HasPair}
 use Rattle.certpath_input.specs.Inputs.{ReadsAll, ReadsItems}
@@ -10,8 +11,8 @@ use Rattle.certpath_sources.specs.declared.settings.RunError.{RunError}
 use Rattle.certpath_sources.specs.declared.settings.RunError.TheVariants.{Read, TooLong, BadLine, OutOfMemory, Write}
 
 -- the pairs vouch for a key and an item whose SHA-256 digests are one of them
-abbrev pub VouchesBy : Vouchers → List ℕ → List ℕ → Type 0
-VouchesBy vouchers key item = HasPair vouchers.pairs (sha256 key) (sha256 item)
+abbrev pub VouchesBy : Vouchers → Vouching
+VouchesBy vouchers = vouching_alone (λ key item. HasPair vouchers.pairs (sha256 key) (sha256 item))
 
 -- all three inputs were read to their ends, and this stands in them
 pub record AreInputs (bundle bundle' anchors anchors' vouchers vouchers' : Option (List ℕ)) (limit : ℕ) (items anchor_items : Framed) (pairs : Vouchers) : Type 0 where

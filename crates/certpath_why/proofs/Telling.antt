@@ -80,7 +80,7 @@ tells_links r items anchors v x ws hs first one two last w h a b is =
     )
 
 pub tells_certificate : (r : Rules) (items anchors : List Item) (target v : ℕ) (x : CertificateItem) (first one two three last : List ℕ)
-    → one ≡ first ++ subject_line v x.subject.now → Appends (TellsUnusable r.moment v (certificate_of x)) one two → Appends (TellsNoIssuer (nat_eq v target) v (certificate_of x)) two three
+    → one ≡ first ++ subject_line v x.subject.now → Appends (TellsUnusable r v (certificate_item x) (certificate_of x)) one two → Appends (TellsNoIssuer (nat_eq v target) v (certificate_of x)) two three
     → Appends (TellsLinks r items anchors v (certificate_item x) (certificate_of x)) three last → Appends (TellsCertificate r items anchors target v (certificate_item x) (certificate_of x)) first last
 tells_certificate r items anchors target v x first one two three last is a b l =
     let c = certificate_of x in

@@ -6,7 +6,7 @@ use Rattle.std.specs.List.{flat_map}
 use Rattle.cert_graph.specs.Entries.{IsAt}
 use Rattle.cert_graph.specs.declared.answer.Answer.{Answer}
 use Rattle.cert_model.specs.Class.{Class, certificate, list, other}
-use Rattle.cert_model.specs.Fields.{CivilTime, Certificate, RevocationList}
+use Rattle.cert_model.specs.Fields.{Certificate, RevocationList}
 use Rattle.cert_model.specs.Octets.{name_octets, key_octets}
 use Rattle.cert_judge.specs.Revoking.{Item, Rules}
 use Rattle.cert_judge.specs.ItemGraph.{IsCertificateWith, HaveSameKeyId}
@@ -29,8 +29,8 @@ AreTexts IsText [] text = text ≡ []
 AreTexts IsText (x ∷ xs) text = (first : List ℕ) × (rest : List ℕ) × IsText x first × AreTexts IsText xs rest × (text ≡ first ++ rest)
 
 -- a line for each reason why the certificate at a position is not usable
-abbrev pub TellsUnusable : CivilTime → ℕ → Certificate → List ℕ → Type 0
-TellsUnusable moment v c text = (reasons : List Unusable) × AreAll order_of (HasReason moment c) reasons × (text ≡ flat_map (unusable_line v c) reasons)
+abbrev pub TellsUnusable : Rules → ℕ → Item → Certificate → List ℕ → Type 0
+TellsUnusable r v x c text = (reasons : List Unusable) × AreAll order_of (HasReason (r.Processes x.octets) r.moment c) reasons × (text ≡ flat_map (unusable_line v c) reasons)
 
 -- a line for each reason why it may not issue others; none of the target, which needs to issue nothing
 abbrev pub TellsNoIssuer : Bool → ℕ → Certificate → List ℕ → Type 0
@@ -70,7 +70,7 @@ pub record TellsLinks (r : Rules) (items anchors : List Item) (v : ℕ) (x : Ite
 -- All lines of a certificate.
 pub record TellsCertificate (r : Rules) (items anchors : List Item) (target v : ℕ) (x : Item) (c : Certificate) (text : List ℕ) : Type 0 where
   pub unusable : List ℕ
-  pub unusable_is : TellsUnusable r.moment v c unusable
+  pub unusable_is : TellsUnusable r v x c unusable
   pub no_issuer : List ℕ
   pub no_issuer_is : TellsNoIssuer (nat_eq v target) v c no_issuer
   pub links : List ℕ

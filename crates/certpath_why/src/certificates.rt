@@ -3,7 +3,6 @@
 ghost use Rattle.std.specs.Prelude.{◌≡◌, ◌++◌, ℕ, List, [], nat_eq, OnOk, IfOk, map, string_bytes};
 ghost use Rattle.cert_graph.specs.Entries.{IsAt};
 ghost use Rattle.cert_model.specs.Octets.{name_octets};
-ghost use Rattle.cert_model.specs.View.{time_view};
 ghost use Rattle.cert_judge.specs.Items.{item_of, certificate_of, certificate_item, rules_by};
 ghost use Rattle.cert_judge.specs.declared.items.ReadItem.TheVariants.{Certificate as certificate_read};
 ghost use Rattle.certpath_why.specs.Reached.{ArePositions, HasSubject, IsCertificateAt};
@@ -21,17 +20,24 @@ use cert_judge::{CertificateItem, Policy, Vouch};
 use cert_reasons::{why_no_issuer, why_unlinked, why_unlinked_to_anchor, why_unusable};
 use std::alloc::{AllocError, Global};
 
-fn tell_unusable(
+fn tell_unusable<V: Vouch>(
     text: &mut String,
     alloc: Global,
     place: usize,
     certificate: &CertificateItem<'_>,
+    vouch: &V,
     policy: &Policy,
 ) -> Result<(), AllocError>
-    ensures { OnOk result (Appends (TellsUnusable (time_view policy.now.moment) place (certificate_of certificate.now)) (string_bytes text.old) (string_bytes text.new)) }
+    ensures { OnOk result (Appends (TellsUnusable (rules_by policy.now.moment policy.now.demand_lists (V.vouches_for vouch.now)) place (certificate_item certificate.now) (certificate_of certificate.now)) (string_bytes text.old) (string_bytes text.new)) }
 {
     let moment = policy.moment();
-    let reasons = why_unusable(alloc, &certificate.fields, &moment)?;
+    let reasons = why_unusable(
+        alloc,
+        &certificate.fields,
+        vouch,
+        certificate.octets,
+        &moment,
+    )?;
     push_all_unusable(text, place, &certificate.fields, &reasons)?;
     Ok(())
 }
@@ -209,7 +215,7 @@ fn tell_certificate<V: Vouch>(
     ensures { OnOk result (Appends (TellsCertificate (rules_by policy.now.moment policy.now.demand_lists (V.vouches_for vouch.now)) (map item_of found.now.items.now) (map item_of found.now.anchors.now) target place (certificate_item certificate.now) (certificate_of certificate.now)) (string_bytes text.old) (string_bytes text.new)) }
 {
     push_subject(text, alloc, &found.labels, place, certificate.subject)?;
-    tell_unusable(text, alloc, place, certificate, policy)?;
+    tell_unusable(text, alloc, place, certificate, vouch, policy)?;
     tell_no_issuer(text, alloc, target, place, certificate)?;
     tell_all_links(text, alloc, found, place, certificate, vouch, policy)?;
     Ok(())

@@ -2,8 +2,10 @@
 //! reasons why it may not issue others.
 #![tactic(auto)]
 
+mod processing;
 mod rows;
 
+use crate::processing::Processing;
 use crate::rows::{ROWS, Row, certificate, moment};
 use cert_reasons::{why_no_issuer, why_unusable};
 use std::alloc::{AllocError, Global};
@@ -24,7 +26,10 @@ fn main(rt: HostRuntime) -> io::Result<()> {
 fn text_of(alloc: Global, row: &Row) -> Result<String, AllocError> {
     let fields = certificate(alloc, row.extensions)?;
     let moment = moment(row.when);
-    let unusable = why_unusable(alloc, &fields, &moment)?;
+    let processing = Processing {
+        identifier: row.processes,
+    };
+    let unusable = why_unusable(alloc, &fields, &processing, &[], &moment)?;
     let no_issuer = why_no_issuer(alloc, &fields)?;
     format!(in alloc; "{}: {unusable:?} {no_issuer:?}", row.name)
 }

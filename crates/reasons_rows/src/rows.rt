@@ -18,6 +18,8 @@ pub(crate) struct Row {
     pub(crate) name: &'static str,
     pub(crate) when: When,
     pub(crate) extensions: &'static [ExtField<'static>],
+    /// The identifier whose extensions the caller processes, empty for none.
+    pub(crate) processes: &'static [u8],
 }
 
 /// basicConstraints of an authority with path length 0 (RFC 5280, 4.2.1.9).
@@ -55,7 +57,7 @@ const BAD_USAGE: ExtField<'static> = ExtField {
     value: &[0x03, 0x02, 0x04, 0xa0],
 };
 
-/// extendedKeyUsage, critical, which is not processed.
+/// extendedKeyUsage, critical, which is processed by a caller alone.
 const UNPROCESSED: ExtField<'static> = ExtField {
     identifier: &[0x55, 0x1d, 0x25],
     critical: true,
@@ -74,56 +76,78 @@ const POLICY_CONSTRAINTS: ExtField<'static> = ExtField {
     value: &[],
 };
 
-pub(crate) const ROWS: [Row; 10] = [
+pub(crate) const ROWS: [Row; 12] = [
     Row {
         name: "end entity",
         when: When::Within,
         extensions: &[],
+        processes: &[],
     },
     Row {
         name: "not yet valid",
         when: When::Before,
         extensions: &[],
+        processes: &[],
     },
     Row {
         name: "expired, and an extension twice",
         when: When::After,
         extensions: &[UNCONSTRAINED, UNCONSTRAINED],
+        processes: &[],
     },
     Row {
         name: "critical and unknown",
         when: When::Within,
         extensions: &[UNCONSTRAINED, UNPROCESSED],
+        processes: &[],
+    },
+    Row {
+        name: "critical, and the caller processes it",
+        when: When::Within,
+        extensions: &[UNCONSTRAINED, UNPROCESSED],
+        processes: &[0x55, 0x1d, 0x25],
+    },
+    Row {
+        name: "critical, and the caller processes another",
+        when: When::Within,
+        extensions: &[UNCONSTRAINED, UNPROCESSED],
+        processes: &[0x55, 0x1d, 0x1e],
     },
     Row {
         name: "default written",
         when: When::Within,
         extensions: &[DEFAULT_WRITTEN],
+        processes: &[],
     },
     Row {
         name: "trailing bit",
         when: When::Within,
         extensions: &[AUTHORITY, BAD_USAGE],
+        processes: &[],
     },
     Row {
         name: "authority",
         when: When::Within,
         extensions: &[AUTHORITY],
+        processes: &[],
     },
     Row {
         name: "authority without keyCertSign",
         when: When::Within,
         extensions: &[AUTHORITY, ENCIPHERMENT],
+        processes: &[],
     },
     Row {
         name: "authority with name constraints",
         when: When::Within,
         extensions: &[NAME_CONSTRAINTS, AUTHORITY],
+        processes: &[],
     },
     Row {
         name: "authority with policy constraints",
         when: When::Within,
         extensions: &[AUTHORITY, POLICY_CONSTRAINTS],
+        processes: &[],
     },
 ];
 

@@ -30,7 +30,7 @@ link_name-requires-clause-named g c =
     let whole = subst (λ k. (v : ℕ) → Contains chosen v ↔ (v < k)) len c.in_ok-chosen.ensures.exact in
     subst (λ l. (v : ℕ) → Contains l v ↔ Shows Name c.deref-in-loop-bucket.result.now v b.text.now) (sym c.deref-in-loop-bucket-3.ensures.value)
     (subst (λ (z : List Place). (v : ℕ) → Contains b.places.items v ↔ Shows Name z v b.text.now) (sym c.deref-in-loop-bucket.ensures.value)
-    (named_by (g.V.Vouch.vouches_for c.args.vouch.now) c.args.demand_lists c.args.items.now all (length c.args.anchors.now) chosen whole b own))
+    (named_by ((g.V.Vouch.vouches_for c.args.vouch.now).Vouches) c.args.demand_lists c.args.items.now all (length c.args.anchors.now) chosen whole b own))
 
 pub link_name-requires-clause-keyless : goal.link_name-requires-clause-keyless
 link_name-requires-clause-keyless g c =
@@ -39,7 +39,7 @@ link_name-requires-clause-keyless g c =
 
 pub loop-bucket-preserved : goal.loop-bucket-preserved
 loop-bucket-preserved g c =
-    let V = g.V.Vouch.vouches_for c.args.vouch.now in
+    let V = (g.V.Vouch.vouches_for c.args.vouch.now).Vouches in
     let demand = c.args.demand_lists in
     let js = c.args.items.now in
     let m = length c.args.anchors.now in
@@ -52,7 +52,7 @@ loop-bucket-preserved g c =
 
 pub returns : goal.returns
 returns g c =
-    let V = g.V.Vouch.vouches_for c.args.vouch.now in
+    let V = (g.V.Vouch.vouches_for c.args.vouch.now).Vouches in
     let demand = c.args.demand_lists in
     let js = c.args.items.now in
     let m = length c.args.anchors.now in

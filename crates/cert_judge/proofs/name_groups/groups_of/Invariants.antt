@@ -6,6 +6,6 @@ use Rattle.cert_judge.proofs.name_groups.groups_of.Given as goal
 
 abbrev pub invariant-loop-bucket : goal.invariant-loop-bucket
 invariant-loop-bucket g l =
-    let V = g.V.Vouch.vouches_for l.fn.vouch in
+    let V = (g.V.Vouch.vouches_for l.fn.vouch).Vouches in
     Adds (length l.items) [] l.groups.items (UpTo (IsBucketLink V l.demand_lists l.items l.all.items) l.bucket-items l.bucket-index)
     (UpTo (IsBucketAnchor V l.demand_lists l.items l.all.items (length l.anchors)) l.bucket-items l.bucket-index)

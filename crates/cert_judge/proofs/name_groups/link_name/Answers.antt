@@ -13,7 +13,7 @@ use Rattle.cert_judge.proofs.name_groups.link_name.Goals as goal
 
 pub issued_under-requires-clause-ascends : goal.issued_under-requires-clause-ascends
 issued_under-requires-clause-ascends g c =
-    let V = g.V.Vouch.vouches_for c.args.vouch.now in
+    let V = (g.V.Vouch.vouches_for c.args.vouch.now).Vouches in
     let own = row_of_bucket V c.args.octets.now c.in_ok-issued.issued.items c.deref-3.result.now c.in_ok-keys.keys.items c.deref-2.result.now c.deref-bucket-items.result.now c.deref.result.now c.in_ok-rows.rows.items c.loop-number.number c.bucket-item.result c.index.result.now
     c.deref-2.ensures.value c.in_ok-keys.ensures (c.deref.ensures.value ∙ sym c.deref-bucket-items.ensures.value) c.deref-3.ensures.value c.bucket-item.is c.loop-number-test.true c.index.ensures c.in_ok-rows.ensures in
     subst IsStrictlyIncreasing (sym c.deref-in-loop-number.ensures.value) own.ascends
@@ -28,7 +28,7 @@ pub link_places-requires-clause-linked_within : goal.link_places-requires-clause
 link_places-requires-clause-linked_within g c =
     let js = c.args.items.now in
     let under = under_from js c.args.all.now c.args.name.now c.args.places.now c.in_ok-issued.issued.items c.requires.named c.in_ok-issued.ensures.exact in
-    let V = g.V.Vouch.vouches_for c.args.vouch.now in
+    let V = (g.V.Vouch.vouches_for c.args.vouch.now).Vouches in
     let b = c.bucket-item.result in
     let own = row_of_bucket V c.args.octets.now c.in_ok-issued.issued.items c.deref-3.result.now c.in_ok-keys.keys.items c.deref-2.result.now c.deref-bucket-items.result.now c.deref.result.now c.in_ok-rows.rows.items c.loop-number.number b c.index.result.now
     c.deref-2.ensures.value c.in_ok-keys.ensures (c.deref.ensures.value ∙ sym c.deref-bucket-items.ensures.value) c.deref-3.ensures.value c.bucket-item.is c.loop-number-test.true c.index.ensures c.in_ok-rows.ensures in
@@ -37,7 +37,7 @@ link_places-requires-clause-linked_within g c =
 
 pub link_places-requires-clause-holders_behind : goal.link_places-requires-clause-holders_behind
 link_places-requires-clause-holders_behind g c =
-    let V = g.V.Vouch.vouches_for c.args.vouch.now in
+    let V = (g.V.Vouch.vouches_for c.args.vouch.now).Vouches in
     let js = c.args.items.now in
     let S = Shows Key c.args.all.now in
     let h : AreBuckets S c.args.places.now c.deref-bucket-items.result.now = subst (AreBuckets S c.args.places.now) (sym c.deref-bucket-items.ensures.value) c.in_ok-buckets.ensures in
@@ -48,7 +48,7 @@ link_places-requires-clause-holders_behind g c =
 
 pub loop-number-preserved : goal.loop-number-preserved
 loop-number-preserved g c =
-    let V = g.V.Vouch.vouches_for c.args.vouch.now in
+    let V = (g.V.Vouch.vouches_for c.args.vouch.now).Vouches in
     let demand = c.args.demand_lists in
     let js = c.args.items.now in
     let n = length js in
@@ -73,7 +73,7 @@ loop-number-preserved g c =
 
 pub returns : goal.returns
 returns g c =
-    let V = g.V.Vouch.vouches_for c.args.vouch.now in
+    let V = (g.V.Vouch.vouches_for c.args.vouch.now).Vouches in
     let demand = c.args.demand_lists in
     let js = c.args.items.now in
     let all = c.args.all.now in

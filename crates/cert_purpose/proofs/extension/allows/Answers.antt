@@ -1,4 +1,4 @@
-use Rattle.std.proofs.Common.{◌≡◌, ◌∙◌, map, sym, subst, refl, false, true, inl, inr}
+use Rattle.std.proofs.Common.{map, subst, inl, inr}
 use Rattle.std.proofs.lemmas.Bool.{false≢true}
 use Rattle.cert_model.specs.View.{ext_view}
 use Rattle.cert_purpose.specs.Purposes.{extended_key_usage, IsFor}

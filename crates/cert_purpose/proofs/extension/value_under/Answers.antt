@@ -1,4 +1,4 @@
-use Rattle.std.proofs.Common.{◌≡◌, ◌∙◌, sym}
+use Rattle.std.proofs.Common.{◌∙◌, sym}
 use Rattle.std.proofs.lemmas.Bool.{false≢true}
 use Rattle.cert_model.specs.Extended.{under_ce}
 use Rattle.cert_purpose.proofs.Ones.{without_none, told_one, told_more, told_same}

@@ -6,9 +6,9 @@ use Rattle.cert_reasons.proofs.Certain.{same_reason}
 use Rattle.cert_reasons.proofs.certificates.add.Goals as goal
 
 pub returns-in_ok-push : goal.returns-in_ok-push
-returns-in_ok-push c =
-    rw c.in_ok-push.ensures.items (up_more order_of (HasReason (time_view c.args.moment.now) (certificate_view c.args.fields.now)) c.args.found.now.items c.args.reason (λ r e. same_reason r c.args.reason e) c.requires (c.has_reason.ensures.0 c.if-has_reason.true))
+returns-in_ok-push g c =
+    rw c.in_ok-push.ensures.items (up_more order_of (HasReason ((g.V.Vouch.vouches_for c.args.vouch.now).Processes c.args.item.now) (time_view c.args.moment.now) (certificate_view c.args.fields.now)) c.args.found.now.items c.args.reason (λ r e. same_reason r c.args.reason e) c.requires (c.has_reason.ensures.0 c.if-has_reason.true))
 
 pub returns-else-has_reason : goal.returns-else-has_reason
-returns-else-has_reason c =
-    up_same order_of (HasReason (time_view c.args.moment.now) (certificate_view c.args.fields.now)) c.args.found.now.items c.args.reason (λ r e. same_reason r c.args.reason e) c.requires (λ s. not_both _ (c.has_reason.ensures.1 s) c.if-has_reason.false)
+returns-else-has_reason g c =
+    up_same order_of (HasReason ((g.V.Vouch.vouches_for c.args.vouch.now).Processes c.args.item.now) (time_view c.args.moment.now) (certificate_view c.args.fields.now)) c.args.found.now.items c.args.reason (λ r e. same_reason r c.args.reason e) c.requires (λ s. not_both _ (c.has_reason.ensures.1 s) c.if-has_reason.false)

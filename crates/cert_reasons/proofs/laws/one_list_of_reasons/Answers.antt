@@ -1,3 +1,4 @@
+use Rattle.std.specs.Prelude.{IsTrue}
 use Rattle.cert_judge.specs.ItemGraph.{HaveSameKeyId}
 use Rattle.cert_judge.specs.LawsOfItems.{rules_from}
 use Rattle.cert_model.specs.Octets.{name_octets, key_octets}
@@ -9,7 +10,7 @@ use Rattle.cert_reasons.proofs.Ordered.{one_list}
 use Rattle.cert_reasons.proofs.laws.one_list_of_reasons.Goals as goal
 
 pub returns-clause-certificates : goal.returns-clause-certificates
-returns-clause-certificates c = λ moment f. one_list order_of (HasReason moment f)
+returns-clause-certificates c = λ processes moment f. one_list order_of (HasReason (λ id. IsTrue (processes id)) moment f)
 
 pub returns-clause-issuers : goal.returns-clause-issuers
 returns-clause-issuers c = λ f. one_list issuer_order (HasIssuerReason f)

@@ -7,7 +7,7 @@ use Rattle.cert_judge.proofs.vouch.Vouch.vouched_by.Goals.{then-vouches_at+in_ok
 
 pub loop-place-preserved : goal.loop-place-preserved
 loop-place-preserved g c =
-    let C = VouchesAt (g.Self.Vouch.vouches_for c.args.self.now) c.args.items.now c.args.key.now in
+    let C = VouchesAt ((g.Self.Vouch.vouches_for c.args.self.now).Vouches) c.args.items.now c.args.key.now in
     let ps = c.args.chosen.now in
     let k = c.loop-place.place-index in
     let p = get_or ps k 0 in
@@ -24,5 +24,5 @@ returns g c =
     let end : c.loop-place.place-index ≡ length c.args.chosen.now = omega arith in
     record {
       ascends = c.loop-place.invariant.ascends;
-      exact = sifted_whole (VouchesAt (g.Self.Vouch.vouches_for c.args.self.now) c.args.items.now c.args.key.now) c.args.chosen.now c.loop-place.place-index c.loop-place.row.items end c.loop-place.invariant;
+      exact = sifted_whole (VouchesAt ((g.Self.Vouch.vouches_for c.args.self.now).Vouches) c.args.items.now c.args.key.now) c.args.chosen.now c.loop-place.place-index c.loop-place.row.items end c.loop-place.invariant;
     }

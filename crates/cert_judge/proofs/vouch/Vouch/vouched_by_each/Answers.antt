@@ -1,12 +1,12 @@
-use Rattle.std.proofs.Common.{◌≡◌, length, get_or, arith, sym, subst, Bor, ℕ, List}
+use Rattle.std.proofs.Common.{subst, Bor, ℕ, List}
 use Rattle.std.proofs.lemmas.List.{get_or_default}
 use Rattle.cert_judge.specs.Rows.{IsRow}
-use Rattle.cert_judge.proofs.RowFacts.{rows_more, rows_all}
+use Rattle.cert_judge.proofs.RowFacts.{rows_more}
 use Rattle.cert_judge.proofs.vouch.Vouch.vouched_by_each.Goals as goal
 
 pub loop-key-preserved : goal.loop-key-preserved
 loop-key-preserved g c =
-    let V = g.Self.Vouch.vouches_for c.args.self.now in
+    let V = (g.Self.Vouch.vouches_for c.args.self.now).Vouches in
     let keys = c.args.keys.now in
     let k = c.loop-key.key-index in
     rw c.in_ok-push.ensures.items (rows_more V keys c.args.items.now c.args.chosen.now k c.loop-key.rows.items c.in_ok-vouched_by.field-0
