@@ -1,6 +1,8 @@
 -- What holds where nothing is demanded, and where something is.
-use Rattle.std.proofs.Common.{◌≡◌, Option, Some, None, true, false}
-use Rattle.certpath_sources.specs.Demands.{IfNeither, is_neither}
+use Rattle.std.proofs.Common.{◌≡◌, ℕ, List, Option, Some, None, Result, Ok, Err, IfOk, true, false, subst}
+use Rattle.cert_serving.specs.declared.permits.Permits.{Permits}
+use Rattle.certcheck.specs.declared.vouchers.Vouchers.{Vouchers}
+use Rattle.certpath_sources.specs.Demands.{IfNeither, VouchesWhere, is_neither}
 
 pub on_neither : {A B : Type 0} (a : Option A) (b : Option B) (P Q : Type 0) → is_neither a b ≡ true → P → IfNeither a b P Q
 on_neither None None P Q e p = p
@@ -17,3 +19,12 @@ pub shown_by : {A B : Type 0} {P Q P' Q' : Type 0} (a : Option A) (b : Option B)
 shown_by None None h f g = f h
 shown_by None (Some b) h f g = g h
 shown_by (Some a) b h f g = g h
+
+-- what follows of an answer
+pub of_ok : {X E : Type 0} (P Q : X → Type 0) → ((x : X) → P x → Q x) → (r : Result X E) → IfOk r P → IfOk r Q
+of_ok P Q f (Ok x) h = f x h
+of_ok P Q f (Err e) h = tt
+
+-- what holds by pairs and permits holds by those that are equal to them
+pub by_equal : (P : (List ℕ → List ℕ → Type 0) → Type 0) (v w : Vouchers) (p q : Permits) → v ≡ w → p ≡ q → P (VouchesWhere p v) → P (VouchesWhere q w)
+by_equal P v w p q e f h = subst (λ x. P (VouchesWhere x w)) f (subst (λ y. P (VouchesWhere p y)) e h)
