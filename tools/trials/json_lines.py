@@ -83,6 +83,7 @@ class Lines(installing_places.InRoom):
             named = {*kinds[name]["required"], *(IF_ASKED if name == "answer" else ())}
             self.same(f"{name}: fields that are described", {*kinds[name]["properties"]}, named)
             self.same(f"{name}: fields that {PAGE} doesn't name", [it for it in named if f"`{it}`" not in page], [])
+            self.same(f"{name}: fields without a description", [it for it, held in kinds[name]["properties"].items() if "description" not in held], [])
 
     def test_answers(self):
         for found in self.answers():
