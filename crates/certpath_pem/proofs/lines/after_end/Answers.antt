@@ -1,8 +1,8 @@
 use Rattle.std.proofs.Common.{[], ◌∷◌, Some, None, refl, inl, inr}
 use Rattle.std.proofs.lemmas.Bool.Decides.{Decides-eqb}
 use Rattle.std.proofs.lemmas.Slice.Eq.{strip_prefix_is}
-use Rattle.certpath_files.proofs.LineFacts.{one_end}
-use Rattle.certpath_files.proofs.lines.behind_end.Goals as goal
+use Rattle.certpath_pem.proofs.LineFacts.{one_end}
+use Rattle.certpath_pem.proofs.lines.after_end.Goals as goal
 
 pub returns-in-Some : goal.returns-in-Some
 returns-in-Some c = (13 ∷ 10 ∷ [], strip_prefix_is Decides-eqb c.args.text.now (13 ∷ 10 ∷ []) (Some c.in-Some.rest) c.in-Some.ensures.cases, inr (inl refl))
