@@ -40,10 +40,11 @@ PAGES = {
         "x509_lists::CertificateRevocationList::from_der", "x509_requests::X509CertificationRequest::from_der")),
     "certcheck": Page({"example_path/src/main.rt": ()}, (
         "cert_framing::Bundle::new", "cert_framing::Bundle::feed", "cert_framing::Bundle::finish", "cert_framing::Items::len",
-        "cert_framing::Items::get", "certcheck::read_tree", "cert_judge::Vouch::vouches", "certcheck::Vouchers::push",
-        "cert_judge::Policy::new", "certcheck::check")),
+        "cert_framing::Items::get", "certcheck::read_tree", "cert_judge::Vouch::vouches", "cert_judge::Vouch::processes",
+        "certcheck::Vouchers::push", "cert_judge::Policy::new", "certcheck::check")),
     "certpath_find": Page({"example_path/src/verified.rt": ()}, (
-        "certpath_find::find", "certpath_find::judged_items", "certpath_find::find_judged", "cert_judge::Vouch::vouches")),
+        "certpath_find::find", "certpath_find::judged_items", "certpath_find::find_judged", "cert_judge::Vouch::vouches",
+        "cert_judge::Vouch::processes")),
 }
 
 

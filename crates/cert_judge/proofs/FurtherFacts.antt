@@ -79,7 +79,7 @@ further_more es ids e h unprocessed =
       own = All-push (IsFurther (es ++ e ∷ [])) ids e.identifier (λ k d lt. further_still es e (get_or ids k d) (h.own k d lt)) own;
     }
 
--- the same one extension of the code's at a time
+-- one extension of the code's more
 next_of : (xs : List ExtField) (k : ℕ) (x : ExtField) → k < length xs → map ext_view (take k xs) ++ ext_view (get_or xs k x) ∷ [] ≡ map ext_view (take (k + 1) xs)
 next_of xs k x lt = sym (ap (map ext_view) (take_more xs k x lt) ∙ map-append ext_view (take k xs) (get_or xs k x ∷ []))
 
@@ -124,7 +124,7 @@ usable_iff P moment c ids f =
       λ h. usable_with any_identifier P moment c (i.1 h.1) h.0,
     )
 
--- the same, told by the extensions themselves
+-- and by the extensions themselves
 pub usable_apart : (P : Identifier → Type 0) (moment : CivilTime) (c : Certificate) → IsUsable P moment c ↔ (IsUsable any_identifier moment c × All (IsProcessed P) c.extensions)
 usable_apart P moment c = (λ u. (usable_with P any_identifier moment c (processed_by_any c.extensions) u, u.extensions.processed), λ h. usable_with any_identifier P moment c h.1 h.0)
 

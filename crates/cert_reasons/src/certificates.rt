@@ -108,7 +108,7 @@ fn has_bad_usage(extensions: &[ExtField<'_>], place: usize) -> bool
 }
 
 /// Whether a reason applies to a certificate at a moment, by what is processed in the item that it
-/// is, whose octets are told.
+/// is, given by its octets.
 pub fn has_reason<V: Vouch>(
     fields: &CertFields<'_>,
     vouch: &V,
@@ -268,8 +268,7 @@ fn is_usable<V: Vouch>(
 }
 
 /// The reasons why a certificate may not stand in a path at a moment, by what is processed in the item
-/// that it is, whose octets are told. Exactly those that apply, in their order; none where it is
-/// usable.
+/// that it is, given by its octets. Exactly those that apply, in their order; none where it is usable.
 ///
 /// The only error is out of memory. A certificate that isn't usable costs time that grows with the square
 /// of the number of its extensions, since each is compared with those before it.

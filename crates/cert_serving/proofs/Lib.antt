@@ -5,3 +5,4 @@ pub mod Refused
 pub mod Paths
 pub mod Once
 pub mod Worked
+pub mod Processing

@@ -1,6 +1,6 @@
 -- Paths of permitted items.
 use Rattle.std.specs.Prelude.{◌↔◌}
-use Rattle.std.proofs.Common.{◌≡◌, ◌∙◌, ap, sym, subst, refl, ℕ, ◌<◌, Bool, List, [], ◌∷◌, map, length, get_or, arith}
+use Rattle.std.proofs.Common.{◌≡◌, ◌∙◌, ap, sym, subst, refl, ℕ, ◌<◌, Bool, List, [], ◌∷◌, map, length, get_or, arith, inl, inr}
 use Rattle.std.specs.List.{All, Contains}
 use Rattle.std.proofs.lemmas.List.{get_or-map, length-map}
 use Rattle.std.proofs.lemmas.List.Elements.{All-contains}
@@ -13,9 +13,10 @@ use Rattle.cert_judge.specs.Classed.{AreClassed}
 use Rattle.cert_judge.specs.Items.{rules_at}
 use Rattle.cert_judge.specs.Revoking.{Item, Rules}
 use Rattle.cert_judge.specs.ItemGraph.{graph_of_items}
-use Rattle.cert_purpose.specs.Restricting.{PermitsThose, IsCertificateSuch}
-use Rattle.cert_purpose.proofs.Alike.{restricted_paths}
-use Rattle.cert_serving.specs.Demanding.{Demanded, AllowsIt, ServesIt, Meets, IsPermitted, PermitsOf, IsServingPath}
+use Rattle.cert_judge.specs.Vouching.{Vouching, processing_too}
+use Rattle.cert_purpose.specs.Restricting.{restricted_by, VouchAlike, PermitsThose, IsCertificateSuch}
+use Rattle.cert_purpose.proofs.Alike.{restricted_paths, alike_valid, alike_back}
+use Rattle.cert_serving.specs.Demanding.{Demanded, AllowsIt, ServesIt, Meets, IsPermitted, PermitsOf, IsProcessedFor, ProcessesFor, IsServingPath}
 
 mapped_in : {X Y : Type 0} (f : X → Y) (xs : List X) (x : X) → Contains xs x → Contains (map f xs) (f x)
 mapped_in f xs x h =
@@ -103,10 +104,29 @@ module _ (r : Rules) (d : Demanded) (octets : List (List ℕ)) (items anchors : 
     λ h. (h.path, λ i e lt. met (get_or ps i e) h.host (h.purpose i e lt)),
   )
 
-pub serving_paths : (moment : CivilTime) (demand : Bool) (V : List ℕ → List ℕ → Type 0) (P : List ℕ → Type 0) (d : Demanded) (octets : List (List ℕ)) (items anchors : List Item) (target : ℕ) (ps : List ℕ) (a : ℕ)
-    → PermitsOf d octets P → AreClassed octets items → IsAt items target (λ x. x.octets ≡ d.target)
-    → IsValidPath (graph_of_items (rules_at moment demand (λ key item. V key item × P item)) items anchors) target ps a ↔ IsServingPath (rules_at moment demand V) d items anchors target ps a
-serving_paths moment demand V P d octets items anchors target ps a h k t =
-    let i = restricted_paths moment demand V P (λ x c. Meets d x.octets c.extensions) items (those_permitted d octets items P h k) anchors target ps a in
-    let j = serving_path (rules_at moment demand V) d octets items anchors target k t ps a in
-    (λ v. j.0 (i.0 v), λ s. i.1 (j.1 s))
+-- relations that process equal extensions too vouch alike
+told_alike : (moment : CivilTime) (demand : Bool) (V : Vouching) (R S : List ℕ → List ℕ → Type 0) (items : List Item) → ((octets identifier : List ℕ) → R octets identifier ↔ S octets identifier)
+    → VouchAlike (rules_at moment demand (processing_too R V)) (rules_at moment demand (processing_too S V)) items
+told_alike moment demand V R S items same = record {
+  moment = refl;
+  demand = refl;
+  certificates = λ x c key at is. (λ v. v, λ v. v);
+  lists = λ x l key at is. (λ v. v, λ v. v);
+  processed = λ x c id at is. (
+    λ p. elim p [ inl own ↦ inl own | inr more ↦ inr ((same x.octets id).0 more) ],
+    λ p. elim p [ inl own ↦ inl own | inr more ↦ inr ((same x.octets id).1 more) ],
+  );
+}
+
+pub serving_paths : (moment : CivilTime) (demand : Bool) (V : Vouching) (P : List ℕ → Type 0) (R : List ℕ → List ℕ → Type 0) (d : Demanded) (octets : List (List ℕ)) (items anchors : List Item) (target : ℕ) (ps : List ℕ) (a : ℕ)
+    → PermitsOf d octets P → ProcessesFor d R → AreClassed octets items → IsAt items target (λ x. x.octets ≡ d.target)
+    → IsValidPath (graph_of_items (rules_at moment demand (restricted_by P R V)) items anchors) target ps a ↔ IsServingPath (rules_at moment demand (processing_too (IsProcessedFor d) V)) d items anchors target ps a
+serving_paths moment demand V P R d octets items anchors target ps a h p k t =
+    let there = rules_at moment demand (processing_too R V) in
+    let r = rules_at moment demand (processing_too (IsProcessedFor d) V) in
+    let alike = told_alike moment demand V R (IsProcessedFor d) items p in
+    let i = restricted_paths moment demand V P R (λ x c. Meets d x.octets c.extensions) items (those_permitted d octets items P h k) anchors target ps a in
+    let j = serving_path r d octets items anchors target k t ps a in (
+      λ v. let w = i.0 v in j.0 (alike_valid there r items anchors alike target ps a w.0, w.1),
+      λ s. let w = j.1 s in i.1 (alike_valid r there items anchors (alike_back there r items alike) target ps a w.0, w.1),
+    )

@@ -1,17 +1,17 @@
 -- What may be demanded of the certificates of a path, and which items are permitted then.
-use Rattle.std.specs.Prelude.{◌≡◌, ◌↔◌, ℕ, List, Option, Contains, All}
+use Rattle.std.specs.Prelude.{◌≡◌, ◌↔◌, ◌⊎◌, ℕ, List, Option, IsSome, Contains, All}
 use Rattle.cert_graph.specs.Graph.{IsValidPath}
 use Rattle.cert_model.specs.Fields.{Identifier, Extension, Certificate}
 use Rattle.cert_model.specs.Range.{IfThere}
 use Rattle.cert_model.specs.Class.{IsCertificateItem}
 use Rattle.cert_judge.specs.Revoking.{Item, Rules}
 use Rattle.cert_judge.specs.ItemGraph.{graph_of_items}
-use Rattle.cert_purpose.specs.Purposes.{Allows}
+use Rattle.cert_purpose.specs.Purposes.{extended_key_usage, Allows}
 use Rattle.cert_purpose.specs.Restricting.{IsCertificateSuch}
 use Rattle.host_names.specs.Asked.{Asked}
 use Rattle.cert_serving.specs.declared.item.Answer.{Answer}
 use Rattle.cert_serving.specs.declared.item.Answer.TheVariants.{NotCertificate, No, Yes}
-use Rattle.cert_serving.specs.Serving.{Serves}
+use Rattle.cert_serving.specs.Serving.{subject_alt_name, Serves}
 
 -- a purpose that each certificate allows, and a host that the target serves
 pub record Demanded : Type 0 where
@@ -37,6 +37,15 @@ IsPermitted d octets = (c : Certificate) → IsCertificateItem octets c → Meet
 -- exactly those of the items are permitted; of other octets all are
 abbrev pub PermitsOf : Demanded → List (List ℕ) → (List ℕ → Type 0) → Type 0
 PermitsOf d items P = (octets : List ℕ) → P octets ↔ (Contains items octets → IsPermitted d octets)
+
+-- extensions of an identifier are processed in an item, so that they may be critical there (RFC 5280, 6.1.4, o, and 6.1.5, f):
+-- extKeyUsage in each item, where a purpose is demanded, and subjectAltName in the target, where a host is
+abbrev pub IsProcessedFor : Demanded → List ℕ → Identifier → Type 0
+IsProcessedFor d octets identifier = (IsSome d.purpose × (identifier ≡ extended_key_usage)) ⊎ (IsSome d.host × (octets ≡ d.target) × (identifier ≡ subject_alt_name))
+
+-- exactly those are processed
+abbrev pub ProcessesFor : Demanded → (List ℕ → List ℕ → Type 0) → Type 0
+ProcessesFor d R = (octets identifier : List ℕ) → R octets identifier ↔ IsProcessedFor d octets identifier
 
 -- octets are no certificate
 abbrev pub IsNoCertificate : List ℕ → Type 0

@@ -16,7 +16,7 @@ use host_names::{Host, dns_matches};
 use std::net::IpAddr;
 
 /// subjectAltName, 2.5.29.17.
-const SUBJECT_ALT_NAME: u8 = 17;
+pub(crate) const SUBJECT_ALT_NAME: u8 = 17;
 
 /// Whether octets are the 4 or 16 of an address.
 fn is_address(octets: &[u8], address: &IpAddr) -> bool

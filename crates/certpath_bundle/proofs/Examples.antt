@@ -34,8 +34,8 @@ written = refl
 said : messages_of files
     ≡ codes "a.der octet 22: neither certificate nor revocation list; left out\n"
     ++ codes "a.der octet 40: 5 octets of it missing, 2 octets to the end; left out\n"
-    ++ codes "b.pem line 1: its label isn't known; left out\n"
-    ++ codes "b.pem line 4 (PRIVATE KEY): neither certificates nor revocation lists by its label; left out\n"
+    ++ codes "b.pem line 1: the label isn't known; left out\n"
+    ++ codes "b.pem line 4 (PRIVATE KEY): the block holds neither certificate nor revocation list; left out\n"
     ++ codes "bundle: 1 item (1 certificate, 0 lists), 4 left out\n"
 unfolding header_at strict_at identity_at length_at size_at base64_on_literals digits chars encode_utf8
 said = refl

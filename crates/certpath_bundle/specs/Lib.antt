@@ -2,7 +2,7 @@ pub mod Names
 pub mod Words
 pub mod Lines
 pub mod Counts
-pub mod CountsTold
+pub mod CountViews
 pub mod Bundles
-pub mod Told
+pub mod Views
 pub mod Writes

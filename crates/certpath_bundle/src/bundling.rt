@@ -4,7 +4,7 @@ ghost use Rattle.std.specs.Prelude.{◌≡◌, ◌≢◌, ◌+◌, ◌≤◌, If
 ghost use Rattle.std.specs.Io.KnownBytes.{Appends};
 ghost use Rattle.asn1_device.specs.Counts.{AppendsFront};
 ghost use Rattle.certpath_bundle.specs.Bundles.{items_of, said_of, bundle_of, messages_of, left_out_of, counts_of};
-ghost use Rattle.certpath_bundle.specs.Told.{file_told, found_told};
+ghost use Rattle.certpath_bundle.specs.Views.{file_view, found_view};
 ghost use Rattle.certpath_bundle.specs.Writes.{failed_writes};
 
 use crate::file::File;
@@ -36,8 +36,8 @@ pub struct Said {
 
 /// What is to be said.
 fn said_of(alloc: Global, found: &[Found<'_>]) -> Result<Said, AllocError>
-    ensures text { IfOk result (λ said. string_bytes said.text ≡ said_of (map found_told found.now)) }
-    ensures left_out { IfOk result (λ said. said.left_out ≡ (counts_of (map found_told found.now)).left_out) }
+    ensures text { IfOk result (λ said. string_bytes said.text ≡ said_of (map found_view found.now)) }
+    ensures left_out { IfOk result (λ said. said.left_out ≡ (counts_of (map found_view found.now)).left_out) }
 {
     let counts = counts_of(found)?;
     let mut text = String::new(alloc);
@@ -51,8 +51,8 @@ fn said_of(alloc: Global, found: &[Found<'_>]) -> Result<Said, AllocError>
 
 /// Writes the items of all files.
 fn write_items<W: Sink>(writer: &mut W, found: &[Found<'_>]) -> Result<(), BundleError>
-    ensures ok { OnOk result (Appends (W.contents writer.old) (W.contents writer.new) (items_of (map found_told found.now))) }
-    ensures part { OnErr result (AppendsFront (W.contents writer.old) (W.contents writer.new) (items_of (map found_told found.now))) }
+    ensures ok { OnOk result (Appends (W.contents writer.old) (W.contents writer.new) (items_of (map found_view found.now))) }
+    ensures part { OnErr result (AppendsFront (W.contents writer.old) (W.contents writer.new) (items_of (map found_view found.now))) }
     ensures only { IfErr result (λ e. e ≡ BundleError.Write) }
     ensures write { W.failures writer.new ≡ W.failures writer.old + failed_writes result }
     ensures flushes { W.flushes writer.new ≡ W.flushes writer.old }
@@ -67,8 +67,8 @@ fn write_items<W: Sink>(writer: &mut W, found: &[Found<'_>]) -> Result<(), Bundl
 
 /// Writes the items of all files, and flushes once.
 fn write_all<W: Sink>(writer: &mut W, found: &[Found<'_>]) -> Result<(), BundleError>
-    ensures ok { OnOk result (Appends (W.contents writer.old) (W.contents writer.new) (items_of (map found_told found.now))) }
-    ensures part { OnErr result (AppendsFront (W.contents writer.old) (W.contents writer.new) (items_of (map found_told found.now))) }
+    ensures ok { OnOk result (Appends (W.contents writer.old) (W.contents writer.new) (items_of (map found_view found.now))) }
+    ensures part { OnErr result (AppendsFront (W.contents writer.old) (W.contents writer.new) (items_of (map found_view found.now))) }
     ensures only { IfErr result (λ e. e ≡ BundleError.Write) }
     ensures write { W.failures writer.new ≡ W.failures writer.old + failed_writes result }
     ensures flushed { OnOk result (W.flushes writer.new ≡ W.flushes writer.old + 1) }
@@ -93,10 +93,10 @@ pub fn bundle<W: Sink>(
     writer: &mut W,
 ) -> Result<Said, BundleError>
     // What is written and said.
-    ensures ok { OnOk result (Appends (W.contents writer.old) (W.contents writer.new) (bundle_of (map file_told files.now))) }
-    ensures text { IfOk result (λ said. string_bytes said.text ≡ messages_of (map file_told files.now)) }
-    ensures left_out { IfOk result (λ said. said.left_out ≡ left_out_of (map file_told files.now)) }
-    ensures part { IsErrOf result BundleError.Write → AppendsFront (W.contents writer.old) (W.contents writer.new) (bundle_of (map file_told files.now)) }
+    ensures ok { OnOk result (Appends (W.contents writer.old) (W.contents writer.new) (bundle_of (map file_view files.now))) }
+    ensures text { IfOk result (λ said. string_bytes said.text ≡ messages_of (map file_view files.now)) }
+    ensures left_out { IfOk result (λ said. said.left_out ≡ left_out_of (map file_view files.now)) }
+    ensures part { IsErrOf result BundleError.Write → AppendsFront (W.contents writer.old) (W.contents writer.new) (bundle_of (map file_view files.now)) }
     ensures nothing { IfErr result (λ e. e ≢ BundleError.Write → writer.new ≡ writer.old) }
 
     // When each refusal comes.

@@ -2,10 +2,10 @@
 
 ghost use Rattle.std.specs.Prelude.{◌≡◌, ◌+◌, IfOk, map};
 ghost use Rattle.std.specs.List.{fold};
-ghost use Rattle.certpath_files.specs.RowsTold.{row_told};
-ghost use Rattle.certpath_files.specs.ShapesTold.{kind_told};
+ghost use Rattle.certpath_files.specs.RowViews.{row_view};
+ghost use Rattle.certpath_files.specs.ShapeViews.{kind_view};
 ghost use Rattle.certpath_bundle.specs.Counts.{with_item, with_row, with_rows};
-ghost use Rattle.certpath_bundle.specs.CountsTold.{counts_told};
+ghost use Rattle.certpath_bundle.specs.CountViews.{counts_view};
 
 use certpath_files::{Kind, Row};
 use std::alloc::AllocError;
@@ -30,7 +30,7 @@ pub(crate) fn sum_of(one: usize, other: usize) -> Result<usize, AllocError>
 
 /// The counts with one item more.
 fn with_item(counts: Counts, kind: Kind) -> Result<Counts, AllocError>
-    ensures { IfOk result (λ more. counts_told more ≡ with_item (counts_told counts) (kind_told kind)) }
+    ensures { IfOk result (λ more. counts_view more ≡ with_item (counts_view counts) (kind_view kind)) }
 {
     match kind {
         Kind::Certificate => {
@@ -49,7 +49,7 @@ fn with_item(counts: Counts, kind: Kind) -> Result<Counts, AllocError>
 
 /// The counts with one row more.
 fn with_row(counts: Counts, row: Row<'_>) -> Result<Counts, AllocError>
-    ensures { IfOk result (λ more. counts_told more ≡ with_row (counts_told counts) (row_told row.entry)) }
+    ensures { IfOk result (λ more. counts_view more ≡ with_row (counts_view counts) (row_view row.entry)) }
 {
     match row {
         Row::Item(_, kind, _) => with_item(counts, kind),
@@ -62,7 +62,7 @@ fn with_row(counts: Counts, row: Row<'_>) -> Result<Counts, AllocError>
 
 /// The counts with all rows of a file more.
 pub(crate) fn with_rows(counts: Counts, rows: &[Row<'_>]) -> Result<Counts, AllocError>
-    ensures { IfOk result (λ more. counts_told more ≡ with_rows (counts_told counts) (map row_told rows.now)) }
+    ensures { IfOk result (λ more. counts_view more ≡ with_rows (counts_view counts) (map row_view rows.now)) }
 {
     let mut more = counts;
     for row in rows {

@@ -2,9 +2,9 @@
 
 ghost use Rattle.std.specs.Prelude.{◌≡◌, ◌++◌, OnOk, IfOk, map, string_bytes};
 ghost use Rattle.certpath_bundle.specs.Counts.{zero_counts};
-ghost use Rattle.certpath_bundle.specs.CountsTold.{counts_told};
+ghost use Rattle.certpath_bundle.specs.CountViews.{counts_view};
 ghost use Rattle.certpath_bundle.specs.Bundles.{found_in, lines_of, counts_of};
-ghost use Rattle.certpath_bundle.specs.Told.{file_told, found_told};
+ghost use Rattle.certpath_bundle.specs.Views.{file_view, found_view};
 
 use crate::counts::{Counts, with_rows};
 use crate::file::File;
@@ -21,7 +21,7 @@ pub(crate) struct Found<'a> {
 
 /// What a file holds.
 fn found_in<'a>(alloc: Global, file: &'a File<'_>) -> Result<Found<'a>, AllocError>
-    ensures { IfOk result (λ found. found_told found ≡ found_in (file_told file.entry.now)) }
+    ensures { IfOk result (λ found. found_view found ≡ found_in (file_view file.entry.now)) }
 {
     let report = items_of(alloc, file.octets.as_slice())?;
     Ok(Found {
@@ -35,7 +35,7 @@ pub(crate) fn found_in_all<'a>(
     alloc: Global,
     files: &'a [File<'_>],
 ) -> Result<Vec<Found<'a>>, AllocError>
-    ensures { IfOk result (λ found. map found_told found.items ≡ map found_in (map file_told files.entry.now)) }
+    ensures { IfOk result (λ found. map found_view found.items ≡ map found_in (map file_view files.entry.now)) }
 {
     let mut found = Vec::new(alloc);
     for file in files {
@@ -47,7 +47,7 @@ pub(crate) fn found_in_all<'a>(
 
 /// Appends the lines of all files.
 pub(crate) fn push_all_lines(text: &mut String, found: &[Found<'_>]) -> Result<(), AllocError>
-    ensures { OnOk result (string_bytes text.new ≡ string_bytes text.old ++ lines_of (map found_told found.now)) }
+    ensures { OnOk result (string_bytes text.new ≡ string_bytes text.old ++ lines_of (map found_view found.now)) }
 {
     for one in found {
         push_lines(text, one.name, one.report.rows.as_slice())?;
@@ -57,7 +57,7 @@ pub(crate) fn push_all_lines(text: &mut String, found: &[Found<'_>]) -> Result<(
 
 /// Counts the rows of all files.
 pub(crate) fn counts_of(found: &[Found<'_>]) -> Result<Counts, AllocError>
-    ensures { IfOk result (λ counts. counts_told counts ≡ counts_of (map found_told found.now)) }
+    ensures { IfOk result (λ counts. counts_view counts ≡ counts_of (map found_view found.now)) }
 {
     let mut counts = Counts {
         certificates: 0,

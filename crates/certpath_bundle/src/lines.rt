@@ -2,8 +2,8 @@
 
 ghost use Rattle.std.specs.Prelude.{◌≡◌, ◌++◌, OnOk, map, string_bytes, option_map};
 ghost use Rattle.std.specs.List.{flat_map};
-ghost use Rattle.certpath_files.specs.RowsTold.{spot_told, member_told, place_told, reason_told, row_told};
-ghost use Rattle.certpath_files.specs.ShapesTold.{kind_told};
+ghost use Rattle.certpath_files.specs.RowViews.{spot_view, member_view, place_view, reason_view, row_view};
+ghost use Rattle.certpath_files.specs.ShapeViews.{kind_view};
 ghost use Rattle.certpath_bundle.specs.Lines.{block_words, spot_words, set_words, member_words, place_words, left_line, row_line, file_lines};
 
 use crate::names::{push_label, push_name};
@@ -22,7 +22,7 @@ fn push_block(text: &mut String, number: usize, label: &[u8]) -> Result<(), Allo
 
 /// Appends where in a file something is.
 fn push_spot(text: &mut String, spot: Spot<'_>) -> Result<(), AllocError>
-    ensures { OnOk result (string_bytes text.new ≡ string_bytes text.old ++ spot_words (spot_told spot.entry)) }
+    ensures { OnOk result (string_bytes text.new ≡ string_bytes text.old ++ spot_words (spot_view spot.entry)) }
 {
     match spot {
         Spot::File => Ok(()),
@@ -35,7 +35,7 @@ fn push_spot(text: &mut String, spot: Spot<'_>) -> Result<(), AllocError>
 
 /// The word for an element of a set of SignedData.
 fn push_set(text: &mut String, set: Kind) -> Result<(), AllocError>
-    ensures { OnOk result (string_bytes text.new ≡ string_bytes text.old ++ set_words (kind_told set)) }
+    ensures { OnOk result (string_bytes text.new ≡ string_bytes text.old ++ set_words (kind_view set)) }
 {
     match set {
         Kind::Certificate => text.push_str(" certificate "),
@@ -45,7 +45,7 @@ fn push_set(text: &mut String, set: Kind) -> Result<(), AllocError>
 
 /// Appends which element of SignedData something is, if it is one.
 fn push_member(text: &mut String, member: Option<Member>) -> Result<(), AllocError>
-    ensures { OnOk result (string_bytes text.new ≡ string_bytes text.old ++ member_words (option_map member_told member)) }
+    ensures { OnOk result (string_bytes text.new ≡ string_bytes text.old ++ member_words (option_map member_view member)) }
 {
     match member {
         None => Ok(()),
@@ -58,7 +58,7 @@ fn push_member(text: &mut String, member: Option<Member>) -> Result<(), AllocErr
 }
 
 fn push_place(text: &mut String, place: Place<'_>) -> Result<(), AllocError>
-    ensures { OnOk result (string_bytes text.new ≡ string_bytes text.old ++ place_words (place_told place.entry)) }
+    ensures { OnOk result (string_bytes text.new ≡ string_bytes text.old ++ place_words (place_view place.entry)) }
 {
     push_spot(text, place.spot)?;
     push_member(text, place.member)
@@ -71,7 +71,7 @@ fn push_left_out(
     place: Place<'_>,
     reason: Reason,
 ) -> Result<(), AllocError>
-    ensures { OnOk result (string_bytes text.new ≡ string_bytes text.old ++ left_line name.now (place_told place.entry) (reason_told reason)) }
+    ensures { OnOk result (string_bytes text.new ≡ string_bytes text.old ++ left_line name.now (place_view place.entry) (reason_view reason)) }
 {
     push_name(text, name)?;
     push_place(text, place)?;
@@ -82,7 +82,7 @@ fn push_left_out(
 
 /// Appends the line of a row, where it has one.
 fn push_row(text: &mut String, name: &str, row: Row<'_>) -> Result<(), AllocError>
-    ensures { OnOk result (string_bytes text.new ≡ string_bytes text.old ++ row_line name.now (row_told row.entry)) }
+    ensures { OnOk result (string_bytes text.new ≡ string_bytes text.old ++ row_line name.now (row_view row.entry)) }
 {
     match row {
         Row::Item(_, _, _) => Ok(()),
@@ -92,7 +92,7 @@ fn push_row(text: &mut String, name: &str, row: Row<'_>) -> Result<(), AllocErro
 
 /// Appends the lines of a file.
 pub(crate) fn push_lines(text: &mut String, name: &str, rows: &[Row<'_>]) -> Result<(), AllocError>
-    ensures { OnOk result (string_bytes text.new ≡ string_bytes text.old ++ file_lines name.now (map row_told rows.now)) }
+    ensures { OnOk result (string_bytes text.new ≡ string_bytes text.old ++ file_lines name.now (map row_view rows.now)) }
 {
     for row in rows {
         push_row(text, name, *row)?;

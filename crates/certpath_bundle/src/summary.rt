@@ -3,7 +3,7 @@
 ghost use Rattle.std.specs.Prelude.{◌≡◌, ◌++◌, ◌+◌, OnOk, string_bytes, codes};
 ghost use Rattle.certpath_bundle.specs.Words.{counted};
 ghost use Rattle.certpath_bundle.specs.Bundles.{summary, kinds_text};
-ghost use Rattle.certpath_bundle.specs.CountsTold.{counts_told};
+ghost use Rattle.certpath_bundle.specs.CountViews.{counts_view};
 
 use crate::counts::{Counts, sum_of};
 use crate::words::push_counted;
@@ -11,7 +11,7 @@ use std::alloc::AllocError;
 
 /// Appends how many certificates and lists there are.
 fn push_kinds(text: &mut String, counts: Counts) -> Result<(), AllocError>
-    ensures { OnOk result (string_bytes text.new ≡ string_bytes text.old ++ kinds_text (counts_told counts)) }
+    ensures { OnOk result (string_bytes text.new ≡ string_bytes text.old ++ kinds_text (counts_view counts)) }
 {
     text.push_str(" (")?;
     push_counted(text, counts.certificates, "certificate")?;
@@ -22,7 +22,7 @@ fn push_kinds(text: &mut String, counts: Counts) -> Result<(), AllocError>
 
 /// Appends the last line.
 pub(crate) fn push_summary(text: &mut String, counts: Counts) -> Result<(), AllocError>
-    ensures { OnOk result (string_bytes text.new ≡ string_bytes text.old ++ summary (counts_told counts)) }
+    ensures { OnOk result (string_bytes text.new ≡ string_bytes text.old ++ summary (counts_view counts)) }
 {
     let items = sum_of(counts.certificates, counts.lists)?;
     text.push_str("bundle: ")?;

@@ -1,8 +1,8 @@
 //! Why something is left out, in words.
 
 ghost use Rattle.std.specs.Prelude.{◌≡◌, ◌++◌, ◌<◌, ◌^◌, OnOk, string_bytes, codes};
-ghost use Rattle.certpath_files.specs.FrontsTold.{fault_told};
-ghost use Rattle.certpath_files.specs.RowsTold.{reason_told};
+ghost use Rattle.certpath_files.specs.FrontViews.{fault_view};
+ghost use Rattle.certpath_files.specs.RowViews.{reason_view};
 ghost use Rattle.certpath_bundle.specs.Words.{counted, plural, fault_words, reason_words};
 
 use certpath_files::{Fault, Reason};
@@ -28,7 +28,7 @@ fn push_octets(text: &mut String, count: usize, words: &str) -> Result<(), Alloc
 }
 
 fn push_fault(text: &mut String, fault: Fault) -> Result<(), AllocError>
-    ensures { OnOk result (string_bytes text.new ≡ string_bytes text.old ++ fault_words (fault_told fault)) }
+    ensures { OnOk result (string_bytes text.new ≡ string_bytes text.old ++ fault_words (fault_view fault)) }
 {
     match fault {
         Fault::NoSequence => text.push_str("neither certificate nor revocation list"),
@@ -41,7 +41,7 @@ fn push_fault(text: &mut String, fault: Fault) -> Result<(), AllocError>
 
 /// Appends a fault after which so many octets are left out.
 fn push_fault_to_end(text: &mut String, fault: Fault, count: usize) -> Result<(), AllocError>
-    ensures { OnOk result (string_bytes text.new ≡ string_bytes text.old ++ (fault_words (fault_told fault) ++ (codes ", " ++ (counted count (codes "octet") ++ codes " to the end")))) }
+    ensures { OnOk result (string_bytes text.new ≡ string_bytes text.old ++ (fault_words (fault_view fault) ++ (codes ", " ++ (counted count (codes "octet") ++ codes " to the end")))) }
 {
     push_fault(text, fault)?;
     text.push_str(", ")?;
@@ -50,30 +50,30 @@ fn push_fault_to_end(text: &mut String, fault: Fault, count: usize) -> Result<()
 
 /// Appends why something is left out.
 pub(crate) fn push_reason(text: &mut String, reason: Reason) -> Result<(), AllocError>
-    ensures { OnOk result (string_bytes text.new ≡ string_bytes text.old ++ reason_words (reason_told reason)) }
+    ensures { OnOk result (string_bytes text.new ≡ string_bytes text.old ++ reason_words (reason_view reason)) }
 {
     match reason {
-        Reason::EmptyFile => text.push_str("empty"),
-        Reason::NoForm => text.push_str("neither PEM nor DER"),
-        Reason::WideText => text.push_str("text in UTF-16; convert it to UTF-8"),
+        Reason::EmptyFile => text.push_str("the file is empty"),
+        Reason::NoForm => text.push_str("the file is neither PEM nor DER"),
+        Reason::WideText => text.push_str("the file is a text in UTF-16"),
         Reason::Faulty(fault) => push_fault(text, fault),
         Reason::ToEnd(fault, count) => push_fault_to_end(text, fault, count),
         Reason::NoItem => text.push_str("neither certificate nor revocation list"),
         Reason::Behind(count) => push_octets(text, count, " after the item"),
         Reason::NoEnd => text.push_str("its END is missing"),
-        Reason::WithHeaders => text.push_str("it has header lines"),
-        Reason::NoOctets => text.push_str("nothing in it"),
+        Reason::WithHeaders => text.push_str("header lines within"),
+        Reason::NoOctets => text.push_str("there is nothing in it"),
         Reason::NotBase64 => text.push_str("not base64"),
         Reason::OtherLabel => text.push_str(
-            "neither certificates nor revocation lists by its label",
+            "the block holds neither certificate nor revocation list",
         ),
-        Reason::UnknownLabel => text.push_str("its label isn't known"),
-        Reason::StrayEnd => text.push_str("an END without a BEGIN of its label"),
+        Reason::UnknownLabel => text.push_str("the label isn't known"),
+        Reason::StrayEnd => text.push_str("an END that ends no block"),
         Reason::BadBoundary => text.push_str(
-            "a BEGIN or END that is no line of its own (are newlines missing?)",
+            "a BEGIN or an END that is no line of its own (are newlines missing?)",
         ),
         Reason::NoText => text.push_str("octets around the blocks that are no text"),
-        Reason::NoSignedData => text.push_str("no PKCS #7 SignedData in DER"),
-        Reason::NoMembers => text.push_str("neither certificates nor revocation lists in it"),
+        Reason::NoSignedData => text.push_str("no SignedData in DER"),
+        Reason::NoMembers => text.push_str("SignedData without certificates and revocation lists"),
     }
 }

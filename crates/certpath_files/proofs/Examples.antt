@@ -1,10 +1,11 @@
 -- Files written out, whose rows are computed: no law is empty.
-use Rattle.std.proofs.Common.{◌≡◌, ℕ, List, [], ◌∷◌, ◌++◌, Some, None, codes, refl}
+use Rattle.std.proofs.Common.{◌≡◌, ℕ, List, [], ◌∷◌, ◌++◌, length, drop, Some, None, codes, refl, arith}
 use Rattle.base64.proofs.OnLiterals.{base64_on_literals}
 use Rattle.asn1_core.specs.Reading.{header_at, strict_at, identity_at, length_at, size_at}
 use Rattle.certpath_files.specs.Fronts.{front_of, whole, passed, stops, no_sequence, no_length, too_long, missing, long_form}
 use Rattle.certpath_files.specs.Shapes.{kind_of, certificate, list}
-use Rattle.certpath_files.specs.Rows.{item, left_out, at, octet, line, block, file, Place, Spot, faulty, to_end, no_item, behind, other_label, unknown_label, stray, no_boundary, no_text, no_signed_data, no_members, wide_text, empty_file, no_form}
+use Rattle.certpath_files.specs.Framed.{AreItems}
+use Rattle.certpath_files.specs.Rows.{shown_item, shown_left_out, item, left_out, at, octet, line, block, file, Place, Spot, faulty, to_end, no_item, behind, other_label, unknown_label, stray, no_boundary, no_text, no_signed_data, no_members, wide_text, empty_file, no_form}
 use Rattle.certpath_files.specs.Sequences.{member_place}
 use Rattle.certpath_files.specs.Files.{file_rows}
 
@@ -101,3 +102,11 @@ file_without_octets = refl
 
 other_file : file_rows (codes "junk") ≡ left_out (at file) no_form ∷ []
 other_file = refl
+
+-- the items of a report, as DER items
+items_there : AreItems (shown_item (at (octet 0)) certificate (length one) ∷ shown_left_out (at (octet 22)) no_item ∷ shown_item (at (octet 40)) list (length revoked) ∷ []) (one ++ revoked)
+items_there = (
+  omega arith,
+  record { content = drop 2 one; small = omega arith; spelled = refl },
+  (omega arith, record { content = drop 2 revoked; small = omega arith; spelled = refl }, refl),
+)

@@ -13,7 +13,7 @@ use Rattle.certpath_files.specs.Rows.{Row, item, left_out, Spot, Place, at}
 use Rattle.certpath_files.specs.Walks.{walk, go_on, front_rows}
 use Rattle.certpath_files.specs.Sequences.{Wanted, one_item, signed_data, item_or_signed_data, item_by, item_rows, member_front, member_place, rows_of_member, member_rows, signed_rows, signed_by, either_by, sequence_rows, rows_at}
 use Rattle.certpath_files.specs.Blocks as files
-use Rattle.certpath_files.specs.Blocks.{shown_by, shown_label, behind_rows, octet_rows, content_rows, label_rows, entry_rows}
+use Rattle.certpath_files.specs.Blocks.{shown_by, shown_label, after_rows, octet_rows, content_rows, label_rows, entry_rows}
 use Rattle.certpath_files.specs.Laws.{place_of, line_of, number_of, IsAtLine, HasItsRows, ShowsKnown}
 
 pub all_append : {X : Type 0} (P : X → Type 0) (a b : List X) → AllByRecursion P a → AllByRecursion P b → AllByRecursion P (a ++ b)
@@ -75,7 +75,7 @@ sequence_at item_or_signed_data spot s = either_at spot s (kind_of s)
 
 block_front_at : (wanted : Wanted) (may_go_on : Bool) (spot : Spot) (s : List ℕ) (front : Front) → AllByRecursion (IsAt spot) (files.front_rows wanted may_go_on spot s front)
 block_front_at wanted may_go_on spot s (whole size) =
-    all_append (IsAt spot) (sequence_rows wanted spot (take size s)) (behind_rows may_go_on spot (length s - size)) (sequence_at wanted spot (take size s))
+    all_append (IsAt spot) (sequence_rows wanted spot (take size s)) (after_rows may_go_on spot (length s - size)) (sequence_at wanted spot (take size s))
     (if_at spot (may_go_on || (length s - size == 0)) _ _ tt (refl, tt))
 block_front_at wanted may_go_on spot s (passed fault size) = (refl, tt)
 block_front_at wanted may_go_on spot s (stops fault) = (refl, tt)

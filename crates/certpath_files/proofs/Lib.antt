@@ -4,7 +4,8 @@ mod FrontFacts
 mod SomeFacts
 mod LawFacts
 mod WrittenFacts
-mod LineFacts
 mod LoopFacts
 mod Examples
 mod ShapeFacts
+mod FramedFacts
+mod PushedFacts

@@ -12,7 +12,7 @@ use Rattle.certpath_files.specs.Rows.{Row, left_out, Spot, Place, at, octet}
 use Rattle.certpath_files.specs.Walks.{walk, go_on, front_rows}
 use Rattle.certpath_files.specs.Sequences.{Wanted, one_item, signed_data, item_or_signed_data, item_by, item_rows, member_front, member_place, rows_of_member, member_rows, signed_rows, signed_by, either_by, sequence_rows, rows_at}
 use Rattle.certpath_files.specs.Blocks as files
-use Rattle.certpath_files.specs.Blocks.{shown_label, behind_rows, content_rows, label_rows, entry_rows}
+use Rattle.certpath_files.specs.Blocks.{shown_label, after_rows, content_rows, label_rows, entry_rows}
 
 one_more : (row : Row) (s : List Row) → row ∷ s ≢ []
 one_more row s e = cc
@@ -54,7 +54,7 @@ sequence_some signed_data spot s = signed_some spot rows.no_signed_data (signed_
 sequence_some item_or_signed_data spot s = either_some spot s (kind_of s)
 
 block_front_some : (wanted : Wanted) (may_go_on : Bool) (spot : Spot) (s : List ℕ) (front : Front) → files.front_rows wanted may_go_on spot s front ≢ []
-block_front_some wanted may_go_on spot s (whole size) = more_some (sequence_rows wanted spot (take size s)) (behind_rows may_go_on spot (length s - size)) (sequence_some wanted spot (take size s))
+block_front_some wanted may_go_on spot s (whole size) = more_some (sequence_rows wanted spot (take size s)) (after_rows may_go_on spot (length s - size)) (sequence_some wanted spot (take size s))
 block_front_some wanted may_go_on spot s (passed fault size) = one_more _ _
 block_front_some wanted may_go_on spot s (stops fault) = one_more _ _
 

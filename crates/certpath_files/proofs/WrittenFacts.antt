@@ -13,7 +13,7 @@ use Rattle.certpath_files.specs.Fronts.{Front, whole, most, front_of}
 use Rattle.certpath_files.specs.Shapes.{Kind, kind_of}
 use Rattle.certpath_files.specs.Rows.{Row, Spot, item, at, block}
 use Rattle.certpath_files.specs.Sequences.{one_item, item_by}
-use Rattle.certpath_files.specs.Blocks.{front_rows, behind_rows, octet_rows, content_rows, entry_rows}
+use Rattle.certpath_files.specs.Blocks.{front_rows, after_rows, octet_rows, content_rows, entry_rows}
 use Rattle.certpath_files.specs.Files.{all_entry_rows}
 use Rattle.certpath_files.proofs.AddFacts.{append_none}
 use Rattle.certpath_files.proofs.FrontFacts.{item_front}
@@ -22,14 +22,14 @@ pub some_octets : (o : List ℕ) (kind : Kind) → kind_of o ≡ Some kind → o
 some_octets [] kind e = λ f. cc
 some_octets (a ∷ o) kind _ = λ f. cc
 
-none_behind : (spot : Spot) (n : ℕ) → behind_rows false spot (n - n) ≡ []
+none_behind : (spot : Spot) (n : ℕ) → after_rows false spot (n - n) ≡ []
 none_behind spot n = let e : (n - n == 0) ≡ true = grind (arith, nat_tests) in rw e refl
 
 octets_taken : (spot : Spot) (o : List ℕ) (kind : Kind) → IsItem most o → kind_of o ≡ Some kind → octet_rows one_item false spot o ≡ item (at spot) kind o ∷ []
 octets_taken spot o kind it shape =
     ap (front_rows one_item false spot o) (item_front o it)
-    ∙ ap (λ z. item_by (at spot) z (kind_of z) ++ behind_rows false spot (length o - length o)) (take_all (length o) o (omega arith))
-    ∙ ap (λ z. item_by (at spot) o z ++ behind_rows false spot (length o - length o)) shape
+    ∙ ap (λ z. item_by (at spot) z (kind_of z) ++ after_rows false spot (length o - length o)) (take_all (length o) o (omega arith))
+    ∙ ap (λ z. item_by (at spot) o z ++ after_rows false spot (length o - length o)) shape
     ∙ ap (λ z. item (at spot) kind o ∷ z) (none_behind spot (length o))
 
 pub taken : (o : List ℕ) (kind : Kind) → IsItem most o → kind_of o ≡ Some kind → ReadsBack (codes "CERTIFICATE") o → all_entry_rows (pem_of (codes "CERTIFICATE") o) ≡ item (at (block 1 (Some (codes "CERTIFICATE")))) kind o ∷ []

@@ -21,11 +21,11 @@ abbrev pub shown_label : List ℕ → Option (List ℕ)
 shown_label label = shown_by label (label_kind label)
 
 -- octets after the item count, but for those that a label announces
-abbrev pub behind_rows : Bool → Spot → ℕ → List Row
-behind_rows may_go_on spot count = if may_go_on || (count == 0) then [] else left_out (at spot) (rows.behind count) ∷ []
+abbrev pub after_rows : Bool → Spot → ℕ → List Row
+after_rows may_go_on spot count = if may_go_on || (count == 0) then [] else left_out (at spot) (rows.behind count) ∷ []
 
 abbrev pub front_rows : Wanted → Bool → Spot → List ℕ → Front → List Row
-front_rows wanted may_go_on spot o (whole size) = sequence_rows wanted spot (take size o) ++ behind_rows may_go_on spot (length o - size)
+front_rows wanted may_go_on spot o (whole size) = sequence_rows wanted spot (take size o) ++ after_rows may_go_on spot (length o - size)
 front_rows wanted may_go_on spot o (passed fault size) = left_out (at spot) (rows.faulty fault) ∷ []
 front_rows wanted may_go_on spot o (stops fault) = left_out (at spot) (rows.faulty fault) ∷ []
 

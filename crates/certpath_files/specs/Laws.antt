@@ -2,12 +2,10 @@
 -- believed.
 use Rattle.std.specs.Prelude.{◌≡◌, ◌≢◌, ℕ, List, [], ◌∷◌, ◌++◌, length, take, Option, Some, None}
 use Rattle.std.specs.List.{AllByRecursion}
-use Rattle.cert_framing.specs.Framing.{IsItem}
 use Rattle.certpath_pem.specs.Blocks.{Entry, block, stray_end, bad_boundary}
 use Rattle.certpath_pem.specs.Sources as sources
 use Rattle.certpath_pem.specs.Sources.{label_kind}
-use Rattle.certpath_files.specs.Fronts.{Front, whole, passed, stops, front_of, most}
-use Rattle.certpath_files.specs.Shapes.{kind_of}
+use Rattle.certpath_files.specs.Fronts.{Front, whole, passed, stops, front_of}
 use Rattle.certpath_files.specs.Rows as rows
 use Rattle.certpath_files.specs.Rows.{Row, item, left_out, Spot, Place}
 use Rattle.certpath_files.specs.Walks.{walk}
@@ -29,7 +27,7 @@ number_of (block label number body is_ended) = number
 number_of (stray_end number) = number
 number_of (bad_boundary number) = number
 
--- a row that stands at this line
+-- a row that is at this line
 abbrev pub IsAtLine : ℕ → Row → Type 0
 IsAtLine number row = line_of (place_of row).spot ≡ Some number
 
@@ -54,8 +52,3 @@ piece_at offset number octets = piece octets (front_of octets) ∷ []
 -- the pieces of a DER file, of each of which `stream_rows` has the rows
 abbrev pub pieces_of : List ℕ → List (List ℕ)
 pieces_of octets = walk front_of piece_at 0 0 0 octets
-
--- an item as bundles are made of, of the shape that its row says
-abbrev pub IsGood : Row → Type 0
-IsGood (item place kind octets) = IsItem most octets × (kind_of octets ≡ Some kind)
-IsGood (left_out place reason) = Unit {0}

@@ -11,7 +11,7 @@ is_no_text octet = nat_le octet 8 || (nat_le 14 octet && nat_le octet 31) || (oc
 abbrev pub is_odd : List ℕ → Bool
 is_odd = list_any is_no_text
 
--- the row of a line, where nothing is open and none was told since the last boundary
+-- the row of a line, where nothing is open and none was reported since the last boundary
 abbrev pub line_rows : Bool → Boundary → List ℕ → ℕ → List Row
 line_rows quiet (begin label) octets number = []
 line_rows quiet (end label) octets number = []
@@ -19,7 +19,7 @@ line_rows quiet bad octets number = []
 line_rows true text octets number = []
 line_rows false text octets number = if is_odd octets then left_out (at (line number)) no_text ∷ [] else []
 
--- whether the next lines are within a block, or such a line was told
+-- whether the next lines are within a block, or such a line was reported
 abbrev pub quiet_after : Bool → Boundary → List ℕ → Bool
 quiet_after quiet text octets = quiet || is_odd octets
 quiet_after quiet (begin label) octets = true

@@ -3,7 +3,7 @@ use Rattle.std.specs.Prelude.{ℕ, List, [], ◌∷◌, ◌++◌, length, map, O
 use Rattle.certpath_files.specs.Fronts.{Fault}
 use Rattle.certpath_files.specs.Shapes.{Kind}
 
--- where in a file something stands
+-- where in a file something is
 pub data Spot : Type 0 where
   -- the file as a whole
   file : Spot
@@ -44,7 +44,7 @@ pub data Reason : Type 0 where
   no_members : Reason
 
 pub data Row : Type 0 where
-  -- an item that goes out: where it stands, what it is, its octets
+  -- an item that goes out: where it is, what it is, its octets
   item : Place → Kind → List ℕ → Row
   -- what is left out, and why
   left_out : Place → Reason → Row

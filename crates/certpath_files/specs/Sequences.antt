@@ -65,7 +65,7 @@ sequence_rows one_item spot octets = item_rows (at spot) octets
 sequence_rows signed_data spot octets = signed_by spot no_signed_data (signed_sets octets)
 sequence_rows item_or_signed_data spot octets = either_by spot octets (kind_of octets)
 
--- the rows of a DER file, whose elements stand one after another
+-- the rows of a DER file, whose elements are one after another
 abbrev pub rows_at : ℕ → ℕ → List ℕ → List Row
 rows_at offset number octets = front_rows (at (octet offset)) (sequence_rows item_or_signed_data (octet offset)) octets (front_of octets)
 

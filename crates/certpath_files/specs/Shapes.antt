@@ -21,26 +21,26 @@ abbrev pub begins_with_parts : List ℕ → List ℕ → Bool
 begins_with_parts [] octets = true
 begins_with_parts (first ∷ firsts) octets = is_next first (begins_with_parts firsts) (part_at octets)
 
-abbrev pub behind_by : ℕ → List ℕ → Option Part → List ℕ
-behind_by first octets None = octets
-behind_by first octets (Some part) = if part.first == first then part.rest else octets
+abbrev pub after_by : ℕ → List ℕ → Option Part → List ℕ
+after_by first octets None = octets
+after_by first octets (Some part) = if part.first == first then part.rest else octets
 
 -- the octets after an element with this first octet, where one begins them
-abbrev pub behind_optional : ℕ → List ℕ → List ℕ
-behind_optional first octets = behind_by first octets (part_at octets)
+abbrev pub after_optional : ℕ → List ℕ → List ℕ
+after_optional first octets = after_by first octets (part_at octets)
 
 -- version [0], where it is there; serialNumber, signature, issuer, validity, subject,
 -- subjectPublicKeyInfo
 abbrev pub is_certificate : List ℕ → Bool
-is_certificate content = begins_with_parts (2 ∷ 48 ∷ 48 ∷ 48 ∷ 48 ∷ 48 ∷ []) (behind_optional 160 content)
+is_certificate content = begins_with_parts (2 ∷ 48 ∷ 48 ∷ 48 ∷ 48 ∷ 48 ∷ []) (after_optional 160 content)
 
 -- signature, issuer, thisUpdate as a UTCTime or a GeneralizedTime
-abbrev pub is_list_behind : List ℕ → Bool
-is_list_behind parts = begins_with_parts (48 ∷ 48 ∷ 23 ∷ []) parts || begins_with_parts (48 ∷ 48 ∷ 24 ∷ []) parts
+abbrev pub is_list_after : List ℕ → Bool
+is_list_after parts = begins_with_parts (48 ∷ 48 ∷ 23 ∷ []) parts || begins_with_parts (48 ∷ 48 ∷ 24 ∷ []) parts
 
 -- version, where it is there, before them
 abbrev pub is_list : List ℕ → Bool
-is_list content = is_list_behind (behind_optional 2 content)
+is_list content = is_list_after (after_optional 2 content)
 
 -- what is signed, an algorithm, a BIT STRING, and nothing after it: the content of the first one
 abbrev pub of_three : Part → Part → Part → Option (List ℕ)

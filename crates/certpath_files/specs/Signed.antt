@@ -39,7 +39,7 @@ abbrev pub explicit_content : Part → Option (List ℕ)
 explicit_content identifier =
     if bytes_eq identifier.content signed_data_identifier then option_and_then (only_as 48) (only_as 160 identifier.rest) else None
 
--- SEQUENCE { contentType OBJECT IDENTIFIER, content [0] EXPLICIT SEQUENCE { .. } }: what stands in
+-- SEQUENCE { contentType OBJECT IDENTIFIER, content [0] EXPLICIT SEQUENCE { .. } }: what is in
 -- the inner one
 abbrev pub content_of_info : List ℕ → Option (List ℕ)
 content_of_info octets = option_and_then (λ info. option_and_then explicit_content (strict_as 6 info)) (only_as 48 octets)
@@ -48,17 +48,17 @@ abbrev pub sets_by : Part → Part → Option (List ℕ) → Option Sets
 sets_by certificates lists None = None
 sets_by certificates lists (Some signers) = Some (record { certificates = certificates.content; lists = lists.content })
 
-abbrev pub lists_behind : Part → Part → Option Sets
-lists_behind certificates lists = sets_by certificates lists (only_as 49 lists.rest)
+abbrev pub lists_after : Part → Part → Option Sets
+lists_after certificates lists = sets_by certificates lists (only_as 49 lists.rest)
 
 -- certificates [0] IMPLICIT SET OPTIONAL, crls [1] IMPLICIT SET OPTIONAL, signerInfos SET
-abbrev pub sets_behind : List ℕ → Option Sets
-sets_behind octets = lists_behind (optional_as 160 octets) (optional_as 161 (optional_as 160 octets).rest)
+abbrev pub sets_after : List ℕ → Option Sets
+sets_after octets = lists_after (optional_as 160 octets) (optional_as 161 (optional_as 160 octets).rest)
 
 -- version INTEGER, digestAlgorithms SET, encapContentInfo SEQUENCE, and then those
 abbrev pub sets_in : List ℕ → Option Sets
 sets_in content =
-    option_and_then (λ version. option_and_then (λ digests. option_and_then (λ encapsulated. sets_behind encapsulated.rest)
+    option_and_then (λ version. option_and_then (λ digests. option_and_then (λ encapsulated. sets_after encapsulated.rest)
     (strict_as 48 digests.rest)) (strict_as 49 version.rest)) (strict_as 2 content)
 
 -- the two sets of a ContentInfo that holds SignedData

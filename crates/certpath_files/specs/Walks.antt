@@ -1,4 +1,4 @@
--- Elements that stand one after another in octets, and the rows of each. This page is to be
+-- Elements that are one after another in octets, and the rows of each. This page is to be
 -- believed.
 use Rattle.std.specs.Prelude.{ℕ, zero, suc, ◌+◌, ◌-◌, List, [], ◌∷◌, ◌++◌, length, take, Option, Some, None}
 use Rattle.certpath_files.specs.Fronts.{Front, whole, passed, stops, size_in}

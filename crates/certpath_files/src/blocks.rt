@@ -2,14 +2,14 @@
 
 ghost use Rattle.std.specs.Prelude.{◌≡◌, OnOk, option_copied};
 ghost use Rattle.std.specs.List.{flat_map};
-ghost use Rattle.certpath_pem.specs.Told.{entry_told};
-ghost use Rattle.certpath_pem.specs.Contents.{content_told};
+ghost use Rattle.certpath_pem.specs.Views.{entry_view};
+ghost use Rattle.certpath_pem.specs.Contents.{content_view};
 ghost use Rattle.certpath_pem.specs.Blocks.{entries_of};
 ghost use Rattle.certpath_files.specs.Rows.{added};
-ghost use Rattle.certpath_files.specs.RowsTold.{spot_told};
-ghost use Rattle.certpath_files.specs.ReportTold.{held_in};
-ghost use Rattle.certpath_files.specs.Blocks.{shown_label, behind_rows, octet_rows, content_rows, entry_rows};
-ghost use Rattle.certpath_files.specs.SequencesTold.{wanted_told};
+ghost use Rattle.certpath_files.specs.RowViews.{spot_view};
+ghost use Rattle.certpath_files.specs.ReportViews.{held_in};
+ghost use Rattle.certpath_files.specs.Blocks.{shown_label, after_rows, octet_rows, content_rows, entry_rows};
+ghost use Rattle.certpath_files.specs.SequenceViews.{wanted_view};
 
 use crate::front::{Front, front_of};
 use crate::report::Report;
@@ -31,14 +31,14 @@ fn shown_label(label: &[u8]) -> Option<&[u8]>
     }
 }
 
-/// Adds that so many octets stand after an item, where there are any and they count.
-fn leave_behind<'a>(
+/// Adds that so many octets are after an item, where there are any and they count.
+fn leave_after<'a>(
     report: &mut Report<'a>,
     spot: Spot<'a>,
     may_go_on: bool,
     count: usize,
 ) -> Result<(), AllocError>
-    ensures { OnOk result (held_in report.new ≡ added (held_in report.old) (behind_rows may_go_on (spot_told spot.entry) count)) }
+    ensures { OnOk result (held_in report.new ≡ added (held_in report.old) (after_rows may_go_on (spot_view spot.entry) count)) }
 {
     if may_go_on || count == 0 {
         return Ok(());
@@ -54,12 +54,12 @@ fn take_octets<'a>(
     wanted: Wanted,
     may_go_on: bool,
 ) -> Result<(), AllocError>
-    ensures { OnOk result (held_in report.new ≡ added (held_in report.old) (octet_rows (wanted_told wanted) may_go_on (spot_told spot.entry) octets.now)) }
+    ensures { OnOk result (held_in report.new ≡ added (held_in report.old) (octet_rows (wanted_view wanted) may_go_on (spot_view spot.entry) octets.now)) }
 {
     match front_of(octets) {
         Front::Whole(size) => {
             take_sequence(report, spot, &octets[..size], wanted)?;
-            leave_behind(report, spot, may_go_on, octets.len() - size)
+            leave_after(report, spot, may_go_on, octets.len() - size)
         }
         Front::Passed(fault, _) => report.leave(at(spot), Reason::Faulty(fault)),
         Front::Stops(fault) => report.leave(at(spot), Reason::Faulty(fault)),
@@ -74,7 +74,7 @@ fn take_content<'a>(
     wanted: Wanted,
     may_go_on: bool,
 ) -> Result<(), AllocError>
-    ensures { OnOk result (held_in report.new ≡ added (held_in report.old) (content_rows (wanted_told wanted) may_go_on (spot_told spot.entry) (content_told content.now))) }
+    ensures { OnOk result (held_in report.new ≡ added (held_in report.old) (content_rows (wanted_view wanted) may_go_on (spot_view spot.entry) (content_view content.now))) }
 {
     match content {
         Content::Octets(octets) => take_octets(report, spot, octets, wanted, may_go_on),
@@ -91,7 +91,7 @@ fn take_block<'a>(
     report: &mut Report<'a>,
     block: Block<'a>,
 ) -> Result<(), AllocError>
-    ensures { OnOk result (held_in report.new ≡ added (held_in report.old) (entry_rows (entry_told (Entry.Block block.entry)))) }
+    ensures { OnOk result (held_in report.new ≡ added (held_in report.old) (entry_rows (entry_view (Entry.Block block.entry)))) }
 {
     let spot = Spot::Block(block.line, shown_label(block.label));
     let (wanted, may_go_on) = match label_kind(block.label) {
@@ -111,7 +111,7 @@ fn take_entry<'a>(
     report: &mut Report<'a>,
     entry: Entry<'a>,
 ) -> Result<(), AllocError>
-    ensures { OnOk result (held_in report.new ≡ added (held_in report.old) (entry_rows (entry_told entry.entry))) }
+    ensures { OnOk result (held_in report.new ≡ added (held_in report.old) (entry_rows (entry_view entry.entry))) }
 {
     match entry {
         Entry::Block(block) => take_block(alloc, report, block),

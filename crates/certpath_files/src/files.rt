@@ -2,10 +2,10 @@
 
 ghost use Rattle.std.specs.Prelude.{◌≡◌, OnOk, IfOk};
 ghost use Rattle.certpath_files.specs.Rows.{added, report_of};
-ghost use Rattle.certpath_files.specs.ReportTold.{held_in};
+ghost use Rattle.certpath_files.specs.ReportViews.{held_in};
 ghost use Rattle.certpath_files.specs.Files.{text_rows, file_rows};
 ghost use Rattle.certpath_pem.specs.Sources.{source_of};
-ghost use Rattle.certpath_pem.specs.SourcesTold.{source_told};
+ghost use Rattle.certpath_pem.specs.SourceViews.{source_view};
 
 use crate::blocks::take_entries;
 use crate::odd::take_odd_lines;
@@ -41,7 +41,7 @@ fn take_file<'a>(
     source: Source,
     octets: &'a [u8],
 ) -> Result<(), AllocError>
-    requires { source_told source ≡ source_of octets.now }
+    requires { source_view source ≡ source_of octets.now }
     ensures { OnOk result (held_in report.new ≡ added (held_in report.old) (file_rows octets.now)) }
 {
     match source {

@@ -4,7 +4,8 @@ ghost use Rattle.std.specs.Prelude.{◌≡◌, ◌<◌, ◌≤◌, ◌+◌, ◌^
 ghost use Rattle.asn1_core.specs.Views.{head_of};
 ghost use Rattle.certpath_files.specs.Fronts.{size_in, is_sequence, sized, by_header, without_header, by_lenient, front_of};
 ghost use Rattle.asn1_core.specs.Reading.{header_at};
-ghost use Rattle.certpath_files.specs.FrontsTold.{front_told};
+ghost use Rattle.certpath_files.specs.FrontViews.{front_view};
+ghost use Rattle.certpath_files.specs.Framed.{IsItemIfWhole};
 
 use crate::parts::size_of;
 use asn1_core::Header;
@@ -43,7 +44,7 @@ impl Front {
 
     /// How many octets the front takes, where that is known.
     pub fn size(&self) -> Option<usize>
-        ensures { result ≡ size_in (front_told self.now) }
+        ensures { result ≡ size_in (front_view self.now) }
     {
         match self {
             Front::Whole(size) => Some(*size),
@@ -65,8 +66,8 @@ fn is_sequence(header: &Header) -> bool
 fn sized(is_strict: bool, header: usize, size: usize, room: usize) -> Front
     requires fits { header + room < 2 ^ 64 }
     requires some { 0 < header }
-    ensures told { front_told result ≡ sized is_strict header size room }
-    ensures within { IfSome (size_in (front_told result)) (λ size. (0 < size) × (size ≤ header + room)) }
+    ensures value { front_view result ≡ sized is_strict header size room }
+    ensures within { IfSome (size_in (front_view result)) (λ size. (0 < size) × (size ≤ header + room)) }
 {
     if room < size {
         return Front::Stops(if MOST_OCTETS < size {
@@ -87,8 +88,8 @@ fn sized(is_strict: bool, header: usize, size: usize, room: usize) -> Front
 /// The front of octets by the header that begins them.
 fn by_header(is_strict: bool, octets: &[u8], header: &Header, after: &[u8]) -> Front
     requires { length after.now < length octets.now }
-    ensures told { front_told result ≡ by_header is_strict octets.now (head_of header.now) after.now }
-    ensures within { IfSome (size_in (front_told result)) (λ size. (0 < size) × (size ≤ length octets.now)) }
+    ensures value { front_view result ≡ by_header is_strict octets.now (head_of header.now) after.now }
+    ensures within { IfSome (size_in (front_view result)) (λ size. (0 < size) × (size ≤ length octets.now)) }
 {
     if !is_sequence(header) {
         return Front::Stops(Fault::NoSequence);
@@ -103,7 +104,7 @@ fn by_header(is_strict: bool, octets: &[u8], header: &Header, after: &[u8]) -> F
 
 /// The front of octets that no header of definite length begins.
 fn without_header(octets: &[u8]) -> Front
-    ensures { front_told result ≡ without_header octets.now }
+    ensures { front_view result ≡ without_header octets.now }
 {
     match octets {
         [0x30, ..] => Front::Stops(Fault::NoLength),
@@ -113,8 +114,8 @@ fn without_header(octets: &[u8]) -> Front
 
 /// The front of octets that no strict header begins.
 fn by_lenient(octets: &[u8]) -> Front
-    ensures told { front_told result ≡ by_lenient octets.now (header_at octets.now) }
-    ensures within { IfSome (size_in (front_told result)) (λ size. (0 < size) × (size ≤ length octets.now)) }
+    ensures value { front_view result ≡ by_lenient octets.now (header_at octets.now) }
+    ensures within { IfSome (size_in (front_view result)) (λ size. (0 < size) × (size ≤ length octets.now)) }
 {
     match Header::from_der(octets) {
         Ok((after, header)) => by_header(false, octets, &header, after),
@@ -124,8 +125,9 @@ fn by_lenient(octets: &[u8]) -> Front
 
 /// What octets begin with.
 pub fn front_of(octets: &[u8]) -> Front
-    ensures told { front_told result ≡ front_of octets.now }
-    ensures within { IfSome (size_in (front_told result)) (λ size. (0 < size) × (size ≤ length octets.now)) }
+    ensures value { front_view result ≡ front_of octets.now }
+    ensures framed { IsItemIfWhole (front_view result) octets.now }
+    ensures within { IfSome (size_in (front_view result)) (λ size. (0 < size) × (size ≤ length octets.now)) }
 {
     match Header::strict(octets) {
         Ok((after, header)) => by_header(true, octets, &header, after),

@@ -6,7 +6,6 @@ mod blocks;
 mod files;
 mod front;
 pub mod laws;
-mod lines;
 mod members;
 mod odd;
 mod parts;

@@ -2,12 +2,15 @@
 
 ghost use Rattle.std.specs.Prelude.{◌≡◌, ◌<◌, ◌≤◌, length, OnOk, IfSome};
 ghost use Rattle.certpath_files.specs.Fronts.{size_in};
-ghost use Rattle.certpath_files.specs.FrontsTold.{front_told};
-ghost use Rattle.certpath_files.specs.ShapesTold.{kind_told};
+ghost use Rattle.certpath_files.specs.FrontViews.{front_view};
+ghost use Rattle.certpath_files.specs.ShapeViews.{kind_view};
 ghost use Rattle.certpath_files.specs.Rows.{added};
-ghost use Rattle.certpath_files.specs.RowsTold.{place_told, spot_told};
-ghost use Rattle.certpath_files.specs.ReportTold.{held_in};
-ghost use Rattle.certpath_files.specs.SignedTold.{sets_told};
+ghost use Rattle.certpath_files.specs.RowViews.{place_view, spot_view};
+ghost use Rattle.certpath_files.specs.ReportViews.{held_in};
+ghost use Rattle.certpath_files.specs.SignedViews.{sets_view};
+ghost use Rattle.cert_framing.specs.Framing.{IsItem};
+ghost use Rattle.certpath_files.specs.Fronts.{most};
+ghost use Rattle.certpath_files.specs.Framed.{IsItemIfWhole};
 ghost use Rattle.certpath_files.specs.Walks.{front_rows};
 ghost use Rattle.certpath_files.specs.Sequences.{item_rows, member_front, member_rows, signed_rows};
 
@@ -25,7 +28,8 @@ pub(crate) fn take_item<'a>(
     place: Place<'a>,
     octets: &[u8],
 ) -> Result<(), AllocError>
-    ensures { OnOk result (held_in report.new ≡ added (held_in report.old) (item_rows (place_told place.entry) octets.now)) }
+    requires { IsItem most octets.now }
+    ensures { OnOk result (held_in report.new ≡ added (held_in report.old) (item_rows (place_view place.entry) octets.now)) }
 {
     match kind_of(octets) {
         Some(kind) => report.take(place, kind, octets),
@@ -35,8 +39,9 @@ pub(crate) fn take_item<'a>(
 
 /// What the octets of a set begin with.
 fn member_front(octets: &[u8]) -> Front
-    ensures told { front_told result ≡ member_front octets.now }
-    ensures within { IfSome (size_in (front_told result)) (λ size. (0 < size) × (size ≤ length octets.now)) }
+    ensures value { front_view result ≡ member_front octets.now }
+    ensures framed { IsItemIfWhole (front_view result) octets.now }
+    ensures within { IfSome (size_in (front_view result)) (λ size. (0 < size) × (size ≤ length octets.now)) }
 {
     match front_of(octets) {
         Front::Whole(size) => Front::Whole(size),
@@ -55,9 +60,10 @@ fn take_member<'a>(
     octets: &[u8],
     front: Front,
 ) -> Result<(), AllocError>
-    requires { IfSome (size_in (front_told front)) (λ size. (0 < size) × (size ≤ length octets.now)) }
+    requires within { IfSome (size_in (front_view front)) (λ size. (0 < size) × (size ≤ length octets.now)) }
+    requires framed { IsItemIfWhole (front_view front) octets.now }
     ensures { OnOk result (held_in report.new ≡ added (held_in report.old)
-        (front_rows (place_told place.entry) (item_rows (place_told place.entry)) octets.now (front_told front))) }
+        (front_rows (place_view place.entry) (item_rows (place_view place.entry)) octets.now (front_view front))) }
 {
     match front {
         Front::Whole(size) => take_item(report, place, &octets[..size]),
@@ -73,7 +79,7 @@ fn take_members<'a>(
     set: Kind,
     content: &[u8],
 ) -> Result<(), AllocError>
-    ensures { OnOk result (held_in report.new ≡ added (held_in report.old) (member_rows (spot_told spot.entry) (kind_told set) content.now)) }
+    ensures { OnOk result (held_in report.new ≡ added (held_in report.old) (member_rows (spot_view spot.entry) (kind_view set) content.now)) }
 {
     let mut rest = content;
     let mut number = 0;
@@ -97,7 +103,7 @@ pub(crate) fn take_sets<'a>(
     spot: Spot<'a>,
     sets: Sets<'_>,
 ) -> Result<(), AllocError>
-    ensures { OnOk result (held_in report.new ≡ added (held_in report.old) (signed_rows (spot_told spot.entry) (sets_told sets.entry))) }
+    ensures { OnOk result (held_in report.new ≡ added (held_in report.old) (signed_rows (spot_view spot.entry) (sets_view sets.entry))) }
 {
     if sets.certificates.is_empty() && sets.lists.is_empty() {
         return report.leave(at(spot), Reason::NoMembers);

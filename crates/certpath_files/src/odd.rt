@@ -4,13 +4,12 @@ ghost use Rattle.std.specs.Prelude.{◌≡◌, ◌+◌, OnOk, IfOk, false};
 ghost use Rattle.certpath_pem.specs.Lines.{lines_of};
 ghost use Rattle.certpath_pem.specs.Labels.{boundary_of};
 ghost use Rattle.certpath_files.specs.Rows.{added};
-ghost use Rattle.certpath_files.specs.ReportTold.{held_in};
+ghost use Rattle.certpath_files.specs.ReportViews.{held_in};
 ghost use Rattle.certpath_files.specs.Odd.{is_no_text, is_odd, line_rows, quiet_after, odd_rows};
 
-use crate::lines::next_line;
 use crate::report::Report;
 use crate::rows::{Reason, Spot, at};
-use certpath_pem::{Boundary, boundary_of};
+use certpath_pem::{Boundary, boundary_of, next_line};
 use std::alloc::AllocError;
 
 /// Whether an octet is a control character that is no white space.

@@ -3,7 +3,7 @@
 ghost use Rattle.std.specs.Prelude.{◌≡◌, Ok, length, ◌≤◌, ◌<◌, IfSome, option_map};
 ghost use Rattle.asn1_core.specs.Views.{head_of};
 ghost use Rattle.certpath_files.specs.Parts.{part_by, part_at, strict_part_at};
-ghost use Rattle.certpath_files.specs.PartsTold.{part_told};
+ghost use Rattle.certpath_files.specs.PartViews.{part_view};
 
 use asn1_core::{Header, Length};
 
@@ -27,7 +27,7 @@ pub(crate) fn size_of(header: &Header) -> usize
 
 /// The element of a header, whose first octet is this one.
 fn part_by<'a>(first: u8, header: &Header, after: &'a [u8]) -> Option<Part<'a>>
-    ensures told { option_map part_told result ≡ part_by first (Ok (head_of header.now, after.now)) }
+    ensures value { option_map part_view result ≡ part_by first (Ok (head_of header.now, after.now)) }
     ensures shorter { IfSome result (λ part. length part.rest.now ≤ length after.now) }
 {
     let size = size_of(header);
@@ -44,7 +44,7 @@ fn part_by<'a>(first: u8, header: &Header, after: &'a [u8]) -> Option<Part<'a>>
 
 /// The element at the front, whose header has any of the definite forms.
 pub(crate) fn part_at(octets: &[u8]) -> Option<Part<'_>>
-    ensures told { option_map part_told result ≡ part_at octets.now }
+    ensures value { option_map part_view result ≡ part_at octets.now }
     ensures shorter { IfSome result (λ part. length part.rest.now < length octets.now) }
 {
     let (first, _) = octets.split_first()?;
@@ -56,7 +56,7 @@ pub(crate) fn part_at(octets: &[u8]) -> Option<Part<'_>>
 
 /// The element at the front, in its strict spelling.
 pub(crate) fn strict_part_at(octets: &[u8]) -> Option<Part<'_>>
-    ensures told { option_map part_told result ≡ strict_part_at octets.now }
+    ensures value { option_map part_view result ≡ strict_part_at octets.now }
     ensures shorter { IfSome result (λ part. length part.rest.now < length octets.now) }
 {
     let (first, _) = octets.split_first()?;

@@ -1,13 +1,13 @@
-//! The rows of a report: where something stands, what it is, and why it is left out.
+//! The rows of a report: where something is, what it is, and why it is left out.
 
 ghost use Rattle.std.specs.Prelude.{◌≡◌};
 ghost use Rattle.certpath_files.specs.Rows.{at};
-ghost use Rattle.certpath_files.specs.RowsTold.{place_told, spot_told};
+ghost use Rattle.certpath_files.specs.RowViews.{place_view, spot_view};
 
 use crate::front::Fault;
 use crate::shape::Kind;
 
-/// Where in a file something stands.
+/// Where in a file something is.
 #[derive(Clone, Copy)]
 pub enum Spot<'a> {
     /// The file as a whole.
@@ -29,7 +29,7 @@ pub struct Member {
     pub number: usize,
 }
 
-/// Where something stands: a spot, and what of the SignedData there.
+/// Where something is: a spot, and what of the SignedData there.
 #[derive(Clone, Copy)]
 pub struct Place<'a> {
     pub spot: Spot<'a>,
@@ -57,7 +57,7 @@ pub enum Reason {
     Behind(usize),
     /// No line ends the block.
     NoEnd,
-    /// Header lines stand in the block.
+    /// Header lines are in the block.
     WithHeaders,
     /// There is nothing in the block.
     NoOctets,
@@ -90,7 +90,7 @@ pub enum Row<'a> {
 
 /// The place of a spot itself.
 pub(crate) fn at(spot: Spot<'_>) -> Place<'_>
-    ensures { place_told result ≡ at (spot_told spot.entry) }
+    ensures { place_view result ≡ at (spot_view spot.entry) }
 {
     Place { spot, member: None }
 }

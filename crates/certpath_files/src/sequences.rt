@@ -2,15 +2,18 @@
 
 ghost use Rattle.std.specs.Prelude.{◌≡◌, ◌<◌, ◌≤◌, length, OnOk, IfSome};
 ghost use Rattle.certpath_files.specs.Fronts.{size_in};
-ghost use Rattle.certpath_files.specs.FrontsTold.{front_told};
+ghost use Rattle.certpath_files.specs.FrontViews.{front_view};
 ghost use Rattle.certpath_files.specs.Rows.{added};
-ghost use Rattle.certpath_files.specs.RowsTold.{spot_told, reason_told};
-ghost use Rattle.certpath_files.specs.ReportTold.{held_in};
+ghost use Rattle.certpath_files.specs.RowViews.{spot_view, reason_view};
+ghost use Rattle.certpath_files.specs.ReportViews.{held_in};
+ghost use Rattle.cert_framing.specs.Framing.{IsItem};
+ghost use Rattle.certpath_files.specs.Fronts.{most};
+ghost use Rattle.certpath_files.specs.Framed.{IsItemIfWhole};
 ghost use Rattle.certpath_files.specs.Walks.{front_rows};
 ghost use Rattle.certpath_files.specs.Signed.{signed_sets};
 ghost use Rattle.certpath_files.specs.Sequences.{signed_by, item_or_signed_data, sequence_rows, stream_rows};
 ghost use Rattle.certpath_files.specs.Rows.{at};
-ghost use Rattle.certpath_files.specs.SequencesTold.{wanted_told};
+ghost use Rattle.certpath_files.specs.SequenceViews.{wanted_view};
 
 use crate::front::{Front, front_of};
 use crate::members::{take_item, take_sets};
@@ -35,7 +38,7 @@ fn take_signed<'a>(
     octets: &[u8],
     reason: Reason,
 ) -> Result<(), AllocError>
-    ensures { OnOk result (held_in report.new ≡ added (held_in report.old) (signed_by (spot_told spot.entry) (reason_told reason) (signed_sets octets.now))) }
+    ensures { OnOk result (held_in report.new ≡ added (held_in report.old) (signed_by (spot_view spot.entry) (reason_view reason) (signed_sets octets.now))) }
 {
     match signed_sets(octets) {
         Some(sets) => take_sets(report, spot, sets),
@@ -50,7 +53,8 @@ pub(crate) fn take_sequence<'a>(
     octets: &[u8],
     wanted: Wanted,
 ) -> Result<(), AllocError>
-    ensures { OnOk result (held_in report.new ≡ added (held_in report.old) (sequence_rows (wanted_told wanted) (spot_told spot.entry) octets.now)) }
+    requires { IsItem most octets.now }
+    ensures { OnOk result (held_in report.new ≡ added (held_in report.old) (sequence_rows (wanted_view wanted) (spot_view spot.entry) octets.now)) }
 {
     match wanted {
         Wanted::OneItem => take_item(report, at(spot), octets),
@@ -69,9 +73,10 @@ fn take_front<'a>(
     octets: &[u8],
     front: Front,
 ) -> Result<(), AllocError>
-    requires { IfSome (size_in (front_told front)) (λ size. (0 < size) × (size ≤ length octets.now)) }
+    requires within { IfSome (size_in (front_view front)) (λ size. (0 < size) × (size ≤ length octets.now)) }
+    requires framed { IsItemIfWhole (front_view front) octets.now }
     ensures { OnOk result (held_in report.new ≡ added (held_in report.old)
-        (front_rows (at (spot_told spot.entry)) (sequence_rows item_or_signed_data (spot_told spot.entry)) octets.now (front_told front))) }
+        (front_rows (at (spot_view spot.entry)) (sequence_rows item_or_signed_data (spot_view spot.entry)) octets.now (front_view front))) }
 {
     match front {
         Front::Whole(size) => {

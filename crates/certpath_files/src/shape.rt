@@ -1,8 +1,8 @@
 //! The shapes of certificates and revocation lists, by the first octets of their parts.
 
 ghost use Rattle.std.specs.Prelude.{◌≡◌, option_copied, option_map};
-ghost use Rattle.certpath_files.specs.Shapes.{begins_with_parts, behind_optional, is_certificate, is_list, is_list_behind, signed_content, kind_of};
-ghost use Rattle.certpath_files.specs.ShapesTold.{kind_told};
+ghost use Rattle.certpath_files.specs.Shapes.{begins_with_parts, after_optional, is_certificate, is_list, is_list_after, signed_content, kind_of};
+ghost use Rattle.certpath_files.specs.ShapeViews.{kind_view};
 
 use crate::parts::part_at;
 
@@ -33,8 +33,8 @@ fn begins_with_parts(firsts: &[u8], octets: &[u8]) -> bool
 }
 
 /// The octets after an element with this first octet, where one begins them.
-fn behind_optional(first: u8, octets: &[u8]) -> &[u8]
-    ensures { result.now ≡ behind_optional first octets.now }
+fn after_optional(first: u8, octets: &[u8]) -> &[u8]
+    ensures { result.now ≡ after_optional first octets.now }
 {
     match part_at(octets) {
         Some(part) => {
@@ -51,12 +51,12 @@ fn behind_optional(first: u8, octets: &[u8]) -> &[u8]
 fn is_certificate(content: &[u8]) -> bool
     ensures { result ≡ is_certificate content.now }
 {
-    let parts = behind_optional(0xa0, content);
+    let parts = after_optional(0xa0, content);
     begins_with_parts(b"\x02\x30\x30\x30\x30\x30", parts)
 }
 
-fn is_list_behind(parts: &[u8]) -> bool
-    ensures { result ≡ is_list_behind parts.now }
+fn is_list_after(parts: &[u8]) -> bool
+    ensures { result ≡ is_list_after parts.now }
 {
     begins_with_parts(b"\x30\x30\x17", parts) || begins_with_parts(b"\x30\x30\x18", parts)
 }
@@ -64,7 +64,7 @@ fn is_list_behind(parts: &[u8]) -> bool
 fn is_list(content: &[u8]) -> bool
     ensures { result ≡ is_list content.now }
 {
-    is_list_behind(behind_optional(0x02, content))
+    is_list_after(after_optional(0x02, content))
 }
 
 /// The content of what is signed, of an element that is signed.
@@ -88,7 +88,7 @@ fn signed_content(octets: &[u8]) -> Option<&[u8]>
 
 /// What an element is by its shape; none where it has neither. Nothing else of it is tested.
 pub fn kind_of(octets: &[u8]) -> Option<Kind>
-    ensures { option_map kind_told result ≡ kind_of octets.now }
+    ensures { option_map kind_view result ≡ kind_of octets.now }
 {
     let content = signed_content(octets)?;
     if is_certificate(content) {

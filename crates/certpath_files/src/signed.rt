@@ -1,9 +1,9 @@
 //! SignedData (RFC 5652, 3 and 5.1), in DER.
 
 ghost use Rattle.std.specs.Prelude.{◌≡◌, option_map, option_copied};
-ghost use Rattle.certpath_files.specs.PartsTold.{part_told};
-ghost use Rattle.certpath_files.specs.Signed.{strict_as, only_as, optional_as, content_of_info, sets_in, sets_behind, signed_sets};
-ghost use Rattle.certpath_files.specs.SignedTold.{sets_told};
+ghost use Rattle.certpath_files.specs.PartViews.{part_view};
+ghost use Rattle.certpath_files.specs.Signed.{strict_as, only_as, optional_as, content_of_info, sets_in, sets_after, signed_sets};
+ghost use Rattle.certpath_files.specs.SignedViews.{sets_view};
 
 use crate::parts::{Part, strict_part_at};
 
@@ -16,7 +16,7 @@ pub(crate) struct Sets<'a> {
 
 /// The element at the front, where it has this first octet.
 fn strict_as(first: u8, octets: &[u8]) -> Option<Part<'_>>
-    ensures { option_map part_told result ≡ strict_as first octets.now }
+    ensures { option_map part_view result ≡ strict_as first octets.now }
 {
     let part = strict_part_at(octets)?;
     if part.first == first {
@@ -41,7 +41,7 @@ fn only_as(first: u8, octets: &[u8]) -> Option<&[u8]>
 /// The element at the front, where it has this first octet, or else one without content before the
 /// octets.
 fn optional_as(first: u8, octets: &[u8]) -> Part<'_>
-    ensures { part_told result ≡ optional_as first octets.now }
+    ensures { part_view result ≡ optional_as first octets.now }
 {
     match strict_as(first, octets) {
         Some(part) => part,
@@ -67,8 +67,8 @@ fn content_of_info(octets: &[u8]) -> Option<&[u8]>
 }
 
 /// The sets after the first three parts.
-fn sets_behind(octets: &[u8]) -> Option<Sets<'_>>
-    ensures { option_map sets_told result ≡ sets_behind octets.now }
+fn sets_after(octets: &[u8]) -> Option<Sets<'_>>
+    ensures { option_map sets_view result ≡ sets_after octets.now }
 {
     let certificates = optional_as(0xa0, octets);
     let lists = optional_as(0xa1, certificates.rest);
@@ -81,17 +81,17 @@ fn sets_behind(octets: &[u8]) -> Option<Sets<'_>>
 
 /// The sets of the content of SignedData.
 fn sets_in(content: &[u8]) -> Option<Sets<'_>>
-    ensures { option_map sets_told result ≡ sets_in content.now }
+    ensures { option_map sets_view result ≡ sets_in content.now }
 {
     let version = strict_as(0x02, content)?;
     let digests = strict_as(0x31, version.rest)?;
     let encapsulated = strict_as(0x30, digests.rest)?;
-    sets_behind(encapsulated.rest)
+    sets_after(encapsulated.rest)
 }
 
 /// The sets of a ContentInfo that holds SignedData, in DER.
 pub(crate) fn signed_sets(octets: &[u8]) -> Option<Sets<'_>>
-    ensures { option_map sets_told result ≡ signed_sets octets.now }
+    ensures { option_map sets_view result ≡ signed_sets octets.now }
 {
     sets_in(content_of_info(octets)?)
 }

@@ -11,6 +11,7 @@ use Rattle.cert_graph.specs.Entries.{IsAt}
 use Rattle.cert_model.specs.Fields.{Certificate}
 use Rattle.cert_model.specs.Class.{Class, IsClassOf, IsCertificateItem}
 use Rattle.cert_model.proofs.Classes.{class_once}
+use Rattle.cert_judge.specs.Judging.{IsUsable}
 use Rattle.cert_judge.specs.Revoking.{Item, Rules}
 use Rattle.cert_judge.specs.Classed.{AreClassed}
 use Rattle.cert_judge.specs.ItemGraph.{IsCertificateWith, graph_of_items}
@@ -47,7 +48,7 @@ check_says_yes r items anchors target answer said check find =
     let b = one_classing anchors find.1 check.1 find.3 check.3 in
     check.4.1 (subst (λ xs. IsAdequate (graph_of_items r xs check.1) target answer) a (subst (λ ys. IsAdequate (graph_of_items r find.0 ys) target answer) b find.4))
 
-pub certificate_at : (octets : List (List ℕ)) (items : List Item) (P : Certificate → Type 0) (p : ℕ) → AreClassed octets items → IsAt items p (IsCertificateWith P) → IsAt octets p (λ s. (c : Certificate) × IsCertificateItem s c)
+pub certificate_at : (octets : List (List ℕ)) (items : List Item) (P : Item → Certificate → Type 0) (p : ℕ) → AreClassed octets items → IsAt items p (λ x. IsCertificateWith (P x) x) → IsAt octets p (λ s. (c : Certificate) × IsCertificateItem s c)
 certificate_at octets items P p classed at =
     let count : length items ≡ length octets = sym (length-map items octets_of) ∙ ap length classed.octets_are in
     let below : p < length octets = omega (arith, count, at.0) in (
@@ -63,6 +64,6 @@ certificate_at octets items P p classed at =
 
 pub names_certificates : (r : Rules) (octets : List (List ℕ)) (items anchors : List Item) (target : ℕ) (answer : Answer) → AreClassed octets items → IsTrueAnswer (graph_of_items r items anchors) target answer → NamesCertificates octets answer
 names_certificates r octets items anchors target (Path ps a table) classed true_answer =
-    λ k d lt. certificate_at octets items _ (get_or ps.items k d) classed (true_answer.valid.usable k d lt)
+    λ k d lt. certificate_at octets items (λ x. IsUsable (r.Processes x.octets) r.moment) (get_or ps.items k d) classed (true_answer.valid.usable k d lt)
 names_certificates r octets items anchors target (NoPath table) classed true_answer = tt
 names_certificates r octets items anchors target NoTarget classed true_answer = tt

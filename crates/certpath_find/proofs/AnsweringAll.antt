@@ -19,6 +19,7 @@ use Rattle.cert_graph.proofs.Changing.{items_by}
 use Rattle.cert_graph.proofs.OneInventory.{inventory_answers}
 use Rattle.cert_graph.proofs.Sharing.{inventory_true}
 use Rattle.std.proofs.lemmas.List.{length-map}
+use Rattle.cert_judge.specs.Judging.{IsUsable}
 use Rattle.cert_judge.specs.Revoking.{Item, Rules}
 use Rattle.cert_judge.specs.Classed.{AreClassed}
 use Rattle.cert_judge.specs.ItemGraph.{graph_of_items}
@@ -57,7 +58,7 @@ found_of_all g h e fit inventory adequate exact short =
 
 names_certificates_at : (r : Rules) (octets : List (List ℕ)) (items anchors : List Item) (target : ℕ) (verdict : Verdict) → AreClassed octets items → IsTrueVerdict (graph_of_items r items anchors) target verdict
     → VerdictNamesCertificates octets verdict
-names_certificates_at r octets items anchors target (FirstPath ps a) classed first = λ k d lt. certificate_at octets items _ (get_or ps.items k d) classed (first.valid.usable k d lt)
+names_certificates_at r octets items anchors target (FirstPath ps a) classed first = λ k d lt. certificate_at octets items (λ x. IsUsable (r.Processes x.octets) r.moment) (get_or ps.items k d) classed (first.valid.usable k d lt)
 names_certificates_at r octets items anchors target Pathless classed none = tt
 names_certificates_at r octets items anchors target NoCertificate classed none = tt
 

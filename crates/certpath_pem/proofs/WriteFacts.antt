@@ -13,7 +13,7 @@ use Rattle.base64.specs.GeneralPurpose.{IsBytes, engine_symbols, encode_of, deco
 use Rattle.base64.proofs.Tables.{all_below_at}
 use Rattle.base64.proofs.EngineFacts.{decode_of-encode_of, encode_of-nil}
 use Rattle.certpath_pem.specs.Lines.{is_white, put_before, lines_of}
-use Rattle.certpath_pem.specs.Labels.{Boundary, text, begin, end, is_label_char, is_joint, is_label_rest, is_label, dashes, begin_words, end_words, before_words, behind_words, if_label, label_of, boundary_by, boundary_of, holds_boundary}
+use Rattle.certpath_pem.specs.Labels.{Boundary, text, begin, end, is_label_char, is_joint, is_label_rest, is_label, dashes, begin_words, end_words, before_words, after_words, if_label, label_of, boundary_by, boundary_of, holds_boundary}
 use Rattle.certpath_pem.specs.Blocks.{block, stray_end, octets, headers, is_text, ends_block, body_of, is_ended, entry_by, opened_by, entries_from, is_symbol, is_blank, has_colon, has_headers, symbols_of, by_symbols, by_decoding, content_of}
 use Rattle.certpath_pem.specs.Writing.{wrapped_from, wrapped, boundary_line}
 use Rattle.certpath_pem.specs.Laws.{IsBoundaryLine, ReadsBack}
@@ -253,7 +253,7 @@ begins label e =
 
 no_begin : (label : List ℕ) → is_label label ≡ true → label_of begin_words (last_line label) ≡ None
 no_begin label e =
-    ap (λ t. option_and_then if_label (option_and_then (before_words dashes) (behind_words begin_words t)))
+    ap (λ t. option_and_then if_label (option_and_then (before_words dashes) (after_words begin_words t)))
     (core_trimmed (codes "----END ") (last_line label) label (spelled end_words label e))
 
 ends : (label : List ℕ) → is_label label ≡ true → boundary_of (last_line label) ≡ end label

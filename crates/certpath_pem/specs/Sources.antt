@@ -14,7 +14,7 @@ pub data Source : Type 0 where
   other : Source
 
 -- the octet 30, and a length in a long form or the indefinite one (X.690, 8.1.3.5 and 8.1.3.6). No text in ASCII or UTF-8 begins so:
--- after the character 0 an octet below 128 or above 193 would stand.
+-- after the character 0 an octet below 128 or above 193 would be.
 abbrev pub begins_long : List ℕ → Bool
 begins_long [] = false
 begins_long (first ∷ []) = false
@@ -48,7 +48,7 @@ abbrev pub is_none : List ℕ → Bool
 is_none [] = true
 is_none (octet ∷ octets) = false
 
--- what a file of these octets is. What begins as certificates in DER do is no text, whatever stands in it.
+-- what a file of these octets is. What begins as certificates in DER do is no text, whatever is in it.
 abbrev pub source_of : List ℕ → Source
 source_of octets =
     if begins_long octets then der

@@ -25,7 +25,7 @@ pub enum Entry<'a> {
     Block(Block<'a>),
     /// The number of an END line, where no block of its label is open.
     StrayEnd(usize),
-    /// The number of a line in which `-----BEGIN` or `-----END` stands, and which neither begins nor ends a block.
+    /// The number of a line in which `-----BEGIN` or `-----END` is, and which neither begins nor ends a block.
     BadBoundary(usize),
 }
 
@@ -42,7 +42,7 @@ impl<'a> Cursor<'a> {
     ghost use Rattle.std.specs.Prelude.{◌≡◌, ◌∷◌, [], IfNone, IfSome, option_copied};
     ghost use Rattle.certpath_pem.specs.Lines.{lines_of};
     ghost use Rattle.certpath_pem.specs.Blocks.{entries_of, entries_from};
-    ghost use Rattle.certpath_pem.specs.Told.{entry_told, entries_left};
+    ghost use Rattle.certpath_pem.specs.Views.{entry_view, entries_left};
 
     /// The entries of the lines of a rest, the first of which has this number, where a block of this label is open.
     pub(crate) fn at(rest: &'a [u8], number: usize, opened: Option<&'a [u8]>) -> Cursor<'a>
@@ -66,7 +66,7 @@ impl<'a> Cursor<'a> {
 
     /// The next entry. Reading a text to its end is one pass over it.
     pub fn next_entry(&mut self) -> Option<Entry<'a>>
-        ensures found { IfSome result (λ entry. entries_left self.old ≡ entry_told entry ∷ entries_left self.new) }
+        ensures found { IfSome result (λ entry. entries_left self.old ≡ entry_view entry ∷ entries_left self.new) }
         ensures none { IfNone result ((entries_left self.old ≡ []) × (entries_left self.new ≡ [])) }
     {
         while let Some((entry, next)) = step(*self) {

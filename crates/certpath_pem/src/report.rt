@@ -2,7 +2,7 @@
 
 ghost use Rattle.std.specs.Prelude.{◌≡◌, IfOk, map};
 ghost use Rattle.certpath_pem.specs.Blocks.{entries_of};
-ghost use Rattle.certpath_pem.specs.Told.{entry_told};
+ghost use Rattle.certpath_pem.specs.Views.{entry_view};
 
 use crate::cursor::{Cursor, Entry};
 use std::alloc::{AllocError, Global};
@@ -10,7 +10,7 @@ use std::alloc::{AllocError, Global};
 /// All entries of a text, in order. An entry takes 56 octets, and may stand for 10 octets of text: where memory is
 /// short, ask a `Cursor` for one after another.
 pub fn read(alloc: Global, text: &[u8]) -> Result<Vec<Entry<'_>>, AllocError>
-    ensures { IfOk result (λ entries. map entry_told entries.items ≡ entries_of text.now) }
+    ensures { IfOk result (λ entries. map entry_view entries.items ≡ entries_of text.now) }
 {
     let mut entries = Vec::new(alloc);
     let mut cursor = Cursor::new(text);

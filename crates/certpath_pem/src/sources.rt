@@ -2,14 +2,14 @@
 
 ghost use Rattle.std.specs.Prelude.{◌≡◌, bytes_eq};
 ghost use Rattle.certpath_pem.specs.Sources.{source_of, begins_long, begins_sequence, has_wide_mark, holds_wide_words, is_utf16, without_mark, label_kind, is_either, is_item_label, is_trusted_label, is_signed_label, is_key_label, is_old_key_label, is_request_label, is_parameter_label, is_any_key_label, is_other_label, is_known_label};
-ghost use Rattle.certpath_pem.specs.SourcesTold.{source_told, kind_told};
+ghost use Rattle.certpath_pem.specs.SourceViews.{source_view, kind_view};
 
 use crate::labels::{begins_with, holds};
 
 /// What a file is, by its octets alone.
 #[derive(Clone, Copy, Debug, PartialEq, Eq)]
 pub enum Source {
-    /// A text in which `-----BEGIN` stands (RFC 7468).
+    /// A text in which `-----BEGIN` is (RFC 7468).
     Pem,
     /// Elements in DER or BER, the first of which is a SEQUENCE (X.690, 8.9.1).
     Der,
@@ -73,9 +73,9 @@ fn is_utf16(octets: &[u8]) -> bool
     has_wide_mark(octets) || holds_wide_words(octets)
 }
 
-/// What a file of these octets is. A file that begins as certificates in DER do is `Der`, whatever stands in it.
+/// What a file of these octets is. A file that begins as certificates in DER do is `Der`, whatever is in it.
 pub fn source_of(octets: &[u8]) -> Source
-    ensures { source_told result ≡ source_of octets.now }
+    ensures { source_view result ≡ source_of octets.now }
 {
     if begins_long(octets) {
         Source::Der
@@ -187,7 +187,7 @@ fn is_known_label(label: &[u8]) -> bool
 
 /// What a label says that its block holds.
 pub fn label_kind(label: &[u8]) -> LabelKind
-    ensures { kind_told result ≡ label_kind label.now }
+    ensures { kind_view result ≡ label_kind label.now }
 {
     if is_item_label(label) {
         LabelKind::OneItem

@@ -1,1 +1,2 @@
+mod EvidenceFacts
 mod RecheckFacts

@@ -1,11 +1,12 @@
 -- How far each reader of a run that checks evidence was read, and which error comes of it.
-use Rattle.std.specs.Prelude.{◌≡◌, ◌⊎◌, ℕ, List, Result, Ok, Err}
-use Rattle.certpath_evidence.specs.Answers.{HasFirstBad}
+use Rattle.std.specs.Prelude.{◌≡◌, ◌⊎◌, ℕ, ◌+◌, List, Option, Result, Ok, Err}
+use Rattle.certpath_recheck.specs.Recheck.{HasFirstBadFor, IsForOther}
+use Rattle.certpath_sources.specs.declared.demand.AskedPurpose.{AskedPurpose}
 use Rattle.certpath_sources.specs.Uses.{Use, unread, whole, failed, too_long, stopped, Counts, Used, AreUses}
 use Rattle.certpath_sources.specs.declared.settings.RunError.{RunError}
 use Rattle.certpath_sources.specs.declared.settings.RunError.TheVariants as runs
 use Rattle.certpath_recheck.specs.declared.rechecking.RecheckError.{RecheckError}
-use Rattle.certpath_recheck.specs.declared.rechecking.RecheckError.TheVariants.{Run, Read, TooLong, BadLine}
+use Rattle.certpath_recheck.specs.declared.rechecking.RecheckError.TheVariants.{Run, Read, TooLong, BadLine, OtherPurpose}
 
 -- the other three were read to their ends
 abbrev pub AreWhole : Use → Use → Use → Type 0
@@ -27,6 +28,7 @@ AreRecheckUses (Err (Run error)) b a v e = AreUsesAt {A = RunError} (Err error) 
 AreRecheckUses (Err Read) b a v e = AreWhole b a v × (e ≡ failed)
 AreRecheckUses (Err TooLong) b a v e = AreWhole b a v × (e ≡ too_long)
 AreRecheckUses (Err (BadLine n)) b a v e = AreWhole b a v × (e ≡ whole)
+AreRecheckUses (Err OtherPurpose) b a v e = AreWhole b a v × (e ≡ whole)
 
 -- the readers' counts went so
 pub record UseRecheckReaders {A : Type 0} (result : Result A RecheckError) (bundle bundle' anchors anchors' vouchers vouchers' evidence evidence' : Counts) : Type 0 where
@@ -46,6 +48,7 @@ evidence_use_of (Ok x) = whole
 evidence_use_of (Err Read) = failed
 evidence_use_of (Err TooLong) = too_long
 evidence_use_of (Err (BadLine n)) = whole
+evidence_use_of (Err OtherPurpose) = whole
 evidence_use_of (Err (Run error)) = stopped
 
 -- an error of the reading of the evidence
@@ -53,14 +56,16 @@ abbrev pub IsOfEvidence : RecheckError → Type 0
 IsOfEvidence Read = Unit {0}
 IsOfEvidence TooLong = Unit {0}
 IsOfEvidence (BadLine n) = ⊥
+IsOfEvidence OtherPurpose = ⊥
 IsOfEvidence (Run error) = error ≡ runs.OutOfMemory
 
--- a text of evidence is refused for its first bad line, or for want of memory
-abbrev pub RefusesEvidence : List ℕ → RecheckError → Type 0
-RefusesEvidence text Read = ⊥
-RefusesEvidence text TooLong = ⊥
-RefusesEvidence text (BadLine n) = HasFirstBad text n
-RefusesEvidence text (Run error) = error ≡ runs.OutOfMemory
+-- a text of evidence is refused for its purpose, for its first bad line, or for want of memory
+abbrev pub RefusesEvidence : Option AskedPurpose → List ℕ → RecheckError → Type 0
+RefusesEvidence purpose text Read = ⊥
+RefusesEvidence purpose text TooLong = ⊥
+RefusesEvidence purpose text (BadLine n) = HasFirstBadFor purpose text n
+RefusesEvidence purpose text OtherPurpose = IsForOther purpose text
+RefusesEvidence purpose text (Run error) = error ≡ runs.OutOfMemory
 
 -- how many calls of the writer failed
 abbrev pub failed_recheck_writes : {A : Type 0} → Result A RecheckError → ℕ
@@ -68,8 +73,17 @@ failed_recheck_writes (Ok x) = 0
 failed_recheck_writes (Err Read) = 0
 failed_recheck_writes (Err TooLong) = 0
 failed_recheck_writes (Err (BadLine n)) = 0
+failed_recheck_writes (Err OtherPurpose) = 0
 failed_recheck_writes (Err (Run runs.OutOfMemory)) = 0
 failed_recheck_writes (Err (Run (runs.Read i))) = 0
 failed_recheck_writes (Err (Run (runs.TooLong i))) = 0
 failed_recheck_writes (Err (Run (runs.BadLine n))) = 0
 failed_recheck_writes (Err (Run runs.Write)) = 1
+
+-- the error of a bad line that follows the line of a purpose
+abbrev pub MatchesAfter : ℕ → RecheckError → Type 0
+MatchesAfter after Read = ⊥
+MatchesAfter after TooLong = ⊥
+MatchesAfter after (BadLine n) = n ≡ after + 1
+MatchesAfter after OtherPurpose = ⊥
+MatchesAfter after (Run error) = error ≡ runs.OutOfMemory

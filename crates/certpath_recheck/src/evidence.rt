@@ -1,18 +1,19 @@
 //! The inventory that a reader's evidence was written of.
 
-ghost use Rattle.std.specs.Prelude.{IfOk, IfErr};
-ghost use Rattle.certpath_evidence.specs.Answers.{IsEvidenceOf};
+ghost use Rattle.std.specs.Prelude.{◌≡◌, ◌≢◌, ◌++◌, ℕ, List, None, Some, IfOk, IfErr, IfSome, IfNone, string_bytes};
+ghost use Rattle.certpath_sources.specs.Demands.{purpose_line};
+ghost use Rattle.certpath_recheck.specs.Recheck.{IsEvidenceFor};
 ghost use Rattle.certpath_input.specs.Inputs.{ReadsAll};
 ghost use Rattle.certpath_sources.specs.Uses.{Used};
-ghost use Rattle.certpath_recheck.specs.Uses.{IsOfEvidence, RefusesEvidence, evidence_use_of};
+ghost use Rattle.certpath_recheck.specs.Uses.{IsOfEvidence, MatchesAfter, RefusesEvidence, evidence_use_of};
 
 use crate::rechecking::RecheckError;
 use asn1_device::Source;
 use cert_graph::Inventory;
 use certpath_evidence::{EvidenceError, read_evidence};
 use certpath_input::{InputError, read_text};
-use certpath_sources::RunError;
-use std::alloc::Global;
+use certpath_sources::{AskedPurpose, RunError, push_purpose};
+use std::alloc::{AllocError, Global};
 
 /// The text of the evidence.
 pub(crate) fn text_of<E: Source>(alloc: Global, evidence: &mut E) -> Result<Vec<u8>, RecheckError>
@@ -29,14 +30,82 @@ pub(crate) fn text_of<E: Source>(alloc: Global, evidence: &mut E) -> Result<Vec<
     }
 }
 
-/// The inventory that the text was written of.
-pub(crate) fn inventory_of(alloc: Global, text: &[u8]) -> Result<Inventory, RecheckError>
-    ensures ok { IfOk result (IsEvidenceOf text.now) }
-    ensures refused { IfErr result (RefusesEvidence text.now) }
+/// The line of a purpose.
+fn line_of(alloc: Global, purpose: AskedPurpose<'_>) -> Result<String, AllocError>
+    ensures { IfOk result (λ line. string_bytes line ≡ purpose_line (Some purpose.entry)) }
 {
+    let mut line = String::new(alloc);
+    push_purpose(&mut line, &Some(purpose))?;
+    Ok(line)
+}
+
+/// What stands after a front.
+fn after<'a>(text: &'a [u8], front: &[u8]) -> Option<&'a [u8]>
+    ensures found { IfSome result (λ r. text.now ≡ front.now ++ r.now) }
+    ensures none { IfNone result ((rest : List ℕ) → text.now ≢ front.now ++ rest) }
+{
+    text.strip_prefix(front)
+}
+
+/// The inventory of evidence for no purpose.
+fn plain_inventory(alloc: Global, text: &[u8]) -> Result<Inventory, RecheckError>
+    ensures ok { IfOk result (IsEvidenceFor None text.now) }
+    ensures refused { IfErr result (RefusesEvidence None text.now) }
+{
+    if after(text, b"purpose ").is_some() {
+        return Err(RecheckError::OtherPurpose);
+    }
     match read_evidence(alloc, text) {
         Ok(inventory) => Ok(inventory),
         Err(EvidenceError::BadLine(number)) => Err(RecheckError::BadLine(number)),
         Err(EvidenceError::OutOfMemory) => Err(RecheckError::Run(RunError::OutOfMemory)),
+    }
+}
+
+/// The error of a bad line after that of the purpose.
+fn bad_after(number: usize) -> RecheckError
+    ensures { MatchesAfter number result }
+{
+    match number.checked_add(1) {
+        Some(number) => RecheckError::BadLine(number),
+        None => RecheckError::Run(RunError::OutOfMemory),
+    }
+}
+
+/// The inventory of evidence for a purpose.
+#[tactic(auto, using(crate::proofs::EvidenceFacts::bad_line_after))]
+fn purposed_inventory(
+    alloc: Global,
+    purpose: AskedPurpose<'_>,
+    text: &[u8],
+) -> Result<Inventory, RecheckError>
+    ensures ok { IfOk result (IsEvidenceFor (Some purpose.entry) text.now) }
+    ensures refused { IfErr result (RefusesEvidence (Some purpose.entry) text.now) }
+{
+    let Ok(line) = line_of(alloc, purpose) else {
+        return Err(RecheckError::Run(RunError::OutOfMemory));
+    };
+    let Some(rest) = after(text, line.as_bytes()) else {
+        return Err(RecheckError::OtherPurpose);
+    };
+    match read_evidence(alloc, rest) {
+        Ok(inventory) => Ok(inventory),
+        Err(EvidenceError::BadLine(number)) => Err(bad_after(number)),
+        Err(EvidenceError::OutOfMemory) => Err(RecheckError::Run(RunError::OutOfMemory)),
+    }
+}
+
+/// The inventory that the text was written of, where it is for the purpose that is asked for.
+pub(crate) fn inventory_for(
+    alloc: Global,
+    purpose: Option<AskedPurpose<'_>>,
+    text: &[u8],
+) -> Result<Inventory, RecheckError>
+    ensures ok { IfOk result (IsEvidenceFor purpose.entry text.now) }
+    ensures refused { IfErr result (RefusesEvidence purpose.entry text.now) }
+{
+    match purpose {
+        Some(purpose) => purposed_inventory(alloc, purpose, text),
+        None => plain_inventory(alloc, text),
     }
 }

@@ -1,13 +1,13 @@
 //! A run that checks evidence.
 
 ghost use Rattle.std.specs.Prelude.{◌≡◌, ◌≢◌, ◌+◌, ◌≤◌, Bool, IfOk, IfErr, OnOk, IsErrOf};
-ghost use Rattle.certpath_recheck.specs.Recheck.{HasSaid, WritesRecheck, WritesRecheckInPart, MeetsRecheckRefusal};
+ghost use Rattle.certpath_recheck.specs.Recheck.{HasSaidFor, WritesRecheck, WritesRecheckFor, WritesRecheckInPart, WritesRecheckInPartFor, MeetsRecheckRefusal, MeetsRecheckRefusalFor};
 ghost use Rattle.certpath_recheck.specs.Uses.{UseRecheckReaders, failed_recheck_writes};
 
-use crate::evidence::{inventory_of, text_of};
+use crate::evidence::{inventory_for, text_of};
 use crate::saying::{line_of, said_of};
 use asn1_device::{Sink, Source};
-use certpath_sources::{AllSettings, RunError, read_inputs, write_text};
+use certpath_sources::{AllSettings, AskedPurpose, RunError, read_inputs, write_text};
 use std::alloc::Global;
 use thiserror::Error;
 
@@ -26,6 +26,9 @@ pub enum RecheckError {
     /// This line of the evidence, counted from 1, is the first bad one.
     #[error("BadLine")]
     BadLine(usize),
+    /// The evidence is for another purpose than is asked for, or for one and none is asked for.
+    #[error("OtherPurpose")]
+    OtherPurpose,
 }
 
 /// Reads all four inputs, and returns what the check says of the evidence.
@@ -37,10 +40,11 @@ fn said_of_all<B: Source, A: Source, V: Source, E: Source>(
     vouchers: &mut V,
     evidence: &mut E,
     settings: &AllSettings,
+    purpose: Option<AskedPurpose<'_>>,
 ) -> Result<bool, RecheckError>
-    ensures ok { IfOk result (HasSaid settings.now (B.remaining bundle.old) (B.remaining bundle.new) (A.remaining anchors.old) (A.remaining anchors.new)
+    ensures ok { IfOk result (HasSaidFor settings.now purpose.entry (B.remaining bundle.old) (B.remaining bundle.new) (A.remaining anchors.old) (A.remaining anchors.new)
         (V.remaining vouchers.old) (V.remaining vouchers.new) (E.remaining evidence.old) (E.remaining evidence.new)) }
-    ensures refused { IfErr result (MeetsRecheckRefusal (B.remaining bundle.old) (B.remaining bundle.new) (A.remaining anchors.old) (A.remaining anchors.new)
+    ensures refused { IfErr result (MeetsRecheckRefusalFor purpose.entry (B.remaining bundle.old) (B.remaining bundle.new) (A.remaining anchors.old) (A.remaining anchors.new)
         (V.remaining vouchers.old) (V.remaining vouchers.new) (E.remaining evidence.old) (E.remaining evidence.new) settings.now.limit) }
     ensures not_write { IfErr result (λ e. e ≢ RecheckError.Run RunError.Write) }
     ensures uses { UseRecheckReaders result
@@ -61,11 +65,11 @@ fn said_of_all<B: Source, A: Source, V: Source, E: Source>(
         Ok(text) => text,
         Err(error) => return Err(error),
     };
-    let inventory = match inventory_of(alloc, &text) {
+    let inventory = match inventory_for(alloc, purpose, &text) {
         Ok(inventory) => inventory,
         Err(error) => return Err(error),
     };
-    match said_of(alloc, &inputs, settings, &inventory) {
+    match said_of(alloc, &inputs, settings, purpose, &inventory) {
         Ok(said) => Ok(said),
         Err(_) => Err(RecheckError::Run(RunError::OutOfMemory)),
     }
@@ -77,7 +81,6 @@ fn said_of_all<B: Source, A: Source, V: Source, E: Source>(
 /// Nothing is searched. Nothing is written before all is read and checked; the writer is then flushed once. After `Run(Write)` what was
 /// written is a front of the line, after any other error nothing was written. Where a reader is refused, those after it are not read.
 /// It costs the reading of the four inputs and what `check_all` says.
-#[tactic(auto, using(crate::proofs::RecheckFacts::no_failed_write, crate::proofs::RecheckFacts::unwritten_uses, crate::proofs::RecheckFacts::refused_uses))]
 pub fn run_recheck<B: Source, A: Source, V: Source, E: Source, W: Sink>(
     alloc: Global,
     bundle: &mut B,
@@ -111,7 +114,49 @@ pub fn run_recheck<B: Source, A: Source, V: Source, E: Source, W: Sink>(
         (record { reads = E.reads evidence.old; failures = E.failures evidence.old; ends = E.ends evidence.old; widest = E.widest evidence.old })
         (record { reads = E.reads evidence.new; failures = E.failures evidence.new; ends = E.ends evidence.new; widest = E.widest evidence.new }) }
 {
-    let said = match said_of_all(alloc, bundle, anchors, vouchers, evidence, settings) {
+    run_recheck_for(
+        alloc, bundle, anchors, vouchers, evidence, settings, None, writer,
+    )
+}
+
+/// Likewise where a purpose may be demanded of each certificate of the paths. `OtherPurpose` where the evidence doesn't begin with the
+/// line of that purpose; the number of a bad line counts it. With `None` it is `run_recheck`.
+#[tactic(auto, using(crate::proofs::RecheckFacts::no_failed_write, crate::proofs::RecheckFacts::unwritten_uses, crate::proofs::RecheckFacts::refused_uses))]
+pub fn run_recheck_for<B: Source, A: Source, V: Source, E: Source, W: Sink>(
+    alloc: Global,
+    bundle: &mut B,
+    anchors: &mut A,
+    vouchers: &mut V,
+    evidence: &mut E,
+    settings: &AllSettings,
+    purpose: Option<AskedPurpose<'_>>,
+    writer: &mut W,
+) -> Result<bool, RecheckError>
+    // What was read and written.
+    ensures ok { IfOk result (WritesRecheckFor settings.now purpose.entry (B.remaining bundle.old) (B.remaining bundle.new) (A.remaining anchors.old) (A.remaining anchors.new)
+        (V.remaining vouchers.old) (V.remaining vouchers.new) (E.remaining evidence.old) (E.remaining evidence.new) (W.contents writer.old) (W.contents writer.new)) }
+    ensures part { IsErrOf result (RecheckError.Run RunError.Write) → (said : Bool) × WritesRecheckInPartFor settings.now purpose.entry (B.remaining bundle.old) (B.remaining bundle.new)
+        (A.remaining anchors.old) (A.remaining anchors.new) (V.remaining vouchers.old) (V.remaining vouchers.new) (E.remaining evidence.old) (E.remaining evidence.new)
+        (W.contents writer.old) (W.contents writer.new) said }
+    ensures nothing { IfErr result (λ e. e ≢ RecheckError.Run RunError.Write → writer.new ≡ writer.old) }
+    ensures flushed { OnOk result (W.flushes writer.new ≡ W.flushes writer.old + 1) }
+    ensures once { W.flushes writer.new ≤ W.flushes writer.old + 1 }
+
+    // When each error comes.
+    ensures refused { IfErr result (MeetsRecheckRefusalFor purpose.entry (B.remaining bundle.old) (B.remaining bundle.new) (A.remaining anchors.old) (A.remaining anchors.new)
+        (V.remaining vouchers.old) (V.remaining vouchers.new) (E.remaining evidence.old) (E.remaining evidence.new) settings.now.limit) }
+    ensures write { W.failures writer.new ≡ W.failures writer.old + failed_recheck_writes result }
+    ensures uses { UseRecheckReaders result
+        (record { reads = B.reads bundle.old; failures = B.failures bundle.old; ends = B.ends bundle.old; widest = B.widest bundle.old })
+        (record { reads = B.reads bundle.new; failures = B.failures bundle.new; ends = B.ends bundle.new; widest = B.widest bundle.new })
+        (record { reads = A.reads anchors.old; failures = A.failures anchors.old; ends = A.ends anchors.old; widest = A.widest anchors.old })
+        (record { reads = A.reads anchors.new; failures = A.failures anchors.new; ends = A.ends anchors.new; widest = A.widest anchors.new })
+        (record { reads = V.reads vouchers.old; failures = V.failures vouchers.old; ends = V.ends vouchers.old; widest = V.widest vouchers.old })
+        (record { reads = V.reads vouchers.new; failures = V.failures vouchers.new; ends = V.ends vouchers.new; widest = V.widest vouchers.new })
+        (record { reads = E.reads evidence.old; failures = E.failures evidence.old; ends = E.ends evidence.old; widest = E.widest evidence.old })
+        (record { reads = E.reads evidence.new; failures = E.failures evidence.new; ends = E.ends evidence.new; widest = E.widest evidence.new }) }
+{
+    let said = match said_of_all(alloc, bundle, anchors, vouchers, evidence, settings, purpose) {
         Ok(said) => said,
         Err(error) => return Err(error),
     };

@@ -1,1 +1,2 @@
+pub mod DemandFacts
 mod InputFacts

@@ -1,5 +1,5 @@
 -- What stands in the inputs of a run: bundle, anchors and vouchers. Where a device tells no octets, the relations say of some stream.
-use Rattle.std.specs.Prelude.{◌≡◌, ℕ, List, Option}
+use Rattle.std.specs.Prelude.{ℕ, List, Option}
 use Rattle.sha2.specs.Sha256.{sha256}
 use Rattle.cert_framing.specs.Held.{Framed}
 use Rattle.cert_judge.specs.Vouching.{Vouching, vouching_alone}

@@ -1,3 +1,4 @@
 pub mod Check
 pub mod Inputs
+pub mod Demands
 pub mod Uses

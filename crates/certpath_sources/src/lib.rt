@@ -1,13 +1,15 @@
-//! What the runs share: bundle, anchors and vouchers, each read to its end; the line of the check; and a text written at once. No
-//! crate below this one searches.
+//! What the runs share: bundle, anchors and vouchers, each read to its end; what is demanded of paths; the line of the check; and a text
+//! written at once. No crate below this one searches.
 #![tactic(auto)]
 
 mod check_line;
+mod demand;
 mod inputs;
 mod settings;
 mod writing;
 
 pub use crate::check_line::push_check;
+pub use crate::demand::{AskedHost, AskedPurpose, Demand, permits_of, push_demand, push_purpose};
 pub use crate::inputs::{Inputs, read_inputs};
 pub use crate::settings::{AllSettings, Input, RunError};
 pub use crate::writing::write_text;

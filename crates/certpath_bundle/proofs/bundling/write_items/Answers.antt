@@ -1,7 +1,7 @@
 use Rattle.std.proofs.Common.{rules, ap, subst, ◌∙◌}
 use Rattle.std.specs.Io.KnownBytes.{Appends}
 use Rattle.asn1_device.specs.Counts.{AppendsFront}
-use Rattle.certpath_bundle.specs.Told.{found_told}
+use Rattle.certpath_bundle.specs.Views.{found_view}
 use Rattle.certpath_bundle.proofs.Loops.{lines_of_map, from_ok, from_err}
 use Rattle.certpath_bundle.proofs.Writing.{wrote_more, wrote_all, wrote_part}
 use Rattle.certpath_bundle.proofs.bundling.write_items.Goals as goal
@@ -19,7 +19,7 @@ loop-one-preserved g c = record {
 
 pub returns-then-is_err-clause-part : goal.returns-then-is_err-clause-part
 returns-then-is_err-clause-part g c =
-    subst (AppendsFront (g.W.Sink.contents c.args.writer.now) (g.W.Sink.contents c.write_octets.new.writer)) (lines_of_map (λ one. one.held.octets) found_told c.args.found.now)
+    subst (AppendsFront (g.W.Sink.contents c.args.writer.now) (g.W.Sink.contents c.write_octets.new.writer)) (lines_of_map (λ one. one.held.octets) found_view c.args.found.now)
     (
     wrote_part (λ one. one.report.octets.items) c.args.found.now c.loop-one.one-index c.one-item.result _ _ _ c.loop-one-test.true c.loop-one.invariant.wrote
     (
@@ -30,7 +30,7 @@ returns-then-is_err-clause-part g c =
 
 pub returns : goal.returns
 returns g c = record {
-  ok = subst (Appends (g.W.Sink.contents c.args.writer.now) (g.W.Sink.contents c.loop-one.writer)) (lines_of_map (λ one. one.held.octets) found_told c.args.found.now)
+  ok = subst (Appends (g.W.Sink.contents c.args.writer.now) (g.W.Sink.contents c.loop-one.writer)) (lines_of_map (λ one. one.held.octets) found_view c.args.found.now)
       (wrote_all (λ one. one.report.octets.items) c.args.found.now c.loop-one.one-index _ _ c.loop-one-test.false c.loop-one.invariant.wrote);
   part = tt;
   only = tt;

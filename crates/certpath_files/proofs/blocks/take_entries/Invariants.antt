@@ -1,9 +1,9 @@
 use Rattle.std.proofs.Common.{◌≡◌, length}
 use Rattle.std.specs.List.{flat_map}
 use Rattle.certpath_pem.specs.Blocks.{entries_of}
-use Rattle.certpath_pem.specs.Told.{entries_left}
+use Rattle.certpath_pem.specs.Views.{entries_left}
 use Rattle.certpath_files.specs.Rows.{added}
-use Rattle.certpath_files.specs.ReportTold.{held_in}
+use Rattle.certpath_files.specs.ReportViews.{held_in}
 use Rattle.certpath_files.specs.Blocks.{entry_rows}
 use Rattle.certpath_files.proofs.blocks.take_entries.Given as goal
 

@@ -1,4 +1,4 @@
-use Rattle.certpath_files.specs.ReportTold.{held_in}
+use Rattle.certpath_files.specs.ReportViews.{held_in}
 use Rattle.certpath_files.proofs.AddFacts.{in_two}
 use Rattle.certpath_files.proofs.LoopFacts.{on_ok}
 use Rattle.certpath_files.proofs.files.take_text.Goals as goal

@@ -1,7 +1,7 @@
 use Rattle.std.proofs.Common.{◌≡◌, ◌==◌, ◌⊎◌, ◌∙◌, sym, false, length, inl, inr}
-use Rattle.certpath_files.specs.RowsTold.{spot_told}
-use Rattle.certpath_files.specs.ReportTold.{held_in}
-use Rattle.certpath_files.specs.SignedTold.{sets_told}
+use Rattle.certpath_files.specs.RowViews.{spot_view}
+use Rattle.certpath_files.specs.ReportViews.{held_in}
+use Rattle.certpath_files.specs.SignedViews.{sets_view}
 use Rattle.certpath_files.proofs.LoopFacts.{on_ok, sets_added}
 use Rattle.certpath_files.proofs.members.take_sets.Goals as goal
 use Rattle.certpath_files.proofs.members.take_sets.Goals.{else-is_empty-via-then-is_empty+else-is_empty-2, else-is_empty-via-else-is_empty}
@@ -14,4 +14,4 @@ returns c =
       | else-is_empty-via-else-is_empty w ↦ inl (sym c.is_empty.ensures ∙ w.if-is_empty.false)
     ] in
     on_ok c.take_members-2.result _ _ c.take_members-2.ensures
-    (λ last. sets_added (held_in c.args.report.now) (held_in c.take_members.new.report) (held_in c.take_members-2.new.report) (spot_told c.args.spot) (sets_told c.args.sets) some c.in_ok-take_members.ensures last)
+    (λ last. sets_added (held_in c.args.report.now) (held_in c.take_members.new.report) (held_in c.take_members-2.new.report) (spot_view c.args.spot) (sets_view c.args.sets) some c.in_ok-take_members.ensures last)

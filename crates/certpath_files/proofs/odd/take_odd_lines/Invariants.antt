@@ -1,7 +1,7 @@
 use Rattle.std.proofs.Common.{◌≡◌, ◌+◌, ◌≤◌, length, false}
 use Rattle.certpath_pem.specs.Lines.{lines_of}
 use Rattle.certpath_files.specs.Rows.{added}
-use Rattle.certpath_files.specs.ReportTold.{held_in}
+use Rattle.certpath_files.specs.ReportViews.{held_in}
 use Rattle.certpath_files.specs.Odd.{odd_rows}
 use Rattle.certpath_files.proofs.odd.take_odd_lines.Given as goal
 

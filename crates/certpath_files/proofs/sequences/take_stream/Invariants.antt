@@ -1,6 +1,6 @@
 use Rattle.std.proofs.Common.{◌≡◌, ◌-◌, ◌≤◌, length, ℕ}
 use Rattle.certpath_files.specs.Rows.{added}
-use Rattle.certpath_files.specs.ReportTold.{held_in}
+use Rattle.certpath_files.specs.ReportViews.{held_in}
 use Rattle.certpath_files.specs.Fronts.{front_of}
 use Rattle.certpath_files.specs.Walks.{walk}
 use Rattle.certpath_files.specs.Sequences.{rows_at, stream_rows}

@@ -7,4 +7,4 @@ returns-in-Err-clause-uses g c = run_uses c.in-Err.error _ _ _ _ _ _ _ c.in-Err.
 
 pub returns-in-Ok-said_of-clause-ok : goal.returns-in-Ok-said_of-clause-ok
 returns-in-Ok-said_of-clause-ok g c =
-    has_said c.args.settings.now _ _ _ _ _ _ _ _ _ _ _ _ _ _ _ c.in-Ok.ensures.ok c.in-Ok-text_of.ensures.ok c.deref.ensures.value c.in-Ok-inventory_of.ensures.ok c.in-Ok-said_of.ensures
+    has_said c.args.settings.now c.args.purpose _ _ _ _ _ _ _ _ _ _ _ _ _ _ _ c.in-Ok.ensures.ok c.in-Ok-text_of.ensures.ok c.deref.ensures.value c.in-Ok-inventory_for.ensures.ok c.in-Ok-said_of.ensures

@@ -1,19 +1,20 @@
--- What the check says holds by the rules of the settings.
-use Rattle.cert_graph.proofs.Sharing.{inventory_true}
-use Rattle.cert_judge.specs.ItemGraph.{graph_of_items}
+use Rattle.std.proofs.Common.{◌≡◌, ◌∙◌, ap, sym, subst, length, false, None}
 use Rattle.cert_judge.specs.Items.{rules_by}
-use Rattle.certpath_sources.specs.Inputs.{VouchesBy}
+use Rattle.cert_serving.specs.Demanding.{PermitsOf}
+use Rattle.cert_serving.specs.Refusing.{are_permitted}
+use Rattle.cert_serving.specs.declared.permits.Permits.{Permits}
+use Rattle.certpath_sources.specs.Demands.{VouchesWhere, demanded, is_none, of_purpose, target_octets}
+use Rattle.certpath_sources.proofs.DemandFacts.{of_ok, on_some}
+use Rattle.certpath_recheck.specs.Recheck.{IsSaidOf}
 use Rattle.certpath_recheck.proofs.saying.said_of.Goals as goal
 
 pub returns : goal.returns
 returns c =
-    let settings = c.args.settings.now in
-    let r = rules_by settings.policy.moment settings.policy.demand_lists (VouchesBy c.args.inputs.now.vouchers) in
-    let exact = c.in_ok-said.ensures.exact in record {
-      classed = exact.0;
-      classed_anchors = exact.1;
-      are_classed = exact.2;
-      anchors_are_classed = exact.3;
-      exact = exact.4;
-      holds = λ yes. inventory_true (graph_of_items r exact.0 exact.1) c.args.inventory.now (exact.4.0 yes);
-    }
+    let inputs = c.args.inputs.now in
+    let policy = c.args.settings.now.policy in
+    let items = inputs.items.items in
+    let e = c.for_purpose-demand.ensures in
+    let some : is_none (of_purpose c.args.purpose) ≡ false = ap is_none (sym e) ∙ sym c.is_none.ensures ∙ c.if-is_none.false in
+    of_ok _ _ (λ said h. on_some c.args.purpose None _ _ some
+    (subst (λ d. (permits : Permits) × PermitsOf (demanded d (target_octets items (length items))) items (are_permitted permits)
+    × IsSaidOf (rules_by policy.moment policy.demand_lists (VouchesWhere permits inputs.vouchers)) inputs.items inputs.anchors c.args.inventory.now said) e h)) c.said_within.result c.said_within.ensures

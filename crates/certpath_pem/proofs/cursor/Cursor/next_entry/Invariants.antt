@@ -1,5 +1,5 @@
 use Rattle.std.proofs.Common.{◌≡◌, length}
-use Rattle.certpath_pem.specs.Told.{entries_left}
+use Rattle.certpath_pem.specs.Views.{entries_left}
 use Rattle.certpath_pem.proofs.cursor.Cursor.next_entry.Given as goal
 
 abbrev pub invariant-loop-entry : goal.invariant-loop-entry

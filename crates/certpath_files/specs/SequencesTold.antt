@@ -1,9 +1,0 @@
--- What is looked for in a SEQUENCE.
-use Rattle.certpath_files.specs.Sequences as sequences
-use Rattle.certpath_files.specs.declared.sequences.Wanted.{Wanted}
-use Rattle.certpath_files.specs.declared.sequences.Wanted.TheVariants.{OneItem, SignedData, ItemOrSignedData}
-
-abbrev pub wanted_told : Wanted → sequences.Wanted
-wanted_told OneItem = sequences.one_item
-wanted_told SignedData = sequences.signed_data
-wanted_told ItemOrSignedData = sequences.item_or_signed_data
