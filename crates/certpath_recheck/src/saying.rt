@@ -2,11 +2,9 @@
 
 ghost use Rattle.std.specs.Prelude.{◌≡◌, length, IfOk, string_bytes};
 ghost use Rattle.cert_judge.specs.Items.{rules_by};
-ghost use Rattle.cert_serving.specs.Demanding.{PermitsOf};
-ghost use Rattle.cert_serving.specs.Refusing.{are_permitted};
 ghost use Rattle.cert_serving.specs.declared.permits.Permits.{Permits};
 ghost use Rattle.certpath_sources.specs.Check.{check_line};
-ghost use Rattle.certpath_sources.specs.Demands.{VouchesWhere, demanded, target_octets};
+ghost use Rattle.certpath_sources.specs.Demands.{ArePermitsOf, VouchesWhere, demanded, target_octets};
 ghost use Rattle.certpath_recheck.specs.Recheck.{IsSaidOf, IsSaidFor};
 
 use asn1_core::OutOfMemory;
@@ -46,7 +44,7 @@ fn said_within(
     demand: &Demand<'_>,
     inventory: &Inventory,
 ) -> Result<bool, OutOfMemory>
-    ensures { IfOk result (λ said. (permits : Permits) × PermitsOf (demanded demand.now (target_octets inputs.now.items.items (length inputs.now.items.items))) inputs.now.items.items (are_permitted permits)
+    ensures { IfOk result (λ said. (permits : Permits) × ArePermitsOf (demanded demand.now (target_octets inputs.now.items.items (length inputs.now.items.items))) inputs.now.items.items permits
         × IsSaidOf (rules_by settings.now.policy.moment settings.now.policy.demand_lists (VouchesWhere permits inputs.now.vouchers)) inputs.now.items inputs.now.anchors inventory.now said) }
 {
     let permits = permits_of(alloc, &inputs.items, inputs.items.len(), demand)?;

@@ -1,5 +1,6 @@
 -- What holds where nothing is demanded, and where something is.
 use Rattle.std.proofs.Common.{◌≡◌, ℕ, List, Option, Some, None, Result, Ok, Err, IfOk, true, false, subst}
+use Rattle.cert_judge.specs.Vouching.{Vouching}
 use Rattle.cert_serving.specs.declared.permits.Permits.{Permits}
 use Rattle.certcheck.specs.declared.vouchers.Vouchers.{Vouchers}
 use Rattle.certpath_sources.specs.Demands.{IfNeither, VouchesWhere, is_neither}
@@ -25,6 +26,10 @@ pub of_ok : {X E : Type 0} (P Q : X → Type 0) → ((x : X) → P x → Q x) �
 of_ok P Q f (Ok x) h = f x h
 of_ok P Q f (Err e) h = tt
 
+pub both_ok : {X E : Type 0} (P Q : X → Type 0) → (r : Result X E) → IfOk r P → IfOk r Q → IfOk r (λ x. P x × Q x)
+both_ok P Q (Ok x) p q = (p, q)
+both_ok P Q (Err e) p q = tt
+
 -- what holds by pairs and permits holds by those that are equal to them
-pub by_equal : (P : (List ℕ → List ℕ → Type 0) → Type 0) (v w : Vouchers) (p q : Permits) → v ≡ w → p ≡ q → P (VouchesWhere p v) → P (VouchesWhere q w)
+pub by_equal : (P : Vouching → Type 0) (v w : Vouchers) (p q : Permits) → v ≡ w → p ≡ q → P (VouchesWhere p v) → P (VouchesWhere q w)
 by_equal P v w p q e f h = subst (λ x. P (VouchesWhere x w)) f (subst (λ y. P (VouchesWhere p y)) e h)

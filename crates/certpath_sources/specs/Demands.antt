@@ -1,8 +1,10 @@
 -- What is demanded of paths, beside their being valid, and by which relation they are judged then. This page is to be believed.
 use Rattle.std.specs.Prelude.{ℕ, Bool, true, false, List, [], ◌∷◌, ◌++◌, codes, Option, Some, None, option_map, get_or}
 use Rattle.host_names.specs.Asked.{host_view}
-use Rattle.cert_serving.specs.Demanding.{Demanded, PermitsOf}
-use Rattle.cert_serving.specs.Refusing.{are_permitted}
+use Rattle.cert_judge.specs.Vouching.{Vouching}
+use Rattle.cert_purpose.specs.Restricting.{restricted_by}
+use Rattle.cert_serving.specs.Demanding.{Demanded, PermitsOf, ProcessesFor}
+use Rattle.cert_serving.specs.Refusing.{are_permitted, are_processed}
 use Rattle.cert_serving.specs.declared.permits.Permits.{Permits}
 use Rattle.certcheck.specs.declared.vouchers.Vouchers.{Vouchers}
 use Rattle.certpath_sources.specs.Inputs.{VouchesBy}
@@ -34,9 +36,13 @@ target_octets items place = get_or items place []
 abbrev pub demanded : Demand → List ℕ → Demanded
 demanded demand target = record { purpose = option_map (λ p. p.identifier.now) demand.purpose; host = option_map (λ h. host_view h.host) demand.host; target = target }
 
--- the pairs vouch for a key and an item, and the item is permitted
-abbrev pub VouchesWhere : Permits → Vouchers → List ℕ → List ℕ → Type 0
-VouchesWhere permits pairs key item = VouchesBy pairs key item × are_permitted permits item
+-- the pairs vouch for a key and an item, the item is permitted, and what the permit looks at may be critical
+abbrev pub VouchesWhere : Permits → Vouchers → Vouching
+VouchesWhere permits pairs = restricted_by (are_permitted permits) (are_processed permits) (VouchesBy pairs)
+
+-- exactly the items that meet the demands are permitted, and exactly what is demanded is processed
+abbrev pub ArePermitsOf : Demanded → List (List ℕ) → Permits → Type 0
+ArePermitsOf d items permits = PermitsOf d items (are_permitted permits) × ProcessesFor d (are_processed permits)
 
 -- one holds where neither is given, and the other where one of them is
 abbrev pub IfNeither : {A B : Type 0} → Option A → Option B → Type 0 → Type 0 → Type 0
@@ -45,10 +51,10 @@ IfNeither None (Some b) P Q = Q
 IfNeither (Some a) b P Q = Q
 
 -- What holds by the relation that is demanded, in a search from the item at a place: without a demand the pairs vouch as they are; else for the items that meet it.
-abbrev pub HoldsFor : Demand → List (List ℕ) → ℕ → Vouchers → ((List ℕ → List ℕ → Type 0) → Type 0) → Type 0
+abbrev pub HoldsFor : Demand → List (List ℕ) → ℕ → Vouchers → (Vouching → Type 0) → Type 0
 HoldsFor demand items target pairs Right =
     IfNeither demand.purpose demand.host (Right (VouchesBy pairs))
-    ((permits : Permits) × PermitsOf (demanded demand (target_octets items target)) items (are_permitted permits) × Right (VouchesWhere permits pairs))
+    ((permits : Permits) × ArePermitsOf (demanded demand (target_octets items target)) items permits × Right (VouchesWhere permits pairs))
 
 abbrev pub is_neither : {A B : Type 0} → Option A → Option B → Bool
 is_neither None None = true

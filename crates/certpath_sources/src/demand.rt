@@ -2,10 +2,8 @@
 
 ghost use Rattle.std.specs.Prelude.{◌≡◌, ◌++◌, None, option_map, IfOk, OnOk, string_bytes};
 ghost use Rattle.host_names.specs.Asked.{host_view};
-ghost use Rattle.cert_serving.specs.Demanding.{PermitsOf};
-ghost use Rattle.cert_serving.specs.Refusing.{are_permitted};
 ghost use Rattle.cert_serving.specs.View.{demands_view};
-ghost use Rattle.certpath_sources.specs.Demands.{demanded, of_purpose, target_octets, demand_lines, purpose_line, host_line, is_none};
+ghost use Rattle.certpath_sources.specs.Demands.{ArePermitsOf, demanded, of_purpose, target_octets, demand_lines, purpose_line, host_line, is_none};
 
 use asn1_core::OutOfMemory;
 use cert_framing::Items;
@@ -112,9 +110,9 @@ pub fn permits_of<'a>(
     alloc: Global,
     items: &'a Items,
     target: usize,
-    demand: &Demand<'_>,
+    demand: &Demand<'a>,
 ) -> Result<Permits<'a>, OutOfMemory>
-    ensures { IfOk result (λ p. PermitsOf (demanded demand.now (target_octets items.now.items target)) items.now.items (are_permitted p)) }
+    ensures { IfOk result (λ p. ArePermitsOf (demanded demand.now (target_octets items.now.items target)) items.now.items p) }
 {
     let demands = demands_of(demand, octets_at(items, target));
     Permits::new(alloc, items, &demands)
