@@ -58,7 +58,7 @@ def item_at(octets, at):
 
 
 def take_der(taken, name, octets):
-    """Takes the items that stand one after another. What is none is passed over if its length says where it ends."""
+    """Takes the items that are one after another. What is none is passed over if its length says where it ends."""
     at = 0
     while at < len(octets):
         where = f"{name} octet {at}"
@@ -94,7 +94,7 @@ def octets_of_block(lines):
     """The octets whose base64 the lines of a block are, and why they are none: the one or the other is none."""
     text = lines.translate(None, WHITE_SPACE)
     if b":" in text:
-        return None, "headers stand within"
+        return None, "headers within"
     try:
         octets = base64.b64decode(text) if BASE64.fullmatch(text) else b""
     except binascii.Error:

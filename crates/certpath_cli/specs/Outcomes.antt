@@ -1,5 +1,7 @@
 -- What the program hands to the engine's table of statuses.
-use Rattle.std.specs.Prelude.{◌≡◌, ◌⊎◌, List, ℕ, Err}
+use Rattle.std.specs.Prelude.{◌≡◌, ◌⊎◌, List, ℕ, Contains, Err}
+use Rattle.certpath_engine.specs.declared.bundle_exit.BundleOutcome.{BundleOutcome}
+use Rattle.certpath_engine.specs.declared.bundle_exit.BundleOutcome.TheVariants as bundled
 use Rattle.certpath_engine.specs.declared.exit.FrameOutcome.{FrameOutcome}
 use Rattle.certpath_engine.specs.declared.exit.FrameOutcome.TheVariants.{Unopened, Framed}
 use Rattle.certpath_engine.specs.declared.path_exit.PathFiles.{PathFiles}
@@ -26,6 +28,18 @@ use Rattle.certpath_sources.specs.declared.settings.RunError.TheVariants.{OutOfM
 abbrev pub IsOfFile : List ℕ → FrameOutcome → Type 0
 IsOfFile word (Unopened file) = file.now ≡ word
 IsOfFile word (Framed file answer) = file.now ≡ word
+
+-- it is of the file of this word, if of any
+abbrev pub IsOfWord : List ℕ → BundleOutcome → Type 0
+IsOfWord word (bundled.Unopened file) = file.now ≡ word
+IsOfWord word (bundled.Unread file error) = file.now ≡ word
+IsOfWord word (bundled.Bundled answer) = Unit {0}
+
+-- it is of the file of one of these words, if of any
+abbrev pub IsOfWords : List (List ℕ) → BundleOutcome → Type 0
+IsOfWords words (bundled.Unopened file) = Contains words file.now
+IsOfWords words (bundled.Unread file error) = Contains words file.now
+IsOfWords words (bundled.Bundled answer) = Unit {0}
 
 -- an input's file could not be opened, or memory was refused
 abbrev pub IsUnopened : {T : Type 0} → PathFiles → Input → PathOutcome T → Type 0

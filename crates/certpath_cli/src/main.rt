@@ -1,16 +1,18 @@
 //! The program `certpath`: opens the files that its words name, and ends with the status that the engine gives.
 #![tactic(auto)]
 
-ghost use Rattle.std.specs.Prelude.{◌≡◌, IfErr};
-ghost use Rattle.certpath_cli.specs.Outcomes.{IsOfFile, IsOfFiles, IsUnopened, IsOfSearch, IsOfItemFiles, AreItemsUnopened, IsOfRecheck};
+ghost use Rattle.std.specs.Prelude.{◌≡◌, IfOk, IfErr, map};
+ghost use Rattle.certpath_cli.specs.Outcomes.{IsOfFile, IsOfWord, IsOfWords, IsOfFiles, IsUnopened, IsOfSearch, IsOfItemFiles, AreItemsUnopened, IsOfRecheck};
 
 use asn1_device::{ReadSource, WriteSink};
+use certpath_bundle::{BundleError, File, bundle, read_file};
 use certpath_engine::{
-    Command, Exit, FrameError, FrameOutcome, Input, ItemFiles, ItemInput, PathFiles, PathOutcome,
-    PathsOutcome, Question, QuestionsOutcome, RecheckFiles, RecheckOutcome, WordFault, frame,
-    frame_status, path_status, paths_status, questions_status, read_words, recheck_status,
-    words_status,
+    BundleOutcome, Command, Exit, FrameError, FrameOutcome, Input, ItemFiles, ItemInput, PathFiles,
+    PathOutcome, PathsOutcome, Question, QuestionsOutcome, RecheckFiles, RecheckOutcome, WordFault,
+    bundle_status, frame, frame_status, path_status, paths_status, questions_status, read_words,
+    recheck_status, words_status,
 };
+use certpath_input::InputError;
 use certpath_recheck::{RecheckError, run_recheck};
 use certpath_run::{
     AllOutcome, AllSettings, Findings, Outcome, QuestionsError, RunError, find_evidence, run,
@@ -34,6 +36,7 @@ fn status_of<R: Runtime + AllocGlobal>(rt: &R) -> u8 {
     };
     match read_words(rt.alloc(), words.as_slice()) {
         Ok(Command::Frame { file, limit }) => tell(rt, frame_status(frame_file(rt, file, limit))),
+        Ok(Command::Bundle { files }) => tell(rt, bundle_status(bundle_files(rt, &files))),
         Ok(Command::Path(question)) => tell(rt, path_status(find_path(rt, &question))),
         Ok(Command::Why(question)) => tell(rt, path_status(tell_why(rt, &question))),
         Ok(
@@ -97,6 +100,64 @@ fn frame_file<'a, R: Runtime + AllocGlobal>(rt: &R, file: &'a str, limit: u32) -
     }
 }
 
+/// Joins the certificates and revocation lists of files, to standard output.
+fn bundle_files<'a, R: Runtime + AllocGlobal>(rt: &R, words: &[&'a str]) -> BundleOutcome<'a>
+    ensures { IsOfWords (map (λ w. w.now) words.now) result }
+{
+    let files = match files_read(rt, words) {
+        Ok(files) => files,
+        Err(outcome) => return outcome,
+    };
+    let mut writer = WriteSink::new(io::writer(rt));
+    BundleOutcome::Bundled(bundle(rt.alloc(), &files, &mut writer))
+}
+
+/// The files of these words, or how far the run came without one. Each is opened once those before it
+/// are read, so that there may be more of them than can be open at once.
+fn files_read<'a, R: Runtime + AllocGlobal>(
+    rt: &R,
+    words: &[&'a str],
+) -> Result<Vec<File<'a>>, BundleOutcome<'a>>
+    ensures ok { IfOk result (λ files. map (λ f. f.name) files.items ≡ words.now) }
+    ensures refused { IfErr result (IsOfWords (map (λ w. w.now) words.now)) }
+{
+    let mut files = Vec::new(rt.alloc());
+    for word in words {
+        let file = file_read(rt, word)?;
+        if files.push(file).is_err() {
+            return Err(BundleOutcome::Bundled(Err(BundleError::OutOfMemory)));
+        }
+    }
+    Ok(files)
+}
+
+/// The file of a word, or how far the run came without it.
+fn file_read<'a, R: Runtime + AllocGlobal>(
+    rt: &R,
+    word: &'a str,
+) -> Result<File<'a>, BundleOutcome<'a>>
+    ensures ok { IfOk result (λ file. file.name ≡ word.entry) }
+    ensures refused { IfErr result (IsOfWord word.entry.now) }
+{
+    let opened = match fs::open(rt, path_of(word)) {
+        Ok(opened) => opened,
+        Err(error) if error.kind() == io::ErrorKind::OutOfMemory => {
+            return Err(BundleOutcome::Unread(word, InputError::OutOfMemory));
+        }
+        Err(_) => return Err(BundleOutcome::Unopened(word)),
+    };
+    let mut reader = ReadSource::new(opened);
+    match read_file(rt.alloc(), word, &mut reader) {
+        Ok(file) => Ok(file),
+        Err(error) => Err(BundleOutcome::Unread(word, error)),
+    }
+}
+
+/// The path of a word: - is standard input.
+fn path_of(word: &str) -> &str {
+    if word == "-" { "/dev/stdin" } else { word }
+}
+
 /// Finds a path over three files, to standard output.
 fn find_path<'a, R: Runtime + AllocGlobal>(
     rt: &R,
@@ -121,7 +182,7 @@ fn find_path<'a, R: Runtime + AllocGlobal>(
     PathOutcome::Ran(files, answer)
 }
 
-/// Writes what stands in the way of a path, over three files, to standard output.
+/// Writes what prevents a path, over three files, to standard output.
 fn tell_why<'a, R: Runtime + AllocGlobal>(
     rt: &R,
     question: &Question<'a>,
@@ -365,7 +426,7 @@ fn tell<R: Eprint>(rt: &R, exit: Exit<'_>) -> u8
     ensures { result ≡ exit.entry.status }
 {
     if let Some(message) = &exit.message {
-        // The status tells it too, where standard error fails.
+        // The status says it too, where standard error fails.
         let _ = rt.eprint(message);
     }
     exit.status

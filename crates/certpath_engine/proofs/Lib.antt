@@ -1,3 +1,4 @@
+mod BundleLemmas
 mod Examples
 mod NumberLemmas
 mod TextLemmas

@@ -1,8 +1,8 @@
 -- What the words of the command line ask for. Which values clap gives to which words is said in the terms of the crate `clap`: `takes`
 -- (it accepts the words) and `subcommand_of` (the subcommand's name, and a row of values for each argument).
-use Rattle.std.specs.Prelude.{◌≡◌, ◌≢◌, ◌↔◌, ◌⊎◌, ℕ, ◌^◌, ◌<◌, true, List, [], ◌∷◌, Contains, None, Some, Result, Ok, Err, IsTrue, codes}
+use Rattle.std.specs.Prelude.{◌≡◌, ◌≢◌, ◌↔◌, ◌⊎◌, ℕ, ◌^◌, ◌<◌, true, List, [], ◌∷◌, map, Contains, None, Some, Result, Ok, Err, IsTrue, codes}
 use Rattle.std.specs.Option.{option_map}
-use Rattle.clap.specs.Walk.{Row, Text, first_of}
+use Rattle.clap.specs.Walk.{Row, Text, first_of, all_of}
 use Rattle.clap.specs.Simple.{subcommand_of}
 use Rattle.clap.specs.Takes.{takes}
 use Rattle.clap.specs.declared.error.kind.ErrorKind.{ErrorKind}
@@ -15,6 +15,7 @@ use Rattle.certpath_engine.specs.Words.{certpath_app}
 use Rattle.certpath_engine.specs.declared.texts.Asked.{Asked}
 use Rattle.certpath_engine.specs.declared.texts.Asked.TheVariants as asks
 use Rattle.certpath_engine.specs.declared.texts.FrameTexts.{FrameTexts}
+use Rattle.certpath_engine.specs.declared.bundle_texts.BundleTexts.{BundleTexts}
 use Rattle.certpath_engine.specs.declared.texts.PathTexts.{PathTexts}
 use Rattle.certpath_engine.specs.declared.questions_texts.QuestionsTexts.{QuestionsTexts}
 use Rattle.certpath_engine.specs.declared.texts.AllTexts.{AllTexts}
@@ -24,7 +25,7 @@ use Rattle.certpath_sources.specs.declared.settings.AllSettings.{AllSettings}
 use Rattle.certpath_run.specs.declared.settings.Settings.{Settings}
 use Rattle.certpath_engine.specs.declared.path_exit.PathFiles.{PathFiles}
 use Rattle.certpath_engine.specs.declared.words.Command.{Command}
-use Rattle.certpath_engine.specs.declared.words.Command.TheVariants.{Frame, Path, Why, Questions, Paths, Recheck}
+use Rattle.certpath_engine.specs.declared.words.Command.TheVariants.{Frame, Bundle, Path, Why, Questions, Paths, Recheck}
 use Rattle.certpath_engine.specs.declared.words.WordFault.{WordFault}
 use Rattle.certpath_engine.specs.declared.words.WordFault.TheVariants.{Refused, Number, Moment, OutOfMemory}
 
@@ -32,6 +33,9 @@ use Rattle.certpath_engine.specs.declared.words.WordFault.TheVariants.{Refused, 
 pub record AreFrameTexts (rows : List Row) (t : FrameTexts) : Type 0 where
   pub file : first_of (codes "FILE") rows ≡ Some t.file.now
   pub limit : first_of (codes "limit") rows ≡ Some t.limit.now
+
+pub record AreBundleTexts (rows : List Row) (t : BundleTexts) : Type 0 where
+  pub files : all_of (codes "FILE") rows ≡ Some (map (λ s. s.now) t.files.items)
 
 pub record AreQuestionsTexts (rows : List Row) (t : QuestionsTexts) : Type 0 where
   pub bundle : first_of (codes "BUNDLE") rows ≡ Some t.bundle.now
@@ -60,6 +64,7 @@ pub record AreRecheckTexts (rows : List Row) (t : RecheckTexts) : Type 0 where
 
 abbrev pub AsksOf : List Row → Asked → Type 0
 AsksOf rows (asks.Frame t) = AreFrameTexts rows t
+AsksOf rows (asks.Bundle t) = AreBundleTexts rows t
 AsksOf rows (asks.Path t) = ArePathTexts rows t
 AsksOf rows (asks.Why t) = ArePathTexts rows t
 AsksOf rows (asks.Questions t) = AreQuestionsTexts rows t
@@ -68,6 +73,7 @@ AsksOf rows (asks.Recheck t) = AreRecheckTexts rows t
 
 abbrev pub name_of : Asked → Text
 name_of (asks.Frame t) = codes "frame"
+name_of (asks.Bundle t) = codes "bundle"
 name_of (asks.Path t) = codes "path"
 name_of (asks.Why t) = codes "why"
 name_of (asks.Questions t) = codes "questions"
@@ -104,6 +110,14 @@ TellsTexts name arguments rows (Err Number) = ⊥
 TellsTexts name arguments rows (Err Moment) = ⊥
 TellsTexts name arguments rows (Err OutOfMemory) = LacksOneOf arguments rows
 
+-- the words of `bundle`; none where they can't be kept
+abbrev pub GivesBundle : List Row → Result Asked WordFault → Type 0
+GivesBundle rows (Ok asked) = (name_of asked ≡ codes "bundle") × AsksOf rows asked
+GivesBundle rows (Err (Refused said)) = ⊥
+GivesBundle rows (Err Number) = ⊥
+GivesBundle rows (Err Moment) = ⊥
+GivesBundle rows (Err OutOfMemory) = Unit {0}
+
 -- the words of a question on one target; none only where one of its arguments has no value
 abbrev pub TellsQuestion : List Row → Result PathTexts WordFault → Type 0
 TellsQuestion rows (Ok texts) = ArePathTexts rows texts
@@ -139,6 +153,12 @@ ReadsFrame t (Err (Refused said)) = ⊥
 ReadsFrame t (Err Number) = IsNoNumber t.limit.now
 ReadsFrame t (Err Moment) = ⊥
 ReadsFrame t (Err OutOfMemory) = ⊥
+
+-- what is answered to the words after `bundle`
+abbrev pub ReadsBundle : BundleTexts → Result Command WordFault → Type 0
+ReadsBundle t (Ok (Bundle files)) = files.items ≡ t.files.items
+ReadsBundle t (Ok _) = ⊥
+ReadsBundle t (Err fault) = ⊥
 
 -- the words name these files
 abbrev pub NamesFiles : AllTexts → PathFiles → Type 0
@@ -205,6 +225,7 @@ ReadsRecheck t (Err fault) = RefusesSettings t.all fault
 -- what is answered to a command's words
 abbrev pub Reads : Asked → Result Command WordFault → Type 0
 Reads (asks.Frame t) r = ReadsFrame t r
+Reads (asks.Bundle t) r = ReadsBundle t r
 Reads (asks.Path t) r = ReadsPath t r
 Reads (asks.Why t) r = ReadsWhy t r
 Reads (asks.Questions t) r = ReadsQuestions t r

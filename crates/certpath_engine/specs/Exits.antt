@@ -6,7 +6,7 @@ use Rattle.cert_framing.specs.declared.ending.End.TheVariants.{Clean, Cut, Fault
 use Rattle.certpath_engine.specs.declared.exit.FrameOutcome.{FrameOutcome}
 use Rattle.certpath_engine.specs.declared.exit.FrameOutcome.TheVariants.{Unopened, Framed}
 use Rattle.certpath_engine.specs.declared.exit.Message.{Message}
-use Rattle.certpath_engine.specs.declared.exit.Message.TheVariants.{Usage, BadNumber, BadMoment, CannotRead, CannotCreate, VouchersLine, EvidenceLine, OutOfMemory as NoMemory, CannotWrite, CannotWriteTo}
+use Rattle.certpath_engine.specs.declared.exit.Message.TheVariants.{Usage, LeftOut, BadNumber, BadMoment, CannotRead, CannotCreate, VouchersLine, EvidenceLine, OutOfMemory as NoMemory, CannotWrite, CannotWriteTo}
 use Rattle.certpath_engine.specs.declared.framing.FrameError.{FrameError}
 use Rattle.certpath_engine.specs.declared.framing.FrameError.TheVariants.{Read, TooLong, OutOfMemory, Write}
 use Rattle.certpath_engine.specs.declared.words.WordFault.{WordFault}
@@ -56,6 +56,7 @@ frame_exit (Framed word answer) = framed_exit_of word.now answer
 -- a message's text
 abbrev pub message_text : Message → List ℕ
 message_text (Usage text) = string_bytes text
+message_text (LeftOut text) = string_bytes text
 message_text BadNumber = line (codes "bad number")
 message_text BadMoment = line (codes "bad moment")
 message_text (CannotRead word) = cannot_read word.now

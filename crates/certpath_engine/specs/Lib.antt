@@ -1,4 +1,5 @@
 pub mod Exits
+pub mod BundleExits
 pub mod PathExits
 pub mod QuestionsExits
 pub mod RecheckExits

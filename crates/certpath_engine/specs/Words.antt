@@ -2,11 +2,15 @@
 use Rattle.std.specs.Prelude.{true, [], ◌∷◌, Some, codes}
 use Rattle.clap.specs.Walk.{Rule, Text}
 use Rattle.clap.specs.Simple.{App, new_app, new_rule, on_top, with_rule, with_subcommand}
-use Rattle.clap.specs.declared.builder.action.ArgAction.TheVariants.{SetTrue}
+use Rattle.clap.specs.declared.builder.action.ArgAction.TheVariants.{Append, SetTrue}
 
 -- a file, which must stand there
 abbrev pub file_rule : Text → Rule
 file_rule name = record (new_rule name) { required = true }
+
+-- files, one at least
+abbrev pub files_rule : Rule
+files_rule = record (new_rule (codes "FILE")) { required = true; action = Some Append }
 
 -- `--target N`, which must stand there
 abbrev pub target_rule : Rule
@@ -27,6 +31,10 @@ limit_rule = record (new_rule (codes "limit")) { long = Some (codes "limit"); va
 -- `frame FILE [--limit N]`
 abbrev pub frame_app : App
 frame_app = with_rule (with_rule (new_app (codes "frame")) (file_rule (codes "FILE"))) limit_rule
+
+-- `bundle FILE..`
+abbrev pub bundle_app : App
+bundle_app = with_rule (new_app (codes "bundle")) files_rule
 
 -- an app with the three files
 abbrev pub with_files : App → App
@@ -73,4 +81,4 @@ targets_app = with_subcommand (with_subcommand items_app path_app.top) why_app.t
 
 -- the program, which has these subcommands too, and must be given one
 abbrev pub certpath_app : App
-certpath_app = with_subcommand (with_subcommand targets_app paths_app.top) recheck_app.top
+certpath_app = with_subcommand (with_subcommand (with_subcommand targets_app paths_app.top) recheck_app.top) bundle_app.top

@@ -2,7 +2,7 @@
 ghost use Rattle.std.specs.Prelude.{◌≡◌, false, IfOk};
 ghost use Rattle.clap.specs.Words.{app_of, rule_of};
 ghost use Rattle.clap.specs.declared.builder.command.Command.TheViews.{out-Command};
-ghost use Rattle.certpath_engine.specs.Words.{certpath_app, targets_app, items_app, frame_app, path_app, why_app, questions_app, paths_app, recheck_app, with_question, with_files, with_policy, file_rule, target_rule, moment_rule, demand_rule, limit_rule, evidence_rule};
+ghost use Rattle.certpath_engine.specs.Words.{certpath_app, targets_app, items_app, frame_app, bundle_app, path_app, why_app, questions_app, paths_app, recheck_app, with_question, with_files, with_policy, file_rule, files_rule, target_rule, moment_rule, demand_rule, limit_rule, evidence_rule};
 
 use clap::{Arg, ArgAction, Command};
 use std::alloc::{AllocError, Global};
@@ -13,7 +13,8 @@ pub(crate) fn program<'a>(alloc: Global) -> Result<Command<'a>, AllocError>
 {
     target_commands(alloc)?
         .subcommand(paths_command(alloc)?)?
-        .subcommand(recheck_command(alloc)?)
+        .subcommand(recheck_command(alloc)?)?
+        .subcommand(bundle_command(alloc)?)
 }
 
 /// The commands over items, and those on one target.
@@ -48,6 +49,16 @@ fn frame_command<'a>(alloc: Global) -> Result<Command<'a>, AllocError>
         .about("Tells where the items of a file lie, and how it ends")
         .arg(file_argument(alloc, "FILE", "The items, one behind the other"))?
         .arg(limit_argument(alloc))
+}
+
+/// The command `bundle`.
+fn bundle_command<'a>(alloc: Global) -> Result<Command<'a>, AllocError>
+    ensures app { IfOk result (λ c. app_of c ≡ bundle_app) }
+    ensures local { IfOk result (λ c. (out-Command c).has_globals ≡ false) }
+{
+    Command::new(alloc, "bundle")
+        .about("Joins the certificates and revocation lists of PEM, DER and PKCS #7 files")
+        .arg(files_argument(alloc))
 }
 
 /// The command `path`.
@@ -156,6 +167,17 @@ fn file_argument<'a>(alloc: Global, name: &'a str, help: &'a str) -> Arg<'a>
     ensures local { result.global ≡ false }
 {
     Arg::new(alloc, name).required(true).help(help)
+}
+
+/// Files, one at least.
+fn files_argument<'a>(alloc: Global) -> Arg<'a>
+    ensures rule { rule_of result ≡ files_rule }
+    ensures local { result.global ≡ false }
+{
+    Arg::new(alloc, "FILE")
+        .required(true)
+        .action(ArgAction::Append)
+        .help("The files; - is standard input")
 }
 
 /// `--target N`.

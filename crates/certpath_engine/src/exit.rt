@@ -16,11 +16,13 @@ pub enum FrameOutcome<'a> {
     Framed(&'a str, Result<End, FrameError>),
 }
 
-/// What is said on standard error: `clap`'s text, or one line.
+/// What is said on standard error: `clap`'s text, the lines of a bundle, or one line.
 #[derive(Debug, Drop)]
 pub enum Message<'a> {
     /// Why the words are refused, or their help.
     Usage(String),
+    /// What was left out of a bundle, line by line.
+    LeftOut(String),
     /// A number is not of its form.
     BadNumber,
     /// A moment is not of its form.
@@ -56,6 +58,7 @@ impl fmt::Display for Message<'_> {
     fn fmt<W: fmt::Write>(&self, f: &mut fmt::Formatter<W>) -> fmt::Result {
         match self {
             Message::Usage(text) => f.write_str(text.as_str()),
+            Message::LeftOut(text) => f.write_str(text.as_str()),
             Message::BadNumber => f.write_str("bad number\n"),
             Message::BadMoment => f.write_str("bad moment\n"),
             Message::CannotRead(word) => write!(f, "cannot read {word}\n"),

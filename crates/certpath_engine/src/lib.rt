@@ -3,6 +3,8 @@
 //! It runs over any reader and writer; the program itself only opens files and prints.
 #![tactic(auto)]
 
+mod bundle_exit;
+mod bundle_texts;
 mod commands;
 mod exit;
 mod framing;
@@ -15,6 +17,7 @@ mod text;
 mod texts;
 mod words;
 
+pub use bundle_exit::{BundleOutcome, bundle_status};
 pub use cert_framing::End;
 pub use certpath_input::{MAX_READS, READ_SIZE};
 pub use certpath_run::{Input, ItemInput};

@@ -4,6 +4,7 @@ ghost use Rattle.clap.specs.Matches.{found_of};
 ghost use Rattle.clap.specs.Words.{kind_of, rows_of};
 ghost use Rattle.certpath_engine.specs.Asking.{TellsTexts, TellsQuestion, TellsAll, frame_arguments, path_arguments, all_arguments, recheck_arguments, AnswersTexts, IsRefusal};
 
+use crate::bundle_texts::{BundleTexts, bundle_texts};
 use crate::commands::program;
 use crate::questions_texts::{QuestionsTexts, questions_texts};
 use crate::words::WordFault;
@@ -14,6 +15,7 @@ use std::alloc::Global;
 /// The words after a command.
 pub(crate) enum Asked<'a> {
     Frame(FrameTexts<'a>),
+    Bundle(BundleTexts<'a>),
     Path(PathTexts<'a>),
     Why(PathTexts<'a>),
     Questions(QuestionsTexts<'a>),
@@ -73,6 +75,7 @@ pub(crate) fn read_texts<'a>(alloc: Global, words: &'a [String]) -> Result<Asked
     };
     match matches.subcommand() {
         Some(("frame", found)) => frame_texts(found),
+        Some(("bundle", found)) => bundle_texts(alloc, found),
         Some(("path", found)) => path_texts(found),
         Some(("why", found)) => why_texts(found),
         Some(("questions", found)) => questions_texts(found),

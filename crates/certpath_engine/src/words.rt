@@ -1,7 +1,8 @@
 //! What the words of the command line ask for.
 ghost use Rattle.std.specs.Prelude.{map, string_bytes, IfOk, IfErr};
-ghost use Rattle.certpath_engine.specs.Asking.{ReadsFrame, ReadsPath, ReadsWhy, ReadsQuestions, ReadsPaths, ReadsRecheck, WritesQuestion, RefusesQuestion, NamesFiles, WritesSettings, RefusesSettings, AnswersWords};
+ghost use Rattle.certpath_engine.specs.Asking.{ReadsFrame, ReadsBundle, ReadsPath, ReadsWhy, ReadsQuestions, ReadsPaths, ReadsRecheck, WritesQuestion, RefusesQuestion, NamesFiles, WritesSettings, RefusesSettings, AnswersWords};
 
+use crate::bundle_texts::BundleTexts;
 use crate::number::read_number;
 use crate::path_exit::PathFiles;
 use crate::questions_exit::ItemFiles;
@@ -22,6 +23,11 @@ pub enum Command<'a> {
         file: &'a str,
         /// The most content octets that an item has.
         limit: u32,
+    },
+    /// Join the certificates and revocation lists of files.
+    Bundle {
+        /// The files' names.
+        files: Vec<&'a str>,
     },
     /// Find a path.
     Path(Question<'a>),
@@ -83,6 +89,7 @@ pub fn read_words<'a>(alloc: Global, words: &'a [String]) -> Result<Command<'a>,
 {
     match read_texts(alloc, words) {
         Ok(Asked::Frame(texts)) => frame_of(texts),
+        Ok(Asked::Bundle(texts)) => bundle_of(texts),
         Ok(Asked::Path(texts)) => path_of(texts),
         Ok(Asked::Why(texts)) => why_of(texts),
         Ok(Asked::Questions(texts)) => questions_of(texts),
@@ -103,6 +110,13 @@ fn frame_of<'a>(texts: FrameTexts<'a>) -> Result<Command<'a>, WordFault>
         file: texts.file,
         limit,
     })
+}
+
+/// The command `bundle` of these words.
+fn bundle_of<'a>(texts: BundleTexts<'a>) -> Result<Command<'a>, WordFault>
+    ensures { ReadsBundle texts.entry result }
+{
+    Ok(Command::Bundle { files: texts.files })
 }
 
 /// The command `path` of these words.

@@ -1,6 +1,6 @@
 -- Rows added to a report, one after another.
 use Rattle.std.proofs.Common.{◌≡◌, ◌∙◌, sym, ap, refl, ℕ, List, [], ◌∷◌, ◌++◌, map, append_assoc}
-use Rattle.certpath_files.specs.Rows.{Row, item, left_out, Held, Shown, shown, items_in, added, report_of}
+use Rattle.certpath_files.specs.Rows.{Row, item, left_out, Held, Shown, shown, items_in, added}
 
 pub append_none : {X : Type 0} (s : List X) → s ++ [] ≡ s
 append_none [] = refl

@@ -2,10 +2,10 @@
 use Rattle.std.proofs.Common.{◌≡◌, ℕ, List, [], ◌∷◌, ◌++◌, length, drop, Some, None, codes, refl, arith}
 use Rattle.base64.proofs.OnLiterals.{base64_on_literals}
 use Rattle.asn1_core.specs.Reading.{header_at, strict_at, identity_at, length_at, size_at}
-use Rattle.certpath_files.specs.Fronts.{front_of, whole, passed, stops, no_sequence, no_length, too_long, missing, long_form}
+use Rattle.certpath_files.specs.Fronts.{front_of, passed, stops, no_sequence, no_length, too_long, missing, long_form}
 use Rattle.certpath_files.specs.Shapes.{kind_of, certificate, list}
 use Rattle.certpath_files.specs.Framed.{AreItems}
-use Rattle.certpath_files.specs.Rows.{shown_item, shown_left_out, item, left_out, at, octet, line, block, file, Place, Spot, faulty, to_end, no_item, behind, other_label, unknown_label, stray, no_boundary, no_text, no_signed_data, no_members, wide_text, empty_file, no_form}
+use Rattle.certpath_files.specs.Rows.{shown_item, shown_left_out, item, left_out, at, octet, line, block, file, faulty, to_end, no_item, behind, other_label, unknown_label, stray, no_boundary, no_text, no_members, wide_text, empty_file, no_form}
 use Rattle.certpath_files.specs.Sequences.{member_place}
 use Rattle.certpath_files.specs.Files.{file_rows}
 

@@ -1,5 +1,5 @@
 -- Items of reports are items of bundles.
-use Rattle.std.proofs.Common.{◌≡◌, ◌≢◌, ◌∙◌, sym, ap, subst, refl, ℕ, zero, suc, ◌+◌, ◌-◌, ◌<◌, ◌≤◌, ◌==◌, Bool, true, false, List, [], ◌∷◌, ◌++◌, length, take, drop, Option, Some, None, Result, Ok, Err, arith, length-append, length-take}
+use Rattle.std.proofs.Common.{◌≡◌, ◌∙◌, sym, ap, subst, refl, ℕ, ◌+◌, ◌-◌, ◌≤◌, ◌==◌, Bool, true, false, List, [], ◌∷◌, ◌++◌, length, take, drop, Ok, Err, arith, length-append, length-take}
 use Rattle.std.specs.Prelude.{nat_lt, ◌&&◌, if◌then◌else◌}
 use Rattle.std.specs.Int.Digits.{AllBelowBase}
 use Rattle.std.proofs.Math.Seq.{take-append-add}
@@ -11,7 +11,7 @@ use Rattle.asn1_core.specs.Answers.{Answer}
 use Rattle.asn1_core.specs.Reading.{header_at, strict_at}
 use Rattle.asn1_core.proofs.StrictLaws.{strict_found}
 use Rattle.cert_framing.specs.Framing.{IsItem}
-use Rattle.certpath_files.specs.Fronts.{Front, whole, passed, stops, Fault, no_sequence, no_length, too_long, missing, long_form, most, is_sequence, sized, by_header, without_header, by_lenient, by_strict, front_of}
+use Rattle.certpath_files.specs.Fronts.{Front, whole, passed, stops, Fault, no_sequence, no_length, too_long, missing, long_form, most, is_sequence, sized, without_header, by_lenient, by_strict, front_of}
 use Rattle.certpath_files.specs.Rows.{Shown, shown_item, shown_left_out, Place, Reason}
 use Rattle.certpath_files.specs.Shapes.{Kind}
 use Rattle.certpath_files.specs.Framed.{AreItems, IsItemIfWhole}

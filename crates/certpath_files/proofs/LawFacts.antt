@@ -1,7 +1,7 @@
 -- What the laws of reports rest on.
-use Rattle.std.proofs.Common.{◌≡◌, ◌≢◌, ◌∙◌, sym, ap, subst, refl, ℕ, zero, suc, ◌+◌, ◌-◌, ◌<◌, ◌≤◌, ◌==◌, Bool, true, false, List, [], ◌∷◌, ◌++◌, length, take, drop, Option, Some, None, arith}
+use Rattle.std.proofs.Common.{◌≡◌, ◌≢◌, ◌∙◌, sym, ap, refl, ℕ, zero, suc, ◌+◌, ◌-◌, ◌==◌, Bool, true, false, List, [], ◌∷◌, ◌++◌, length, take, Option, Some, None}
 use Rattle.std.specs.Prelude.{◌&&◌, ◌||◌, if◌then◌else◌}
-use Rattle.std.specs.List.{concat, flat_map, AllByRecursion}
+use Rattle.std.specs.List.{flat_map, AllByRecursion}
 use Rattle.certpath_pem.specs.Blocks as blocks
 use Rattle.certpath_pem.specs.Sources as sources
 use Rattle.certpath_pem.specs.Sources.{Label, label_kind}
@@ -11,10 +11,10 @@ use Rattle.certpath_files.specs.Signed.{Sets, signed_sets}
 use Rattle.certpath_files.specs.Rows as rows
 use Rattle.certpath_files.specs.Rows.{Row, item, left_out, Spot, Place, at}
 use Rattle.certpath_files.specs.Walks.{walk, go_on, front_rows}
-use Rattle.certpath_files.specs.Sequences.{Wanted, one_item, signed_data, item_or_signed_data, item_by, item_rows, member_front, member_place, rows_of_member, member_rows, signed_rows, signed_by, either_by, sequence_rows, rows_at}
+use Rattle.certpath_files.specs.Sequences.{Wanted, one_item, signed_data, item_or_signed_data, item_by, item_rows, member_front, member_place, rows_of_member, member_rows, signed_rows, signed_by, either_by, sequence_rows}
 use Rattle.certpath_files.specs.Blocks as files
 use Rattle.certpath_files.specs.Blocks.{shown_by, shown_label, after_rows, octet_rows, content_rows, label_rows, entry_rows}
-use Rattle.certpath_files.specs.Laws.{place_of, line_of, number_of, IsAtLine, HasItsRows, ShowsKnown}
+use Rattle.certpath_files.specs.Laws.{place_of, line_of, number_of, IsAtLine, ShowsKnown}
 
 pub all_append : {X : Type 0} (P : X → Type 0) (a b : List X) → AllByRecursion P a → AllByRecursion P b → AllByRecursion P (a ++ b)
 all_append P [] b h k = k

@@ -1,9 +1,8 @@
 -- What is said of a report whose rows were pushed to.
-use Rattle.std.proofs.Common.{◌≡◌, ◌∙◌, sym, ap, refl, ℕ, Bool, true, false, List, [], ◌∷◌, ◌++◌, length, map, Result, Ok, Err}
+use Rattle.std.proofs.Common.{◌≡◌, ◌∙◌, sym, ap, ℕ, Bool, true, false, List, [], ◌∷◌, ◌++◌, length, map, Result, Ok, Err}
 use Rattle.std.specs.Prelude.{is_ok, is_err, if◌then◌else◌}
 use Rattle.cert_framing.specs.Framing.{IsItem}
 use Rattle.certpath_files.specs.Fronts.{most}
-use Rattle.certpath_files.specs.Rows as rows
 use Rattle.certpath_files.specs.Rows.{Shown, shown_item, shown_left_out, Place, Reason}
 use Rattle.certpath_files.specs.Shapes.{Kind}
 use Rattle.certpath_files.specs.RowViews.{row_view}

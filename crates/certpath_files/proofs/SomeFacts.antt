@@ -1,15 +1,14 @@
 -- No entry and no element is without a row.
-use Rattle.std.proofs.Common.{◌≡◌, ◌≢◌, ◌∙◌, sym, ap, refl, ℕ, zero, suc, ◌+◌, ◌-◌, Bool, true, false, List, [], ◌∷◌, ◌++◌, length, take, Option, Some, None}
-use Rattle.std.specs.Prelude.{◌&&◌, if◌then◌else◌}
+use Rattle.std.proofs.Common.{◌≢◌, refl, ℕ, ◌-◌, Bool, true, false, List, [], ◌∷◌, ◌++◌, length, take, Option, Some, None}
 use Rattle.certpath_pem.specs.Blocks as blocks
 use Rattle.certpath_pem.specs.Sources as sources
 use Rattle.certpath_pem.specs.Sources.{Label, label_kind}
-use Rattle.certpath_files.specs.Fronts.{Front, whole, passed, stops, size_in, front_of}
-use Rattle.certpath_files.specs.Shapes.{Kind, certificate, list, kind_of, is_none}
+use Rattle.certpath_files.specs.Fronts.{Front, whole, passed, stops, front_of}
+use Rattle.certpath_files.specs.Shapes.{Kind, certificate, list, kind_of}
 use Rattle.certpath_files.specs.Signed.{Sets, signed_sets}
 use Rattle.certpath_files.specs.Rows as rows
 use Rattle.certpath_files.specs.Rows.{Row, left_out, Spot, Place, at, octet}
-use Rattle.certpath_files.specs.Walks.{walk, go_on, front_rows}
+use Rattle.certpath_files.specs.Walks.{front_rows}
 use Rattle.certpath_files.specs.Sequences.{Wanted, one_item, signed_data, item_or_signed_data, item_by, item_rows, member_front, member_place, rows_of_member, member_rows, signed_rows, signed_by, either_by, sequence_rows, rows_at}
 use Rattle.certpath_files.specs.Blocks as files
 use Rattle.certpath_files.specs.Blocks.{shown_label, after_rows, content_rows, label_rows, entry_rows}

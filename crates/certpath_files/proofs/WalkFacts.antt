@@ -1,5 +1,5 @@
 -- A walk, element by element.
-use Rattle.std.proofs.Common.{◌≡◌, ◌≢◌, ◌∙◌, sym, ap, refl, ℕ, zero, suc, ◌+◌, ◌-◌, ◌<◌, ◌≤◌, List, [], ◌∷◌, ◌++◌, length, drop, Option, Some, None, arith, add-zero}
+use Rattle.std.proofs.Common.{◌≡◌, ◌≢◌, ◌∙◌, sym, ap, refl, ℕ, zero, suc, ◌+◌, ◌-◌, ◌<◌, ◌≤◌, List, [], ◌∷◌, ◌++◌, length, drop, Some, None, arith, add-zero}
 use Rattle.certpath_files.specs.Fronts.{Front, size_in}
 use Rattle.certpath_files.specs.Walks.{walk, go_on}
 use Rattle.certpath_files.proofs.AddFacts.{append_none}

@@ -1,17 +1,15 @@
 -- What is written as PEM is taken.
-use Rattle.std.proofs.Common.{◌≡◌, ◌≢◌, ◌∙◌, sym, ap, subst, refl, ℕ, ◌-◌, ◌==◌, Bool, true, false, List, [], ◌∷◌, ◌++◌, length, take, codes, Option, Some, None, arith}
-use Rattle.std.specs.Prelude.{◌||◌, if◌then◌else◌}
+use Rattle.std.proofs.Common.{◌≡◌, ◌≢◌, ◌∙◌, ap, refl, ℕ, ◌-◌, ◌==◌, true, false, List, [], ◌∷◌, ◌++◌, length, codes, Some, arith}
 use Rattle.std.proofs.lemmas.List.{take_all}
 use Rattle.std.proofs.lemmas.Bool.Decides.{nat_tests}
 use Rattle.std.specs.List.{flat_map}
 use Rattle.cert_framing.specs.Framing.{IsItem}
-use Rattle.certpath_pem.specs.Blocks as blocks
-use Rattle.certpath_pem.specs.Blocks.{entries_of, content_of}
+use Rattle.certpath_pem.specs.Blocks.{content_of}
 use Rattle.certpath_pem.specs.Writing.{pem_of}
 use Rattle.certpath_pem.specs.Laws.{ReadsBack}
-use Rattle.certpath_files.specs.Fronts.{Front, whole, most, front_of}
+use Rattle.certpath_files.specs.Fronts.{most}
 use Rattle.certpath_files.specs.Shapes.{Kind, kind_of}
-use Rattle.certpath_files.specs.Rows.{Row, Spot, item, at, block}
+use Rattle.certpath_files.specs.Rows.{Spot, item, at, block}
 use Rattle.certpath_files.specs.Sequences.{one_item, item_by}
 use Rattle.certpath_files.specs.Blocks.{front_rows, after_rows, octet_rows, content_rows, entry_rows}
 use Rattle.certpath_files.specs.Files.{all_entry_rows}

@@ -1,6 +1,6 @@
 -- What the rows of a file keep, in words that share nothing with the reader. This page is to be
 -- believed.
-use Rattle.std.specs.Prelude.{◌≡◌, ◌≢◌, ℕ, List, [], ◌∷◌, ◌++◌, length, take, Option, Some, None}
+use Rattle.std.specs.Prelude.{◌≡◌, ◌≢◌, ℕ, List, [], ◌∷◌, take, Option, Some, None}
 use Rattle.std.specs.List.{AllByRecursion}
 use Rattle.certpath_pem.specs.Blocks.{Entry, block, stray_end, bad_boundary}
 use Rattle.certpath_pem.specs.Sources as sources

@@ -1,5 +1,5 @@
 -- The views of the rows of a report: values as the definitions have them.
-use Rattle.std.specs.Prelude.{ℕ, map, option_map, option_copied}
+use Rattle.std.specs.Prelude.{option_map, option_copied}
 use Rattle.certpath_files.specs.Rows as rows
 use Rattle.certpath_files.specs.Rows.{Held}
 use Rattle.certpath_files.specs.FrontViews.{fault_view}

@@ -1,7 +1,7 @@
 -- SignedData in DER: ContentInfo (RFC 5652, 3) and SignedData (RFC 5652, 5.1). This page is to be
 -- believed. Each element down to the two sets is in its strict spelling, so there is no indefinite
 -- length.
-use Rattle.std.specs.Prelude.{ℕ, ◌==◌, Bool, if◌then◌else◌, List, [], ◌∷◌, bytes_eq, Option, Some, None, option_and_then}
+use Rattle.std.specs.Prelude.{ℕ, ◌==◌, if◌then◌else◌, List, [], ◌∷◌, bytes_eq, Option, Some, None, option_and_then}
 use Rattle.certpath_files.specs.Parts.{Part, strict_part_at}
 use Rattle.certpath_files.specs.Shapes.{is_none}
 

@@ -1,4 +1,5 @@
 use Rattle.std.proofs.Common.{codes}
+use Rattle.certpath_engine.proofs.BundleLemmas.{bundle_answers}
 use Rattle.certpath_engine.proofs.WordLemmas.{answers_texts, refused_texts}
 use Rattle.certpath_engine.proofs.texts.read_texts.Goals as goal
 
@@ -40,3 +41,8 @@ returns-in-Some-recheck-default c =
     let entered = c.in-Some-recheck-default in
     answers_texts _ _ _ _ _ (codes "recheck") _ _ c.in-Ok.ensures c.in-Ok-try_get_matches_from.ensures.matches entered.ensures.name entered.ensures.rows entered.is-recheck
     c.recheck_texts.ensures
+
+pub returns-in-Some-bundle-default : goal.returns-in-Some-bundle-default
+returns-in-Some-bundle-default c =
+    let entered = c.in-Some-bundle-default in
+    bundle_answers _ _ _ _ _ _ c.in-Ok.ensures c.in-Ok-try_get_matches_from.ensures.matches entered.ensures.name entered.ensures.rows entered.is-bundle c.bundle_texts.ensures

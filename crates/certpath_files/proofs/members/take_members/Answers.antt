@@ -1,4 +1,4 @@
-use Rattle.std.proofs.Common.{◌≡◌, ◌<◌, ◌≤◌, ◌∙◌, sym, ap, length, arith, Some}
+use Rattle.std.proofs.Common.{◌≡◌, ◌∙◌, sym, ap, length, arith, Some}
 use Rattle.std.proofs.lemmas.List.{take_rest}
 use Rattle.certpath_files.specs.Fronts.{size_in}
 use Rattle.certpath_files.specs.FrontViews.{front_view}

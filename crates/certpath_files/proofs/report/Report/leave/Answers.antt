@@ -1,5 +1,5 @@
-use Rattle.std.proofs.Common.{refl, map}
-use Rattle.certpath_files.specs.RowViews.{row_view, place_view, reason_view}
+use Rattle.std.proofs.Common.{refl}
+use Rattle.certpath_files.specs.RowViews.{place_view, reason_view}
 use Rattle.certpath_files.specs.declared.rows.Row.TheVariants.{LeftOut}
 use Rattle.certpath_files.proofs.PushedFacts.{left_out_pushed}
 use Rattle.certpath_files.proofs.report.Report.leave.Goals as goal

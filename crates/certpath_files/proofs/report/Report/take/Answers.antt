@@ -1,5 +1,5 @@
-use Rattle.std.proofs.Common.{refl, map, length}
-use Rattle.certpath_files.specs.RowViews.{row_view, place_view}
+use Rattle.std.proofs.Common.{refl, length}
+use Rattle.certpath_files.specs.RowViews.{place_view}
 use Rattle.certpath_files.specs.ShapeViews.{kind_view}
 use Rattle.certpath_files.specs.declared.rows.Row.TheVariants.{Item}
 use Rattle.certpath_files.proofs.PushedFacts.{item_pushed}

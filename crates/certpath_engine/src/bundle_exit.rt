@@ -1,0 +1,70 @@
+//! What the program ends with after `bundle`.
+ghost use Rattle.std.specs.Prelude.{◌≡◌};
+ghost use Rattle.certpath_engine.specs.Exits.{words_of};
+ghost use Rattle.certpath_engine.specs.BundleExits.{bundle_exit, unread_exit_of, said_exit_of, unwritten_exit_of, left_out_status_of};
+
+use crate::exit::{Exit, Message, ended};
+use certpath_bundle::{BundleError, Said};
+use certpath_input::InputError;
+
+/// How far the command `bundle` came.
+#[derive(Debug, Drop)]
+pub enum BundleOutcome<'a> {
+    /// This file can't be opened.
+    Unopened(&'a str),
+    /// This file was opened, and not read to its end.
+    Unread(&'a str, InputError),
+    /// The files were read, and writing their items answered this.
+    Bundled(Result<Said, BundleError>),
+}
+
+/// The status that `bundle` ends with, and what it says on standard error.
+pub fn bundle_status<'a>(outcome: BundleOutcome<'a>) -> Exit<'a>
+    ensures status { result.status ≡ (bundle_exit outcome.entry).0 }
+    ensures words { words_of result.message ≡ (bundle_exit outcome.entry).1 }
+{
+    match outcome {
+        BundleOutcome::Unopened(file) => ended(4, Message::CannotRead(file)),
+        BundleOutcome::Unread(file, error) => unread_exit(file, error),
+        BundleOutcome::Bundled(Ok(said)) => said_exit(said),
+        BundleOutcome::Bundled(Err(error)) => unwritten_exit(error),
+    }
+}
+
+/// How the program ends where a file was not read.
+fn unread_exit<'a>(file: &'a str, error: InputError) -> Exit<'a>
+    ensures status { result.status ≡ (unread_exit_of file.now error).0 }
+    ensures words { words_of result.message ≡ (unread_exit_of file.now error).1 }
+{
+    match error {
+        InputError::Read | InputError::TooLong => ended(4, Message::CannotRead(file)),
+        InputError::OutOfMemory => ended(6, Message::OutOfMemory),
+    }
+}
+
+/// The status where so often something was left out.
+fn left_out_status(count: usize) -> u8
+    ensures { result ≡ left_out_status_of count }
+{
+    if count == 0 { 0 } else { 1 }
+}
+
+/// How the program ends where all was written.
+fn said_exit<'a>(said: Said) -> Exit<'a>
+    ensures status { result.status ≡ (said_exit_of said).0 }
+    ensures words { words_of result.message ≡ (said_exit_of said).1 }
+{
+    let status = left_out_status(said.left_out);
+    ended(status, Message::LeftOut(said.text))
+}
+
+/// How the program ends where not all was written.
+fn unwritten_exit<'a>(error: BundleError) -> Exit<'a>
+    ensures status { result.status ≡ (unwritten_exit_of error).0 }
+    ensures words { words_of result.message ≡ (unwritten_exit_of error).1 }
+{
+    match error {
+        BundleError::OutOfMemory => ended(6, Message::OutOfMemory),
+        BundleError::Write => ended(7, Message::CannotWrite),
+    }
+}
