@@ -39,7 +39,7 @@ fn line_of(alloc: Global, purpose: AskedPurpose<'_>) -> Result<String, AllocErro
     Ok(line)
 }
 
-/// What stands after a front.
+/// What follows a front.
 fn after<'a>(text: &'a [u8], front: &[u8]) -> Option<&'a [u8]>
     ensures found { IfSome result (λ r. text.now ≡ front.now ++ r.now) }
     ensures none { IfNone result ((rest : List ℕ) → text.now ≢ front.now ++ rest) }

@@ -36,7 +36,7 @@ fn said_by<V: Vouch>(
     Ok(said)
 }
 
-/// The same for the items that meet a demand alone. No item is the target.
+/// What the check says of an inventory in which each path meets a demand. No item is the target.
 fn said_within(
     alloc: Global,
     inputs: &Inputs,

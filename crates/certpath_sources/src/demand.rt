@@ -16,7 +16,7 @@ use std::alloc::{AllocError, Global};
 pub struct AskedPurpose<'a> {
     /// The content octets of its identifier.
     pub identifier: &'a [u8],
-    /// As it stands in a report and in evidence.
+    /// Its text in a report and in evidence.
     pub shown: &'a str,
 }
 
@@ -24,7 +24,7 @@ pub struct AskedPurpose<'a> {
 #[derive(Clone, Copy, Debug)]
 pub struct AskedHost<'a> {
     pub host: Host<'a>,
-    /// As it stands in a report.
+    /// Its text in a report.
     pub shown: &'a str,
 }
 

@@ -21,7 +21,7 @@ arc_of EmailProtection = 4
 arc_of TimeStamping = 8
 arc_of OcspSigning = 9
 
--- behind id-kp, 1.3.6.1.5.5.7.3
+-- below id-kp, 1.3.6.1.5.5.7.3
 abbrev pub identifier_of : NamedPurpose → List ℕ
 identifier_of p = 0x2b ∷ 6 ∷ 1 ∷ 5 ∷ 5 ∷ 7 ∷ 3 ∷ arc_of p ∷ []
 
