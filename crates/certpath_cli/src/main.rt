@@ -9,14 +9,14 @@ use certpath_bundle::{BundleError, File, bundle, read_file};
 use certpath_engine::{
     BundleOutcome, Command, Exit, FrameError, FrameOutcome, Input, ItemFiles, ItemInput, PathFiles,
     PathOutcome, PathsOutcome, Question, QuestionsOutcome, RecheckFiles, RecheckOutcome, WordFault,
-    bundle_status, frame, frame_status, path_status, paths_status, questions_status, read_words,
-    recheck_status, words_status,
+    asked_of, bundle_status, frame, frame_status, path_status, paths_status, questions_status,
+    read_words, recheck_status, words_status,
 };
 use certpath_input::InputError;
-use certpath_recheck::{RecheckError, run_recheck};
+use certpath_recheck::{RecheckError, run_recheck_for};
 use certpath_run::{
-    AllOutcome, AllSettings, Findings, Outcome, QuestionsError, RunError, find_evidence, run,
-    run_all, run_questions, run_why,
+    AllOutcome, AllSettings, AskedPurpose, Findings, Outcome, QuestionsError, RunError,
+    find_evidence_for, run_all_for, run_for, run_questions, run_why,
 };
 use certpath_sources::write_text;
 use std::alloc::Global;
@@ -44,16 +44,25 @@ fn status_of<R: Runtime + AllocGlobal>(rt: &R) -> u8 {
                 files,
                 evidence,
                 settings,
+                purpose,
             },
         ) => {
+            let asked = asked_of(&purpose);
             let outcome = match evidence {
-                Some(word) => show_paths(rt, files, word, &settings),
-                None => PathsOutcome::Found(find_paths(rt, files, &settings)),
+                Some(word) => show_paths(rt, files, word, &settings, asked),
+                None => PathsOutcome::Found(find_paths(rt, files, &settings, asked)),
             };
             tell(rt, paths_status(outcome))
         }
-        Ok(Command::Recheck { files, settings }) => {
-            tell(rt, recheck_status(recheck(rt, files, &settings)))
+        Ok(
+            Command::Recheck {
+                files,
+                settings,
+                purpose,
+            },
+        ) => {
+            let outcome = recheck(rt, files, &settings, asked_of(&purpose));
+            tell(rt, recheck_status(outcome))
         }
         Ok(Command::Questions { files, limit }) => {
             tell(rt, questions_status(ask_questions(rt, files, limit)))
@@ -171,12 +180,13 @@ fn find_path<'a, R: Runtime + AllocGlobal>(
         Err(outcome) => return outcome,
     };
     let mut writer = WriteSink::new(io::writer(rt));
-    let answer = run(
+    let answer = run_for(
         rt.alloc(),
         &mut inputs.bundle,
         &mut inputs.anchors,
         &mut inputs.vouchers,
         &question.settings,
+        &question.demand(),
         &mut writer,
     );
     PathOutcome::Ran(files, answer)
@@ -211,6 +221,7 @@ fn find_paths<'a, R: Runtime + AllocGlobal>(
     rt: &R,
     files: PathFiles<'a>,
     settings: &AllSettings,
+    purpose: Option<AskedPurpose<'_>>,
 ) -> PathOutcome<'a, AllOutcome>
     ensures { IsOfFiles files.entry result }
 {
@@ -219,12 +230,13 @@ fn find_paths<'a, R: Runtime + AllocGlobal>(
         Err(outcome) => return outcome,
     };
     let mut writer = WriteSink::new(io::writer(rt));
-    let answer = run_all(
+    let answer = run_all_for(
         rt.alloc(),
         &mut inputs.bundle,
         &mut inputs.anchors,
         &mut inputs.vouchers,
         settings,
+        purpose,
         &mut writer,
     );
     PathOutcome::Ran(files, answer)
@@ -236,6 +248,7 @@ fn show_paths<'a, R: Runtime + AllocGlobal>(
     files: PathFiles<'a>,
     evidence: &'a str,
     settings: &AllSettings,
+    purpose: Option<AskedPurpose<'_>>,
 ) -> PathsOutcome<'a>
     ensures { IsOfSearch files.entry evidence.entry.now result }
 {
@@ -243,12 +256,13 @@ fn show_paths<'a, R: Runtime + AllocGlobal>(
         Ok(inputs) => inputs,
         Err(outcome) => return PathsOutcome::Found(outcome),
     };
-    let found = find_evidence(
+    let found = find_evidence_for(
         rt.alloc(),
         &mut inputs.bundle,
         &mut inputs.anchors,
         &mut inputs.vouchers,
         settings,
+        purpose,
     );
     let findings = match found {
         Ok(findings) => findings,
@@ -303,6 +317,7 @@ fn recheck<'a, R: Runtime + AllocGlobal>(
     rt: &R,
     files: RecheckFiles<'a>,
     settings: &AllSettings,
+    purpose: Option<AskedPurpose<'_>>,
 ) -> RecheckOutcome<'a>
     ensures { IsOfRecheck files.entry result }
 {
@@ -317,13 +332,14 @@ fn recheck<'a, R: Runtime + AllocGlobal>(
         Err(_) => return RecheckOutcome::Unopened(files.evidence),
     };
     let mut writer = WriteSink::new(io::writer(rt));
-    let answer = run_recheck(
+    let answer = run_recheck_for(
         rt.alloc(),
         &mut inputs.bundle,
         &mut inputs.anchors,
         &mut inputs.vouchers,
         &mut evidence,
         settings,
+        purpose,
         &mut writer,
     );
     RecheckOutcome::Ran(files, answer)

@@ -1,3 +1,4 @@
+pub mod Refusals
 pub mod Exits
 pub mod BundleExits
 pub mod PathExits
