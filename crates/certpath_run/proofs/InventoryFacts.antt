@@ -24,12 +24,10 @@ use Rattle.certpath_run.specs.declared.settings.AllOutcome.TheVariants.{Each, No
 use Rattle.certpath_run.specs.Report.{class_word, end_line, certificates_among}
 use Rattle.certpath_sources.specs.Check.{check_line}
 use Rattle.cert_judge.specs.Items.{rules_by}
-use Rattle.cert_serving.specs.Demanding.{PermitsOf}
-use Rattle.cert_serving.specs.Refusing.{are_permitted}
 use Rattle.cert_serving.specs.declared.permits.Permits.{Permits}
 use Rattle.certpath_sources.specs.Inputs.{VouchesBy}
 use Rattle.certpath_sources.specs.declared.demand.AskedPurpose.{AskedPurpose}
-use Rattle.certpath_sources.specs.Demands.{VouchesWhere, demand_lines, demanded, purpose_line, target_octets}
+use Rattle.certpath_sources.specs.Demands.{ArePermitsOf, VouchesWhere, demand_lines, demanded, purpose_line, target_octets}
 use Rattle.certpath_sources.specs.declared.demand.Demand.{Demand}
 use Rattle.certpath_sources.proofs.DemandFacts.{shown_by}
 use Rattle.certpath_run.specs.AllReport.{verdict_end, verdict_lines, all_report_with, is_pathless, has_pathless, outcome_of_all, IsAllReportBy, IsAllReportFor, IsAllReportOf, IsAllReportWith, AreFindingsFor}
@@ -115,7 +113,7 @@ findings_of settings demand outcome inventory items anchors pairs text shown rep
     shown_by demand.purpose demand.host report
     (λ (r : IsAllReportBy (demand_lines demand) settings outcome inventory items anchors text (VouchesBy pairs)).
         one_finding demand.purpose (demand_lines demand) settings outcome inventory items anchors text shown (VouchesBy pairs) r is)
-    (λ (q : (permits : Permits) × PermitsOf (demanded demand (target_octets items.items (length items.items))) items.items (are_permitted permits)
+    (λ (q : (permits : Permits) × ArePermitsOf (demanded demand (target_octets items.items (length items.items))) items.items permits
     × IsAllReportBy (demand_lines demand) settings outcome inventory items anchors text (VouchesWhere permits pairs)).
         (q.0, q.1, one_finding demand.purpose (demand_lines demand) settings outcome inventory items anchors text shown (VouchesWhere q.0 pairs) q.2 is))
 

@@ -7,6 +7,7 @@ use Rattle.cert_graph.specs.declared.inventory.Inventory.{Inventory}
 use Rattle.cert_graph.specs.declared.inventory.Verdict.{Verdict}
 use Rattle.cert_graph.specs.declared.inventory.Verdict.TheVariants.{FirstPath, Pathless, NoCertificate}
 use Rattle.cert_graph.specs.Inventory.{IsAdequateInventory, IsTrueInventory}
+use Rattle.cert_judge.specs.Vouching.{Vouching}
 use Rattle.cert_judge.specs.Classed.{AreClassed}
 use Rattle.cert_judge.specs.ItemGraph.{graph_of_items}
 use Rattle.cert_judge.specs.Items.{rules_by}
@@ -82,7 +83,7 @@ abbrev pub AreFindingsOn : AllSettings → AllOutcome → List ℕ → Framed �
 AreFindingsOn settings outcome shown items anchors pairs text = (report : IsAllReportOn settings outcome items anchors pairs text) × (shown ≡ evidence (told_by report.inventory))
 
 -- the report of an inventory, by the relation under which its paths are judged
-abbrev pub IsAllReportBy : List ℕ → AllSettings → AllOutcome → Inventory → Framed → Framed → List ℕ → (List ℕ → List ℕ → Type 0) → Type 0
+abbrev pub IsAllReportBy : List ℕ → AllSettings → AllOutcome → Inventory → Framed → Framed → List ℕ → Vouching → Type 0
 IsAllReportBy lines settings outcome inventory items anchors text vouches =
     (report : IsAllReportWith lines (rules_by settings.policy.moment settings.policy.demand_lists vouches) items anchors text outcome) × (report.inventory ≡ inventory)
 

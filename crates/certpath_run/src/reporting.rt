@@ -3,13 +3,11 @@
 ghost use Rattle.std.specs.Prelude.{◌≡◌, ◌++◌, IfOk, string_bytes};
 ghost use Rattle.cert_judge.specs.Items.{rules_by};
 ghost use Rattle.cert_model.specs.View.{time_view};
-ghost use Rattle.cert_serving.specs.Demanding.{PermitsOf};
-ghost use Rattle.cert_serving.specs.Refusing.{are_permitted};
 ghost use Rattle.cert_serving.specs.declared.permits.Permits.{Permits};
 ghost use Rattle.certpath_run.specs.Judging.{AreJudgedOf};
 ghost use Rattle.certpath_run.specs.Report.{answer_line};
 ghost use Rattle.certpath_sources.specs.Check.{check_line};
-ghost use Rattle.certpath_sources.specs.Demands.{VouchesWhere, demanded, demand_lines, target_octets};
+ghost use Rattle.certpath_sources.specs.Demands.{ArePermitsOf, VouchesWhere, demanded, demand_lines, target_octets};
 ghost use Rattle.certpath_run.specs.Runs.{IsReportWith, IsReportFor, IsWhyOn};
 
 use crate::answering::{Answered, answer_on};
@@ -74,7 +72,7 @@ fn report_within<'a>(
 ) -> Result<Reported, OutOfMemory>
     requires items { AreJudgedOf (time_view settings.now.policy.moment) inputs.now.items.items items.now }
     requires anchors { AreJudgedOf (time_view settings.now.policy.moment) inputs.now.anchors.items anchors.now }
-    ensures { IfOk result (λ r. (permits : Permits) × PermitsOf (demanded demand.now (target_octets inputs.now.items.items settings.now.target)) inputs.now.items.items (are_permitted permits)
+    ensures { IfOk result (λ r. (permits : Permits) × ArePermitsOf (demanded demand.now (target_octets inputs.now.items.items settings.now.target)) inputs.now.items.items permits
             × IsReportWith (demand_lines demand.now) (rules_by settings.now.policy.moment settings.now.policy.demand_lists (VouchesWhere permits vouch.now.vouchers.now)) inputs.now.items inputs.now.anchors settings.now.target (string_bytes r.text) r.outcome) }
 {
     let permits = permits_of(alloc, &inputs.items, settings.target, demand)?;

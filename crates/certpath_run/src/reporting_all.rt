@@ -2,10 +2,8 @@
 
 ghost use Rattle.std.specs.Prelude.{length, IfOk, string_bytes};
 ghost use Rattle.cert_model.specs.View.{time_view};
-ghost use Rattle.cert_serving.specs.Demanding.{PermitsOf};
-ghost use Rattle.cert_serving.specs.Refusing.{are_permitted};
 ghost use Rattle.cert_serving.specs.declared.permits.Permits.{Permits};
-ghost use Rattle.certpath_sources.specs.Demands.{VouchesWhere, demanded, demand_lines, target_octets};
+ghost use Rattle.certpath_sources.specs.Demands.{ArePermitsOf, VouchesWhere, demanded, demand_lines, target_octets};
 ghost use Rattle.certpath_run.specs.Judging.{AreJudgedOf};
 ghost use Rattle.certpath_run.specs.AllReport.{IsAllReportBy, IsAllReportFor, IsAllReportOf};
 
@@ -84,7 +82,7 @@ fn report_all_within<'a>(
 ) -> Result<ReportedAll, OutOfMemory>
     requires items { AreJudgedOf (time_view settings.now.policy.moment) inputs.now.items.items items.now }
     requires anchors { AreJudgedOf (time_view settings.now.policy.moment) inputs.now.anchors.items anchors.now }
-    ensures { IfOk result (λ r. (permits : Permits) × PermitsOf (demanded demand.now (target_octets inputs.now.items.items (length inputs.now.items.items))) inputs.now.items.items (are_permitted permits)
+    ensures { IfOk result (λ r. (permits : Permits) × ArePermitsOf (demanded demand.now (target_octets inputs.now.items.items (length inputs.now.items.items))) inputs.now.items.items permits
             × IsAllReportBy (demand_lines demand.now) settings.now r.outcome r.inventory inputs.now.items inputs.now.anchors (string_bytes r.text) (VouchesWhere permits vouch.now.vouchers.now)) }
 {
     let permits = permits_of(alloc, &inputs.items, inputs.items.len(), demand)?;

@@ -1,10 +1,8 @@
 use Rattle.std.proofs.Common.{◌≡◌, ◌∙◌, sym, subst, string_bytes, true, false}
 use Rattle.cert_judge.specs.Items.{rules_by}
-use Rattle.cert_serving.specs.Demanding.{PermitsOf}
-use Rattle.cert_serving.specs.Refusing.{are_permitted}
 use Rattle.cert_serving.specs.declared.permits.Permits.{Permits}
 use Rattle.certpath_sources.specs.Inputs.{VouchesBy}
-use Rattle.certpath_sources.specs.Demands.{VouchesWhere, demand_lines, demanded, is_none, target_octets}
+use Rattle.certpath_sources.specs.Demands.{ArePermitsOf, VouchesWhere, demand_lines, demanded, is_none, target_octets}
 use Rattle.certpath_sources.proofs.DemandFacts.{of_ok, on_neither, on_some}
 use Rattle.certpath_run.specs.Runs.{IsReportWith}
 use Rattle.certpath_run.proofs.reporting.report_on.Goals as goal
@@ -27,6 +25,6 @@ returns c =
     let inputs = c.args.inputs.now in
     let some : is_none demand ≡ false = sym c.is_none.ensures ∙ c.if-is_none.false in
     of_ok _ _ (λ r h. on_some demand.purpose demand.host _ _ some
-    (subst (λ v. (permits : Permits) × PermitsOf (demanded demand (target_octets inputs.items.items settings.target)) inputs.items.items (are_permitted permits)
+    (subst (λ v. (permits : Permits) × ArePermitsOf (demanded demand (target_octets inputs.items.items settings.target)) inputs.items.items permits
     × IsReportWith (demand_lines demand) (rules_by policy.moment policy.demand_lists (VouchesWhere permits v)) inputs.items inputs.anchors settings.target (string_bytes r.text) r.outcome)
     c.remembered_for-remembered.ensures h)) c.report_within.result c.report_within.ensures

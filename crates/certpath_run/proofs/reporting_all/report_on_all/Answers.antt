@@ -1,9 +1,7 @@
 use Rattle.std.proofs.Common.{◌≡◌, ◌∙◌, length, sym, subst, string_bytes, true, false}
-use Rattle.cert_serving.specs.Demanding.{PermitsOf}
-use Rattle.cert_serving.specs.Refusing.{are_permitted}
 use Rattle.cert_serving.specs.declared.permits.Permits.{Permits}
 use Rattle.certpath_sources.specs.Inputs.{VouchesBy}
-use Rattle.certpath_sources.specs.Demands.{VouchesWhere, demand_lines, demanded, is_none, target_octets}
+use Rattle.certpath_sources.specs.Demands.{ArePermitsOf, VouchesWhere, demand_lines, demanded, is_none, target_octets}
 use Rattle.certpath_sources.proofs.DemandFacts.{of_ok, on_neither, on_some}
 use Rattle.certpath_run.specs.AllReport.{IsAllReportBy}
 use Rattle.certpath_run.proofs.InventoryFacts.{report_alone}
@@ -28,7 +26,7 @@ returns-clause-inventory c =
     let items = inputs.items.items in
     let some : is_none demand ≡ false = sym c.is_none.ensures ∙ c.if-is_none.false in
     of_ok _ _ (λ r h. on_some demand.purpose demand.host _ _ some
-    (subst (λ v. (permits : Permits) × PermitsOf (demanded demand (target_octets items (length items))) items (are_permitted permits)
+    (subst (λ v. (permits : Permits) × ArePermitsOf (demanded demand (target_octets items (length items))) items permits
     × IsAllReportBy (demand_lines demand) c.args.settings.now r.outcome r.inventory inputs.items inputs.anchors (string_bytes r.text) (VouchesWhere permits v)) c.remembered_for-remembered.ensures h))
     c.report_all_within.result c.report_all_within.ensures
 
