@@ -63,6 +63,6 @@ certificate_at octets items P p classed at =
 
 pub names_certificates : (r : Rules) (octets : List (List ℕ)) (items anchors : List Item) (target : ℕ) (answer : Answer) → AreClassed octets items → IsTrueAnswer (graph_of_items r items anchors) target answer → NamesCertificates octets answer
 names_certificates r octets items anchors target (Path ps a table) classed true_answer =
-    λ k d lt. certificate_at octets items _ (get_or ps.items k d) classed (true_answer.valid.usable k d lt)
+    λ k d lt. let u = true_answer.valid.usable k d lt in certificate_at octets items (λ c. Unit {0}) (get_or ps.items k d) classed (u.0, λ e. let c = u.1 e in (c.0, c.1, tt))
 names_certificates r octets items anchors target (NoPath table) classed true_answer = tt
 names_certificates r octets items anchors target NoTarget classed true_answer = tt

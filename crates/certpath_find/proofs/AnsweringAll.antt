@@ -57,7 +57,9 @@ found_of_all g h e fit inventory adequate exact short =
 
 names_certificates_at : (r : Rules) (octets : List (List ℕ)) (items anchors : List Item) (target : ℕ) (verdict : Verdict) → AreClassed octets items → IsTrueVerdict (graph_of_items r items anchors) target verdict
     → VerdictNamesCertificates octets verdict
-names_certificates_at r octets items anchors target (FirstPath ps a) classed first = λ k d lt. certificate_at octets items _ (get_or ps.items k d) classed (first.valid.usable k d lt)
+names_certificates_at r octets items anchors target (FirstPath ps a) classed first = λ k d lt.
+    let u = first.valid.usable k d lt in
+    certificate_at octets items (λ c. Unit {0}) (get_or ps.items k d) classed (u.0, λ e. let c = u.1 e in (c.0, c.1, tt))
 names_certificates_at r octets items anchors target Pathless classed none = tt
 names_certificates_at r octets items anchors target NoCertificate classed none = tt
 
