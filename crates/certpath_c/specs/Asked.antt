@@ -7,6 +7,7 @@ use Rattle.sha2.specs.Sha256.{sha256}
 use Rattle.cert_framing.specs.Framing.{IsFraming}
 use Rattle.cert_framing.specs.Held.{Framed}
 use Rattle.cert_judge.specs.declared.policy.Policy.{Policy}
+use Rattle.cert_judge.specs.Vouching.{Vouching, vouching_alone}
 use Rattle.cert_model.specs.View.{time_view}
 use Rattle.certcheck.specs.declared.vouchers.Vouchers.{Vouchers}
 use Rattle.certcheck.specs.Vouching.{HasPair}
@@ -29,8 +30,8 @@ abbrev pub IsOnePairMore : Vouchers → Vouchers → Voucher → Type 0
 IsOnePairMore old new v = (key item : List ℕ) → HasPair new.pairs key item ↔ (HasPair old.pairs key item ⊎ ((key ≡ v.key) × (item ≡ v.item)))
 
 -- the pairs vouch for a key and an item whose SHA-256 digests are one of them
-abbrev pub VouchesBy : Vouchers → List ℕ → List ℕ → Type 0
-VouchesBy pairs key item = HasPair pairs.pairs (sha256 key) (sha256 item)
+abbrev pub VouchesBy : Vouchers → Vouching
+VouchesBy pairs = vouching_alone (λ key item. HasPair pairs.pairs (sha256 key) (sha256 item))
 
 -- both files cut into items, and the pairs of the vouchers
 pub record AreInputs (bundle anchors : List ℕ) (vouchers : List Voucher) (limit : ℕ) (items anchor_items : Framed) (pairs : Vouchers) : Type 0 where

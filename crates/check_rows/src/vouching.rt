@@ -14,12 +14,17 @@ pub struct VouchedPairs {
 }
 
 impl Vouch for VouchedPairs {
+    ghost use Rattle.cert_judge.specs.Vouching.{vouching_alone};
     ghost use Rattle.check_rows.specs.Vouching.{AreVouched};
 
-    ghost vouches_for = { λ v key item. AreVouched key item v.pairs.items };
+    ghost vouches_for = { λ v. vouching_alone (λ key item. AreVouched key item v.pairs.items) };
 
     fn vouches(&self, key: &[u8], item: &[u8]) -> bool {
         are_vouched(&self.pairs, key, item)
+    }
+
+    fn processes(&self, _item: &[u8], _identifier: &[u8]) -> bool {
+        false
     }
 }
 

@@ -18,14 +18,19 @@ pub struct Verified {
     pub signatures: Vec<Signature>,
 }
 
-/// A key vouches for an item if one of the signatures is of both.
+/// A key vouches for an item if one of the signatures is of both. No extension is processed.
 impl Vouch for Verified {
+    ghost use Rattle.cert_judge.specs.Vouching.{vouching_alone};
     ghost use Rattle.example_path.specs.Vouching.{AreVouched};
 
-    ghost vouches_for = { λ v key item. AreVouched key item v.signatures.items };
+    ghost vouches_for = { λ v. vouching_alone (λ key item. AreVouched key item v.signatures.items) };
 
     fn vouches(&self, key: &[u8], item: &[u8]) -> bool {
         are_vouched(&self.signatures, key, item)
+    }
+
+    fn processes(&self, _item: &[u8], _identifier: &[u8]) -> bool {
+        false
     }
 }
 

@@ -8,10 +8,16 @@ use std::alloc::{AllocError, Global};
 pub struct Anyone;
 
 impl Vouch for Anyone {
-    ghost vouches_for = { λ v key item. Unit {0} };
+    ghost use Rattle.cert_judge.specs.Vouching.{vouching_alone};
+
+    ghost vouches_for = { λ v. vouching_alone (λ key item. Unit {0}) };
 
     fn vouches(&self, _key: &[u8], _item: &[u8]) -> bool {
         true
+    }
+
+    fn processes(&self, _item: &[u8], _identifier: &[u8]) -> bool {
+        false
     }
 }
 
