@@ -26,9 +26,13 @@ abbrev pub unwritten_exit_of : BundleError → ℕ × List ℕ
 unwritten_exit_of OutOfMemory = (6, line (codes "out of memory"))
 unwritten_exit_of Write = (7, line (codes "cannot write"))
 
+-- status and text where the files were read
+abbrev pub bundled_exit_of : Result Said BundleError → ℕ × List ℕ
+bundled_exit_of (Ok said) = said_exit_of said
+bundled_exit_of (Err error) = unwritten_exit_of error
+
 -- status and text of the command `bundle`
 abbrev pub bundle_exit : BundleOutcome → ℕ × List ℕ
 bundle_exit (Unopened word) = (4, cannot_read word.now)
 bundle_exit (Unread word error) = unread_exit_of word.now error
-bundle_exit (Bundled (Ok said)) = said_exit_of said
-bundle_exit (Bundled (Err error)) = unwritten_exit_of error
+bundle_exit (Bundled answer) = bundled_exit_of answer

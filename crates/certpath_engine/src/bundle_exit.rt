@@ -1,7 +1,7 @@
 //! What the program ends with after `bundle`.
 ghost use Rattle.std.specs.Prelude.{◌≡◌};
 ghost use Rattle.certpath_engine.specs.Exits.{words_of};
-ghost use Rattle.certpath_engine.specs.BundleExits.{bundle_exit, unread_exit_of, said_exit_of, unwritten_exit_of, left_out_status_of};
+ghost use Rattle.certpath_engine.specs.BundleExits.{bundle_exit, bundled_exit_of, unread_exit_of, said_exit_of, unwritten_exit_of, left_out_status_of};
 
 use crate::exit::{Exit, Message, ended};
 use certpath_bundle::{BundleError, Said};
@@ -26,8 +26,18 @@ pub fn bundle_status<'a>(outcome: BundleOutcome<'a>) -> Exit<'a>
     match outcome {
         BundleOutcome::Unopened(file) => ended(4, Message::CannotRead(file)),
         BundleOutcome::Unread(file, error) => unread_exit(file, error),
-        BundleOutcome::Bundled(Ok(said)) => said_exit(said),
-        BundleOutcome::Bundled(Err(error)) => unwritten_exit(error),
+        BundleOutcome::Bundled(answer) => bundled_exit(answer),
+    }
+}
+
+/// How the program ends where the files were read.
+fn bundled_exit<'a>(answer: Result<Said, BundleError>) -> Exit<'a>
+    ensures status { result.status ≡ (bundled_exit_of answer).0 }
+    ensures words { words_of result.message ≡ (bundled_exit_of answer).1 }
+{
+    match answer {
+        Ok(said) => said_exit(said),
+        Err(error) => unwritten_exit(error),
     }
 }
 
