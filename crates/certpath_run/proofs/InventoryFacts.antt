@@ -1,5 +1,5 @@
 -- The lines of the report on all items, as the loops go over them, and what the check says of what was found.
-use Rattle.std.proofs.Common.{◌≡◌, ◌∙◌, sym, ap, refl, subst, ℕ, suc, ◌+◌, ◌<◌, ◌≤◌, ◌||◌, List, [], ◌∷◌, ◌++◌, length, drop, arith, append_assoc, get_or, Bool, true, false, if◌then◌else◌, codes}
+use Rattle.std.proofs.Common.{◌≡◌, ◌∙◌, sym, ap, refl, subst, ℕ, suc, ◌+◌, ◌<◌, ◌≤◌, ◌||◌, List, [], ◌∷◌, ◌++◌, length, drop, arith, append_assoc, get_or, Bool, true, false, if◌then◌else◌, codes, Option, Result, Ok, Err, IfOk, string_bytes}
 use Rattle.std.specs.Prelude.{IsTrue, ◌↔◌}
 use Rattle.std.specs.Fmt.{decimal}
 use Rattle.std.proofs.lemmas.List.{append-nil, drop_all}
@@ -23,7 +23,17 @@ use Rattle.certpath_run.specs.declared.settings.AllOutcome.{AllOutcome}
 use Rattle.certpath_run.specs.declared.settings.AllOutcome.TheVariants.{Each, NotEach}
 use Rattle.certpath_run.specs.Report.{class_word, end_line, certificates_among}
 use Rattle.certpath_sources.specs.Check.{check_line}
-use Rattle.certpath_run.specs.AllReport.{verdict_end, verdict_lines, all_report, is_pathless, has_pathless, outcome_of_all, IsAllReportOf, AreFindingsOn}
+use Rattle.cert_judge.specs.Items.{rules_by}
+use Rattle.cert_serving.specs.Demanding.{PermitsOf}
+use Rattle.cert_serving.specs.Refusing.{are_permitted}
+use Rattle.cert_serving.specs.declared.permits.Permits.{Permits}
+use Rattle.certpath_sources.specs.Inputs.{VouchesBy}
+use Rattle.certpath_sources.specs.declared.demand.AskedPurpose.{AskedPurpose}
+use Rattle.certpath_sources.specs.Demands.{VouchesWhere, demand_lines, demanded, purpose_line, target_octets}
+use Rattle.certpath_sources.specs.declared.demand.Demand.{Demand}
+use Rattle.certpath_sources.proofs.DemandFacts.{shown_by}
+use Rattle.certpath_run.specs.AllReport.{verdict_end, verdict_lines, all_report_with, is_pathless, has_pathless, outcome_of_all, IsAllReportBy, IsAllReportFor, IsAllReportOf, IsAllReportWith, AreFindingsFor}
+use Rattle.certpath_run.specs.declared.reporting_all.ReportedAll.{ReportedAll}
 use Rattle.certpath_run.specs.JudgedReport.{judged_word, counts_line, certificates_of, judged_verdict_line, judged_verdict_lines, judged_all_report}
 use Rattle.certpath_run.proofs.ReportFacts.{drop_next, judged_first, same_word, same_certificates}
 
@@ -77,12 +87,13 @@ same_verdict_lines moment (x ∷ xs) (j ∷ js) (v ∷ vs) k a =
     ap (λ l. l ++ judged_verdict_lines (k + 1) js vs) (same_verdict_line moment x j k v (same_word moment x j both.0))
     ∙ ap (λ l. (decimal k ++ (32 ∷ verdict_end x.class v)) ++ l) (same_verdict_lines moment xs js vs (k + 1) both.1)
 
-pub same_all_report : (moment : CivilTime) (xs ys : List Item) (js hs : List JudgedItem) (end anchors_end : End) (vs : List Verdict) (said : Bool) → AreJudged moment xs js → AreJudged moment ys hs
-    → judged_all_report js end hs anchors_end vs said ≡ all_report xs end ys anchors_end vs said
-same_all_report moment xs ys js hs end anchors_end vs said a b =
-    ap (λ l. l ++ (end_line end ++ (counts_line (certificates_of hs) (length hs) anchors_end ++ check_line said))) (same_verdict_lines moment xs js vs 0 a)
-    ∙ ap (λ n. verdict_lines 0 xs vs ++ (end_line end ++ (counts_line n (length hs) anchors_end ++ check_line said))) (same_certificates moment ys hs b)
-    ∙ ap (λ n. verdict_lines 0 xs vs ++ (end_line end ++ (counts_line (certificates_among ys) n anchors_end ++ check_line said))) b.count
+pub same_all_report : (lines : List ℕ) (moment : CivilTime) (xs ys : List Item) (js hs : List JudgedItem) (end anchors_end : End) (vs : List Verdict) (said : Bool) → AreJudged moment xs js → AreJudged moment ys hs
+    → judged_all_report lines js end hs anchors_end vs said ≡ all_report_with lines xs end ys anchors_end vs said
+same_all_report lines moment xs ys js hs end anchors_end vs said a b =
+    let behind = lines ++ check_line said in
+    ap (λ l. l ++ (end_line end ++ (counts_line (certificates_of hs) (length hs) anchors_end ++ behind))) (same_verdict_lines moment xs js vs 0 a)
+    ∙ ap (λ n. verdict_lines 0 xs vs ++ (end_line end ++ (counts_line n (length hs) anchors_end ++ behind))) (same_certificates moment ys hs b)
+    ∙ ap (λ n. verdict_lines 0 xs vs ++ (end_line end ++ (counts_line (certificates_among ys) n anchors_end ++ behind))) b.count
 
 -- what the check of all says of an adequate inventory
 pub all_said_yes : (r : Rules) (items anchors : List (List ℕ)) (xs ys cs ds : List Item) (inventory : Inventory) (said : Bool) → AreClassed items xs → AreClassed anchors ys → AreClassed items cs → AreClassed anchors ds
@@ -93,6 +104,23 @@ all_said_yes r items anchors xs ys cs ds inventory said p q p' q' exact adequate
     exact.1 (subst (λ l. IsAdequateInventory (graph_of_items r l ds) inventory) a (subst (λ l. IsAdequateInventory (graph_of_items r xs l) inventory) b adequate))
 
 -- the report of an inventory, beside its evidence
-pub findings_of : (settings : AllSettings) (outcome : AllOutcome) (inventory : Inventory) (items anchors : Framed) (pairs : Vouchers) (text shown : List ℕ) → IsAllReportOf settings outcome inventory items anchors pairs text → shown ≡ evidence (told_by inventory)
-    → AreFindingsOn settings outcome shown items anchors pairs text
-findings_of settings outcome inventory items anchors pairs text shown report is = (report.0, is ∙ ap (λ i. evidence (told_by i)) (sym report.1))
+one_finding : (purpose : Option AskedPurpose) (lines : List ℕ) (settings : AllSettings) (outcome : AllOutcome) (inventory : Inventory) (items anchors : Framed) (text shown : List ℕ) (vouches : List ℕ → List ℕ → Type 0)
+    → IsAllReportBy lines settings outcome inventory items anchors text vouches → shown ≡ purpose_line purpose ++ evidence (told_by inventory)
+    → (report : IsAllReportWith lines (rules_by settings.policy.moment settings.policy.demand_lists vouches) items anchors text outcome) × (shown ≡ purpose_line purpose ++ evidence (told_by report.inventory))
+one_finding purpose lines settings outcome inventory items anchors text shown vouches r is = (r.0, is ∙ ap (λ i. purpose_line purpose ++ evidence (told_by i)) (sym r.1))
+
+pub findings_of : (settings : AllSettings) (demand : Demand) (outcome : AllOutcome) (inventory : Inventory) (items anchors : Framed) (pairs : Vouchers) (text shown : List ℕ) → IsAllReportOf settings demand outcome inventory items anchors pairs text
+    → shown ≡ purpose_line demand.purpose ++ evidence (told_by inventory) → AreFindingsFor settings demand outcome shown items anchors pairs text
+findings_of settings demand outcome inventory items anchors pairs text shown report is =
+    shown_by demand.purpose demand.host report
+    (λ (r : IsAllReportBy (demand_lines demand) settings outcome inventory items anchors text (VouchesBy pairs)).
+    one_finding demand.purpose (demand_lines demand) settings outcome inventory items anchors text shown (VouchesBy pairs) r is)
+    (λ (q : (permits : Permits) × PermitsOf (demanded demand (target_octets items.items (length items.items))) items.items (are_permitted permits)
+    × IsAllReportBy (demand_lines demand) settings outcome inventory items anchors text (VouchesWhere permits pairs)).
+    (q.0, q.1, one_finding demand.purpose (demand_lines demand) settings outcome inventory items anchors text shown (VouchesWhere q.0 pairs) q.2 is))
+
+-- the report of an inventory is a report
+pub report_alone : {E : Type 0} (settings : AllSettings) (demand : Demand) (items anchors : Framed) (pairs : Vouchers) (result : Result ReportedAll E)
+    → IfOk result (λ r. IsAllReportOf settings demand r.outcome r.inventory items anchors pairs (string_bytes r.text)) → IfOk result (λ r. IsAllReportFor settings demand r.outcome items anchors pairs (string_bytes r.text))
+report_alone settings demand items anchors pairs (Ok r) h = shown_by demand.purpose demand.host h (λ b. b.0) (λ q. (q.0, q.1, q.2.0))
+report_alone settings demand items anchors pairs (Err e) h = tt

@@ -1,2 +1,4 @@
 mod InventoryFacts
 mod ReportFacts
+mod Within
+mod Written

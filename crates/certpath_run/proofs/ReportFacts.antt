@@ -11,7 +11,7 @@ use Rattle.cert_model.specs.Class.{Class}
 use Rattle.cert_judge.specs.declared.judged.JudgedItem.TheVariants.{Certificate as certificate_judged, List as list_judged, Other as other_judged}
 use Rattle.cert_judge.specs.JudgedItems.{IsJudged, AreJudged}
 use Rattle.cert_judge.specs.Revoking.{Item}
-use Rattle.certpath_run.specs.Report.{class_word, item_lines, is_certificate, certificates_among, end_line, position_words, answer_line, report}
+use Rattle.certpath_run.specs.Report.{class_word, item_lines, is_certificate, certificates_among, end_line, position_words, answer_line, report_with}
 use Rattle.certpath_sources.specs.Check.{check_line}
 use Rattle.certpath_run.specs.JudgedReport.{judged_word, judged_line, judged_lines, one_certificate, certificates_of, counts_line, judged_report}
 
@@ -89,10 +89,10 @@ same_certificates moment (x ∷ xs) (j ∷ js) a =
     let both = judged_first moment x xs j js a in
     ap (λ n. n + certificates_of js) (same_count moment x j both.0) ∙ ap (λ n. certificate_number x.class + n) (same_certificates moment xs js both.1)
 
-pub same_report : (moment : CivilTime) (xs ys : List Item) (js hs : List JudgedItem) (end anchors_end : End) (answer : Answer) (said : Bool) → AreJudged moment xs js → AreJudged moment ys hs
-    → judged_report js end hs anchors_end answer said ≡ report xs end ys anchors_end answer said
-same_report moment xs ys js hs end anchors_end answer said a b =
-    let behind = answer_line answer ++ check_line said in
+pub same_report : (lines : List ℕ) (moment : CivilTime) (xs ys : List Item) (js hs : List JudgedItem) (end anchors_end : End) (answer : Answer) (said : Bool) → AreJudged moment xs js → AreJudged moment ys hs
+    → judged_report lines js end hs anchors_end answer said ≡ report_with lines xs end ys anchors_end answer said
+same_report lines moment xs ys js hs end anchors_end answer said a b =
+    let behind = lines ++ (answer_line answer ++ check_line said) in
     ap (λ l. l ++ (end_line end ++ (counts_line (certificates_of hs) (length hs) anchors_end ++ behind))) (same_lines moment xs js 0 a)
     ∙ ap (λ n. item_lines 0 xs ++ (end_line end ++ (counts_line n (length hs) anchors_end ++ behind))) (same_certificates moment ys hs b)
     ∙ ap (λ n. item_lines 0 xs ++ (end_line end ++ (counts_line (certificates_among ys) n anchors_end ++ behind))) b.count

@@ -1,5 +1,5 @@
 -- What the report on all items says. Each line ends in LF (10), and a space is 32. This page is to be believed.
-use Rattle.std.specs.Prelude.{◌≡◌, ℕ, ◌+◌, ◌||◌, Bool, true, false, if◌then◌else◌, List, [], ◌∷◌, ◌++◌, codes}
+use Rattle.std.specs.Prelude.{◌≡◌, ℕ, ◌+◌, ◌||◌, Bool, true, false, if◌then◌else◌, List, [], ◌∷◌, ◌++◌, length, codes}
 use Rattle.std.specs.Fmt.{decimal}
 use Rattle.cert_framing.specs.declared.ending.End.{End}
 use Rattle.cert_framing.specs.Held.{Framed}
@@ -14,6 +14,8 @@ use Rattle.cert_judge.specs.Revoking.{Item, Rules}
 use Rattle.cert_model.specs.Class.{Class}
 use Rattle.certcheck.specs.declared.vouchers.Vouchers.{Vouchers}
 use Rattle.certpath_evidence.specs.Evidence.{evidence, told_by}
+use Rattle.certpath_sources.specs.declared.demand.Demand.{Demand}
+use Rattle.certpath_sources.specs.Demands.{HoldsFor, demand_lines, purpose_line}
 use Rattle.certpath_sources.specs.declared.settings.AllSettings.{AllSettings}
 use Rattle.certpath_run.specs.declared.settings.AllOutcome.{AllOutcome}
 use Rattle.certpath_run.specs.declared.settings.AllOutcome.TheVariants.{Each, NotEach}
@@ -33,9 +35,14 @@ verdict_lines k [] verdicts = []
 verdict_lines k (item ∷ items) [] = []
 verdict_lines k (item ∷ items) (verdict ∷ verdicts) = (decimal k ++ (32 ∷ verdict_end item.class verdict)) ++ verdict_lines (k + 1) items verdicts
 
+-- with the lines of what is demanded before that of the check
+abbrev pub all_report_with : List ℕ → List Item → End → List Item → End → List Verdict → Bool → List ℕ
+all_report_with lines items end anchors anchors_end verdicts said =
+    verdict_lines 0 items verdicts ++ (end_line end ++ (anchors_line anchors anchors_end ++ (lines ++ check_line said)))
+
+-- and without a demand
 abbrev pub all_report : List Item → End → List Item → End → List Verdict → Bool → List ℕ
-all_report items end anchors anchors_end verdicts said =
-    verdict_lines 0 items verdicts ++ (end_line end ++ (anchors_line anchors anchors_end ++ check_line said))
+all_report = all_report_with []
 
 -- a certificate without a path is among them
 abbrev pub is_pathless : Verdict → Bool
@@ -51,7 +58,7 @@ abbrev pub outcome_of_all : List Verdict → AllOutcome
 outcome_of_all verdicts = if has_pathless verdicts then NotEach else Each
 
 -- the report of true verdicts that one table shows, by the classes of items and anchors, with what the check says of them: yes
-pub record IsAllReport (r : Rules) (items anchors : Framed) (text : List ℕ) (outcome : AllOutcome) : Type 0 where
+pub record IsAllReportWith (lines : List ℕ) (r : Rules) (items anchors : Framed) (text : List ℕ) (outcome : AllOutcome) : Type 0 where
   pub classed : List Item
   pub classed_anchors : List Item
   pub inventory : Inventory
@@ -59,17 +66,38 @@ pub record IsAllReport (r : Rules) (items anchors : Framed) (text : List ℕ) (o
   pub anchors_are_classed : AreClassed anchors.items classed_anchors
   pub adequate : IsAdequateInventory (graph_of_items r classed classed_anchors) inventory
   pub holds : IsTrueInventory (graph_of_items r classed classed_anchors) inventory
-  pub text_is : text ≡ all_report classed items.end classed_anchors anchors.end inventory.verdicts.items true
+  pub text_is : text ≡ all_report_with lines classed items.end classed_anchors anchors.end inventory.verdicts.items true
   pub outcome_is : outcome ≡ outcome_of_all inventory.verdicts.items
+
+-- without a demand
+abbrev pub IsAllReport : Rules → Framed → Framed → List ℕ → AllOutcome → Type 0
+IsAllReport = IsAllReportWith []
 
 -- the text is the report on all items by these settings, and the outcome is its own
 abbrev pub IsAllReportOn : AllSettings → AllOutcome → Framed → Framed → Vouchers → List ℕ → Type 0
 IsAllReportOn settings outcome items anchors pairs text = IsAllReport (rules_by settings.policy.moment settings.policy.demand_lists (VouchesBy pairs)) items anchors text outcome
 
--- and it is the report of this inventory
-abbrev pub IsAllReportOf : AllSettings → AllOutcome → Inventory → Framed → Framed → Vouchers → List ℕ → Type 0
-IsAllReportOf settings outcome inventory items anchors pairs text = (report : IsAllReportOn settings outcome items anchors pairs text) × (report.inventory ≡ inventory)
-
--- and this is the evidence of that inventory
+-- and this is the evidence of the inventory that it reports
 abbrev pub AreFindingsOn : AllSettings → AllOutcome → List ℕ → Framed → Framed → Vouchers → List ℕ → Type 0
 AreFindingsOn settings outcome shown items anchors pairs text = (report : IsAllReportOn settings outcome items anchors pairs text) × (shown ≡ evidence (told_by report.inventory))
+
+-- the report of an inventory, by the relation under which its paths are judged
+abbrev pub IsAllReportBy : List ℕ → AllSettings → AllOutcome → Inventory → Framed → Framed → List ℕ → (List ℕ → List ℕ → Type 0) → Type 0
+IsAllReportBy lines settings outcome inventory items anchors text vouches =
+    (report : IsAllReportWith lines (rules_by settings.policy.moment settings.policy.demand_lists vouches) items anchors text outcome) × (report.inventory ≡ inventory)
+
+-- the text is the report on all items where a purpose is demanded of their paths; the demand has no host, so no item is the target
+abbrev pub IsAllReportFor : AllSettings → Demand → AllOutcome → Framed → Framed → Vouchers → List ℕ → Type 0
+IsAllReportFor settings demand outcome items anchors pairs text =
+    HoldsFor demand items.items (length items.items) pairs (λ vouches. IsAllReportWith (demand_lines demand) (rules_by settings.policy.moment settings.policy.demand_lists vouches) items anchors text outcome)
+
+-- and it is the report of this inventory
+abbrev pub IsAllReportOf : AllSettings → Demand → AllOutcome → Inventory → Framed → Framed → Vouchers → List ℕ → Type 0
+IsAllReportOf settings demand outcome inventory items anchors pairs text =
+    HoldsFor demand items.items (length items.items) pairs (λ vouches. IsAllReportBy (demand_lines demand) settings outcome inventory items anchors text vouches)
+
+-- and this is the evidence of the inventory that it reports, for that purpose
+abbrev pub AreFindingsFor : AllSettings → Demand → AllOutcome → List ℕ → Framed → Framed → Vouchers → List ℕ → Type 0
+AreFindingsFor settings demand outcome shown items anchors pairs text =
+    HoldsFor demand items.items (length items.items) pairs (λ vouches. (report : IsAllReportWith (demand_lines demand) (rules_by settings.policy.moment settings.policy.demand_lists vouches) items anchors text outcome)
+    × (shown ≡ purpose_line demand.purpose ++ evidence (told_by report.inventory)))

@@ -36,9 +36,9 @@ abbrev pub counts_line : ℕ → ℕ → End → List ℕ
 counts_line certificates all end =
     codes "anchors " ++ (decimal certificates ++ (codes " of " ++ (decimal all ++ (codes ", " ++ (end_words end ++ 10 ∷ [])))))
 
-abbrev pub judged_report : List JudgedItem → End → List JudgedItem → End → Answer → Bool → List ℕ
-judged_report items end anchors anchors_end answer said =
-    judged_lines 0 items ++ (end_line end ++ (counts_line (certificates_of anchors) (length anchors) anchors_end ++ (answer_line answer ++ check_line said)))
+abbrev pub judged_report : List ℕ → List JudgedItem → End → List JudgedItem → End → Answer → Bool → List ℕ
+judged_report lines items end anchors anchors_end answer said =
+    judged_lines 0 items ++ (end_line end ++ (counts_line (certificates_of anchors) (length anchors) anchors_end ++ (lines ++ (answer_line answer ++ check_line said))))
 
 -- a line of a judged item and what is said of it as a target
 abbrev pub judged_verdict_line : ℕ → JudgedItem → Verdict → List ℕ
@@ -52,6 +52,6 @@ judged_verdict_lines k [] verdicts = []
 judged_verdict_lines k (item ∷ items) [] = []
 judged_verdict_lines k (item ∷ items) (verdict ∷ verdicts) = judged_verdict_line k item verdict ++ judged_verdict_lines (k + 1) items verdicts
 
-abbrev pub judged_all_report : List JudgedItem → End → List JudgedItem → End → List Verdict → Bool → List ℕ
-judged_all_report items end anchors anchors_end verdicts said =
-    judged_verdict_lines 0 items verdicts ++ (end_line end ++ (counts_line (certificates_of anchors) (length anchors) anchors_end ++ check_line said))
+abbrev pub judged_all_report : List ℕ → List JudgedItem → End → List JudgedItem → End → List Verdict → Bool → List ℕ
+judged_all_report lines items end anchors anchors_end verdicts said =
+    judged_verdict_lines 0 items verdicts ++ (end_line end ++ (counts_line (certificates_of anchors) (length anchors) anchors_end ++ (lines ++ check_line said)))

@@ -53,6 +53,11 @@ answer_line (Path positions anchor table) = codes "path" ++ (position_words posi
 answer_line (NoPath table) = codes "none\n"
 answer_line NoTarget = codes "no target\n"
 
+-- with the lines of what is demanded before the answer
+abbrev pub report_with : List ℕ → List Item → End → List Item → End → Answer → Bool → List ℕ
+report_with lines items end anchors anchors_end answer said =
+    item_lines 0 items ++ (end_line end ++ (anchors_line anchors anchors_end ++ (lines ++ (answer_line answer ++ check_line said))))
+
+-- and without a demand
 abbrev pub report : List Item → End → List Item → End → Answer → Bool → List ℕ
-report items end anchors anchors_end answer said =
-    item_lines 0 items ++ (end_line end ++ (anchors_line anchors anchors_end ++ (answer_line answer ++ check_line said)))
+report = report_with []

@@ -1,5 +1,5 @@
 -- What a run does to its readers and its writer. Where a device tells no octets, the relations say of some stream.
-use Rattle.std.specs.Prelude.{◌≡◌, ℕ, true, List, ◌++◌, Option}
+use Rattle.std.specs.Prelude.{◌≡◌, ℕ, true, List, [], ◌++◌, Option}
 use Rattle.std.specs.Io.KnownBytes.{Appends}
 use Rattle.asn1_device.specs.Counts.{AppendsFront}
 use Rattle.cert_framing.specs.Held.{Framed}
@@ -12,10 +12,12 @@ use Rattle.cert_judge.specs.Items.{rules_by}
 use Rattle.cert_judge.specs.Revoking.{Item, Rules}
 use Rattle.certcheck.specs.declared.vouchers.Vouchers.{Vouchers}
 use Rattle.certpath_sources.specs.Inputs.{VouchesBy, HasText}
+use Rattle.certpath_sources.specs.Demands.{HoldsFor, demand_lines}
+use Rattle.certpath_sources.specs.declared.demand.Demand.{Demand}
 use Rattle.certpath_run.specs.declared.settings.Settings.{Settings}
 use Rattle.certpath_run.specs.declared.settings.Outcome.{Outcome}
 use Rattle.certpath_run.specs.declared.settings.Outcome.TheVariants.{Path, NoPath, NoTarget}
-use Rattle.certpath_run.specs.Report.{report, answer_line}
+use Rattle.certpath_run.specs.Report.{report_with, answer_line}
 use Rattle.certpath_sources.specs.Check.{check_line}
 use Rattle.certpath_why.specs.Why.{IsWhy}
 
@@ -25,15 +27,19 @@ kind_of (answers.NoPath table) = NoPath
 kind_of answers.NoTarget = NoTarget
 
 -- the report of the true answer, by the classes of items and anchors, with what the check says of it: yes; and the answer's kind
-pub record IsReport (r : Rules) (items anchors : Framed) (target : ℕ) (text : List ℕ) (outcome : Outcome) : Type 0 where
+pub record IsReportWith (lines : List ℕ) (r : Rules) (items anchors : Framed) (target : ℕ) (text : List ℕ) (outcome : Outcome) : Type 0 where
   pub classed : List Item
   pub classed_anchors : List Item
   pub answer : Answer
   pub are_classed : AreClassed items.items classed
   pub anchors_are_classed : AreClassed anchors.items classed_anchors
   pub holds : IsTrueAnswer (graph_of_items r classed classed_anchors) target answer
-  pub text_is : text ≡ report classed items.end classed_anchors anchors.end answer true
+  pub text_is : text ≡ report_with lines classed items.end classed_anchors anchors.end answer true
   pub outcome_is : outcome ≡ kind_of answer
+
+-- without a demand
+abbrev pub IsReport : Rules → Framed → Framed → ℕ → List ℕ → Outcome → Type 0
+IsReport = IsReportWith []
 
 -- the true answer, what the check says of it: yes; and what stands in the way of a path
 pub record IsWhyReport (r : Rules) (items anchors : Framed) (target : ℕ) (text : List ℕ) (outcome : Outcome) : Type 0 where
@@ -63,6 +69,11 @@ pub record WritesInPart (IsRight : Framed → Framed → Vouchers → List ℕ �
 -- the text is the report on the target of these settings, and the answer is of this kind
 abbrev pub IsReportOn : Settings → Outcome → Framed → Framed → Vouchers → List ℕ → Type 0
 IsReportOn settings outcome items anchors pairs text = IsReport (rules_by settings.policy.moment settings.policy.demand_lists (VouchesBy pairs)) items anchors settings.target text outcome
+
+-- and where a purpose and a host are demanded of its path
+abbrev pub IsReportFor : Settings → Demand → Outcome → Framed → Framed → Vouchers → List ℕ → Type 0
+IsReportFor settings demand outcome items anchors pairs text =
+    HoldsFor demand items.items settings.target pairs (λ vouches. IsReportWith (demand_lines demand) (rules_by settings.policy.moment settings.policy.demand_lists vouches) items anchors settings.target text outcome)
 
 abbrev pub IsWhyOn : Settings → Outcome → Framed → Framed → Vouchers → List ℕ → Type 0
 IsWhyOn settings outcome items anchors pairs text = IsWhyReport (rules_by settings.policy.moment settings.policy.demand_lists (VouchesBy pairs)) items anchors settings.target text outcome

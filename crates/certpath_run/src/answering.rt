@@ -9,13 +9,12 @@ ghost use Rattle.cert_judge.specs.JudgedItems.{AreJudged};
 ghost use Rattle.cert_judge.specs.Revoking.{Item};
 ghost use Rattle.cert_model.specs.View.{time_view};
 ghost use Rattle.certpath_run.specs.Runs.{kind_of};
-ghost use Rattle.certpath_sources.specs.Inputs.{VouchesBy};
 
 use crate::settings::{Outcome, Settings};
 use asn1_core::OutOfMemory;
 use cert_graph::Answer;
-use cert_judge::JudgedItem;
-use certcheck::{RememberedVouchers, check};
+use cert_judge::{JudgedItem, Vouch};
+use certcheck::check;
 use certpath_find::find_judged;
 use certpath_sources::Inputs;
 use std::alloc::Global;
@@ -41,17 +40,17 @@ impl Answered {
 }
 
 /// Finds the answer over the judged items, and checks it over the items themselves.
-pub(crate) fn answer_on<'a>(
+pub(crate) fn answer_on<'a, V: Vouch>(
     alloc: Global,
     inputs: &'a Inputs,
     items: &[JudgedItem<'a>],
     anchors: &[JudgedItem<'a>],
-    vouch: &RememberedVouchers<'a>,
+    vouch: &V,
     settings: &Settings,
 ) -> Result<Answered, OutOfMemory>
     ensures { (xs ys : List Item) → AreClassed inputs.now.items.items xs → AreClassed inputs.now.anchors.items ys
         → AreJudged (time_view settings.now.policy.moment) xs items.now → AreJudged (time_view settings.now.policy.moment) ys anchors.now
-        → IfOk result (λ a. (a.said ≡ true) × IsTrueAnswer (graph_of_items (rules_by settings.now.policy.moment settings.now.policy.demand_lists (VouchesBy vouch.now.vouchers.now)) xs ys) settings.now.target a.answer) }
+        → IfOk result (λ a. (a.said ≡ true) × IsTrueAnswer (graph_of_items (rules_by settings.now.policy.moment settings.now.policy.demand_lists (V.vouches_for vouch.now)) xs ys) settings.now.target a.answer) }
 {
     let policy = settings.policy;
     let target = settings.target;

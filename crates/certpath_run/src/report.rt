@@ -3,12 +3,13 @@
 ghost use Rattle.std.specs.Prelude.{◌≡◌, ◌≤◌, ℕ, [], ◌∷◌, ◌++◌, codes, length, string_bytes, OnOk, IfOk};
 ghost use Rattle.std.specs.Fmt.{decimal};
 ghost use Rattle.certpath_run.specs.Report.{end_line, position_words, answer_line};
+ghost use Rattle.certpath_sources.specs.Demands.{demand_lines};
 ghost use Rattle.certpath_run.specs.JudgedReport.{judged_line, judged_lines, one_certificate, certificates_of, counts_line, judged_report};
 
 use cert_framing::End;
 use cert_graph::Answer;
 use cert_judge::JudgedItem;
-use certpath_sources::push_check;
+use certpath_sources::{Demand, push_check, push_demand};
 use std::alloc::{AllocError, Global};
 
 /// The line of item `k`.
@@ -129,16 +130,18 @@ pub(crate) fn report_of(
     end: End,
     anchors: &[JudgedItem<'_>],
     anchors_end: End,
+    demand: &Demand<'_>,
     answer: &Answer,
     said: bool,
 ) -> Result<String, AllocError>
-    ensures { IfOk result (λ text. string_bytes text ≡ judged_report items.now end anchors.now anchors_end answer.now said) }
+    ensures { IfOk result (λ text. string_bytes text ≡ judged_report (demand_lines demand.now) items.now end anchors.now anchors_end answer.now said) }
 {
     let mut text = String::new(alloc);
     push_items(&mut text, items)?;
     push_end(&mut text, end)?;
     let certificates = count_certificates(anchors);
     push_anchors(&mut text, certificates, anchors.len(), anchors_end)?;
+    push_demand(&mut text, demand)?;
     push_answer(&mut text, answer)?;
     push_check(&mut text, said)?;
     Ok(text)

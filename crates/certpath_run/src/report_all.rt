@@ -2,6 +2,7 @@
 
 ghost use Rattle.std.specs.Prelude.{◌≡◌, ◌++◌, length, string_bytes, OnOk, IfOk};
 ghost use Rattle.certpath_run.specs.AllReport.{is_pathless, outcome_of_all};
+ghost use Rattle.certpath_sources.specs.Demands.{demand_lines};
 ghost use Rattle.certpath_run.specs.JudgedReport.{judged_verdict_line, judged_verdict_lines, judged_all_report};
 
 use crate::report::{count_certificates, push_anchors, push_end, push_item, push_path};
@@ -9,7 +10,7 @@ use crate::settings::AllOutcome;
 use cert_framing::End;
 use cert_graph::Verdict;
 use cert_judge::JudgedItem;
-use certpath_sources::push_check;
+use certpath_sources::{Demand, push_check, push_demand};
 use std::alloc::{AllocError, Global};
 
 /// The line of item `k`.
@@ -55,17 +56,19 @@ pub(crate) fn report_of_all(
     end: End,
     anchors: &[JudgedItem<'_>],
     anchors_end: End,
+    demand: &Demand<'_>,
     verdicts: &[Verdict],
     said: bool,
 ) -> Result<String, AllocError>
     requires { length verdicts.now ≡ length items.now }
-    ensures { IfOk result (λ text. string_bytes text ≡ judged_all_report items.now end anchors.now anchors_end verdicts.now said) }
+    ensures { IfOk result (λ text. string_bytes text ≡ judged_all_report (demand_lines demand.now) items.now end anchors.now anchors_end verdicts.now said) }
 {
     let mut text = String::new(alloc);
     push_verdicts(&mut text, items, verdicts)?;
     push_end(&mut text, end)?;
     let certificates = count_certificates(anchors);
     push_anchors(&mut text, certificates, anchors.len(), anchors_end)?;
+    push_demand(&mut text, demand)?;
     push_check(&mut text, said)?;
     Ok(text)
 }

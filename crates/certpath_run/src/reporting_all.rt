@@ -1,16 +1,25 @@
 //! What is reported of all items of inputs that were read.
 
-ghost use Rattle.std.specs.Prelude.{IfOk, string_bytes};
-ghost use Rattle.certpath_run.specs.AllReport.{IsAllReportOn, IsAllReportOf};
+ghost use Rattle.std.specs.Prelude.{length, IfOk, string_bytes};
+ghost use Rattle.cert_model.specs.View.{time_view};
+ghost use Rattle.cert_serving.specs.Demanding.{PermitsOf};
+ghost use Rattle.cert_serving.specs.Refusing.{are_permitted};
+ghost use Rattle.cert_serving.specs.declared.permits.Permits.{Permits};
+ghost use Rattle.certpath_sources.specs.Demands.{VouchesWhere, demanded, demand_lines, target_octets};
+ghost use Rattle.certpath_run.specs.Judging.{AreJudgedOf};
+ghost use Rattle.certpath_run.specs.AllReport.{IsAllReportBy, IsAllReportFor, IsAllReportOf};
 
+use crate::judging::judged_by;
 use crate::remembering::remembered_for;
 use crate::report_all::{outcome_of_all, report_of_all};
 use crate::settings::AllOutcome;
 use asn1_core::OutOfMemory;
 use cert_graph::Inventory;
-use certcheck::check_all;
-use certpath_find::{find_all_judged, judged_items};
-use certpath_sources::{AllSettings, Inputs};
+use cert_judge::{JudgedItem, Vouch};
+use cert_purpose::Restricted;
+use certcheck::{RememberedVouchers, check_all};
+use certpath_find::find_all_judged;
+use certpath_sources::{AllSettings, Demand, Inputs, permits_of};
 use std::alloc::Global;
 
 /// A report on all items, whether each certificate has a path, and the inventory that it reports.
@@ -21,35 +30,37 @@ pub(crate) struct ReportedAll {
     pub(crate) inventory: Inventory,
 }
 
-/// Finds the paths of all items, checks them, and builds the report.
-pub(crate) fn report_on_all(
+/// Finds the paths of all items by what vouches, checks them, and builds the report.
+fn report_all_by<'a, V: Vouch>(
     alloc: Global,
-    inputs: &Inputs,
+    inputs: &'a Inputs,
+    items: &[JudgedItem<'a>],
+    anchors: &[JudgedItem<'a>],
+    vouch: &V,
     settings: &AllSettings,
+    demand: &Demand<'_>,
 ) -> Result<ReportedAll, OutOfMemory>
-    ensures report { IfOk result (λ r. IsAllReportOn settings.now r.outcome inputs.now.items inputs.now.anchors inputs.now.vouchers (string_bytes r.text)) }
-    ensures inventory { IfOk result (λ r. IsAllReportOf settings.now r.outcome r.inventory inputs.now.items inputs.now.anchors inputs.now.vouchers (string_bytes r.text)) }
+    requires items { AreJudgedOf (time_view settings.now.policy.moment) inputs.now.items.items items.now }
+    requires anchors { AreJudgedOf (time_view settings.now.policy.moment) inputs.now.anchors.items anchors.now }
+    ensures { IfOk result (λ r. IsAllReportBy (demand_lines demand.now) settings.now r.outcome r.inventory inputs.now.items inputs.now.anchors (string_bytes r.text) (V.vouches_for vouch.now)) }
 {
     let policy = settings.policy;
-    let moment = policy.moment();
-    let items = judged_items(alloc, &inputs.items, &moment)?;
-    let anchors = judged_items(alloc, &inputs.anchors, &moment)?;
-    let remembered = remembered_for(alloc, &inputs.vouchers, &items, &anchors);
-    let inventory = find_all_judged(alloc, &items, &anchors, &remembered, policy.demands_lists())?;
+    let inventory = find_all_judged(alloc, items, anchors, vouch, policy.demands_lists())?;
     let said = check_all(
         alloc,
         &inputs.items,
         &inputs.anchors,
-        &remembered,
+        vouch,
         &policy,
         &inventory,
     )?;
     let text = report_of_all(
         alloc,
-        &items,
+        items,
         inputs.items.end(),
-        &anchors,
+        anchors,
         inputs.anchors.end(),
+        demand,
         &inventory.verdicts,
         said,
     )?;
@@ -59,4 +70,59 @@ pub(crate) fn report_on_all(
         outcome,
         inventory,
     })
+}
+
+/// The same for the items that meet a demand alone. No item is the target.
+fn report_all_within<'a>(
+    alloc: Global,
+    inputs: &'a Inputs,
+    items: &[JudgedItem<'a>],
+    anchors: &[JudgedItem<'a>],
+    vouch: &RememberedVouchers<'a>,
+    settings: &AllSettings,
+    demand: &Demand<'_>,
+) -> Result<ReportedAll, OutOfMemory>
+    requires items { AreJudgedOf (time_view settings.now.policy.moment) inputs.now.items.items items.now }
+    requires anchors { AreJudgedOf (time_view settings.now.policy.moment) inputs.now.anchors.items anchors.now }
+    ensures { IfOk result (λ r. (permits : Permits) × PermitsOf (demanded demand.now (target_octets inputs.now.items.items (length inputs.now.items.items))) inputs.now.items.items (are_permitted permits)
+        × IsAllReportBy (demand_lines demand.now) settings.now r.outcome r.inventory inputs.now.items inputs.now.anchors (string_bytes r.text) (VouchesWhere permits vouch.now.vouchers.now)) }
+{
+    let permits = permits_of(alloc, &inputs.items, inputs.items.len(), demand)?;
+    let restricted = Restricted::new(vouch, &permits);
+    report_all_by(alloc, inputs, items, anchors, &restricted, settings, demand)
+}
+
+/// Finds the paths of all items where a purpose may be demanded, checks them, and builds the report.
+pub(crate) fn report_on_all(
+    alloc: Global,
+    inputs: &Inputs,
+    settings: &AllSettings,
+    demand: &Demand<'_>,
+) -> Result<ReportedAll, OutOfMemory>
+    ensures report { IfOk result (λ r. IsAllReportFor settings.now demand.now r.outcome inputs.now.items inputs.now.anchors inputs.now.vouchers (string_bytes r.text)) }
+    ensures inventory { IfOk result (λ r. IsAllReportOf settings.now demand.now r.outcome r.inventory inputs.now.items inputs.now.anchors inputs.now.vouchers (string_bytes r.text)) }
+{
+    let items = judged_by(alloc, &inputs.items, &settings.policy)?;
+    let anchors = judged_by(alloc, &inputs.anchors, &settings.policy)?;
+    let remembered = remembered_for(alloc, &inputs.vouchers, &items, &anchors);
+    if demand.is_none() {
+        return report_all_by(
+            alloc,
+            inputs,
+            &items,
+            &anchors,
+            &remembered,
+            settings,
+            demand,
+        );
+    }
+    report_all_within(
+        alloc,
+        inputs,
+        &items,
+        &anchors,
+        &remembered,
+        settings,
+        demand,
+    )
 }

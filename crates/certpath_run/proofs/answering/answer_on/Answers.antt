@@ -4,12 +4,11 @@ use Rattle.cert_judge.specs.Items.{rules_by, rules_at}
 use Rattle.cert_judge.specs.ItemGraph.{graph_of_items}
 use Rattle.certpath_find.specs.Answered.{IsFound}
 use Rattle.certpath_find.proofs.Answering.{check_says_yes}
-use Rattle.certpath_sources.specs.Inputs.{VouchesBy}
 use Rattle.certpath_run.proofs.answering.answer_on.Goals as goal
 
 pub returns : goal.returns
-returns c = λ xs ys xs_are ys_are judged anchors_judged.
-    let V = VouchesBy c.args.vouch.now.vouchers.now in
+returns g c = λ xs ys xs_are ys_are judged anchors_judged.
+    let V = g.V.Vouch.vouches_for c.args.vouch.now in
     let policy = c.args.settings.now.policy in
     let target = c.args.settings.now.target in
     let m = time_view policy.moment in
