@@ -10,6 +10,7 @@ use Rattle.cert_graph.specs.declared.inventory.Verdict.{Verdict}
 use Rattle.cert_graph.specs.declared.inventory.Verdict.TheVariants.{FirstPath, Pathless, NoCertificate}
 use Rattle.cert_graph.specs.Inventory.{IsAdequateInventory}
 use Rattle.cert_model.specs.Fields.{CivilTime}
+use Rattle.cert_judge.specs.Vouching.{Vouching}
 use Rattle.cert_judge.specs.Classed.{AreClassed}
 use Rattle.cert_judge.specs.ItemGraph.{graph_of_items}
 use Rattle.cert_judge.specs.JudgedItems.{AreJudged}
@@ -102,7 +103,7 @@ all_said_yes r items anchors xs ys cs ds inventory said p q p' q' exact adequate
     exact.1 (subst (λ l. IsAdequateInventory (graph_of_items r l ds) inventory) a (subst (λ l. IsAdequateInventory (graph_of_items r xs l) inventory) b adequate))
 
 -- the report of an inventory, beside its evidence
-one_finding : (purpose : Option AskedPurpose) (lines : List ℕ) (settings : AllSettings) (outcome : AllOutcome) (inventory : Inventory) (items anchors : Framed) (text shown : List ℕ) (vouches : List ℕ → List ℕ → Type 0)
+one_finding : (purpose : Option AskedPurpose) (lines : List ℕ) (settings : AllSettings) (outcome : AllOutcome) (inventory : Inventory) (items anchors : Framed) (text shown : List ℕ) (vouches : Vouching)
     → IsAllReportBy lines settings outcome inventory items anchors text vouches → shown ≡ purpose_line purpose ++ evidence (told_by inventory)
     → (report : IsAllReportWith lines (rules_by settings.policy.moment settings.policy.demand_lists vouches) items anchors text outcome) × (shown ≡ purpose_line purpose ++ evidence (told_by report.inventory))
 one_finding purpose lines settings outcome inventory items anchors text shown vouches r is = (r.0, is ∙ ap (λ i. purpose_line purpose ++ evidence (told_by i)) (sym r.1))
@@ -112,10 +113,10 @@ pub findings_of : (settings : AllSettings) (demand : Demand) (outcome : AllOutco
 findings_of settings demand outcome inventory items anchors pairs text shown report is =
     shown_by demand.purpose demand.host report
     (λ (r : IsAllReportBy (demand_lines demand) settings outcome inventory items anchors text (VouchesBy pairs)).
-        one_finding demand.purpose (demand_lines demand) settings outcome inventory items anchors text shown (VouchesBy pairs) r is)
+    one_finding demand.purpose (demand_lines demand) settings outcome inventory items anchors text shown (VouchesBy pairs) r is)
     (λ (q : (permits : Permits) × ArePermitsOf (demanded demand (target_octets items.items (length items.items))) items.items permits
     × IsAllReportBy (demand_lines demand) settings outcome inventory items anchors text (VouchesWhere permits pairs)).
-        (q.0, q.1, one_finding demand.purpose (demand_lines demand) settings outcome inventory items anchors text shown (VouchesWhere q.0 pairs) q.2 is))
+    (q.0, q.1, one_finding demand.purpose (demand_lines demand) settings outcome inventory items anchors text shown (VouchesWhere q.0 pairs) q.2 is))
 
 -- the report of an inventory is a report
 pub report_alone : {E : Type 0} (settings : AllSettings) (demand : Demand) (items anchors : Framed) (pairs : Vouchers) (result : Result ReportedAll E)

@@ -13,7 +13,9 @@ use asn1_core::OutOfMemory;
 use asn1_device::Source;
 use cert_graph::Inventory;
 use certpath_evidence::write_evidence;
-use certpath_sources::{AllSettings, AskedPurpose, Demand, Inputs, RunError, push_purpose, read_inputs};
+use certpath_sources::{
+    AllSettings, AskedPurpose, Demand, Inputs, RunError, push_purpose, read_inputs,
+};
 use std::alloc::{AllocError, Global};
 
 /// What was found of all items.

@@ -73,7 +73,7 @@ fn report_within<'a>(
     requires items { AreJudgedOf (time_view settings.now.policy.moment) inputs.now.items.items items.now }
     requires anchors { AreJudgedOf (time_view settings.now.policy.moment) inputs.now.anchors.items anchors.now }
     ensures { IfOk result (λ r. (permits : Permits) × ArePermitsOf (demanded demand.now (target_octets inputs.now.items.items settings.now.target)) inputs.now.items.items permits
-            × IsReportWith (demand_lines demand.now) (rules_by settings.now.policy.moment settings.now.policy.demand_lists (VouchesWhere permits vouch.now.vouchers.now)) inputs.now.items inputs.now.anchors settings.now.target (string_bytes r.text) r.outcome) }
+        × IsReportWith (demand_lines demand.now) (rules_by settings.now.policy.moment settings.now.policy.demand_lists (VouchesWhere permits vouch.now.vouchers.now)) inputs.now.items inputs.now.anchors settings.now.target (string_bytes r.text) r.outcome) }
 {
     let permits = permits_of(alloc, &inputs.items, settings.target, demand)?;
     let restricted = Restricted::new(vouch, &permits);
@@ -93,9 +93,25 @@ pub(crate) fn report_on(
     let anchors = judged_by(alloc, &inputs.anchors, &settings.policy)?;
     let remembered = remembered_for(alloc, &inputs.vouchers, &items, &anchors);
     if demand.is_none() {
-        return report_by(alloc, inputs, &items, &anchors, &remembered, settings, demand);
+        return report_by(
+            alloc,
+            inputs,
+            &items,
+            &anchors,
+            &remembered,
+            settings,
+            demand,
+        );
     }
-    report_within(alloc, inputs, &items, &anchors, &remembered, settings, demand)
+    report_within(
+        alloc,
+        inputs,
+        &items,
+        &anchors,
+        &remembered,
+        settings,
+        demand,
+    )
 }
 
 /// The lines of the answer and of what the check says.

@@ -83,7 +83,7 @@ fn report_all_within<'a>(
     requires items { AreJudgedOf (time_view settings.now.policy.moment) inputs.now.items.items items.now }
     requires anchors { AreJudgedOf (time_view settings.now.policy.moment) inputs.now.anchors.items anchors.now }
     ensures { IfOk result (λ r. (permits : Permits) × ArePermitsOf (demanded demand.now (target_octets inputs.now.items.items (length inputs.now.items.items))) inputs.now.items.items permits
-            × IsAllReportBy (demand_lines demand.now) settings.now r.outcome r.inventory inputs.now.items inputs.now.anchors (string_bytes r.text) (VouchesWhere permits vouch.now.vouchers.now)) }
+        × IsAllReportBy (demand_lines demand.now) settings.now r.outcome r.inventory inputs.now.items inputs.now.anchors (string_bytes r.text) (VouchesWhere permits vouch.now.vouchers.now)) }
 {
     let permits = permits_of(alloc, &inputs.items, inputs.items.len(), demand)?;
     let restricted = Restricted::new(vouch, &permits);
@@ -104,7 +104,23 @@ pub(crate) fn report_on_all(
     let anchors = judged_by(alloc, &inputs.anchors, &settings.policy)?;
     let remembered = remembered_for(alloc, &inputs.vouchers, &items, &anchors);
     if demand.is_none() {
-        return report_all_by(alloc, inputs, &items, &anchors, &remembered, settings, demand);
+        return report_all_by(
+            alloc,
+            inputs,
+            &items,
+            &anchors,
+            &remembered,
+            settings,
+            demand,
+        );
     }
-    report_all_within(alloc, inputs, &items, &anchors, &remembered, settings, demand)
+    report_all_within(
+        alloc,
+        inputs,
+        &items,
+        &anchors,
+        &remembered,
+        settings,
+        demand,
+    )
 }

@@ -32,8 +32,7 @@ returns g c =
     let vs = inventory.verdicts.items in
     let written : string_bytes c.in_ok-text.text ≡ all_report_with lines xs c.end.result ys c.end-2.result vs c.in_ok-said.said =
     c.in_ok-text.ensures ∙ ap (λ l. judged_all_report lines js c.end.result hs c.end-2.result l c.in_ok-said.said) c.deref.ensures.value
-    ∙ same_all_report lines m xs ys js hs c.end.result c.end-2.result vs c.in_ok-said.said judged anchors_judged in
-    (
+    ∙ same_all_report lines m xs ys js hs c.end.result c.end-2.result vs c.in_ok-said.said judged anchors_judged in (
       record {
         classed = xs;
         classed_anchors = ys;

@@ -13,5 +13,9 @@ returns c =
     let permits = c.in_ok-permits.permits in
     let permitted : ArePermitsOf (demanded demand (target_octets items (length items))) items permits =
     subst (λ n. ArePermitsOf (demanded demand (target_octets items n)) items permits) c.len.ensures.len c.in_ok-permits.ensures in
-    of_ok _ _ (λ r h. (permits, permitted, by_equal (λ V. IsAllReportBy (demand_lines demand) c.args.settings.now r.outcome r.inventory inputs.items inputs.anchors (string_bytes r.text) V)
-    _ _ _ _ c.new-restricted.ensures.vouch c.new-restricted.ensures.permit h)) c.report_all_by.result c.report_all_by.ensures
+    of_ok _ _ (λ r h. (
+      permits,
+      permitted,
+      by_equal (λ V. IsAllReportBy (demand_lines demand) c.args.settings.now r.outcome r.inventory inputs.items inputs.anchors (string_bytes r.text) V)
+          _ _ _ _ c.new-restricted.ensures.vouch c.new-restricted.ensures.permit h,
+    )) c.report_all_by.result c.report_all_by.ensures

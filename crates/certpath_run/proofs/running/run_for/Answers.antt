@@ -10,5 +10,5 @@ returns-in_err-write_text-clause-part g c =
     λ e. (
       reported.outcome,
       written_in_part (IsReportFor c.args.settings.now c.args.demand.now reported.outcome) _ _ _ _ _ _ _ _ _ inputs.items inputs.anchors inputs.vouchers (string_bytes reported.text) _ c.in_ok-inputs.ensures.ok c.in-Ok.ensures
-      c.as_bytes.ensures.value c.in_err-write_text.ensures.part,
+          c.as_bytes.ensures.value c.in_err-write_text.ensures.part,
     )

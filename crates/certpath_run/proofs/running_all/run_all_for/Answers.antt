@@ -20,5 +20,5 @@ returns-in_err-write_text-clause-part g c =
     λ e. (
       reported.outcome,
       written_in_part (IsAllReportFor c.args.settings.now (of_purpose c.args.purpose) reported.outcome) _ _ _ _ _ _ _ _ _ inputs.items inputs.anchors inputs.vouchers text _ c.in_ok-inputs.ensures.ok
-      (subst (λ d. IsAllReportFor c.args.settings.now d reported.outcome inputs.items inputs.anchors inputs.vouchers text) c.for_purpose-demand.ensures c.in-Ok.ensures.report) c.as_bytes.ensures.value c.in_err-write_text.ensures.part,
+          (subst (λ d. IsAllReportFor c.args.settings.now d reported.outcome inputs.items inputs.anchors inputs.vouchers text) c.for_purpose-demand.ensures c.in-Ok.ensures.report) c.as_bytes.ensures.value c.in_err-write_text.ensures.part,
     )
