@@ -174,7 +174,12 @@ class Judge:
 
 def is_slow(item: Item) -> bool:
     """Whether OpenSSL isn't shown an item, since it would take long to read its key."""
-    return isinstance(item, Certificate) and algorithms.is_on_unnamed_curve(item.public_key_bytes)
+    if not isinstance(item, Certificate):
+        return False
+    # (a field of an item of many parts takes long, and most items have no such octets)
+    octets = item.public_bytes()
+    return (any(it in octets for it in algorithms.ON_CURVES)
+            and algorithms.is_on_unnamed_curve(item.public_key_bytes))
 
 
 def verdicts_on(asked: List[Question], judged: Judged) -> Iterator[Verdict]:
