@@ -48,7 +48,10 @@ def run(words):
         if signal.getsignal(it) != signal.SIG_IGN:
             signal.signal(it, end)
     read, written = os.pipe()
+    # (none comes before it is known which process to end)
+    signal.pthread_sigmask(signal.SIG_BLOCK, SIGNALS)
     child = os.fork()
+    signal.pthread_sigmask(signal.SIG_UNBLOCK, SIGNALS)
     if not child:
         os.dup2(written, sys.stderr.fileno())
         programs.become(programs.CERTPATH, program, [*words[:at], front + begun, *words[at + 1:]])
