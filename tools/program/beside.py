@@ -36,34 +36,36 @@ def run(words):
     file = words[at][len(front):]
     if not is_replaced(file):
         programs.become(programs.CERTPATH, program, words)
-    begun, child = f"{file}.{os.getpid()}.begun", 0
-
-    def end(number, _):
-        if child:
-            os.kill(child, signal.SIGKILL)
-        remove(begun)
-        os._exit(SIGNALLED + number)
-
-    for it in SIGNALS:
-        if signal.getsignal(it) != signal.SIG_IGN:
-            signal.signal(it, end)
+    begun = f"{file}.{os.getpid()}.begun"
+    signal.signal(signal.SIGCHLD, signal.SIG_DFL)
+    watched = {signal.SIGCHLD, *(it for it in SIGNALS if signal.getsignal(it) != signal.SIG_IGN)}
     read, written = os.pipe()
-    # (none comes before it is known which process to end)
-    signal.pthread_sigmask(signal.SIG_BLOCK, SIGNALS)
+    # (signals are waited for, so that none is missed, however early it comes)
+    signal.pthread_sigmask(signal.SIG_BLOCK, watched)
     child = os.fork()
-    signal.pthread_sigmask(signal.SIG_UNBLOCK, SIGNALS)
     if not child:
+        signal.pthread_sigmask(signal.SIG_UNBLOCK, watched)
         os.dup2(written, sys.stderr.fileno())
         programs.become(programs.CERTPATH, program, [*words[:at], front + begun, *words[at + 1:]])
+    status = ended(child, watched)
     os.close(written)
     with open(read, encoding="utf-8", errors="surrogateescape") as errors:
-        said = errors.read().replace(begun, file)
-    status = os.waitpid(child, 0)[1]
-    streams.write_lines(said.splitlines())
-    if os.WIFSIGNALED(status):
-        remove(begun)
-        return SIGNALLED + os.WTERMSIG(status)
-    return kept(begun, file, os.WEXITSTATUS(status))
+        streams.write_lines(errors.read().replace(begun, file).splitlines())
+    return kept(begun, file, status)
+
+
+def ended(child, watched):
+    """Waits for the program's end, or ends it by a signal that comes; gives the status."""
+    while True:
+        number = signal.sigwait(watched)
+        if number != signal.SIGCHLD:
+            os.kill(child, signal.SIGKILL)
+            os.waitpid(child, 0)
+            return SIGNALLED + number
+        process, status = os.waitpid(child, os.WNOHANG)
+        if process:
+            status = os.waitstatus_to_exitcode(status)
+            return SIGNALLED - status if status < 0 else status
 
 
 def kept(begun, file, status):
