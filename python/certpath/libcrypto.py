@@ -9,6 +9,7 @@ from ctypes import POINTER, c_char_p, c_int, c_long, c_size_t, c_ulong, c_void_p
 from typing import NamedTuple
 
 from .algorithms import DIGESTS, LARGE, MOST_DSA, PSS, PSS_DIGESTS, why_refused
+from .library import OutOfMemory
 
 CERTIFICATE, LIST = "certificate", "list"
 POINTED = POINTER(c_void_p)
@@ -71,6 +72,8 @@ MOST_KEYS = 1024
 UNREAD, LONG_EXPONENT = "openssl cannot read its key", f"its key has an exponent of more than {MOST_EXPONENT_BITS} bits"
 # What OpenSSL notes if it has nothing to say but that a signature is wrong.
 WRONG, NO_REASONS = "wrong signature", ("EVP lib",)
+# What it notes if it gets no memory (ERR_R_MALLOC_FAILURE).
+NO_MEMORY = "malloc failure"
 
 
 class AnyType(ctypes.Structure):
@@ -138,10 +141,13 @@ class Verifier:
             self.drop_oldest()
 
     def read(self, function, octets):
-        """What a d2i function makes of the octets, if it takes all of them."""
+        """What a d2i function makes of the octets, if it takes all of them; OutOfMemory if that is why
+        it makes nothing, so that nothing is taken for unreadable that could be read."""
         held = ctypes.create_string_buffer(octets, len(octets))
         at = c_void_p(ctypes.addressof(held))
         made = getattr(self.library, function)(None, ctypes.byref(at), len(octets))
+        if made is None:
+            self.reason()
         return made, made is not None and at.value == ctypes.addressof(held) + len(octets)
 
     def key(self, octets):
@@ -204,10 +210,12 @@ class Verifier:
         return f"{self.library.EVP_PKEY_get_bits(handle)}-bit {self.type_name(handle)} key"
 
     def reason(self):
-        """The first reason that OpenSSL has noted, and forgets then."""
+        """The first reason that OpenSSL has noted, and forgets then; OutOfMemory if it got no memory."""
         noted = self.library.ERR_reason_error_string(self.library.ERR_get_error())
         self.library.ERR_clear_error()
         text = noted.decode(errors="replace") if noted else WRONG
+        if text == NO_MEMORY:
+            raise OutOfMemory("out of memory: OpenSSL got none")
         return WRONG if text in NO_REASONS else text
 
     @contextmanager

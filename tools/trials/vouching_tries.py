@@ -8,12 +8,14 @@ from pki.reporting import MOST_REASONS, OTHERS, Report
 from pki.vouchers import Vouching
 from trials.vouching_items import NO_KEY, Made, altered, not_verified, told
 from trials.vouching_pki import DATES, ECDSA_SHA256, RSA_SHA256, name
-from certpath import frame
-from certpath.openssl import Judge
+from certpath import OutOfMemory, frame
+from certpath.openssl import Judge, verifier
 
 KINDS = ("p256", "rsa", "p521", "secp256k1", "brainpool")
 SUBJECT, AUTHORITY = "06(551d0e)", "06(551d23)"
 DEFAULT = 16
+# What OpenSSL notes if it gets no memory: ERR_LIB_ASN1 and ERR_R_MALLOC_FAILURE.
+OF_MEMORY = 13, 256 | 3 << 18
 
 
 def of_certificate(*extensions):
@@ -231,8 +233,23 @@ def not_shown(t, holders):
     t.vouch("keys of many bits", [made.leaf("rsa")], roots, [], [not_verified(0, 5), *large])
 
 
+def without_memory(t, _):
+    """What OpenSSL gets no memory for isn't taken for what it can't read."""
+    found = []
+    with verifier() as openssl:
+        for error in (None, OF_MEMORY):
+            if error:
+                openssl.library.ERR_new()
+                openssl.library.ERR_set_error(*error, None)
+            try:
+                found.append(openssl.read("d2i_PUBKEY", b"\x30\x00"))
+            except OutOfMemory as refused:
+                found.append(str(refused))
+    t.same("OpenSSL without memory", found, [(None, False), "out of memory: OpenSSL got none"])
+
+
 def trials(t):
     """Runs them all."""
     holders = Holders(t)
-    for group in (bounds, identifiers, groups, counts, long_names, exponents, not_shown):
+    for group in (bounds, identifiers, groups, counts, long_names, exponents, not_shown, without_memory):
         group(t, holders)
