@@ -20,7 +20,7 @@ _certpath() {
 _certpath_other() {
   local word=${COMP_WORDS[COMP_CWORD]} words
   case ${1##*/} in
-    verify) words="--all --anchors --at --demand-lists --dot --help --host --html --ignore-unused-lists --json --limit --lists --purpose --quiet --target --weak" ;;
+    verify) words="--all --anchors --at --demand-lists --dot --help --host --html --ignore-unused-lists --json --limit --lists --purpose --quiet --seconds --target --weak" ;;
     vouch) words="--help --limit --tries --verbose --weak" ;;
     bundle) words="--help" ;;
   esac

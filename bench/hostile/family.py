@@ -15,6 +15,22 @@ class Files(NamedTuple):
     anchors: list = ()
     vouchers: list = ()
     answer: str = "none"
+    # What `recheck` reads beside these.
+    evidence: list = ()
+
+
+class Known(NamedTuple):
+    """A miss that docs/COST.md states: why, and what isn't missed by more: how many times the time at a doubling, how many octets of memory
+    for each octet read, and how many seconds for a file of 1 MB."""
+    why: str
+    growth: float = 2.4
+    times: float = 16
+    seconds: float = 2.0
+
+
+def square(why, times=300):
+    """A miss of what takes four times the time, or the memory, or both, at a doubling."""
+    return Known(why, 5.5, times, 10.0)
 
 
 class Family(NamedTuple):
@@ -30,8 +46,10 @@ class Family(NamedTuple):
     other: int = 0
     words: tuple = ()
     statuses: tuple = (0, 1, 3)
-    # Why the family misses what is wanted, if that is known and stated in docs/COST.md.
-    known: str = None
+    # What the family misses, if that is known.
+    known: Known = None
+    # Whether growth is counted by the octets read alone, since the command must not print more than these allow.
+    by_read: bool = False
 
 
 FAMILIES = {}

@@ -1,11 +1,11 @@
 """Families of many small items: names, keys, key identifiers, lists, chains, ladders and copies."""
 from math import isqrt
 
-from family import UNLIMITED, Files, family
+from family import UNLIMITED, Files, family, square
 from parts import (certificate, element, entry, integer, key, name, revocation_list, small_certificate, voucher)
 
 # A square that docs/COST.md states.
-ROWS = "an answer has a row of all items for each certificate of its path"
+ROWS = square("an answer has a row of all items for each certificate of its path")
 X, LEAF, ROOT, NOWHERE = name("x"), name("leaf"), name("root"), name("nowhere")
 ROOT_KEY, COMMON_KEY = key(2**40), key(2**41)
 ANCHOR = certificate(ROOT, ROOT, ROOT_KEY)
@@ -203,7 +203,7 @@ def ladder_rungs(count):
 
 
 @family("rises", "n/2 certificates below such a ladder of n/4 steps: the reach of each of them rises in each round",
-        sizes=(1_500, 3_000, 6_000, 12_000), small=(500, 2_000), known="a reach rises at n/2 items in n/4 rounds")
+        sizes=(1_500, 3_000, 6_000, 12_000), small=(500, 2_000), known=square("a reach rises at n/2 items in n/4 rounds"))
 def rises(count):
     items, lines = rising(count // 4)
     below = own_keys(count // 2, LEAF, X)
@@ -223,7 +223,7 @@ def self_serials(count):
 
 
 @family("copies-keys", "n/2 copies of one certificate, and n/2 keys of its issuer that all vouch for it",
-        known="each copy is linked to each key")
+        known=square("each copy is linked to each key"))
 def copies_keys(count):
     half = count // 2
     leaf, issuers = certificate(LEAF, X, COMMON_KEY), own_keys(half, X, ROOT)

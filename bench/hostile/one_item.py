@@ -1,5 +1,5 @@
 """Families of one large item, the target: many extensions, attributes or entries, long identifiers, and deep nesting."""
-from family import UNLIMITED, Files, family, of_octets
+from family import UNLIMITED, Files, Known, family, of_octets
 from parts import (ALGORITHM, VALIDITY, VERSION_3, assembled, certificate, drawn, element, entry, extension, integer, key, name,
                    revocation_list, voucher)
 
@@ -30,7 +30,7 @@ def with_subject(*sets):
 
 
 # Many small parts take more than 16 times their octets in memory, as docs/COST.md states.
-SMALL_PARTS = "memory for each small part"
+SMALL_PARTS = Known("memory for each small part", times=270)
 MANY = {"sizes": (125_000, 250_000, 500_000, 1_000_000), "small": (10_000, 40_000), "unit": "parts"}
 LONG = {"sizes": (2, 4, 8, 16), "small": (1, 4), "unit": "identifiers"}
 ONE_ITEM = tuple(MOST * it // 8 for it in (1, 2, 4, 8))

@@ -16,8 +16,9 @@ MOMENT = "2025-06-01T00:00:00"
 VERSION_3 = bytes.fromhex("a003020102")
 VALIDITY = element(0x30, FIRST, LAST)
 COMMON_NAME = bytes.fromhex("0603550403")
-# id-ecPublicKey with prime256v1, and ecdsa-with-SHA256 (RFC 5480).
-P256 = element(0x30, bytes.fromhex("06072a8648ce3d020106082a8648ce3d030107"))
+# id-ecPublicKey, with prime256v1, and ecdsa-with-SHA256 (RFC 5480).
+OF_KEY = bytes.fromhex("06072a8648ce3d0201")
+P256 = element(0x30, OF_KEY, bytes.fromhex("06082a8648ce3d030107"))
 ECDSA_SHA256 = bytes.fromhex("300a06082a8648ce3d040302")
 # The field and the generator of P-256 (SEC 2, 2.4.2).
 PRIME = 2**256 - 2**224 + 2**192 + 2**96 - 1

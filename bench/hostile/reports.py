@@ -1,15 +1,15 @@
 """Families for `why`, `paths` and ./verify: over files that were made for `path`, and over certificates with signatures in their form."""
-from family import Files, also, family
+from family import FAMILIES, Files, also, family, square
 from graphs import ROWS
 from parts import name, p256_keys
 from signed import KEY, ROOT, X, issuers, signed_by_none
 
 # Squares that docs/COST.md states.
-PAIRS = "a line for each certificate of a name and each issuer of that name"
-LOOKED_UP = "each list is looked up for each key of its issuer's name"
-LINKS = "each copy is linked to each key"
-PATHS = "each path is printed whole, and the check keeps each row"
-RISES = "a reach rises at n/2 items in n/4 rounds"
+PAIRS = square("a line for each certificate of a name and each issuer of that name", 5_000)
+LOOKED_UP = square("each list is looked up for each key of its issuer's name")
+LINKS = square("each copy is linked to each key")
+PATHS = square("each path is printed whole, and the check keeps each row")
+RISES = square("a reach rises at n/2 items in n/4 rounds")
 # Sizes for reports that have as many lines as there are pairs of items.
 SQUARE = {"sizes": (250, 500, 1_000, 2_000), "small": (100, 400)}
 
@@ -23,6 +23,32 @@ also("paths", "chain-path", "chain-none", "chain-beside", **SQUARE, known=PATHS)
 also("paths", "copies-keys", known=LINKS)
 also("paths", "rises", sizes=(1_500, 3_000, 6_000, 12_000), small=(500, 2_000), known=RISES)
 also("paths", "keys-each", "issuers-each", "anchors-equal", "ids-different", "list-long", "list-keys", "self-copies", "no-issuers")
+
+ASKED = square("a line for each pair of an item and a key", 5_000)
+also("questions", "keys-none", **SQUARE, known=ASKED)
+also("questions", "issuers-each", known=ASKED)
+also("questions", "no-issuers", "chain-none")
+
+ROWS_READ = square("the check keeps each row that it reads", 5_000)
+
+
+def without_path(count, rows):
+    """Certificates whose issuers aren't there, and evidence that says so in rows without a change."""
+    made = FAMILIES["no-issuers"].make(count)
+    head = [b"certpath evidence 1\n", b"none\n" * len(made.bundle)]
+    return made._replace(evidence=[*head, b"row\n" * rows])
+
+
+@family("recheck-none", "n certificates whose issuers aren't there, and evidence of it", "recheck")
+def recheck_none(count):
+    return without_path(count, 2)
+
+
+@family("recheck-rows", "n certificates whose issuers aren't there, and evidence of n rows",
+        "recheck", **SQUARE, known=ROWS_READ)
+def recheck_rows(count):
+    return without_path(count, count)
+
 
 SIGNED = {"command": "verify", "sizes": (1_250, 2_500, 5_000, 10_000), "small": (100, 400)}
 ANCHOR = signed_by_none(ROOT, ROOT, KEY, 1)

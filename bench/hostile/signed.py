@@ -1,17 +1,19 @@
 """Families for ./vouch: keys that OpenSSL can read, and signatures that it finds wrong."""
-from family import UNLIMITED, Files, family, of_octets
+import slow_keys
+from family import UNLIMITED, Files, Known, family, of_octets
 from one_item import MANY, ONE_ITEM, attribute, identifier
 from parts import (ECDSA_SHA256, FIRST, LAST, VALIDITY, VERSION_3, element, entry, extension, integer, key_ids, name, p256_keys,
                    small_certificate, wrong_signature)
 
 # What OpenSSL holds of one item.
-OF_OPENSSL = "some 250 octets of OpenSSL for each entry or extension of one item"
+OF_OPENSSL = Known("some 250 octets of OpenSSL for each entry or extension of one item", times=70)
 # What the proved library holds while it reads one item.
-OF_TREES = "memory for each small part of one item"
+OF_TREES = Known("memory for each small part of one item", times=80)
 X, LEAF, ROOT = name("x"), name("leaf"), name("root")
 KEY = next(p256_keys(1))
+OF_RSA = Known("16 verifications an item, up to 6 ms each", growth=12, seconds=100.0)
 # Each item costs up to 16 verifications of some 0.1 ms, so that a file of 1 MB takes more than 2 seconds.
-SIGNED = {"sizes": (1_250, 2_500, 5_000, 10_000), "small": (100, 400), "known": "16 verifications an item"}
+SIGNED = {"sizes": (1_250, 2_500, 5_000, 10_000), "small": (100, 400), "known": Known("16 verifications an item", growth=2.8, seconds=20.0)}
 
 
 def signed_by_none(subject, issuer, public, number):
@@ -113,3 +115,53 @@ def vouch_2(size):
 @of_octets("vouch-parts", "an item of NULLs alone", "vouch", sizes=ONE_ITEM, known=OF_TREES)
 def vouch_parts(size):
     return Files([element(0x30, b"\x05\x00" * (size // 2 - 100))])
+
+
+# Sizes as those of the others, of families that miss nothing.
+FREE = {"sizes": SIGNED["sizes"], "small": SIGNED["small"]}
+
+
+def with_compressed(subject, issuer, count):
+    """Certificates that have a key each on a curve of its own."""
+    return [signed_by_none(subject, issuer, slow_keys.compressed(it), it) for it in range(count)]
+
+
+@family("vouch-ec-compressed", "n certificates \"x from x\", a key each on a curve of its own",
+        "vouch", **FREE)
+def vouch_ec_compressed(count):
+    return Files(with_compressed(X, X, count))
+
+
+@family("vouch-ec-idle", "n certificates on curves of their own, whose issuers aren't there",
+        "vouch", **FREE)
+def vouch_ec_idle(count):
+    return Files(with_compressed(LEAF, name("nowhere"), count))
+
+
+@family("vouch-many-names", "n/2 leaves, and n/2 issuers of a name each", "vouch", **SIGNED)
+def vouch_many_names(count):
+    names = [name(f"x{it}") for it in range(count // 2)]
+    keys = zip(names, p256_keys(len(names)))
+    roots = [signed_by_none(one, ROOT, it, 1) for one, it in keys]
+    return Files([*(signed_by_none(LEAF, it, KEY, 1) for it in names), *roots])
+
+
+@family("vouch-rsa", "16 issuers of one name, RSA keys of 16,384 bits, and n leaves", "vouch",
+        sizes=(25, 50, 100, 200), small=(2, 8), known=OF_RSA)
+def vouch_rsa(count):
+    roots = [signed_by_none(X, ROOT, slow_keys.large_rsa(it), it) for it in range(16)]
+    algorithm, signature = slow_keys.RSA_SHA256, slow_keys.signed_by_rsa
+    leaves = [small_certificate(LEAF, X, KEY, algorithm, signature(it), it) for it in range(count)]
+    return Files([*leaves, *roots])
+
+
+def of_dsa(subject, number):
+    """A certificate "from x" with a wrong signature of DSA in its form."""
+    return small_certificate(subject, X, KEY, slow_keys.DSA_SHA256, wrong_signature(number), number)
+
+
+@family("vouch-dsa", "16 issuers of one name, a DSA key of 10,000 bits each, and n leaves", "vouch",
+        **FREE)
+def vouch_dsa(count):
+    roots = [signed_by_none(X, ROOT, slow_keys.large_dsa(it), it) for it in range(16)]
+    return Files([*(of_dsa(LEAF, it) for it in range(count)), *roots])

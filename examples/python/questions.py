@@ -8,11 +8,14 @@ Both files are DER items one after another, as ./bundle makes them.
 """
 import sys
 
-import certpath
-from cryptography import x509
-from cryptography.exceptions import InvalidSignature, UnsupportedAlgorithm
-from cryptography.hazmat.primitives.asymmetric import ec, ed25519, padding, rsa
-from cryptography.hazmat.primitives.serialization import load_der_public_key
+try:
+    import certpath
+    from cryptography import x509
+    from cryptography.exceptions import InvalidSignature, UnsupportedAlgorithm
+    from cryptography.hazmat.primitives.asymmetric import ec, ed25519, padding, rsa
+    from cryptography.hazmat.primitives.serialization import load_der_public_key
+except ImportError as error:
+    sys.exit(f"questions.py: {error}; its first lines say how it is run")
 
 USAGE = "usage: questions.py BUNDLE ANCHORS > vouchers.txt"
 LOADERS = {certpath.Kind.CERTIFICATE: x509.load_der_x509_certificate,

@@ -8,7 +8,8 @@ from contextlib import contextmanager
 from ctypes import POINTER, c_char_p, c_int, c_long, c_size_t, c_ulong, c_void_p
 from typing import NamedTuple
 
-from .algorithms import DIGESTS, PSS, PSS_DIGESTS
+from .algorithms import DIGESTS, LARGE, MOST_DSA, PSS, PSS_DIGESTS, why_refused
+from .library import OutOfMemory
 
 CERTIFICATE, LIST = "certificate", "list"
 POINTED = POINTER(c_void_p)
@@ -65,11 +66,14 @@ SUBJECT_KEY_ID, AUTHORITY_KEY_ID = 82, 90
 FEWEST_BITS = 112
 # OpenSSL verifies by longer exponents too if the modulus has at most 3,072 bits; that takes it up to 10 ms.
 MOST_EXPONENT_BITS = 64
+DSA = "DSA"
 # OpenSSL holds some 3 KB for each key.
 MOST_KEYS = 1024
 UNREAD, LONG_EXPONENT = "openssl cannot read its key", f"its key has an exponent of more than {MOST_EXPONENT_BITS} bits"
 # What OpenSSL notes if it has nothing to say but that a signature is wrong.
 WRONG, NO_REASONS = "wrong signature", ("EVP lib",)
+# What it notes if it gets no memory (ERR_R_MALLOC_FAILURE).
+NO_MEMORY = "malloc failure"
 
 
 class AnyType(ctypes.Structure):
@@ -137,10 +141,13 @@ class Verifier:
             self.drop_oldest()
 
     def read(self, function, octets):
-        """What a d2i function makes of the octets, if it takes all of them."""
+        """What a d2i function makes of the octets, if it takes all of them; OutOfMemory if that is why
+        it makes nothing, so that nothing is taken for unreadable that could be read."""
         held = ctypes.create_string_buffer(octets, len(octets))
         at = c_void_p(ctypes.addressof(held))
         made = getattr(self.library, function)(None, ctypes.byref(at), len(octets))
+        if made is None:
+            self.reason()
         return made, made is not None and at.value == ctypes.addressof(held) + len(octets)
 
     def key(self, octets):
@@ -164,14 +171,28 @@ class Verifier:
             self.library.EVP_PKEY_free(oldest.handle)
 
     def read_key(self, octets):
-        """What OpenSSL makes of a key element."""
+        """What OpenSSL makes of a key element, if it is shown that."""
+        why = why_refused(octets)
+        if why:
+            return Key(octets, None, None, why)
         handle, is_whole = self.read("d2i_PUBKEY", octets)
         if handle is None:
             return Key(octets, None, None, UNREAD)
-        if is_whole and self.exponent_bits(handle) <= MOST_EXPONENT_BITS:
+        why = self.why_unused(handle) if is_whole else UNREAD
+        if why is None:
             return Key(octets, handle, self.weakness(handle))
         self.library.EVP_PKEY_free(handle)
-        return Key(octets, None, None, LONG_EXPONENT if is_whole else UNREAD)
+        return Key(octets, None, None, why)
+
+    def why_unused(self, handle):
+        """Why a key isn't used that OpenSSL would take long to verify by; none if it is."""
+        if self.exponent_bits(handle) > MOST_EXPONENT_BITS:
+            return LONG_EXPONENT
+        is_large = self.type_name(handle) == DSA and self.library.EVP_PKEY_get_bits(handle) > MOST_DSA
+        return LARGE.format(MOST_DSA) if is_large else None
+
+    def type_name(self, handle):
+        return (self.library.EVP_PKEY_get0_type_name(handle) or b"unnamed").decode()
 
     def exponent_bits(self, handle):
         """How many bits the public exponent of an RSA key has; 0 of another key."""
@@ -186,13 +207,15 @@ class Verifier:
         """In which words a key is weak, none if it isn't."""
         if self.library.EVP_PKEY_get_security_bits(handle) >= FEWEST_BITS:
             return None
-        return f"{self.library.EVP_PKEY_get_bits(handle)}-bit {(self.library.EVP_PKEY_get0_type_name(handle) or b'unnamed').decode()} key"
+        return f"{self.library.EVP_PKEY_get_bits(handle)}-bit {self.type_name(handle)} key"
 
     def reason(self):
-        """The first reason that OpenSSL has noted, and forgets then."""
+        """The first reason that OpenSSL has noted, and forgets then; OutOfMemory if it got no memory."""
         noted = self.library.ERR_reason_error_string(self.library.ERR_get_error())
         self.library.ERR_clear_error()
         text = noted.decode(errors="replace") if noted else WRONG
+        if text == NO_MEMORY:
+            raise OutOfMemory("out of memory: OpenSSL got none")
         return WRONG if text in NO_REASONS else text
 
     @contextmanager

@@ -143,6 +143,8 @@ class Judge:
         """What OpenSSL says of a certificate or a list, by the keys of certificates."""
         if item.kind not in WORDS:
             raise ValueError("a certificate or a list is needed, not another item")
+        if is_slow(item):
+            return Judged(algorithms.UNNAMED, [])
         with self.openssl.reading(WORDS[item.kind], item.public_bytes()) as read:
             if read is None:
                 return Judged(UNREAD, [])
@@ -160,13 +162,24 @@ class Judge:
     def key_id(self, holder: Certificate) -> Optional[bytes]:
         """The identifier that a certificate gives its key, read once."""
         if holder not in self._ids:
-            self._ids[holder] = self.openssl.subject_key_id(holder.public_bytes())
+            shown = None if is_slow(holder) else holder.public_bytes()
+            self._ids[holder] = None if shown is None else self.openssl.subject_key_id(shown)
         return self._ids[holder]
 
     def weaknesses(self, digest: str, key: bytes) -> Tuple[str, ...]:
         """In which words a signature is weak."""
         found = digest if digest in algorithms.WEAK else None, self.openssl.key(key).weak
         return tuple(filter(None, found))
+
+
+def is_slow(item: Item) -> bool:
+    """Whether OpenSSL isn't shown an item, since it would take long to read its key."""
+    if not isinstance(item, Certificate):
+        return False
+    # (a field of an item of many parts takes long, and most items have no such octets)
+    octets = item.public_bytes()
+    return (any(it in octets for it in algorithms.ON_CURVES)
+            and algorithms.is_on_unnamed_curve(item.public_key_bytes))
 
 
 def verdicts_on(asked: List[Question], judged: Judged) -> Iterator[Verdict]:

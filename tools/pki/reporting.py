@@ -36,9 +36,11 @@ class Report:
         if self.is_verbose:
             self.lines.add(f"{file} {position}: {why}")
             return
-        if (file, why) not in self.groups and len(self.groups) >= MOST_REASONS:
-            why = OTHERS
-        self.groups.setdefault((file, why), Group()).add(position)
+        group = self.groups.get((file, why))
+        if group is None:
+            why = OTHERS if len(self.groups) >= MOST_REASONS else why
+            group = self.groups.setdefault((file, why), Group())
+        group.add(position)
 
     def add_line(self, text):
         """Reports what isn't of an item, after the reasons."""

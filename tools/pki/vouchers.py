@@ -12,7 +12,7 @@ class Verdict(NamedTuple):
     why: str = None
 
 
-UNREAD = Verdict(why="neither certificate nor list")
+UNREAD = "neither certificate nor list"
 
 
 class Vouching:
@@ -27,7 +27,11 @@ class Vouching:
         self.holders = {name: judge.holders([holder.certificate(bundle, anchors) for holder in holders])
                         for name, holders in holders_by_issuer(bundle, anchors).items()}
         for number, kind in enumerate(bundle.kinds()):
-            self.vouch(number, kind)
+            if kind is Kind.OTHER:
+                # (a file may have millions of them)
+                report.add("bundle", number, UNREAD)
+                continue
+            self.vouch(number)
             if kind is Kind.CERTIFICATE:
                 self.read("bundle", number, bundle[number])
         for number, kind in enumerate(anchors.kinds()):
@@ -36,9 +40,9 @@ class Vouching:
             else:
                 report.add("anchors", number, "no certificate")
 
-    def vouch(self, number, kind):
+    def vouch(self, number):
         """Adds an item's vouchers, or reports why there is none."""
-        verdict = UNREAD if kind is Kind.OTHER else self.verdict(number)
+        verdict = self.verdict(number)
         for key in verdict.keys:
             self.vouchers.add(key, self.bundle.octets(number))
         self.vouched += bool(verdict.keys)

@@ -37,6 +37,17 @@ def write_lines(lines):
         pass
 
 
+def within_memory(name, status, call):
+    """What a call gives. If there is no memory for it, one line says so, and the status is this one."""
+    try:
+        return call()
+    except MemoryError:
+        pass
+    # (what the call held is free here)
+    report(f"{name}: out of memory")
+    return status
+
+
 class Lines:
     """Lines for standard error that are held and written many at a time."""
 

@@ -171,7 +171,11 @@ def run(words):
         return refused("standard input can be one file only")
     if ("--evidence", "-") in zip(words, words[1:]) or "--evidence=-" in words:
         return refused("--evidence needs a file: - is standard input")
-    return repo.run(programs.CERTPATH, words if words[0] == "bundle" else [INPUT if it == "-" else it for it in words])
+    from program import beside
+    if words[0] == "bundle":
+        return repo.run(programs.CERTPATH, words)
+    words = [INPUT if it == "-" else it for it in words]
+    return beside.run(words) if words[0] == "paths" and beside.place_of(words) else repo.run(programs.CERTPATH, words)
 
 
 def refused(why):

@@ -168,6 +168,9 @@ def python_example(count, room):
         done = ran([sys.executable, example, *words], env=paths)
         count.row(done.returncode == 1 and done.stdout.count("\n") == 1,
                   f"{example} {words}:\n{done.stdout[-2000:]}")
+    done = ran([sys.executable, "-IS", example, at(BUNDLE), at(ANCHORS)])
+    said = "questions.py: No module named 'certpath'; its first lines say how it is run\n"
+    count.same(f"{example} without the package", (done.returncode, done.stdout), (1, said))
 
 
 def with_package():

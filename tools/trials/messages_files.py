@@ -125,7 +125,7 @@ def folders(files, issuer):
     for folder in ("folder", "empty", "slow"):
         os.makedirs(os.path.join(files.shop.room, folder), exist_ok=True)
     files.keep("folder/int.pem", issuer)
-    for file, text in (*STUBS.items(), ("slow/openssl", "exec /bin/sleep 3")):
+    for file, text in (*STUBS.items(), ("slow/openssl", "while :; do :; done")):
         files.keep(file, f"#!/bin/sh\n{text}\n".encode())
         os.chmod(os.path.join(files.shop.room, file), 0o755)
 

@@ -42,7 +42,7 @@ def of_case(title, *said, words="", remedy=None, ends=0, status=1):
 
 def of_bound(bound, typed, status, *said, **further):
     """A row where a bound is lower than it is, since what reaches it takes long to make."""
-    return Row(typed, status, said, setting=f"from verify import files, page, people, run, signing, spelling, stores; {bound}", **further)
+    return Row(typed, status, said, setting=f"from verify import answers, core, files, graph, page, people, picture, run, signing, spelling, stores; {bound}", **further)
 
 
 WORDS = (
@@ -61,6 +61,7 @@ WORDS = (
     Row("verify leaf.pem --at 2026-02-30", 2, ("verify: --at 2026-02-30: no moment; write now, 2026-06-01, 2026-06-01T12:00:00, 2026-06-01T12:00:00Z or ",),
         f"{GOOD} --at 2026-06-01T12:00:00+02:00"),
     Row("verify leaf.pem --limit 3x", 2, ("argument --limit: 3x is no number from 0 to 4294967295",), f"{GOOD} --limit 4294967295"),
+    Row("verify leaf.pem --seconds 0", 2, ("argument --seconds: 0 is no number from 1 to 4294967295",), f"{GOOD} --seconds 4294967295"),
     Row("verify leaf.pem --json --quiet", 2, ("argument --quiet: not allowed with argument --json",), f"{GOOD} --json"),
     Row("verify leaf.pem --json=x", 2, (f"verify: --json takes no value{SEE}",), f"{GOOD} --json"),
     Row("bundle - -", 2, ("certpath: standard input can be one file only; see './certpath --help'",), "./bundle - < leaf.pem"),
@@ -87,7 +88,10 @@ FILES = (
         path="ROOM/empty"),
     Row(f"verify all.p7c {ROOT}", 70, ("verify: all.p7c: PKCS #7 is unpacked by the command openssl, which isn't there; install it, or give PEM or DER",), GOOD,
         path="ROOM/empty"),
-    of_bound("files.SECONDS = 0.3", f"verify all.p7c {ROOT}", 4, "openssl pkcs7 takes more than 0.3 s to unpack it; mend the file, or leave it out", path="ROOM/slow"),
+    Row(f"verify all.p7c {ROOT} --seconds 1", 9, ("verify: the run takes more than 1 s of a processor, and has ended while openssl pkcs7 unpacks all.p7c; --seconds N allows more",),
+        f"verify all.p7c {ROOT} --quiet --seconds 100", path="ROOM/slow"),
+    Row(f"verify open.p12 {ROOT} --seconds 1 --json", 9, ('"outcome": "fault", "status": 9, "fault": "the run takes more than 1 s of a processor, and has ended while openssl pkcs12 unpacks',),
+        path="ROOM/slow"),
     Row(f"verify flat.pem int.pem {ROOT}", 4, ("flat.pem line 1: a BEGIN that is no line of its own (are newlines missing?); mend the file",), GOOD),
     Row(f"verify damaged.pem {ROOT}", 4, ("block 1 (CERTIFICATE): not base64; it would be the target: mend it, or name another one with --target",),
         f"verify damaged.pem {ROOT} --target int.pem"),
@@ -124,6 +128,17 @@ TARGETS = (
     Row(f"{GOOD} int-list.pem --target 2", 3, ("no target: item 2 (int-list.pem): a revocation list",), f"{GOOD} --target 1"),
     of_bound("run.MOST_WHYS = 1", f"verify leaf.pem late.pem {ROOT} --all", 1, "not asked, since many other targets were: ask about it alone, with --target",
              remedy=f"verify leaf.pem late.pem {ROOT} --target late.pem", ends=1),
+    of_bound("run.MOST_WHY_LINES = 0", f"verify leaf.pem late.pem {ROOT} --all", 1, "not asked, since many other targets were: ask about it alone, with --target"),
+    of_bound("people.MOST_OBSTACLES = 1", f"verify late.pem {ROOT} --html -", 1, "and 1 further reasons; --json has them all"),
+    of_bound("page.MOST_CERTIFICATES = 1", f"{GOOD} --html -", 0, "<p>and 1 further certificates; --json has them all</p>", remedy=f"{GOOD} --json"),
+    of_bound("page.MOST_LISTS = 1", f"{GOOD} --html - --lists old-list.pem --lists early-list.pem --ignore-unused-lists", 0, "and 1 further lines; --json has them all"),
+    Row(f"{GOOD} endless-list.der --html -", 0, ("Lists that aren't used", "list 2 (endless-list.der) of CN=spelled isn")),
+    of_bound("picture.MOST_BOXES = 2", f"{GOOD} --html -", 0, "1 further certificates are left out here"),
+    of_bound("graph.MOST_NODES = 1; graph.MOST_EDGES = 1", f"verify late.pem int.pem {ROOT} --dot", 1, "left out: 2 certificates and 2 links; --json has them all",
+             remedy=f"verify late.pem int.pem {ROOT} --json", ends=1),
+    of_bound("answers.MOST_LISTS = 1", f"{GOOD} --all --lists old-list.pem --lists early-list.pem", 1, "1 further lists that aren't used concern item 0; --target 0 shows them",
+             remedy=f"{GOOD} --lists old-list.pem --lists early-list.pem --target 0", ends=1),
+    of_bound("core.MOST_OF_NAME = 4", f"verify late.pem {ROOT}", 1, "item 0 CN=l..: no certificate"),
     of_bound("people.MOST_OBSTACLES = 1", f"verify late.pem {ROOT}", 1, "and 1 further reasons; --json has them all", remedy=f"verify late.pem {ROOT} --json", ends=1),
     of_bound("page.MOST_TARGETS = 1", f"{GOOD} sibling.pem --all --html -", 0, "<title>3 certificates at 2026-06-01T00:00:00Z",
              "Not on this page", "2 further targets; --json has them all", remedy=f"{GOOD} --all --json"),
@@ -136,12 +151,14 @@ PROGRAMS = (
     Row(GOOD, 70, ("verify: the library of certpath is missing: libcertpath.so is in none of /none",), setting=NO_LIBRARY),
     Row(GOOD, 70, ("verify: the Python package certpath can't be used: ",), setting="sys.modules['ctypes'] = None"),
     Row(GOOD, 6, ("verify: out of memory",), setting=NO_MEMORY),
+    Row(f"{GOOD} --quiet", 70, ("verify: cannot hand on ", " octets: File too large"), setting="import resource as it; it.setrlimit(it.RLIMIT_FSIZE, (10, 10))"),
     Row(GOOD, 69, ("verify: dist/ is older than the sources: ./certpath --build builds it",), setting=OLDER),
     Row("vouch root.der root.der", 69, ("vouch: dist/ is older than the sources: ./certpath --build builds it",), setting=OLDER),
     Row(GOOD, 70, ("verify: none is missing, or is no record: ./certpath --build builds it",), setting=NO_RECORD),
     Row(GOOD, 70, ("verify: certpath why: it ended with status 9",), setting=stub("failing")),
     Row(GOOD, 70, ("verify: certpath why: boom",), setting=stub("saying")),
     Row(GOOD, 1, ("the check says no: a fault of this program; please report it",), setting=stub("denying")),
+    Row(GOOD, 70, ("notes can't be started: Permission denied",), setting=stub("notes")),
     Row(f"{GOOD} --html no/such/page.html", 7, ("verify: no/such/page.html: cannot write it (No such file or directory)",), f"{GOOD} --html page.html"),
     Row(f"./{GOOD} --html - > /dev/full", 7, ("verify: standard output fails",), f"./{GOOD} --html - > page.html"),
     Row(f"./{GOOD} > /dev/full", 7, ("cannot write",), f"./{GOOD} > answer"),
@@ -205,7 +222,7 @@ CERTIFICATES = (
     Row(f"verify leaf.pem spelled.pem {ROOT}", 1, ("no certificate and no anchor has its issuer's name, CN=Between; item 1 has one that reads alike, "
         "but its CN is a UTF8String here and a PrintableString there (spelled.pem)",), GOOD),
     of_bound("spelling.reader = lambda: None", f"verify leaf.pem spelled.pem {ROOT}", 1, "item 1 has one that reads alike, in other octets here than there (spelled.pem)"),
-    of_bound("signing.FEW_QUESTIONS = 0; signing.MOST_TRIES = 1", f"verify late.pem int.pem sibling.pem {ROOT}", 1, "(not tried: more than 16 keys have its issuer's name)"),
+    of_bound("signing.FEW_PAIRS = 0; signing.MOST_TRIES = 1", f"verify late.pem int.pem sibling.pem {ROOT}", 1, "(not tried: more than 16 keys have its issuer's name)"),
     Row(f"verify {slug('wrong root of the name')}.pem --anchors {slug('wrong root of the name')}.roots {AT} --dot", 1, ("signature not verified",)),
     Row(f"verify {slug('key identifiers')}.pem --anchors {slug('key identifiers')}.roots {AT} --dot", 1, ("names another key",)),
     Row(f"verify {slug('weak signature')}.pem --anchors {slug('weak signature')}.roots {AT} --html -", 1, ("weak signature: sha1", "Not judged", "Why not")),

@@ -195,7 +195,7 @@ def remains(v, root):
             child.stdin.write(b"\n" * MORE_THAN_A_PIPE)
             child.send_signal(signal.SIGINT)
             said = child.communicate()[1]
-        yield "an interrupt", (child.returncode, said, os.listdir(folder)), (130, b"", [])
+        yield "an interrupt", (child.returncode, said, os.listdir(folder)), (-signal.SIGINT, b"", [])
 
 
 def jobs(v, root):

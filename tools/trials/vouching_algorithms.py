@@ -5,7 +5,7 @@ from typing import NamedTuple
 from trials.vouching_pki import spelled
 
 LANES = 2
-CURVES = ("p256", "p384", "p521", "secp256k1", "brainpool", "compressed", "explicit")
+CURVES = ("p256", "p384", "p521", "secp256k1", "brainpool", "compressed")
 RIPEMD160 = "algorithm 1.3.36.3.3.1.2 not known"
 # How many octets of the signed part, and of the signature, have a bit changed.
 CHANGED = 3

@@ -8,12 +8,14 @@ from pki.reporting import MOST_REASONS, OTHERS, Report
 from pki.vouchers import Vouching
 from trials.vouching_items import NO_KEY, Made, altered, not_verified, told
 from trials.vouching_pki import DATES, ECDSA_SHA256, RSA_SHA256, name
-from certpath import frame
-from certpath.openssl import Judge
+from certpath import OutOfMemory, frame
+from certpath.openssl import Judge, verifier
 
 KINDS = ("p256", "rsa", "p521", "secp256k1", "brainpool")
 SUBJECT, AUTHORITY = "06(551d0e)", "06(551d23)"
 DEFAULT = 16
+# What OpenSSL notes if it gets no memory: ERR_LIB_ASN1 and ERR_R_MALLOC_FAILURE.
+OF_MEMORY = 13, 256 | 3 << 18
 
 
 def of_certificate(*extensions):
@@ -198,8 +200,56 @@ def exponents(t, holders):
             [not_verified(0, 2), told(0, "its key has an exponent of more than 64 bits", "anchors")])
 
 
+def dsa(bits):
+    """A DSA key of so many bits, in its form."""
+    prime = 2**bits - 1
+    parameters = element(b"\x30", b"".join(map(integer, (prime, 2**255 + 1, prime - 2))))
+    return public_key(octets("06(2a8648ce380401)") + parameters, integer(prime - 4))
+
+
+def rsa(bits):
+    """An RSA key of so many bits, in its form."""
+    return public_key(octets("06(2a864886f70d010101)05()"), element(b"\x30", integer(2**bits - 1) + integer(65537)))
+
+
+def public_key(algorithm, key):
+    return element(b"\x30", element(b"\x30", algorithm) + element(b"\x03", b"\0" + key))
+
+
+def integer(number):
+    return element(b"\x02", number.to_bytes(number.bit_length() // 8 + 1, "big"))
+
+
+def not_shown(t, holders):
+    """OpenSSL isn't shown a key whose curve isn't named, nor an item that has one; and no key of more bits than is stated verifies."""
+    made, unnamed = holders.made, "its key isn't on a named curve"
+    explicit = holders.root("explicit")
+    t.vouch("a curve that isn't named", [made.leaf("explicit")], [explicit], [], [not_verified(0, 1), f"anchors 0: {unnamed}"])
+    leaf = t.shop.certificate("p256", made.name, name("leaf"), t.shop.public("explicit"))
+    t.vouch("an item with such a key", [leaf, explicit], [holders.root("p256")], [], [f"bundle {it}: {unnamed}" for it in (0, 1, 1)])
+    keys = {3072: dsa(3072), 3080: dsa(3080), 10_000: dsa(10_000), 16_384: rsa(16_384), 17_000: rsa(17_000)}
+    roots, most = [made.root("rsa", it) for it in keys.values()], {1: 3072, 2: 3072, 4: 16384}
+    large = [f"anchors {it}: its key has more than {bits} bits" for it, bits in most.items()]
+    t.vouch("keys of many bits", [made.leaf("rsa")], roots, [], [not_verified(0, 5), *large])
+
+
+def without_memory(t, _):
+    """What OpenSSL gets no memory for isn't taken for what it can't read."""
+    found = []
+    with verifier() as openssl:
+        for error in (None, OF_MEMORY):
+            if error:
+                openssl.library.ERR_new()
+                openssl.library.ERR_set_error(*error, None)
+            try:
+                found.append(openssl.read("d2i_PUBKEY", b"\x30\x00"))
+            except OutOfMemory as refused:
+                found.append(str(refused))
+    t.same("OpenSSL without memory", found, [(None, False), "out of memory: OpenSSL got none"])
+
+
 def trials(t):
     """Runs them all."""
     holders = Holders(t)
-    for group in (bounds, identifiers, groups, counts, long_names, exponents):
+    for group in (bounds, identifiers, groups, counts, long_names, exponents, not_shown, without_memory):
         group(t, holders)

@@ -1,22 +1,25 @@
 """The answer on a target: the path or what prevents one, and what one should know beside it."""
-from functools import cached_property
+from functools import cached_property, lru_cache
+from heapq import merge
+from itertools import islice
 from typing import NamedTuple, Optional
 
 from verify import reasons, spelling
-from verify.core import Kind, Shown, certpath, fingerprint, name_of
+from verify.core import Kind, Shown, certpath, fingerprint, name_of, shortened
 from verify.demands import HOSTS, PURPOSES, Demands
 from verify.report import REVOKED, Link, Report
 
 NOT_JUDGED = (HOSTS, PURPOSES, "name constraints", "policies", "OCSP", "delta, indirect and partitioned lists")
-# So often `certpath why` is asked again, at most, about lists that aren't used.
-MOST_ASKED = 32
+# So often `certpath why` is asked again, at most, about lists that aren't used. Of several targets each has so many of these lists, more
+# than that, so that one of them speaks against a path if any does.
+MOST_ASKED, MOST_LISTS = 32, 40
 YES, NO, UNKNOWN = "yes", "no", "unknown"
 # Outcomes beside those of `certpath why`.
 NO_TARGET, PATH_REFUSED = "no target", "refused"
 # What prevents a path if no certificate has the issuer's name, or only the certificate itself.
 MISSING, ITS_OWN = "no issuer here", "issued by itself"
-# So many certificates are shown whose names read like an issuer's.
-MOST_ALIKE = 3
+# So many certificates are shown whose names read like an issuer's, and of so many names the letters are kept.
+MOST_ALIKE, MOST_LETTERS = 3, 4096
 TYPES = {*spelling.TYPES.values()}
 # What is against a list no more at another moment and with a voucher.
 NO_VOUCHER = "no voucher"
@@ -39,7 +42,7 @@ class Obstacle(NamedTuple):
 
 class Unused(NamedTuple):
     """A list that isn't used: its position, file and issuer; the words of `why` and their sentences; whether it would revoke a certificate
-    of the path, and which."""
+    of the path, and which. It concerns a certificate if its issuer's name is that of the certificate's issuer, or reads like it."""
     position: int
     file: str
     issuer: str
@@ -59,6 +62,8 @@ class Edge(NamedTuple):
 class Answer(NamedTuple):
     """The answer for one target, or, if that is no certificate, what is there instead.
 
+    `unused` are the lists that aren't used and concern a certificate of the path, or the target; `idle` all that aren't used, which several
+    targets share.
     A path is refused if a list that isn't used may revoke one of its certificates, unless such lists are ignored. A target that has
     no path may be an anchor itself. `store` has the words for the system's store, if its anchors are asked; `demands` are the purpose
     and the host that are asked for.
@@ -72,6 +77,7 @@ class Answer(NamedTuple):
     obstacles: list
     edges: list
     unused: list
+    idle: dict
     unread: list
     warnings: list
     is_asked_why: bool
@@ -108,17 +114,13 @@ class Answer(NamedTuple):
 
 def no_target(instead):
     """The answer if the target is no certificate."""
-    return Answer(None, instead, NO_TARGET, True, [], None, [], [], [], [], [], True, False, None)
+    return Answer(None, instead, NO_TARGET, True, [], None, [], [], [], {}, [], [], True, False, None)
 
 
+@lru_cache(maxsize=MOST_LETTERS)
 def letters(name):
     """What is alike of names that read alike, though their octets may differ (RFC 5280, 7.1)."""
     return (*name_of(name).casefold().split(),)
-
-
-def alike(one, other):
-    """Whether two names read alike."""
-    return one == other or letters(one) == letters(other)
 
 
 def braced(text):
@@ -131,16 +133,13 @@ class Judge:
 
     def __init__(self, inputs, workspace, signatures):
         self.bundle, self.anchors, self.workspace, self.signatures = inputs.bundle, inputs.anchors, workspace, signatures
-        self.unread, self.is_single, self.asked, self.idle = [*inputs.unread_lists()], len(inputs.targets) == 1, 0, {}
+        self.unread, self.is_single, self.asked = [*inputs.unread_lists()], len(inputs.targets) == 1, 0
         self.ignores_unused, self.store, self.demands = inputs.asked.ignores_unused, inputs.store, inputs.demands
-        self.pairs = {*signatures.vouchers.text().splitlines()}
-        # the lists of each issuer, and the questions of each list
-        self.lists, self.questions = {}, {position: [] for position in self.bundle.of_kind[Kind.LIST]}
-        for position in self.questions:
+        self.pairs, self.holders = {*signatures.vouchers.text().splitlines()}, inputs.holders
+        # the lists of each issuer, and of those that aren't used the ones whose issuers' names read alike
+        self.lists, self.reported, self.idle, self.concerning, self.other_keys = {}, None, {}, {}, {}
+        for position in self.bundle.of_kind[Kind.LIST]:
             self.lists.setdefault(self.bundle.items[position].issuer, []).append(position)
-        for it in inputs.questions:
-            if it.item in self.questions:
-                self.questions[it.item].append(it)
 
     def answer(self, target, report=None):
         """The answer for the certificate at a position; the report is asked for if none is given."""
@@ -149,13 +148,13 @@ class Judge:
         shown = self.bundle.certificate(target)
         path = [self.bundle.certificate(it) for it in report.path or []]
         anchor = self.anchors.certificate(report.anchor) if report.path else None
-        words = {**report.unused, **dict(self.of_other_keys(report))}
-        unused = [self.unused(position, words[position], path, shown) for position in sorted(words)]
+        self.take_unused(report.unused)
+        unused = [*self.unused(report, path or [shown], bool(path))]
         against, edges = [*self.obstacles(report)], [*self.edges(report)]
-        weak = [*self.weak(report), *self.weak_target(target)]
+        weak = [*self.weak(report), *self.weak_target(target), *self.further(path or [shown])]
         is_refused = bool(path) and not self.ignores_unused and (bool(self.unread) or any(it.revokes != NO for it in unused))
         return Answer(shown, None, PATH_REFUSED if is_refused else report.outcome, report.is_checked, path, anchor, against, edges, unused,
-                      self.unread, weak, is_asked or bool(path), is_refused, None if path else self.as_anchor(target),
+                      self.idle, self.unread, weak, is_asked or bool(path), is_refused, None if path else self.as_anchor(target),
                       self.store, self.demands)
 
     @cached_property
@@ -212,10 +211,14 @@ class Judge:
     def of_other_keys(self, report):
         """The lists of the path's issuers that another key of the name vouches for than the one that signed the certificate: they are
         used, and not for it."""
+        found = set()
         for position, holder in self.steps(report):
-            for it in self.lists.get(self.bundle.items[position].issuer, ()):
-                if it not in report.unused and not self.is_vouched(holder, self.bundle.items[it]):
-                    yield it, [OTHER_KEY]
+            issuer, key = self.bundle.items[position].issuer, holder.public_key_bytes
+            if (issuer, key) not in self.other_keys:
+                lists = (it for it in self.lists.get(issuer, ()) if it not in report.unused)
+                self.other_keys[issuer, key] = [it for it in lists if not self.is_vouched(holder, self.bundle.items[it])]
+            found.update(self.other_keys[issuer, key])
+        return sorted(found)
 
     def is_vouched(self, holder, it):
         return f"{fingerprint(holder.public_key_bytes)} {fingerprint(it.public_bytes())}" in self.pairs
@@ -247,7 +250,7 @@ class Judge:
                 yield Obstacle(here, None, words, reasons.sentence(words))
             if node.is_missing:
                 found = reasons.sentence(MISSING)
-                text = f"{found.text}, {here.issuer}{self.like_issuer(node.position)}"
+                text = f"{found.text}, {shortened(here.issuer)}{self.like_issuer(node.position)}"
                 yield Obstacle(here, None, MISSING, found._replace(text=text))
             elif [*node.links] == [Link(node.position, False)]:
                 yield Obstacle(here, None, ITS_OWN, reasons.sentence(ITS_OWN))
@@ -274,9 +277,10 @@ class Judge:
         if words != NO_VOUCHER:
             return found
         key = self.key(link)
-        weak, refused = (of.get(position, {}).get(key) for of in (self.signatures.weak, self.signatures.refused))
+        weak = self.signatures.weak.get(position, {}).get(key)
         if weak:
             return found._replace(text=f"its signature is verified, but weak: {weak}", advice=TAKES_WEAK, note=f"weak signature: {weak}")
+        refused = self.signatures.why_refused(position, key)
         return found._replace(text=f"{found.text} ({refused})") if refused else found
 
     def weak(self, report):
@@ -293,20 +297,38 @@ class Judge:
         if weak:
             yield f"{it.place} {it.subject}: its own key is weak: {weak}; a target isn't refused for that"
 
-    def unused(self, position, words, path, target):
-        """A list that isn't used, and whether it would revoke a certificate of the path, or, if there is none, the target."""
-        it, certificates = self.bundle.items[position], path or [target]
-        concerned = [one for one in certificates if alike(self.bundle.items[one.position].issuer, it.issuer)]
-        if not concerned and position in self.idle:
-            return self.idle[position]
-        issued = [one for one in concerned if self.bundle.items[one.position].issuer == it.issuer]
-        revokes, of = self.revokes(position, it, words, issued or concerned, bool(issued) and bool(path or self.is_single))
-        words = [*words, OTHER_SPELLING] if concerned and not issued else words
+    def unused(self, report, certificates, is_path):
+        """The lists that aren't used and concern one of these certificates, in the order of their positions: the path's, or if there is none
+        the target. Of several targets each has the first ones alone."""
+        by_letters, other = {}, self.of_other_keys(report)
+        for one in certificates:
+            by_letters.setdefault(letters(self.bundle.items[one.position].issuer), []).append(one)
+        for position in islice(merge(*(self.concerning.get(name, ()) for name in by_letters), other), None if self.is_single else MOST_LISTS):
+            it = self.bundle.items[position]
+            concerned, said = by_letters[letters(it.issuer)], report.unused.get(position, [OTHER_KEY])
+            issued = [one for one in concerned if self.bundle.items[one.position].issuer == it.issuer]
+            revokes, of = self.revokes(position, it, said, issued or concerned, bool(issued) and (is_path or self.is_single))
+            said = said if issued else [*said, OTHER_SPELLING]
+            yield self.shown(position, said, concerned)._replace(revokes=revokes, of=of)
+
+    def further(self, certificates):
+        """A warning of lists that concern a target and aren't shown with it."""
+        names = {letters(self.bundle.items[one.position].issuer) for one in certificates}
+        count = 0 if self.is_single else sum(len(self.concerning.get(it, ())) for it in names) - MOST_LISTS
+        return [f"{count} further lists that aren't used concern {certificates[0].place}; --target {certificates[0].position} shows them"] if count > 0 else []
+
+    def shown(self, position, words, concerned=()):
+        """A list that isn't used."""
         sentences = [self.of_list(position, one, concerned) for one in words]
-        found = Unused(position, self.bundle.file(position), name_of(it.issuer), words, sentences, revokes, of)
-        if not concerned:
-            self.idle[position] = found
-        return found
+        return Unused(position, self.bundle.file(position), shortened(name_of(self.bundle.items[position].issuer)), words, sentences, NO, None)
+
+    def take_unused(self, words):
+        """Takes the lists that a report says aren't used. They are the same for all targets, so this is done once."""
+        if words is self.reported or words == self.reported:
+            return
+        self.reported, self.idle, self.concerning = words, {position: self.shown(position, words[position]) for position in sorted(words)}, {}
+        for position in self.idle:
+            self.concerning.setdefault(letters(self.bundle.items[position].issuer), []).append(position)
 
     def of_list(self, position, words, concerned):
         """A reason why a list isn't used for the certificates that it concerns."""
@@ -321,14 +343,12 @@ class Judge:
     def revokes(self, position, it, words, concerned, is_asked):
         """Whether a list that isn't used would revoke one of the certificates that it concerns, and which: `certpath why` is asked again, at a
         moment of the list and with a voucher for it. Nobody knows where a critical extension says how the list is to be read."""
-        if not concerned:
-            return NO, None
         self.asked += len(concerned) if is_asked else 0
         if not is_asked or self.asked > MOST_ASKED or any(not one.startswith(MENDED) for one in words):
             return UNKNOWN, concerned[0]
         vouchers = certpath.Vouchers.from_text(self.signatures.vouchers.text())
-        for question in self.questions[position]:
-            vouchers.add(question.key_holder(self.bundle.items, self.anchors.items).public_key_bytes, it.public_bytes())
+        for holder in self.holders.certificates(it.issuer):
+            vouchers.add(holder.public_key_bytes, it.public_bytes())
         self.workspace.vouch(vouchers)
         try:
             for one in concerned:

@@ -1,10 +1,6 @@
-"""Asks `certpath why` and `certpath paths`, over files in a folder that goes away."""
-import os
-import subprocess
-import tempfile
-
+"""Asks `certpath why` and `certpath paths`."""
 from program import programs, usage
-from verify import faults, times, waiting
+from verify import children, faults, times
 from verify.faults import Fault
 
 BUNDLE, ANCHORS, VOUCHERS = FILES = ("bundle", "anchors", "vouchers")
@@ -12,16 +8,11 @@ BUNDLE, ANCHORS, VOUCHERS = FILES = ("bundle", "anchors", "vouchers")
 ANSWERS, ENDS = (faults.PATH, faults.NONE, faults.NO_TARGET), (faults.WORDS, faults.UNREAD, faults.MEMORY)
 
 
-def text_of(file):
-    file.seek(0)
-    return file.read().decode(errors="backslashreplace")
-
-
 class Workspace:
     """Files of the items, and the program that reads them."""
 
-    def __init__(self, folder, bundle, anchors, words):
-        self.folder, self.words = folder, words
+    def __init__(self, bundle, anchors, words):
+        self.files, self.words, self.lines = {}, words, 0
         self.program, lack = programs.found(programs.CERTPATH)
         if lack:
             raise Fault(lack.status, lack.why)
@@ -29,8 +20,9 @@ class Workspace:
         self.keep(ANCHORS, anchors.items.data)
 
     def keep(self, name, octets):
-        with open(os.path.join(self.folder, name), "wb") as it:
-            it.write(octets)
+        if name in self.files:
+            self.files[name].close()
+        self.files[name] = children.in_memory(octets)
 
     def vouch(self, vouchers):
         """Keeps the vouchers that the next questions are asked with."""
@@ -41,11 +33,13 @@ class Workspace:
 
     def ran(self, command, words):
         """What the program ends with, and what it wrote."""
-        with tempfile.TemporaryFile(dir=self.folder) as out, tempfile.TemporaryFile(dir=self.folder) as errors:
-            given = [self.program, command, *FILES, *words]
-            with subprocess.Popen(given, cwd=self.folder, stdin=subprocess.DEVNULL, stdout=out, stderr=errors) as child:
-                waiting.wait(child, f"asking certpath {command}")
-            return child.returncode, text_of(out), text_of(errors).strip()
+        files = [self.files[it] for it in FILES]
+        given = [self.program, command, *map(children.path_of, files), *words]
+        try:
+            found = children.ran(given, f"asking certpath {command}", files=files)
+        except OSError as error:
+            raise Fault(faults.NO_PROGRAM, f"{self.program} can't be started: {error.strerror}") from error
+        return found.status, *(it.decode(errors="backslashreplace") for it in (found.output, found.errors.strip()))
 
     def ask(self, command, *words, moment=None):
         """The lines of a report, at the moment of the command line if none is given."""
@@ -53,7 +47,9 @@ class Workspace:
         status, report, said = self.ran(command, [*words, *at, *self.limits()])
         if status not in ANSWERS:
             raise Fault(status if status in ENDS else faults.NO_PROGRAM, f"certpath {command}: {said or f'it ended with status {status}'}")
-        return report.splitlines()
+        lines = report.splitlines()
+        self.lines += len(lines)
+        return lines
 
     def why(self, target, **further):
         return self.ask("why", "--target", str(target), **further)

@@ -11,11 +11,14 @@ from verify.faults import MEMORY, NO_PROGRAM, OUTDATED, Fault
 if installed.FOLDER not in sys.path:
     sys.path.insert(1, installed.FOLDER)
 import certpath
+import certpath.libcrypto
 import certpath.openssl
 
 Kind = certpath.Kind
 # So many certificates are kept as they are shown.
 MOST_SHOWN = 10_000
+# So many characters of a name are in a reason, of which there may be many.
+MOST_OF_NAME = 300
 
 
 def need():
@@ -44,6 +47,11 @@ class Shown(NamedTuple):
     def place(self):
         return f"anchor {self.position}" if self.is_anchor else f"item {self.position}"
 
+    @property
+    def name(self):
+        """The subject as it is in a reason."""
+        return shortened(self.subject)
+
 
 def name_of(name):
     """A name as text, in which what isn't printable is escaped; its octets if it has no text."""
@@ -51,6 +59,11 @@ def name_of(name):
         return escaped(name.text) or "(empty)"
     except certpath.BadName:
         return f"#{name.public_bytes().hex().upper()}"
+
+
+def shortened(name):
+    """A name as it is in a reason."""
+    return name if len(name) <= MOST_OF_NAME else f"{name[:MOST_OF_NAME]}.."
 
 
 def escaped(text):

@@ -1,8 +1,7 @@
 """How ./verify ends without an answer, and the statuses."""
 
-PATH, NONE, WORDS, NO_TARGET, UNREAD, MEMORY, UNWRITTEN, OUTDATED, NO_PROGRAM = 0, 1, 2, 3, 4, 6, 7, 69, 70
-# If a signal ends the run: this and its number, as shells say it.
-SIGNALLED = 128
+PATH, NONE, WORDS, NO_TARGET, UNREAD, MEMORY, UNWRITTEN = 0, 1, 2, 3, 4, 6, 7
+OUT_OF_TIME, OUTDATED, NO_PROGRAM = 9, 69, 70
 
 
 class Fault(Exception):

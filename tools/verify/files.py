@@ -2,13 +2,11 @@
 import os
 import re
 import shlex
-import subprocess
-import tempfile
 from typing import NamedTuple
 
 from pki import labels, reading
-from program import streams
-from verify import blocks, waiting
+from program import repo, streams
+from verify import blocks, children, waiting
 from verify.faults import NO_PROGRAM, UNREAD, Fault
 
 # What a PKCS #7 file of certificates and a PKCS #12 file begin with: headers of SEQUENCEs and an identifier (RFC 5652, 5.1; RFC 7292, 4).
@@ -18,7 +16,6 @@ DER_OF_SEVEN = re.compile(HEADER + SIGNED_DATA, re.S)
 DER_OF_TWELVE = re.compile(HEADER + rb"\x02\x01\x03" + HEADER + rb"(?:" + SIGNED_DATA + rb"|" + PLAIN_DATA + rb")", re.S)
 # So many PKCS #7 blocks of a PEM file are unpacked, each by a run of `openssl`.
 MOST_BLOCKS = 100
-SECONDS = 60
 # No file has more octets, so that an endless one ends.
 MOST_OCTETS = 1 << 28
 # Labels of blocks that may hold certificates, and of those that may hold lists.
@@ -104,6 +101,7 @@ def octets_of(file):
         raise Fault(UNREAD, str(error)) from error
     if len(found) > MOST_OCTETS:
         raise Fault(UNREAD, f"{file}: it has more than {MOST_OCTETS} octets; split it")
+    waiting.BUDGET.octets += len(found)
     return found
 
 
@@ -113,18 +111,13 @@ def in_shell(file, tail=""):
 
 
 def unpacked(file, words, octets):
-    """What `openssl` makes of octets that it reads from a file, none if it fails."""
-    with tempfile.NamedTemporaryFile(prefix="verify-") as it:
-        it.write(octets)
-        it.flush()
-        try:
-            ran = subprocess.run(["openssl", *words, "-in", it.name], stdin=subprocess.DEVNULL, capture_output=True, timeout=SECONDS)
-        except OSError as error:
-            what = "PKCS #7" if words[0] == "pkcs7" else "PKCS #12"
-            raise Fault(NO_PROGRAM, f"{file}: {what} is unpacked by the command openssl, which isn't there; install it, or give PEM or DER") from error
-        except subprocess.TimeoutExpired as error:
-            raise Fault(UNREAD, f"{file}: openssl {words[0]} takes more than {SECONDS} s to unpack it; {REMEDY}") from error
-    return ran.stdout if ran.returncode == 0 else None
+    """What `openssl` makes of octets, none if it fails."""
+    try:
+        ran = children.ran(["openssl", *words], f"openssl {words[0]} unpacks {streams.shown(file)}", octets)
+    except OSError as error:
+        what = "PKCS #7" if words[0] == "pkcs7" else "PKCS #12"
+        raise Fault(NO_PROGRAM, f"{file}: {what} is unpacked by the command openssl, which isn't there; install it, or give PEM or DER") from error
+    return ran.output if ran.status == 0 else None
 
 
 def of_seven(file, octets, form="DER"):
@@ -139,9 +132,10 @@ def of_twelve(file, octets):
     """The PEM blocks of a PKCS #12 file without a password, the certificate of its key first."""
     empty = ["-nokeys", "-passin", "pass:"]
     for further in ([], ["-legacy"]):
-        parts = [unpacked(file, ["pkcs12", *empty, which, *further], octets) for which in ("-clcerts", "-cacerts")]
-        if None not in parts:
-            return b"".join(parts)
+        own = unpacked(file, ["pkcs12", *empty, "-clcerts", *further], octets)
+        others = None if own is None else unpacked(file, ["pkcs12", *empty, "-cacerts", *further], octets)
+        if others is not None:
+            return own + others
     command = f"openssl pkcs12 -in {in_shell(file)} -nokeys -out {in_shell(file, '.pem')}"
     raise Fault(UNREAD, f"{file}: PKCS #12 with a password, or damaged; unpack it: {command}")
 

@@ -1,6 +1,9 @@
 """The graph of links and the path, as text for graphviz."""
 from verify import people
 
+# So many certificates and links are in a graph. The target and its path come first.
+MOST_NODES, MOST_EDGES = 500, 1_000
+
 
 def quoted(text):
     return '"' + text.replace("\\", "\\\\").replace('"', '\\"') + '"'
@@ -11,12 +14,10 @@ def label(*lines):
     return "\\n".join(quoted(line)[1:-1] for line in lines)
 
 
-def node(member, answer, on_path):
-    said = [one.sentence.text for one in answer.obstacles if one.of == member and one.to is None]
+def node(member, said, is_bad, on_path):
     shape = "house" if member.is_anchor else "box"
-    is_bad = bool(said) or member.place in answer.against()
     look = 'color="firebrick"' if is_bad else 'color="darkgreen", penwidth=2' if on_path else 'color="gray40"'
-    return f'  {quoted(member.place)} [shape={shape}, {look}, label="{label(member.place, member.subject, *said)}"];'
+    return f'  {quoted(member.place)} [shape={shape}, {look}, label="{label(member.place, member.name, *said)}"];'
 
 
 def edge(link, on_path):
@@ -24,14 +25,34 @@ def edge(link, on_path):
     return f'  {quoted(link.of.place)} -> {quoted(link.to.place)} [{look}, label="{label(*link.notes)}"];'
 
 
+def said_of(answer):
+    """What is against each certificate itself, by its place."""
+    found = {}
+    for it in answer.obstacles:
+        if it.to is None:
+            found.setdefault(it.of.place, []).append(it.sentence.text)
+    return found
+
+
+def nodes_of(answer):
+    """The certificates of the graph, by their places."""
+    first = [*answer.path, answer.anchor, answer.target]
+    further = [entry for one in answer.edges for entry in (one.of, one.to)] + [one.of for one in answer.obstacles]
+    return {entry.place: entry for entry in [*first, *further] if entry}
+
+
 def text(answer, moment):
     """The graph of one target: certificates, issuers above, the path in green, what stands in the way in red."""
     path = [entry.place for entry in [*answer.path, answer.anchor] if entry]
-    steps = {*zip(path, path[1:])}
-    nodes = {entry.place: entry for one in answer.edges for entry in (one.of, one.to)}
-    nodes.update({entry.place: entry for entry in [answer.target, *(one.of for one in answer.obstacles)] if entry})
+    steps, said, against, nodes = {*zip(path, path[1:])}, said_of(answer), answer.against(), nodes_of(answer)
+    shown = dict([*nodes.items()][:max(MOST_NODES, len(path))])
+    edges = [it for it in answer.edges if it.of.place in shown and it.to.place in shown]
+    edges = sorted(edges, key=lambda it: (it.of.place, it.to.place) not in steps)[:max(MOST_EDGES, len(path))]
+    head = [people.headline(answer, moment)]
+    if (len(shown), len(edges)) != (len(nodes), len(answer.edges)):
+        head.append(f"left out: {len(nodes) - len(shown)} certificates and {len(answer.edges) - len(edges)} links; --json has them all")
     lines = ["digraph certpath {", "  rankdir=BT;", '  node [fontname="Helvetica"];', '  edge [fontname="Helvetica", fontsize=10];',
-             f'  label="{label(people.headline(answer, moment))}";', "  labelloc=t;"]
-    lines += [node(one_node, answer, one_node.place in path) for one_node in nodes.values()]
-    lines += [edge(one_edge, (one_edge.of.place, one_edge.to.place) in steps) for one_edge in answer.edges]
+             f'  label="{label(*head)}";', "  labelloc=t;"]
+    lines += [node(it, said.get(place, []), place in said or place in against, place in path) for place, it in shown.items()]
+    lines += [edge(it, (it.of.place, it.to.place) in steps) for it in edges]
     return "".join(f"{line}\n" for line in [*lines, "}"])

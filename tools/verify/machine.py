@@ -17,7 +17,7 @@ def of_certificate(it):
 
 
 def of_obstacle(it):
-    return {"of": it.of.place, "subject": it.of.subject, "to": it.to.place if it.to else None, "reason": it.words,
+    return {"of": it.of.place, "subject": it.of.name, "to": it.to.place if it.to else None, "reason": it.words,
             "text": it.sentence.text, "rule": it.sentence.rule, "advice": it.sentence.advice}
 
 
@@ -50,12 +50,23 @@ def demanded(demands):
     return {name: it for name, it in asked.items() if it is not None}
 
 
-def text(answer, moment, beside):
-    """The line of one target."""
+def texts(answers, moment, beside):
+    """A line for each target. What is left out of the files is in the first line alone, and lists that aren't used and don't concern a
+    target are in the first line that has one."""
+    notes, are_listed = beside.notes, False
+    for it in answers:
+        yield text(it, moment, beside, [] if are_listed else people.lists_of_none(it), notes)
+        notes, are_listed = (), are_listed or it.target is not None
+
+
+def text(answer, moment, beside, further, notes):
+    """The line of one target, with further lists that aren't used, and notes of the files."""
+    lists = sorted([*answer.unused, *further], key=lambda it: it.position)
+    warnings = [*people.warnings(answer, moment), *map(people.of_list, further), *notes]
     return json.dumps({
         "version": VERSION, "headline": people.headline(answer, moment), "status": status_of(answer), "outcome": answer.outcome, "checked": answer.is_checked,
         "at": times.as_shown(moment), "target": of_certificate(answer.target), "path": [of_certificate(it) for it in answer.path],
         "anchor": of_certificate(answer.anchor), "reasons": reasons_of(answer),
-        "unused_lists": [of_list(it) for it in answer.unused], "doubts": people.doubts(answer), "warnings": [*people.warnings(answer, moment, beside.notes)],
+        "unused_lists": [*map(of_list, lists)], "doubts": people.doubts(answer), "warnings": warnings,
         "anchors": beside.anchors, "targets": beside.roles.targets, "helpers": beside.roles.helpers, "not_judged": [*answer.not_judged],
         **demanded(answer.demands)}, ensure_ascii=True) + "\n"

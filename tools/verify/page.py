@@ -3,8 +3,8 @@ from html import escape
 
 from verify import people, picture, times
 
-# So many targets have a part of the page.
-MOST_TARGETS = 500
+# So many targets have a part of the page, so many certificates of a path are in it, and so many lines of lists that aren't used.
+MOST_TARGETS, MOST_CERTIFICATES, MOST_LISTS = 500, 50, 100
 STYLE = """
 :root{color-scheme:light dark;--ground:#fff;--text:#1b1f24;--quiet:#57606a;--line:#c6ccd3;--good:#1a7f37;
 --bad:#b42318;--doubt:#8a5a00;--anchor:#3350a8;--card:#f6f8fa}
@@ -72,7 +72,9 @@ def why_not(answer):
     """The lines of what stands in the way."""
     if answer.is_refused or not answer.is_asked_why:
         return map(escape, people.why_not(answer))
-    return map(of_obstacle, answer.obstacles[:people.MOST_OBSTACLES])
+    further = len(answer.obstacles) - people.MOST_OBSTACLES
+    more = [f"and {further} further reasons; --json has them all"] if further > 0 else []
+    return [*map(of_obstacle, answer.obstacles[:people.MOST_OBSTACLES]), *more]
 
 
 def look(answer):
@@ -89,15 +91,28 @@ def of_answer(answer, number, moment):
     if answer.target is not None and not answer.is_accepted():
         found.append(listed("Why not", why_not(answer)))
     if answer.path:
-        found.append("<h2>Path</h2>" + "".join(map(of_certificate, [*answer.path, answer.anchor])))
-    found.append(listed("Warnings", map(escape, people.warnings(answer, moment, ()))))
+        found.append("<h2>Path</h2>" + "".join(map(of_certificate, [*answer.path[:MOST_CERTIFICATES], answer.anchor])))
+        further = len(answer.path) - MOST_CERTIFICATES
+        found.append(f"<p>and {further} further certificates; --json has them all</p>" if further > 0 else "")
+    found.append(listed("Warnings", few(people.warnings(answer, moment))))
     return "".join([*found, "</section>\n"])
 
 
-def of_all(count, beside, not_judged):
+def few(lines):
+    """Lines as HTML, the first ones if there are many."""
+    lines = [*lines]
+    further = [f"and {len(lines) - MOST_LISTS} further lines; --json has them all"] if len(lines) > MOST_LISTS else []
+    return [*map(escape, lines[:MOST_LISTS]), *further]
+
+
+def of_all(answers, beside):
     """The part that all targets share."""
+    count, not_judged = len(answers), answers[0].not_judged
     left_out = [f"{count - MOST_TARGETS} further targets; --json has them all"] if count > MOST_TARGETS else []
-    lists = (("Not on this page", left_out), ("Targets", map(escape, beside.roles.targets)), ("Helpers", map(escape, beside.roles.helpers)),
+    concerned = {one.position for it in answers for one in it.unused}
+    idle = next((it.idle for it in answers if it.idle), {})
+    unused = few(people.of_list(it) for position, it in idle.items() if position not in concerned)
+    lists = (("Not on this page", left_out), ("Lists that aren't used", unused), ("Targets", map(escape, beside.roles.targets)), ("Helpers", map(escape, beside.roles.helpers)),
              ("Files", map(escape, beside.notes)), ("Anchors", [escape(beside.anchors)]), ("Not judged", map(escape, not_judged)))
     return f'<section aria-label="All">{"".join(listed(*it) for it in lists)}</section>\n'
 
@@ -108,4 +123,4 @@ def text(answers, moment, beside):
     shown = answers if count <= MOST_TARGETS else sorted(answers, key=lambda it: ("bad", "doubt", "good").index(look(it)))[:MOST_TARGETS]
     parts = [of_answer(it, number, moment) for number, it in enumerate(shown)]
     title = escape(people.headline(answers[0], moment)) if count == 1 else f"{count} certificates at {times.as_shown(moment)}"
-    return "".join([HEAD.format(title=title, style=STYLE), *parts, of_all(count, beside, answers[0].not_judged), END])
+    return "".join([HEAD.format(title=title, style=STYLE), *parts, of_all(answers, beside), END])

@@ -45,7 +45,7 @@ def causes(unused):
 
 def doubt(unused):
     """What is said of a list that isn't used, and would or may revoke a certificate."""
-    what = f"{unused.of.place} {unused.of.subject}"
+    what = f"{unused.of.place} {unused.of.name}"
     list_named = f"list {unused.position} ({unused.file}), which isn't used: {causes(unused)}"
     return f"{what} is revoked by {list_named}" if unused.revokes == YES else f"whether {what} is revoked isn't known from {list_named}"
 
@@ -115,10 +115,10 @@ def of_certificate(it):
 def of_obstacle(it):
     """The lines of what stands in the way."""
     if it.to:
-        yield f"{it.of.place} {it.of.subject}"
-        yield f"    to {it.to.place} {it.to.subject}: {it.sentence.text}"
+        yield f"{it.of.place} {it.of.name}"
+        yield f"    to {it.to.place} {it.to.name}: {it.sentence.text}"
     else:
-        yield f"{it.of.place} {it.of.subject}: {it.sentence.text}"
+        yield f"{it.of.place} {it.of.name}: {it.sentence.text}"
     tail = "; ".join(part for part in (it.sentence.rule, it.sentence.advice) if part)
     if tail:
         yield f"    {tail}"
@@ -145,15 +145,20 @@ def of_answer(answer, moment):
 
 
 def lists_beside(answer):
-    """The lists that aren't used, but for those for which the path is refused."""
+    """The lists that aren't used and concern the target, but for those for which the path is refused."""
     return [it for it in answer.unused if not (answer.is_refused and it.revokes != NO)]
 
 
-def warnings(answer, moment, notes):
-    """All that one should know beside the answer."""
+def lists_of_none(answer):
+    """The lists that aren't used and don't concern the target."""
+    concerned = {it.position for it in answer.unused}
+    return [it for position, it in answer.idle.items() if position not in concerned]
+
+
+def warnings(answer, moment):
+    """What one should know of the target beside the answer."""
     yield from of_answer(answer, moment)
     yield from map(of_list, lists_beside(answer))
-    yield from notes
 
 
 def why_refused(answer):
@@ -195,16 +200,19 @@ def add_answer(made, answer, moment, roles):
 
 def text(answers, moment, beside, coloured, is_single):
     """The whole text, line by line. Warnings that several targets share are in it once, after all targets."""
-    made, shared, of_lists, not_judged = Text(coloured), {}, {}, ()
+    made, shared, of_lists, concerned, idle, not_judged = Text(coloured), {}, {}, set(), {}, ()
     for it in answers:
         not_judged = it.not_judged
         add_answer(made, it, moment, beside.roles if is_single else None)
         shared.update(dict.fromkeys(of_answer(it, moment)))
-        of_lists.update((id(one), one) for one in lists_beside(it))
+        of_lists.update(dict.fromkeys(map(of_list, lists_beside(it))))
+        concerned.update(one.position for one in it.unused)
+        idle = it.idle or idle
         yield from made.taken()
     if not is_single:
         add_roles(made, beside.roles)
-    made.section("warnings", dict.fromkeys([*shared, *map(of_list, of_lists.values()), *beside.notes]))
+    of_none = (of_list(it) for position, it in idle.items() if position not in concerned)
+    made.section("warnings", dict.fromkeys([*shared, *of_lists, *of_none, *beside.notes]))
     made.section("anchors", [beside.anchors])
     made.section("not judged", textwrap.wrap(", ".join(not_judged), COLUMNS))
     yield from made.taken()

@@ -9,6 +9,8 @@ BAR_LEFT, BAR_WIDTH, BAR_TOP, BAR_HEIGHT = 20, 320, 45, 8
 MARK = 3
 # So many characters of a name are in a box; the whole name is in the box's title.
 MOST_CHARACTERS = 44
+# So many certificates are in the picture.
+MOST_BOXES = 50
 
 
 def shortened(text):
@@ -16,16 +18,27 @@ def shortened(text):
 
 
 def steps(answer):
-    """The certificates of the path, the anchor last; if there is none, those that the target leads to, one way, as far as it goes."""
+    """The certificates of the path, the anchor last; if there is none, those that the target leads to, one way, as far as it goes and there
+    is room."""
     if answer.path:
         return [*answer.path, answer.anchor]
-    found = [answer.target] if answer.target else []
-    while found:
-        ways = [edge for edge in answer.edges if edge.of == found[-1] and edge.to not in found]
+    by_place = {}
+    for edge in answer.edges:
+        by_place.setdefault(edge.of.place, []).append(edge)
+    found, seen = [answer.target] if answer.target else [], {answer.target.place} if answer.target else set()
+    while found and len(found) <= MOST_BOXES:
+        ways = [edge for edge in by_place.get(found[-1].place, ()) if edge.to.place not in seen]
         if not ways:
             break
         found.append(min(ways, key=lambda way: (len(way.notes), not way.to.is_anchor)).to)
+        seen.add(found[-1].place)
     return found
+
+
+def with_room(found):
+    """The first certificates and the last one, as many as there is room for, and how many are left out between them."""
+    further = len(found) - MOST_BOXES
+    return ([*found[:MOST_BOXES - 1], found[-1]], further) if further > 0 else (found, 0)
 
 
 class Scale:
@@ -63,7 +76,7 @@ def arrow(top, notes):
 
 def svg(answer, moment, number):
     """The picture of one target; nothing if the target is no certificate."""
-    found = steps(answer)
+    found, further = with_room(steps(answer))
     if not found:
         return ""
     scale, height = Scale(found, moment), len(found) * (BOX + GAP) + 8
@@ -77,7 +90,9 @@ def svg(answer, moment, number):
     parts += [arrow(18 + BOX + k * (BOX + GAP), notes.get(step, [])) for k, step in enumerate(zip(places, places[1:]))]
     marks = "".join(f"M{at:.1f} {18 + k * (BOX + GAP) + BAR_TOP - MARK}v{BAR_HEIGHT + 2 * MARK}" for k in range(len(found)))
     parts.append(f'<g class="moment"><path d="{marks}"/><text x="{at:.1f}" y="11" text-anchor="{anchored}">{times.as_shown(moment)}</text></g>')
-    said = "; then ".join(f"{entry.place} {entry.subject}, valid {entry.begin:%Y-%m-%d} to {entry.end:%Y-%m-%d}" for entry in found)
+    if further:
+        parts.append(f'<text class="note" x="20" y="{height - GAP - BOX - 6}">{further} further certificates are left out here</text>')
+    said = "; then ".join(f"{entry.place} {entry.name}, valid {entry.begin:%Y-%m-%d} to {entry.end:%Y-%m-%d}" for entry in found)
     return (f'<svg viewBox="0 0 {WIDTH} {height}" role="img" aria-labelledby="t{number} d{number}">'
             f'<title id="t{number}">The way from the target up</title>'
             f'<desc id="d{number}">{escape(said)}; the moment is {times.as_shown(moment)}.</desc>'

@@ -1,12 +1,10 @@
 """The run of ./verify, from the words to the status."""
 import os
-import signal
-import tempfile
 from itertools import islice
 
 from pki import reading
 from pki.shapes import LIST, kind_of
-from program import repo, streams
+from program import programs, repo, streams
 from program.streams import counted
 from verify import (answers, asking, core, demands, faults, files, graph, machine, page, people, roles, signing, spelling, stores, waiting,
                     words)
@@ -16,10 +14,11 @@ from verify.report import Report, answers_of
 
 OTHER = "neither a certificate nor a list in its one spelling"
 CAUSES = f"the causes stand in {os.path.join(repo.TOP, 'docs', 'OTHER.md')}"
-# So many targets without a path are asked about, why; fewer if the items have so many octets that it would take minutes.
-MOST_WHYS, MOST_WHY_OCTETS = 100, 200_000_000
-# If there are no more questions than these, none is left out for one target's sake.
-FEW_QUESTIONS = 200
+# So many targets without a path are asked about, why; fewer if the items have so many octets that it would take minutes, or if what is
+# said has so many lines.
+MOST_WHYS, MOST_WHY_OCTETS, MOST_WHY_LINES = 100, 200_000_000, 100_000
+# If there are no more pairs of an item and a key than these, none is left out for one target's sake.
+FEW_PAIRS = 200
 # So many targets of the JSON are written at once.
 TOGETHER = 1_000
 # So many lines are said of what was left out.
@@ -52,7 +51,7 @@ class Inputs:
         certificates = [it for it in self.targets if not isinstance(it, str)]
         self.demands = demands.Demands(asked.host, asked.purpose, self.bundle, certificates)
         waiting.LINE.begin("looking for the keys of issuers")
-        self.questions = core.certpath.questions(self.bundle.items, self.anchors.items)
+        self.holders = signing.Holders(self.bundle, self.anchors)
 
     @staticmethod
     def is_file(word):
@@ -176,13 +175,14 @@ def is_fingerprint(word):
 
 
 def asked_of_openssl(inputs, workspace):
-    """The questions that OpenSSL is asked. Of many only those that one target leads to by names matter, as `certpath why` tells without any
-    voucher, and those of lists."""
-    if len(inputs.questions) <= FEW_QUESTIONS or len(inputs.targets) > 1:
-        return inputs.questions
+    """The items that OpenSSL is asked about. Of many only those that one target leads to by names matter, as `certpath why` says without any
+    voucher, and lists."""
+    signed = inputs.holders.signed
+    if len(inputs.targets) > 1 or inputs.holders.pairs(signed) <= FEW_PAIRS:
+        return signed
     workspace.vouch(core.certpath.Vouchers())
     reached = Report(workspace.why(inputs.targets[0])).nodes
-    return [it for it in inputs.questions if it.item in reached or inputs.bundle.items[it.item].kind is Kind.LIST]
+    return [it for it in signed if it in reached or inputs.bundle.items[it].kind is Kind.LIST]
 
 
 def all_answers(inputs, judge, workspace):
@@ -197,7 +197,7 @@ def all_answers(inputs, judge, workspace):
         report = known.get(target)
         if isinstance(target, str):
             yield answers.no_target(target)
-        elif report is None or not report.path and asked < most:
+        elif report is None or not report.path and asked < most and workspace.lines < MOST_WHY_LINES:
             asked += 1
             yield judge.answer(target)
         else:
@@ -207,17 +207,17 @@ def all_answers(inputs, judge, workspace):
 
 def answered(asked):
     """Answers the words, and gives the status."""
+    waiting.BUDGET.given = asked.seconds
     core.need()
     demands.need(asked.host, asked.purpose)
     inputs = Inputs(asked)
-    with tempfile.TemporaryDirectory(prefix="verify-") as folder:
-        if inputs.targets == [it for it in inputs.targets if isinstance(it, str)]:
-            return written(asked, inputs, map(answers.no_target, inputs.targets))
-        workspace = asking.Workspace(folder, inputs.bundle, inputs.anchors, asked)
-        found = signing.signatures(inputs.bundle, inputs.anchors, asked_of_openssl(inputs, workspace), asked.takes_weak)
-        found = found._replace(vouchers=inputs.demands.restricted(found.vouchers))
-        workspace.vouch(found.vouchers)
-        return written(asked, inputs, all_answers(inputs, answers.Judge(inputs, workspace, found), workspace))
+    if inputs.targets == [it for it in inputs.targets if isinstance(it, str)]:
+        return written(asked, inputs, map(answers.no_target, inputs.targets))
+    workspace = asking.Workspace(inputs.bundle, inputs.anchors, asked)
+    found = signing.signatures(inputs.holders, asked_of_openssl(inputs, workspace), asked.takes_weak)
+    found = found._replace(vouchers=inputs.demands.restricted(found.vouchers))
+    workspace.vouch(found.vouchers)
+    return written(asked, inputs, all_answers(inputs, answers.Judge(inputs, workspace, found), workspace))
 
 
 class CountedAnswers:
@@ -241,7 +241,7 @@ def written(asked, inputs, found):
         keep(asked.page, page.text(counted.found, asked.moment, beside))
     forms = {
         None: lambda: people.text(counted, asked.moment, beside, people.with_colour(), len(inputs.targets) == 1),
-        "json": lambda: (machine.text(it, asked.moment, beside) for it in counted),
+        "json": lambda: machine.texts(counted, asked.moment, beside),
         "dot": lambda: (graph.text(it, asked.moment) for it in counted),
         "quiet": lambda: ("" for _ in counted),
     }
@@ -269,15 +269,9 @@ def keep(file, text):
         raise Fault(faults.UNWRITTEN, f"{file}: cannot write it ({getattr(error, 'strerror', error)})") from error
 
 
-def end(number, _):
-    """Ends the run if a signal wants that; what it keeps in a folder goes away."""
-    raise SystemExit(faults.SIGNALLED + number)
-
-
 def main(arguments):
-    for number in (signal.SIGTERM, signal.SIGINT):
-        if signal.getsignal(number) is not signal.SIG_IGN:
-            signal.signal(number, end)
+    # (a signal ends the run at once, also within a call of a library; its programs end with it)
+    programs.end_by_interrupt()
     try:
         return core.run_of(lambda: answered(words.read(arguments)))
     except Fault as fault:
@@ -286,6 +280,3 @@ def main(arguments):
         if words.asks_for_json(arguments) and fault.status != faults.UNWRITTEN:
             streams.wrote(machine.fault(fault.status, streams.shown(str(fault))).encode())
         return fault.status
-    except SystemExit:
-        waiting.LINE.clear()
-        raise

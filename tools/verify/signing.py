@@ -1,21 +1,22 @@
-"""Signatures: the questions of the library, answered by OpenSSL."""
+"""Signatures: which keys verify those of which items, by OpenSSL."""
 from typing import NamedTuple
 
 from verify import waiting
-from verify.core import certpath
+from verify.core import Kind, certpath
 from verify.faults import NO_PROGRAM, Fault
 
-# If there are no more questions than these, each is answered; else at most so many for an item.
-FEW_QUESTIONS, MOST_TRIES = 20_000, certpath.openssl.MOST_TRIES
+# If there are no more pairs of an item and a key than these, each is tried; else at most so many keys of an item.
+FEW_PAIRS, MOST_TRIES = 20_000, certpath.openssl.MOST_TRIES
 NOT_TRIED = f"not tried: more than {MOST_TRIES} keys have its issuer's name"
 
 
 class Signatures(NamedTuple):
     """What OpenSSL says: vouchers; by an item's position and a key's octets in which words a verified signature is weak, and why others
-    aren't verified; and what asks it."""
+    aren't verified; which items it was asked about; and what asks it."""
     vouchers: object
     weak: dict
     refused: dict
+    asked: set
     openssl: object
 
     def weak_key(self, certificate):
@@ -26,22 +27,64 @@ class Signatures(NamedTuple):
         """In which words an item's signature is weak by the first key that verifies it, none if it isn't."""
         return next(iter(self.weak.get(item, {}).values()), None)
 
+    def why_refused(self, item, key):
+        """Why a key doesn't verify an item's signature, none if that isn't known."""
+        if item not in self.asked:
+            return None
+        found = self.refused.get(item, {})
+        return found if isinstance(found, str) else found.get(key, NOT_TRIED)
 
-def signatures(bundle, anchors, questions, takes_weak):
-    """Asks OpenSSL each of the questions."""
-    tries = max(len(questions), 1) if len(questions) <= FEW_QUESTIONS else MOST_TRIES
+
+class Checked(certpath.libcrypto.Verifier):
+    """Asks OpenSSL as long as seconds are left."""
+
+    def key(self, octets):
+        waiting.BUDGET.check("verifying signatures")
+        return super().key(octets)
+
+
+class Holders:
+    """Whose keys may have signed the items, by their issuers' names, each name once."""
+
+    def __init__(self, bundle, anchors):
+        self.bundle, self.anchors = bundle.items, anchors.items
+        self.by_name = certpath.holders_by_issuer(self.bundle, self.anchors)
+        self.signed = [*bundle.of_kind[Kind.CERTIFICATE], *bundle.of_kind[Kind.LIST]]
+
+    def certificates(self, name):
+        """The certificates whose subject is a name of an issuer."""
+        return [it.certificate(self.bundle, self.anchors) for it in self.by_name[name]]
+
+    def pairs(self, positions):
+        """How many pairs there are of items and keys that may have signed them."""
+        return sum(len(self.by_name[self.bundle[it].issuer]) for it in positions)
+
+
+def take(found, position, judged, item, takes_weak):
+    """Takes what OpenSSL says of an item."""
+    if judged.why:
+        found.refused[position] = judged.why
+    for it in judged.tried:
+        if it.why is not None:
+            found.refused.setdefault(position, {})[it.key] = f"OpenSSL: {it.why}"
+        elif it.weaknesses:
+            found.weak.setdefault(position, {})[it.key] = ", ".join(it.weaknesses)
+        if it.why is None and (takes_weak or not it.weaknesses):
+            found.vouchers.add(it.key, item.public_bytes())
+
+
+def signatures(holders, positions, takes_weak):
+    """Asks OpenSSL about the items at positions."""
+    pairs = holders.pairs(positions)
+    tries = max(pairs, 1) if pairs <= FEW_PAIRS else MOST_TRIES
     try:
-        found = Signatures(certpath.Vouchers(), {}, {}, certpath.openssl.verifier())
-        verdicts = certpath.openssl.answers(bundle.items, anchors.items, questions, tries, found.openssl)
-        for verdict in waiting.counted("verifying signatures", verdicts, len(questions)):
-            item, key = verdict.question.item, verdict.question.key_holder(bundle.items, anchors.items).public_key_bytes
-            if verdict.is_taken(takes_weak):
-                found.vouchers.add(key, bundle.items.octets(item))
-            if verdict.is_verified and verdict.weaknesses:
-                found.weak.setdefault(item, {})[key] = ", ".join(verdict.weaknesses)
-            elif verdict.why:
-                why = NOT_TRIED if verdict.why == certpath.openssl.NOT_TRIED else f"OpenSSL: {verdict.why}"
-                found.refused.setdefault(item, {})[key] = why
-    except certpath.openssl.Missing as error:
+        found = Signatures(certpath.Vouchers(), {}, {}, {*positions}, Checked())
+    except ImportError as error:
         raise Fault(NO_PROGRAM, f"OpenSSL, which verifies signatures, cannot be called: {error}") from error
+    judge, of_name = certpath.openssl.Judge(found.openssl, tries), {}
+    for position in waiting.counted("verifying signatures", positions, len(positions)):
+        item = holders.bundle[position]
+        if item.issuer not in of_name:
+            of_name[item.issuer] = judge.holders(holders.certificates(item.issuer))
+        take(found, position, judge.judged(item, of_name[item.issuer]), item, takes_weak)
     return found

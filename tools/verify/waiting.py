@@ -1,11 +1,17 @@
-"""Says on a terminal how far a run is that takes longer than a second."""
+"""How long a run may take, and how far it is: a terminal sees that if it takes longer than a second."""
+import os
 import subprocess
 import sys
 import time
 
+from verify.faults import OUT_OF_TIME, Fault
+
 # So long nothing is said, and so often it is said then.
 QUIET, OFTEN = 1.0, 0.5
 CLEAR = "\r\x1b[K"
+# A run and its programs may take so many seconds of a processor for each so many octets of its
+# files, unless --seconds says how many in all.
+SECONDS, MEGABYTE = 10, 1_000_000
 
 
 class Line:
@@ -47,10 +53,40 @@ class Line:
 LINE = Line()
 
 
+class Budget:
+    """The seconds of a processor that the run and its programs may take in all."""
+
+    def __init__(self):
+        self.given, self.octets = None, 0
+
+    def seconds(self):
+        """How many there are: those of --seconds, or as many as the octets of the files allow."""
+        return SECONDS * max(1, -(-self.octets // MEGABYTE)) if self.given is None else self.given
+
+    def left(self):
+        """How many are left, at least 0. (Programs count that have ended.)"""
+        return max(0.0, self.seconds() - sum(os.times()[:4]))
+
+    def check(self, title):
+        """Ends the run if none are left; says in what."""
+        if not self.left():
+            self.end(title)
+
+    def end(self, title):
+        """Ends the run."""
+        raise Fault(OUT_OF_TIME, f"the run takes more than {self.seconds()} s of a processor, "
+                    f"and has ended while {title}; --seconds N allows more")
+
+
+BUDGET = Budget()
+
+
 def counted(title, steps, count):
-    """The steps, while a terminal sees how many of them are done."""
+    """The steps, as long as seconds are left, while a terminal sees how many of them are done."""
     for number, step in enumerate(steps):
-        LINE.say(f"{title}: {number} of {count}")
+        said = f"{title}: {number} of {count}"
+        LINE.say(said)
+        BUDGET.check(said)
         yield step
 
 

@@ -6,7 +6,7 @@ from typing import NamedTuple
 
 from pki import reading
 from program import installed
-from verify import times
+from verify import times, waiting
 from verify.core import certpath
 from verify.faults import WORDS, Fault
 
@@ -19,8 +19,8 @@ that of `certpath why`, and signatures are verified by OpenSSL. docs/VERIFY.md h
 """
 ENDS = """\
 Exit status: 0 every target has a path; 1 one has none, or it is refused; 2 wrong words; 3 the target is no certificate;
-4 a file can't be read, or holds no anchor; 6 out of memory; 7 standard output fails; 69 dist/ is
-older than the sources; 70 no program could be run.
+4 a file can't be read, or holds no anchor; 6 out of memory; 7 standard output fails; 9 it takes longer
+than --seconds; 69 dist/ is older than the sources; 70 no program could be run.
 """
 NAME = installed.spelled("./verify")
 LARGEST = 4294967295
@@ -51,6 +51,7 @@ class Words(NamedTuple):
     takes_weak: bool
     ignores_unused: bool
     limit: str
+    seconds: int
     host: str
     purpose: str
     form: str
@@ -93,6 +94,14 @@ def number(word):
     return word
 
 
+def seconds(word):
+    """So many seconds, at least one."""
+    found = int(number(word))
+    if found < 1:
+        raise argparse.ArgumentTypeError(f"{reading.shortened(word)} is no number from 1 to {LARGEST}")
+    return found
+
+
 def parser():
     made = Parser(NAME, usage=f"{NAME} [OPTIONS] FILE..", description=ABOUT, epilog=installed.spelled(ENDS), allow_abbrev=False, formatter_class=argparse.RawDescriptionHelpFormatter)
     made.add_argument("files", metavar="FILE", nargs="*", help="certificates and lists, the target first; - is standard input")
@@ -115,6 +124,8 @@ def parser():
     made.add_argument("--purpose", metavar="NAME|OID",
                       help=f"each certificate has to be for this purpose: {', '.join(certpath.purposes.NAMES)}, or a number")
     made.add_argument("--limit", metavar="N", type=number, help="the most content octets of an item [default: 16777216]")
+    made.add_argument("--seconds", metavar="N", type=seconds,
+                      help=f"the most seconds of a processor [default: {waiting.SECONDS} for each 1,000,000 octets of the files]")
     form = made.add_mutually_exclusive_group()
     form.add_argument("--quiet", dest="form", action="store_const", const="quiet", help="print nothing; the status is the answer")
     form.add_argument("--json", dest="form", action="store_const", const="json", help="print a JSON object a line for each target")

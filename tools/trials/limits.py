@@ -1,0 +1,246 @@
+"""Bounds from outside: `ulimit -v`, `-t` and `-f`, and signals. A script that is short of memory
+says so in one line, with the status that is stated; no process and no cut file is left."""
+import os
+import resource
+import signal
+import subprocess
+import sys
+import tempfile
+import time
+
+from program import repo, sources
+from trials.count import INTERRUPTIBLE, Trial, size
+
+SECONDS = 600
+# So many seconds later a run has ended that is asked to. (It takes some hundredths of a second;
+# others may have the processors.)
+SOON = 10
+MEGABYTE = 1 << 20
+SAMPLES = os.path.join(repo.TOP, "samples")
+FULL, LIST, ROOT, BUNDLE, ROOT_DER, VOUCHERS = (
+    os.path.join(SAMPLES, it) for it in ("fullchain.pem", "list.pem", "root.pem", "bundle.der",
+                                         "root.der", "vouchers.txt"))
+AT, DAY = ("--at", "2026-12-01T00:00:00"), ("--at", "2026-12-01")
+UNLIMITED = ("--limit", "4294967295")
+PATHS = ("paths", BUNDLE, ROOT_DER, VOUCHERS, *AT)
+# Command lines on the samples, and the statuses that say that there is no memory, or too little for
+# the library or a program.
+COMMANDS = {
+    ("bundle", FULL, LIST): (6,),
+    ("vouch", BUNDLE, ROOT_DER): (4,),
+    ("verify", FULL, LIST, "--anchors", ROOT, *DAY): (4, 6, 70),
+    ("certpath", "path", BUNDLE, ROOT_DER, VOUCHERS, "--target", "0", *AT): (6, 70),
+}
+# Command lines on a file of many octets, with less memory than these, and how they end.
+LARGE, LITTLE = 96 * MEGABYTE, 90 * MEGABYTE
+ON_LARGE = (
+    (("bundle", "large"), 6, "bundle: out of memory"),
+    (("vouch", "large", ROOT_DER), 4, "vouch: out of memory"),
+    (("verify", "large", "--anchors", ROOT), 6, "verify: out of memory"),
+    (("certpath", "path", "large", ROOT_DER, VOUCHERS, "--target", "0", *AT, *UNLIMITED), 6,
+     "out of memory"),
+)
+# Python itself doesn't start with less.
+LEAST, MOST, STEP, FEWER_STEP = 24 * MEGABYTE, 104 * MEGABYTE, 4 * MEGABYTE, 16 * MEGABYTE
+# What ./verify waits for: a program that doesn't end, and a call of a library that takes minutes.
+WAITING = '#!/bin/sh\necho $$ >>"$0.began"\nexec sleep 600\n'
+ENDLESS = """\
+import ctypes, runpy, sys
+sys.path[:0] = [{tools!r}]
+from verify import core
+def need():
+    import certpath.libcrypto
+    print("called", flush=True)
+    room, times = ctypes.create_string_buffer(20), 1 << 30
+    certpath.libcrypto.loaded().PKCS5_PBKDF2_HMAC_SHA1(b"x", 1, b"x", 1, times, len(room), room)
+core.need = need
+sys.argv = {argv!r}
+runpy.run_path({script!r}, run_name="__main__")
+"""
+
+
+def script(name):
+    """The words that run a script. (Python is named, so that a limit is the script's alone.)"""
+    return [sys.executable, "-ISB" if name != "verify" else "-IB", os.path.join(repo.TOP, name)]
+
+
+def endless():
+    """The words of a run of ./verify that is within a call of a library."""
+    argv, tools = [os.path.join(repo.TOP, "verify"), FULL], os.path.join(repo.TOP, "tools")
+    return [sys.executable, "-c", ENDLESS.format(tools=tools, argv=argv, script=argv[0])]
+
+
+def limited(kind, most):
+    """Called in a new process: limits it."""
+    return lambda: resource.setrlimit(kind, (most, most))
+
+
+def is_there(process):
+    """Whether a process is there that hasn't ended."""
+    try:
+        with open(f"/proc/{process}/stat", encoding="ascii", errors="replace") as file:
+            return file.read().rpartition(")")[2].split()[0] not in ("Z", "X")
+    except OSError:
+        return False
+
+
+def wait_for(what):
+    """Waits until something is so; whether it is, at last."""
+    until = time.monotonic() + SECONDS
+    while not (is_so := what()) and time.monotonic() < until:
+        time.sleep(0.02)
+    return is_so
+
+
+class Limits(Trial):
+    def setUp(self):
+        self.need_libcrypto()
+        self.program()
+        room = tempfile.TemporaryDirectory(prefix="limits-")
+        self.addCleanup(room.cleanup)
+        self.room, self.temporary = room.name, os.path.join(room.name, "temporary")
+        os.mkdir(self.temporary)
+
+    def environment(self, **further):
+        return {**os.environ, "TMPDIR": self.temporary, "PYTHONDONTWRITEBYTECODE": "1", **further}
+
+    def run_limited(self, words, kind, most):
+        """A script's status, its output, and its lines on standard error, with a limit."""
+        return self.ran([*script(words[0]), *words[1:]], kind, most)
+
+    def ran(self, words, kind, most, output=subprocess.PIPE):
+        ran = subprocess.run(words, cwd=self.room, env=self.environment(), stdin=subprocess.DEVNULL,
+                             stdout=output, stderr=subprocess.PIPE, timeout=SECONDS,
+                             preexec_fn=limited(kind, most))
+        return ran.returncode, ran.stdout, ran.stderr.decode(errors="replace").splitlines()
+
+    def test_memory(self):
+        """With any memory a command answers as ever, or says in a line that there isn't enough."""
+        for words, statuses in COMMANDS.items():
+            wanted = self.run_limited(words, resource.RLIMIT_AS, resource.RLIM_INFINITY)
+            for most in range(LEAST, MOST, size(STEP, FEWER_STEP)):
+                status, output, errors = found = self.run_limited(words, resource.RLIMIT_AS, most)
+                is_short = status in statuses and output == b"" and len(errors) == 1
+                what = f"{words[0]} with {most // MEGABYTE} MB: {found!r:.600}"
+                self.row(found == wanted or is_short, what)
+
+    def test_large_files(self):
+        """A file that is larger than the memory is said to be so."""
+        with open(os.path.join(self.room, "large"), "wb") as file:
+            # (an item, which no header ends)
+            file.write(b"\x30\x84\x05\xff\xff\xfa")
+            file.truncate(LARGE)
+        for words, status, said in ON_LARGE:
+            found = self.run_limited(words, resource.RLIMIT_AS, LITTLE)
+            self.same(f"{words[0]} on a large file", found, (status, b"", [said]))
+        words = (*ON_LARGE[2][0], "--json")
+        status, output, errors = self.run_limited(words, resource.RLIMIT_AS, LITTLE)
+        self.same("verify --json on a large file", (status, b'"status": 6' in output, errors),
+                  (6, True, ["verify: out of memory"]))
+
+    def test_evidence(self):
+        """Evidence is whole, or isn't there: it is written beside its file, with its rights."""
+        words, file = ("certpath", *PATHS, "--evidence"), os.path.join(self.room, "evidence")
+
+        def run(name, most=MEGABYTE):
+            return self.run_limited((*words, name), resource.RLIMIT_FSIZE, most)
+
+        cut = (7, b"", ["cannot write evidence"])
+        self.same("evidence with `ulimit -f`", run("evidence", 20), cut)
+        self.same("what is left of it", os.listdir(self.room), ["temporary"])
+        sources.put(file, b"as it was", 0o600)
+        self.same("evidence in the place of another", run("evidence", 20), cut)
+        self.same("what is there", sources.octets_of(file), b"as it was")
+        self.same("evidence that is whole", run("evidence")[0], 1)
+        its = (sources.octets_of(file)[:20], os.stat(file).st_mode & 0o777)
+        self.same("what is there then", its, (b"certpath evidence 1\n", 0o600))
+        self.same("files then", sorted(os.listdir(self.room)), ["evidence", "temporary"])
+        link = os.path.join(self.room, "linked")
+        os.symlink("evidence", link)
+        self.same("evidence by a link", (run("linked")[0], os.path.islink(link)), (1, True))
+        self.same("no folder", run("none/evidence"), (4, b"", ["cannot create none/evidence"]))
+        self.same("a device", run(os.devnull)[0], 1)
+
+    def stopped(self, title, words, number, begun, end, **environment):
+        """A run that is asked to end when it has begun what it does: it ends at once, and so does
+        all that it started."""
+        child = subprocess.Popen([*INTERRUPTIBLE, *words], cwd=self.room,
+                                 env=self.environment(**environment), stdin=subprocess.DEVNULL,
+                                 stdout=subprocess.PIPE, stderr=subprocess.PIPE)
+        has_begun, processes = wait_for(lambda: begun(child)), self.processes()
+        asked = time.monotonic()
+        child.send_signal(number)
+        errors = child.communicate(timeout=SECONDS)[1]
+        wait_for(lambda: not any(map(is_there, processes)) or time.monotonic() > asked + SOON)
+        is_soon = time.monotonic() < asked + SOON
+        left = [it for it in processes if is_there(it)]
+        its = (has_begun, child.returncode, is_soon, left, errors)
+        self.same(title, its, (True, end, True, [], b""))
+        self.same(f"{title}: files", os.listdir(self.temporary), [])
+
+    def processes(self):
+        """The processes of the program that waits."""
+        path = os.path.join(self.room, "tools", "openssl.began")
+        return sources.octets_of(path).decode().split() if os.path.exists(path) else []
+
+    def test_signals(self):
+        """A signal ends a script and its programs at once: while it waits for one, and within a
+        call of a library."""
+        self.need("openssl")
+        tools, seven = os.path.join(self.room, "tools"), os.path.join(self.room, "all.p7b")
+        words = ["openssl", "crl2pkcs7", "-nocrl", "-certfile", FULL, "-out", seven]
+        subprocess.run(words, check=True)
+        sources.put(os.path.join(tools, "openssl"), WAITING.encode(), 0o755)
+        path, words = f"{tools}{os.pathsep}{os.environ['PATH']}", [*script("verify"), seven]
+        for number in (signal.SIGTERM, signal.SIGINT, signal.SIGHUP, signal.SIGKILL):
+            count = len(self.processes())
+            title = f"{number.name} while openssl unpacks"
+            self.stopped(title, [*words, "--anchors", ROOT], number,
+                         lambda _: len(self.processes()) > count, -number, PATH=path)
+        for number in (signal.SIGTERM, signal.SIGINT):
+            self.stopped(f"{number.name} within a call of a library", endless(), number,
+                         lambda child: child.stdout.readline() == b"called\n", -number)
+        for name, words in (("vouch", ("waits", ROOT_DER)), ("bundle", ("waits",))):
+            self.waits()
+            self.stopped(f"{name} waits for a file", [*script(name), *words], signal.SIGTERM,
+                         self.has_opened, -signal.SIGTERM)
+
+    def waits(self):
+        """A file that nobody writes, so that who reads it waits."""
+        path = os.path.join(self.room, "waits")
+        if not os.path.exists(path):
+            os.mkfifo(path)
+
+    def has_opened(self, _):
+        """Whether somebody reads the file that nobody writes: once that is so, it is opened."""
+        try:
+            writer = os.open(os.path.join(self.room, "waits"), os.O_WRONLY | os.O_NONBLOCK)
+        except OSError:
+            return False
+        self.addCleanup(os.close, writer)
+        return True
+
+    def test_signals_to_evidence(self):
+        """A run that writes evidence leaves nothing of it."""
+        words = ["paths", "waits", ROOT_DER, VOUCHERS, *AT, "--evidence", "evidence"]
+        for number in (signal.SIGTERM, signal.SIGINT):
+            self.waits()
+            title = f"{number.name} to paths --evidence"
+            command = [*script("certpath"), *words]
+            self.stopped(title, command, number, self.has_opened, 128 + number)
+            os.remove(os.path.join(self.room, "waits"))
+            self.same(f"{number.name}: what is left", os.listdir(self.room), ["temporary"])
+
+    def test_seconds(self):
+        """`ulimit -t` ends a run that computes for long; no file of it stays."""
+        status = self.ran(endless(), resource.RLIMIT_CPU, 1)[0]
+        self.row(status in (-signal.SIGXCPU, -signal.SIGKILL), f"`ulimit -t 1`: {status}")
+        self.same("`ulimit -t 1`: files", os.listdir(self.temporary), [])
+
+    def test_output(self):
+        """`ulimit -f`, as a full disk, is said where the output isn't whole."""
+        for name, words in (("bundle", (FULL, LIST)), ("vouch", (BUNDLE, ROOT_DER))):
+            with open(os.path.join(self.room, "output"), "wb") as out:
+                command, kind = [*script(name), *words], resource.RLIMIT_FSIZE
+                status, _, errors = self.ran(command, kind, 20, out)
+            self.same(f"{name} with `ulimit -f`", (status, errors[-1:]), (7, ["cannot write"]))
