@@ -60,7 +60,7 @@ fn report_by<'a, V: Vouch>(
     Ok(Reported { text, outcome })
 }
 
-/// The same for the items that meet a demand alone.
+/// The report of an answer whose path meets a demand.
 fn report_within<'a>(
     alloc: Global,
     inputs: &'a Inputs,

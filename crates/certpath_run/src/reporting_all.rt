@@ -70,7 +70,7 @@ fn report_all_by<'a, V: Vouch>(
     })
 }
 
-/// The same for the items that meet a demand alone. No item is the target.
+/// The report of an inventory in which each path meets a demand. No item is the target.
 fn report_all_within<'a>(
     alloc: Global,
     inputs: &'a Inputs,
