@@ -7,14 +7,14 @@ ghost use Rattle.certpath_cli.specs.Outcomes.{IsOfFile, IsOfFiles, IsUnopened, I
 use asn1_device::{ReadSource, WriteSink};
 use certpath_engine::{
     Command, Exit, FrameError, FrameOutcome, Input, ItemFiles, ItemInput, PathFiles, PathOutcome,
-    PathsOutcome, Question, QuestionsOutcome, RecheckFiles, RecheckOutcome, WordFault, frame,
-    frame_status, path_status, paths_status, questions_status, read_words, recheck_status,
+    PathsOutcome, Question, QuestionsOutcome, RecheckFiles, RecheckOutcome, WordFault, asked_of,
+    frame, frame_status, path_status, paths_status, questions_status, read_words, recheck_status,
     words_status,
 };
-use certpath_recheck::{RecheckError, run_recheck};
+use certpath_recheck::{RecheckError, run_recheck_for};
 use certpath_run::{
-    AllOutcome, AllSettings, Findings, Outcome, QuestionsError, RunError, find_evidence, run,
-    run_all, run_questions, run_why,
+    AllOutcome, AllSettings, AskedPurpose, Findings, Outcome, QuestionsError, RunError,
+    find_evidence_for, run_all_for, run_for, run_questions, run_why,
 };
 use certpath_sources::write_text;
 use std::alloc::Global;
@@ -41,16 +41,25 @@ fn status_of<R: Runtime + AllocGlobal>(rt: &R) -> u8 {
                 files,
                 evidence,
                 settings,
+                purpose,
             },
         ) => {
+            let asked = asked_of(&purpose);
             let outcome = match evidence {
-                Some(word) => show_paths(rt, files, word, &settings),
-                None => PathsOutcome::Found(find_paths(rt, files, &settings)),
+                Some(word) => show_paths(rt, files, word, &settings, asked),
+                None => PathsOutcome::Found(find_paths(rt, files, &settings, asked)),
             };
             tell(rt, paths_status(outcome))
         }
-        Ok(Command::Recheck { files, settings }) => {
-            tell(rt, recheck_status(recheck(rt, files, &settings)))
+        Ok(
+            Command::Recheck {
+                files,
+                settings,
+                purpose,
+            },
+        ) => {
+            let outcome = recheck(rt, files, &settings, asked_of(&purpose));
+            tell(rt, recheck_status(outcome))
         }
         Ok(Command::Questions { files, limit }) => {
             tell(rt, questions_status(ask_questions(rt, files, limit)))
@@ -110,12 +119,13 @@ fn find_path<'a, R: Runtime + AllocGlobal>(
         Err(outcome) => return outcome,
     };
     let mut writer = WriteSink::new(io::writer(rt));
-    let answer = run(
+    let answer = run_for(
         rt.alloc(),
         &mut inputs.bundle,
         &mut inputs.anchors,
         &mut inputs.vouchers,
         &question.settings,
+        &question.demand(),
         &mut writer,
     );
     PathOutcome::Ran(files, answer)
@@ -150,6 +160,7 @@ fn find_paths<'a, R: Runtime + AllocGlobal>(
     rt: &R,
     files: PathFiles<'a>,
     settings: &AllSettings,
+    purpose: Option<AskedPurpose<'_>>,
 ) -> PathOutcome<'a, AllOutcome>
     ensures { IsOfFiles files.entry result }
 {
@@ -158,12 +169,13 @@ fn find_paths<'a, R: Runtime + AllocGlobal>(
         Err(outcome) => return outcome,
     };
     let mut writer = WriteSink::new(io::writer(rt));
-    let answer = run_all(
+    let answer = run_all_for(
         rt.alloc(),
         &mut inputs.bundle,
         &mut inputs.anchors,
         &mut inputs.vouchers,
         settings,
+        purpose,
         &mut writer,
     );
     PathOutcome::Ran(files, answer)
@@ -175,6 +187,7 @@ fn show_paths<'a, R: Runtime + AllocGlobal>(
     files: PathFiles<'a>,
     evidence: &'a str,
     settings: &AllSettings,
+    purpose: Option<AskedPurpose<'_>>,
 ) -> PathsOutcome<'a>
     ensures { IsOfSearch files.entry evidence.entry.now result }
 {
@@ -182,12 +195,13 @@ fn show_paths<'a, R: Runtime + AllocGlobal>(
         Ok(inputs) => inputs,
         Err(outcome) => return PathsOutcome::Found(outcome),
     };
-    let found = find_evidence(
+    let found = find_evidence_for(
         rt.alloc(),
         &mut inputs.bundle,
         &mut inputs.anchors,
         &mut inputs.vouchers,
         settings,
+        purpose,
     );
     let findings = match found {
         Ok(findings) => findings,
@@ -242,6 +256,7 @@ fn recheck<'a, R: Runtime + AllocGlobal>(
     rt: &R,
     files: RecheckFiles<'a>,
     settings: &AllSettings,
+    purpose: Option<AskedPurpose<'_>>,
 ) -> RecheckOutcome<'a>
     ensures { IsOfRecheck files.entry result }
 {
@@ -256,13 +271,14 @@ fn recheck<'a, R: Runtime + AllocGlobal>(
         Err(_) => return RecheckOutcome::Unopened(files.evidence),
     };
     let mut writer = WriteSink::new(io::writer(rt));
-    let answer = run_recheck(
+    let answer = run_recheck_for(
         rt.alloc(),
         &mut inputs.bundle,
         &mut inputs.anchors,
         &mut inputs.vouchers,
         &mut evidence,
         settings,
+        purpose,
         &mut writer,
     );
     RecheckOutcome::Ran(files, answer)

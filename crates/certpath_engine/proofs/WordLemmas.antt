@@ -1,7 +1,10 @@
 -- What clap's clauses say of a subcommand, in the words of `Asks`.
-use Rattle.std.proofs.Common.{◌≡◌, ◌<◌, ℕ, suc, length, List, ◌∷◌, arith, Option, Some, None, true, codes, inr, refl, sym, ap, ◌∙◌, Result, Ok, Err}
+use Rattle.std.proofs.Common.{◌≡◌, ◌<◌, ℕ, suc, length, List, ◌∷◌, arith, Option, Some, None, true, codes, inr, refl, sym, ap, subst, ◌∙◌, Result, Ok, Err}
 use Rattle.std.specs.Option.{option_map}
 use Rattle.std.specs.Prelude.{slice_index_or}
+use Rattle.std.specs.Borrow.{Bor}
+use Rattle.host_names.specs.Refusals.{IsRefusedFor}
+use Rattle.host_names.specs.declared.refusal.Refusal.{Refusal}
 use Rattle.clap.specs.Matches.{found_of, first_value, subcommand_name_of}
 use Rattle.clap.specs.Simple.{App, HasMatchesOf, is_simple, subcommand_of, subcommand_rows_of}
 use Rattle.clap.specs.Walk.{Row, Text, first_of, rows_of}
@@ -11,7 +14,7 @@ use Rattle.clap.specs.declared.error.kind.ErrorKind.TheVariants.{OutOfMemory as 
 use Rattle.clap.proofs.WalkLemmas.{first_value-rows}
 use Rattle.clap.specs.declared.parser.matches.ArgMatches.{ArgMatches}
 use Rattle.certpath_engine.specs.Words.{certpath_app}
-use Rattle.certpath_engine.specs.Asking.{AreFrameTexts, ArePathTexts, AreQuestionsTexts, AreAllTexts, ArePathsTexts, AreRecheckTexts, LacksOneOf, TellsTexts, TellsQuestion, TellsAll, all_arguments, path_arguments, recheck_arguments, RefusesQuestion, RefusesSettings, AnswersTexts, IsRefusal}
+use Rattle.certpath_engine.specs.Asking.{AreFrameTexts, ArePathTexts, AreQuestionsTexts, AreAllTexts, ArePathsTexts, AreRecheckTexts, LacksOneOf, TellsTexts, TellsQuestion, TellsAll, all_arguments, path_arguments, recheck_arguments, RefusesHost, RefusesQuestion, RefusesSettings, AnswersTexts, IsRefusal}
 use Rattle.certpath_engine.specs.declared.texts.FrameTexts.{FrameTexts}
 use Rattle.certpath_engine.specs.declared.texts.PathTexts.{PathTexts}
 use Rattle.certpath_engine.specs.declared.questions_texts.QuestionsTexts.{QuestionsTexts}
@@ -58,6 +61,8 @@ told words name arguments rows (Ok asked) command t = (rows, command ∙ ap (λ 
 told words name arguments rows (Err (faults.Refused said)) command t = absurd t
 told words name arguments rows (Err faults.Number) command t = absurd t
 told words name arguments rows (Err faults.Moment) command t = absurd t
+told words name arguments rows (Err (faults.Host reason)) command t = absurd t
+told words name arguments rows (Err (faults.Purpose reason)) command t = absurd t
 told words name arguments rows (Err faults.OutOfMemory) command t = tt
 
 pub answers_texts : (app : App) (words : List Text) (m sub : ArgMatches) (name wanted : Text) (arguments : List Text) (r : Result Asked WordFault) → app ≡ certpath_app → HasMatchesOf app words m
@@ -71,6 +76,8 @@ pub refused_texts : (app : App) (words : List Text) (kind : ErrorKind) (fault : 
 refused_texts app words kind (faults.Refused said) is passes n = λ t. n (passes (ap (λ a. takes a words) is ∙ t))
 refused_texts app words kind faults.Number is passes n = absurd n
 refused_texts app words kind faults.Moment is passes n = absurd n
+refused_texts app words kind (faults.Host reason) is passes n = absurd n
+refused_texts app words kind (faults.Purpose reason) is passes n = absurd n
 refused_texts app words kind faults.OutOfMemory is passes n = tt
 
 -- ---- values
@@ -79,8 +86,9 @@ pub frame_values : (found : ArgMatches) (t : FrameTexts) → Some t.file.now ≡
     → AreFrameTexts (rows_of (found_of found)) t
 frame_values found t file limit = record { file = value found (codes "FILE") t.file.now file; limit = value found (codes "limit") t.limit.now limit }
 
-pub path_values : (found : ArgMatches) (t : PathTexts) → Some t.target.now ≡ first_value (found_of found) (codes "target") → AreAllTexts (rows_of (found_of found)) t.all → ArePathTexts (rows_of (found_of found)) t
-path_values found t target all = record { target = value found (codes "target") t.target.now target; all = all }
+pub path_values : (found : ArgMatches) (t : PathTexts) → Some t.target.now ≡ first_value (found_of found) (codes "target") → option_map (λ s. s.now) t.host ≡ first_value (found_of found) (codes "host")
+    → AreAllTexts (rows_of (found_of found)) t.all → ArePathTexts (rows_of (found_of found)) t
+path_values found t target host all = record { target = value found (codes "target") t.target.now target; host = sym (first_value-rows (found_of found) (codes "host")) ∙ sym host; all = all }
 
 pub paths_values : (found : ArgMatches) (t : PathsTexts) → option_map (λ s. s.now) t.evidence ≡ first_value (found_of found) (codes "evidence") → AreAllTexts (rows_of (found_of found)) t.all → ArePathsTexts (rows_of (found_of found)) t
 paths_values found t evidence all = record { all = all; evidence = sym (first_value-rows (found_of found) (codes "evidence")) ∙ sym evidence }
@@ -103,14 +111,15 @@ questions_values found t bundle anchors limit = record {
 pub all_values : (found : ArgMatches) (t : AllTexts) → Some t.bundle.now ≡ first_value (found_of found) (codes "BUNDLE") → Some t.anchors.now ≡ first_value (found_of found) (codes "ANCHORS")
     → Some t.vouchers.now ≡ first_value (found_of found) (codes "VOUCHERS") → Some t.moment.now ≡ first_value (found_of found) (codes "at")
     → Some t.demand.now ≡ first_value (found_of found) (codes "demand-lists") → Some t.limit.now ≡ first_value (found_of found) (codes "limit")
-    → AreAllTexts (rows_of (found_of found)) t
-all_values found t bundle anchors vouchers moment demand limit = record {
+    → option_map (λ s. s.now) t.purpose ≡ first_value (found_of found) (codes "purpose") → AreAllTexts (rows_of (found_of found)) t
+all_values found t bundle anchors vouchers moment demand limit purpose = record {
   bundle = value found (codes "BUNDLE") t.bundle.now bundle;
   anchors = value found (codes "ANCHORS") t.anchors.now anchors;
   vouchers = value found (codes "VOUCHERS") t.vouchers.now vouchers;
   moment = value found (codes "at") t.moment.now moment;
   demand = value found (codes "demand-lists") t.demand.now demand;
   limit = value found (codes "limit") t.limit.now limit;
+  purpose = sym (first_value-rows (found_of found) (codes "purpose")) ∙ sym purpose;
 }
 
 -- ---- faults, handed on
@@ -119,28 +128,43 @@ pub question_fault : (name : Text) (rows : List Row) (fault : WordFault) → Tel
 question_fault name rows (faults.Refused said) t = t
 question_fault name rows faults.Number t = t
 question_fault name rows faults.Moment t = t
+question_fault name rows (faults.Host reason) t = t
+question_fault name rows (faults.Purpose reason) t = t
 question_fault name rows faults.OutOfMemory t = t
 
 pub all_fault : (name : Text) (rows : List Row) (fault : WordFault) → TellsAll rows (Err fault) → TellsTexts name all_arguments rows (Err fault)
 all_fault name rows (faults.Refused said) t = t
 all_fault name rows faults.Number t = t
 all_fault name rows faults.Moment t = t
+all_fault name rows (faults.Host reason) t = t
+all_fault name rows (faults.Purpose reason) t = t
 all_fault name rows faults.OutOfMemory t = t
 
 pub target_fault : (rows : List Row) (fault : WordFault) → TellsAll rows (Err fault) → TellsQuestion rows (Err fault)
 target_fault rows (faults.Refused said) t = t
 target_fault rows faults.Number t = t
 target_fault rows faults.Moment t = t
+target_fault rows (faults.Host reason) t = t
+target_fault rows (faults.Purpose reason) t = t
 target_fault rows faults.OutOfMemory t = lacks_further (codes "target") all_arguments rows t
 
 pub evidence_fault : (name : Text) (rows : List Row) (fault : WordFault) → TellsAll rows (Err fault) → TellsTexts name recheck_arguments rows (Err fault)
 evidence_fault name rows (faults.Refused said) t = t
 evidence_fault name rows faults.Number t = t
 evidence_fault name rows faults.Moment t = t
+evidence_fault name rows (faults.Host reason) t = t
+evidence_fault name rows (faults.Purpose reason) t = t
 evidence_fault name rows faults.OutOfMemory t = lacks_further (codes "EVIDENCE") all_arguments rows t
 
 pub settings_fault : (t : PathTexts) (fault : WordFault) → RefusesSettings t.all fault → RefusesQuestion t fault
 settings_fault t (faults.Refused said) r = r
 settings_fault t faults.Number r = inr r
 settings_fault t faults.Moment r = r
+settings_fault t (faults.Host reason) r = r
+settings_fault t (faults.Purpose reason) r = r
 settings_fault t faults.OutOfMemory r = r
+
+-- ---- hosts
+
+pub refused_host : (word : Option (Bor Text)) (text : Bor Text) (octets : Text) (reason : Refusal) → word ≡ Some text → octets ≡ text.now → IsRefusedFor octets reason → RefusesHost word (faults.Host reason)
+refused_host word text octets reason is same refused = subst (λ w. RefusesHost w (faults.Host reason)) (sym is) (subst (λ t. IsRefusedFor t reason) same refused)

@@ -1,6 +1,7 @@
 -- What the words of the command line ask for. Which values clap gives to which words is said in the terms of the crate `clap`: `takes`
 -- (it accepts the words) and `subcommand_of` (the subcommand's name, and a row of values for each argument).
-use Rattle.std.specs.Prelude.{◌≡◌, ◌≢◌, ◌↔◌, ◌⊎◌, ℕ, ◌^◌, ◌<◌, true, List, [], ◌∷◌, Contains, None, Some, Result, Ok, Err, IsTrue, codes}
+use Rattle.std.specs.Prelude.{◌≡◌, ◌≢◌, ◌↔◌, ◌⊎◌, ℕ, ◌^◌, ◌<◌, true, List, [], ◌∷◌, Contains, Option, None, Some, Result, Ok, Err, IsTrue, codes, string_bytes}
+use Rattle.std.specs.Borrow.{Bor}
 use Rattle.std.specs.Option.{option_map}
 use Rattle.clap.specs.Walk.{Row, Text, first_of}
 use Rattle.clap.specs.Simple.{subcommand_of}
@@ -9,6 +10,13 @@ use Rattle.clap.specs.declared.error.kind.ErrorKind.{ErrorKind}
 use Rattle.clap.specs.declared.error.kind.ErrorKind.TheVariants.{OutOfMemory as NoMemory}
 use Rattle.cert_model.specs.Fields.{CivilTime}
 use Rattle.cert_model.specs.View.{time_view}
+use Rattle.host_names.specs.Asked.{AsksFor}
+use Rattle.host_names.specs.Refusals.{IsRefusedFor}
+use Rattle.purpose_names.specs.Reading.{WritesPurpose, RefusesPurpose}
+use Rattle.purpose_names.specs.Showing.{IsShown}
+use Rattle.certpath_sources.specs.declared.demand.AskedHost.{AskedHost}
+use Rattle.certpath_sources.specs.declared.demand.AskedPurpose.{AskedPurpose}
+use Rattle.certpath_sources.specs.declared.demand.Demand.{Demand}
 use Rattle.certpath_moment.specs.Moments.{WritesMoment}
 use Rattle.certpath_engine.specs.Numbers.{WritesNumber}
 use Rattle.certpath_engine.specs.Words.{certpath_app}
@@ -23,10 +31,12 @@ use Rattle.certpath_engine.specs.declared.texts.RecheckTexts.{RecheckTexts}
 use Rattle.certpath_sources.specs.declared.settings.AllSettings.{AllSettings}
 use Rattle.certpath_run.specs.declared.settings.Settings.{Settings}
 use Rattle.certpath_engine.specs.declared.path_exit.PathFiles.{PathFiles}
+use Rattle.certpath_engine.specs.declared.demands.Purpose.{Purpose}
+use Rattle.certpath_engine.specs.declared.words.Question.{Question}
 use Rattle.certpath_engine.specs.declared.words.Command.{Command}
 use Rattle.certpath_engine.specs.declared.words.Command.TheVariants.{Frame, Path, Why, Questions, Paths, Recheck}
 use Rattle.certpath_engine.specs.declared.words.WordFault.{WordFault}
-use Rattle.certpath_engine.specs.declared.words.WordFault.TheVariants.{Refused, Number, Moment, OutOfMemory}
+use Rattle.certpath_engine.specs.declared.words.WordFault.TheVariants.{Refused, Number, Moment, Host, Purpose as PurposeFault, OutOfMemory}
 
 -- the values of a command's words
 pub record AreFrameTexts (rows : List Row) (t : FrameTexts) : Type 0 where
@@ -45,9 +55,11 @@ pub record AreAllTexts (rows : List Row) (t : AllTexts) : Type 0 where
   pub moment : first_of (codes "at") rows ≡ Some t.moment.now
   pub demand : first_of (codes "demand-lists") rows ≡ Some t.demand.now
   pub limit : first_of (codes "limit") rows ≡ Some t.limit.now
+  pub purpose : first_of (codes "purpose") rows ≡ option_map (λ s. s.now) t.purpose
 
 pub record ArePathTexts (rows : List Row) (t : PathTexts) : Type 0 where
   pub target : first_of (codes "target") rows ≡ Some t.target.now
+  pub host : first_of (codes "host") rows ≡ option_map (λ s. s.now) t.host
   pub all : AreAllTexts rows t.all
 
 pub record ArePathsTexts (rows : List Row) (t : PathsTexts) : Type 0 where
@@ -102,6 +114,8 @@ TellsTexts name arguments rows (Ok asked) = (name_of asked ≡ name) × AsksOf r
 TellsTexts name arguments rows (Err (Refused said)) = ⊥
 TellsTexts name arguments rows (Err Number) = ⊥
 TellsTexts name arguments rows (Err Moment) = ⊥
+TellsTexts name arguments rows (Err (Host reason)) = ⊥
+TellsTexts name arguments rows (Err (PurposeFault reason)) = ⊥
 TellsTexts name arguments rows (Err OutOfMemory) = LacksOneOf arguments rows
 
 -- the words of a question on one target; none only where one of its arguments has no value
@@ -110,6 +124,8 @@ TellsQuestion rows (Ok texts) = ArePathTexts rows texts
 TellsQuestion rows (Err (Refused said)) = ⊥
 TellsQuestion rows (Err Number) = ⊥
 TellsQuestion rows (Err Moment) = ⊥
+TellsQuestion rows (Err (Host reason)) = ⊥
+TellsQuestion rows (Err (PurposeFault reason)) = ⊥
 TellsQuestion rows (Err OutOfMemory) = LacksOneOf path_arguments rows
 
 -- the files, and how all items are judged; likewise
@@ -118,6 +134,8 @@ TellsAll rows (Ok texts) = AreAllTexts rows texts
 TellsAll rows (Err (Refused said)) = ⊥
 TellsAll rows (Err Number) = ⊥
 TellsAll rows (Err Moment) = ⊥
+TellsAll rows (Err (Host reason)) = ⊥
+TellsAll rows (Err (PurposeFault reason)) = ⊥
 TellsAll rows (Err OutOfMemory) = LacksOneOf all_arguments rows
 
 -- clap reads the words as this command with these values
@@ -138,6 +156,8 @@ ReadsFrame t (Ok _) = ⊥
 ReadsFrame t (Err (Refused said)) = ⊥
 ReadsFrame t (Err Number) = IsNoNumber t.limit.now
 ReadsFrame t (Err Moment) = ⊥
+ReadsFrame t (Err (Host reason)) = ⊥
+ReadsFrame t (Err (PurposeFault reason)) = ⊥
 ReadsFrame t (Err OutOfMemory) = ⊥
 
 -- the words name these files
@@ -155,12 +175,14 @@ abbrev pub RefusesSettings : AllTexts → WordFault → Type 0
 RefusesSettings t (Refused said) = ⊥
 RefusesSettings t Number = IsNoNumber t.limit.now
 RefusesSettings t Moment = IsNoMoment t.moment.now
+RefusesSettings t (Host reason) = ⊥
+RefusesSettings t (PurposeFault reason) = ⊥
 RefusesSettings t OutOfMemory = ⊥
 
 -- the words of a question write these values
-abbrev pub WritesQuestion : PathTexts → PathFiles → Settings → Type 0
-WritesQuestion t files settings =
-    NamesFiles t.all files × WritesNumber t.target.now settings.target × WritesMoment t.all.moment.now (time_view settings.policy.moment)
+abbrev pub WritesTarget : PathTexts → Settings → Type 0
+WritesTarget t settings =
+    WritesNumber t.target.now settings.target × WritesMoment t.all.moment.now (time_view settings.policy.moment)
     × (IsTrue settings.policy.demand_lists ↔ (t.all.demand.now ≡ codes "true")) × WritesNumber t.all.limit.now settings.limit
 
 -- or they write none
@@ -168,18 +190,63 @@ abbrev pub RefusesQuestion : PathTexts → WordFault → Type 0
 RefusesQuestion t (Refused said) = ⊥
 RefusesQuestion t Number = IsNoNumber t.target.now ⊎ IsNoNumber t.all.limit.now
 RefusesQuestion t Moment = IsNoMoment t.all.moment.now
+RefusesQuestion t (Host reason) = ⊥
+RefusesQuestion t (PurposeFault reason) = ⊥
 RefusesQuestion t OutOfMemory = ⊥
 
+-- the word of --host asks for this host, which is shown as it is written; there is none where there is no word
+abbrev pub WritesHost : Option (Bor Text) → Option AskedHost → Type 0
+WritesHost None None = Unit {0}
+WritesHost None (Some asked) = ⊥
+WritesHost (Some text) None = ⊥
+WritesHost (Some text) (Some asked) = AsksFor text.now asked.host × (asked.shown.now ≡ text.now)
+
+-- or it asks for none
+abbrev pub RefusesHost : Option (Bor Text) → WordFault → Type 0
+RefusesHost None fault = ⊥
+RefusesHost (Some text) (Host reason) = IsRefusedFor text.now reason
+RefusesHost (Some text) fault = ⊥
+
+-- the word of --purpose asks for this purpose, and so it is shown
+abbrev pub WritesPurposeOf : Option (Bor Text) → Option Purpose → Type 0
+WritesPurposeOf None None = Unit {0}
+WritesPurposeOf None (Some purpose) = ⊥
+WritesPurposeOf (Some text) None = ⊥
+WritesPurposeOf (Some text) (Some purpose) = WritesPurpose text.now purpose.identifier × IsShown purpose.identifier (string_bytes purpose.shown)
+
+-- or it asks for none, or there is no memory for it
+abbrev pub RefusesPurposeOf : Option (Bor Text) → WordFault → Type 0
+RefusesPurposeOf None fault = ⊥
+RefusesPurposeOf (Some text) (PurposeFault reason) = RefusesPurpose text.now reason
+RefusesPurposeOf (Some text) OutOfMemory = Unit {0}
+RefusesPurposeOf (Some text) fault = ⊥
+
 -- what is answered to the words behind `path`, and behind `why`
+abbrev pub AsksQuestion : PathTexts → Question → Type 0
+AsksQuestion t question = NamesFiles t.all question.files × WritesTarget t question.settings × WritesHost t.host question.host × WritesPurposeOf t.all.purpose question.purpose
+
+-- a run is asked for this purpose, and for what a question demands
+abbrev pub AsksPurpose : Option Purpose → Option AskedPurpose → Type 0
+AsksPurpose None None = Unit {0}
+AsksPurpose None (Some asked) = ⊥
+AsksPurpose (Some purpose) None = ⊥
+AsksPurpose (Some purpose) (Some asked) = (asked.identifier.now ≡ purpose.identifier) × (asked.shown.now ≡ string_bytes purpose.shown)
+
+abbrev pub AsksDemand : Question → Demand → Type 0
+AsksDemand question demand = (demand.host ≡ question.host) × AsksPurpose question.purpose demand.purpose
+
+abbrev pub RefusesDemands : PathTexts → WordFault → Type 0
+RefusesDemands t fault = RefusesQuestion t fault ⊎ (RefusesHost t.host fault ⊎ RefusesPurposeOf t.all.purpose fault)
+
 abbrev pub ReadsPath : PathTexts → Result Command WordFault → Type 0
-ReadsPath t (Ok (Path question)) = WritesQuestion t question.files question.settings
+ReadsPath t (Ok (Path question)) = AsksQuestion t question
 ReadsPath t (Ok _) = ⊥
-ReadsPath t (Err fault) = RefusesQuestion t fault
+ReadsPath t (Err fault) = RefusesDemands t fault
 
 abbrev pub ReadsWhy : PathTexts → Result Command WordFault → Type 0
-ReadsWhy t (Ok (Why question)) = WritesQuestion t question.files question.settings
+ReadsWhy t (Ok (Why question)) = AsksQuestion t question
 ReadsWhy t (Ok _) = ⊥
-ReadsWhy t (Err fault) = RefusesQuestion t fault
+ReadsWhy t (Err fault) = RefusesDemands t fault
 
 -- and behind `questions`
 abbrev pub ReadsQuestions : QuestionsTexts → Result Command WordFault → Type 0
@@ -188,19 +255,23 @@ ReadsQuestions t (Ok _) = ⊥
 ReadsQuestions t (Err (Refused said)) = ⊥
 ReadsQuestions t (Err Number) = IsNoNumber t.limit.now
 ReadsQuestions t (Err Moment) = ⊥
+ReadsQuestions t (Err (Host reason)) = ⊥
+ReadsQuestions t (Err (PurposeFault reason)) = ⊥
 ReadsQuestions t (Err OutOfMemory) = ⊥
 
 -- and behind `paths`
 abbrev pub ReadsPaths : PathsTexts → Result Command WordFault → Type 0
-ReadsPaths t (Ok (Paths files evidence settings)) = NamesFiles t.all files × (option_map (λ s. s.now) evidence ≡ option_map (λ s. s.now) t.evidence) × WritesSettings t.all settings
+ReadsPaths t (Ok (Paths files evidence settings purpose)) =
+    NamesFiles t.all files × (option_map (λ s. s.now) evidence ≡ option_map (λ s. s.now) t.evidence) × WritesSettings t.all settings × WritesPurposeOf t.all.purpose purpose
 ReadsPaths t (Ok _) = ⊥
-ReadsPaths t (Err fault) = RefusesSettings t.all fault
+ReadsPaths t (Err fault) = RefusesSettings t.all fault ⊎ RefusesPurposeOf t.all.purpose fault
 
 -- and behind `recheck`
 abbrev pub ReadsRecheck : RecheckTexts → Result Command WordFault → Type 0
-ReadsRecheck t (Ok (Recheck files settings)) = NamesFiles t.all files.searched × (files.evidence.now ≡ t.evidence.now) × WritesSettings t.all settings
+ReadsRecheck t (Ok (Recheck files settings purpose)) =
+    NamesFiles t.all files.searched × (files.evidence.now ≡ t.evidence.now) × WritesSettings t.all settings × WritesPurposeOf t.all.purpose purpose
 ReadsRecheck t (Ok _) = ⊥
-ReadsRecheck t (Err fault) = RefusesSettings t.all fault
+ReadsRecheck t (Err fault) = RefusesSettings t.all fault ⊎ RefusesPurposeOf t.all.purpose fault
 
 -- what is answered to a command's words
 abbrev pub Reads : Asked → Result Command WordFault → Type 0
@@ -217,6 +288,8 @@ AnswersWords words (Ok command) = (asked : Asked) × Asks words asked × Reads a
 AnswersWords words (Err (Refused said)) = ¬ (takes certpath_app words ≡ true)
 AnswersWords words (Err Number) = (asked : Asked) × Asks words asked × Reads asked (Err Number)
 AnswersWords words (Err Moment) = (asked : Asked) × Asks words asked × Reads asked (Err Moment)
+AnswersWords words (Err (Host reason)) = (asked : Asked) × Asks words asked × Reads asked (Err (Host reason))
+AnswersWords words (Err (PurposeFault reason)) = (asked : Asked) × Asks words asked × Reads asked (Err (PurposeFault reason))
 AnswersWords words (Err OutOfMemory) = Unit {0}
 
 -- the same of the words alone, before they are read
@@ -225,6 +298,8 @@ AnswersTexts words (Ok asked) = Asks words asked
 AnswersTexts words (Err (Refused said)) = ¬ (takes certpath_app words ≡ true)
 AnswersTexts words (Err Number) = ⊥
 AnswersTexts words (Err Moment) = ⊥
+AnswersTexts words (Err (Host reason)) = ⊥
+AnswersTexts words (Err (PurposeFault reason)) = ⊥
 AnswersTexts words (Err OutOfMemory) = Unit {0}
 
 -- what is answered where clap's error has this kind
@@ -232,4 +307,6 @@ abbrev pub IsRefusal : ErrorKind → WordFault → Type 0
 IsRefusal kind (Refused said) = kind ≢ NoMemory
 IsRefusal kind Number = ⊥
 IsRefusal kind Moment = ⊥
+IsRefusal kind (Host reason) = ⊥
+IsRefusal kind (PurposeFault reason) = ⊥
 IsRefusal kind OutOfMemory = Unit {0}

@@ -3,14 +3,18 @@ use Rattle.std.specs.Prelude.{ℕ, List, [], ◌∷◌, ◌++◌, Option, None, 
 use Rattle.std.specs.Fmt.{decimal}
 use Rattle.cert_framing.specs.declared.ending.End.{End}
 use Rattle.cert_framing.specs.declared.ending.End.TheVariants.{Clean, Cut, Fault}
+use Rattle.host_names.specs.declared.refusal.Refusal.{Refusal}
+use Rattle.purpose_names.specs.declared.refusal.PurposeRefusal.{PurposeRefusal}
+use Rattle.purpose_names.specs.Reading.{reason_of}
+use Rattle.certpath_engine.specs.Refusals.{host_reason}
 use Rattle.certpath_engine.specs.declared.exit.FrameOutcome.{FrameOutcome}
 use Rattle.certpath_engine.specs.declared.exit.FrameOutcome.TheVariants.{Unopened, Framed}
 use Rattle.certpath_engine.specs.declared.exit.Message.{Message}
-use Rattle.certpath_engine.specs.declared.exit.Message.TheVariants.{Usage, BadNumber, BadMoment, CannotRead, CannotCreate, VouchersLine, EvidenceLine, OutOfMemory as NoMemory, CannotWrite, CannotWriteTo}
+use Rattle.certpath_engine.specs.declared.exit.Message.TheVariants.{Usage, BadNumber, BadMoment, BadHost, BadPurpose, OtherPurpose, CannotRead, CannotCreate, VouchersLine, EvidenceLine, OutOfMemory as NoMemory, CannotWrite, CannotWriteTo}
 use Rattle.certpath_engine.specs.declared.framing.FrameError.{FrameError}
 use Rattle.certpath_engine.specs.declared.framing.FrameError.TheVariants.{Read, TooLong, OutOfMemory, Write}
 use Rattle.certpath_engine.specs.declared.words.WordFault.{WordFault}
-use Rattle.certpath_engine.specs.declared.words.WordFault.TheVariants.{Refused, Number, Moment, OutOfMemory as NoWordMemory}
+use Rattle.certpath_engine.specs.declared.words.WordFault.TheVariants.{Refused, Number, Moment, Host, Purpose, OutOfMemory as NoWordMemory}
 
 -- each of the program's own texts is one line
 abbrev pub line : List ℕ → List ℕ
@@ -31,11 +35,22 @@ vouchers_line number = line (codes "vouchers line " ++ decimal number)
 abbrev pub evidence_line : ℕ → List ℕ
 evidence_line number = line (codes "evidence line " ++ decimal number)
 
+abbrev pub bad_host : Refusal → List ℕ
+bad_host reason = line (codes "bad host: " ++ host_reason reason)
+
+abbrev pub bad_purpose : PurposeRefusal → List ℕ
+bad_purpose reason = line (codes "bad purpose: " ++ reason_of reason)
+
+abbrev pub other_purpose : List ℕ
+other_purpose = line (codes "the evidence is for another purpose")
+
 -- status and text where the words are refused or ask for help
 abbrev pub words_exit_of : WordFault → ℕ × List ℕ
 words_exit_of (Refused text) = (2, string_bytes text)
 words_exit_of Number = (2, line (codes "bad number"))
 words_exit_of Moment = (2, line (codes "bad moment"))
+words_exit_of (Host reason) = (2, bad_host reason)
+words_exit_of (Purpose reason) = (2, bad_purpose reason)
 words_exit_of NoWordMemory = (6, line (codes "out of memory"))
 
 -- status and text where the file of this word was opened
@@ -58,6 +73,9 @@ abbrev pub message_text : Message → List ℕ
 message_text (Usage text) = string_bytes text
 message_text BadNumber = line (codes "bad number")
 message_text BadMoment = line (codes "bad moment")
+message_text (BadHost reason) = bad_host reason
+message_text (BadPurpose reason) = bad_purpose reason
+message_text OtherPurpose = other_purpose
 message_text (CannotRead word) = cannot_read word.now
 message_text (CannotCreate word) = cannot_create word.now
 message_text (VouchersLine number) = vouchers_line number

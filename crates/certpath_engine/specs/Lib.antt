@@ -1,3 +1,4 @@
+pub mod Refusals
 pub mod Exits
 pub mod PathExits
 pub mod QuestionsExits

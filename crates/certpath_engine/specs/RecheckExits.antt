@@ -1,11 +1,11 @@
 -- What the program ends with after `recheck`: its exit status, and what it says on standard error.
 use Rattle.std.specs.Prelude.{ℕ, List, [], Bool, if◌then◌else◌, Result, Ok, Err}
 use Rattle.certpath_recheck.specs.declared.rechecking.RecheckError.{RecheckError}
-use Rattle.certpath_recheck.specs.declared.rechecking.RecheckError.TheVariants.{Run, Read, TooLong, BadLine}
+use Rattle.certpath_recheck.specs.declared.rechecking.RecheckError.TheVariants.{Run, Read, TooLong, BadLine, OtherPurpose}
 use Rattle.certpath_engine.specs.declared.recheck_exit.RecheckFiles.{RecheckFiles}
 use Rattle.certpath_engine.specs.declared.recheck_exit.RecheckOutcome.{RecheckOutcome}
 use Rattle.certpath_engine.specs.declared.recheck_exit.RecheckOutcome.TheVariants.{Unopened, Ran}
-use Rattle.certpath_engine.specs.Exits.{cannot_read, evidence_line}
+use Rattle.certpath_engine.specs.Exits.{cannot_read, evidence_line, other_purpose}
 use Rattle.certpath_engine.specs.PathExits.{refused_exit_of}
 
 -- status and text where the files were opened, and nothing was said of the evidence
@@ -14,6 +14,7 @@ unsaid_exit_of files (Run error) = refused_exit_of files.searched error
 unsaid_exit_of files Read = (4, cannot_read files.evidence.now)
 unsaid_exit_of files TooLong = (4, cannot_read files.evidence.now)
 unsaid_exit_of files (BadLine number) = (8, evidence_line number)
+unsaid_exit_of files OtherPurpose = (1, other_purpose)
 
 -- the status where the check said this
 abbrev pub said_status_of : Bool → ℕ

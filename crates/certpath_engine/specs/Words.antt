@@ -40,10 +40,27 @@ with_policy app = with_rule (with_rule (with_rule app moment_rule) demand_rule) 
 abbrev pub with_question : App → App
 with_question app = with_policy (with_rule (with_files app) target_rule)
 
--- `path` and `why`, each with these words
-abbrev pub path_app : App
-path_app = with_question (new_app (codes "path"))
+-- `--host NAME`
+abbrev pub host_rule : Rule
+host_rule = record (new_rule (codes "host")) { long = Some (codes "host"); value_names = 1 }
 
+-- `--purpose NAME|OID`
+abbrev pub purpose_rule : Rule
+purpose_rule = record (new_rule (codes "purpose")) { long = Some (codes "purpose"); value_names = 1 }
+
+-- `[--purpose NAME|OID]` behind it
+abbrev pub with_purpose : App → App
+with_purpose app = with_rule app purpose_rule
+
+-- `[--host NAME] [--purpose NAME|OID]` behind it
+abbrev pub with_host : App → App
+with_host app = with_purpose (with_rule app host_rule)
+
+-- `path` with these words
+abbrev pub path_app : App
+path_app = with_host (with_question (new_app (codes "path")))
+
+-- `why` with those of a question
 abbrev pub why_app : App
 why_app = with_question (new_app (codes "why"))
 
@@ -55,13 +72,13 @@ questions_app = with_rule (with_rule (with_rule (new_app (codes "questions")) (f
 abbrev pub evidence_rule : Rule
 evidence_rule = record (new_rule (codes "evidence")) { long = Some (codes "evidence"); value_names = 1 }
 
--- `paths BUNDLE ANCHORS VOUCHERS --at YYYY-MM-DDTHH:MM:SS [--demand-lists] [--limit N] [--evidence FILE]`
+-- `paths BUNDLE ANCHORS VOUCHERS --at YYYY-MM-DDTHH:MM:SS [--demand-lists] [--limit N] [--evidence FILE] [--purpose NAME|OID]`
 abbrev pub paths_app : App
-paths_app = with_rule (with_policy (with_files (new_app (codes "paths")))) evidence_rule
+paths_app = with_purpose (with_rule (with_policy (with_files (new_app (codes "paths")))) evidence_rule)
 
--- `recheck BUNDLE ANCHORS VOUCHERS EVIDENCE --at YYYY-MM-DDTHH:MM:SS [--demand-lists] [--limit N]`
+-- `recheck BUNDLE ANCHORS VOUCHERS EVIDENCE --at YYYY-MM-DDTHH:MM:SS [--demand-lists] [--limit N] [--purpose NAME|OID]`
 abbrev pub recheck_app : App
-recheck_app = with_policy (with_rule (with_files (new_app (codes "recheck"))) (file_rule (codes "EVIDENCE")))
+recheck_app = with_purpose (with_policy (with_rule (with_files (new_app (codes "recheck"))) (file_rule (codes "EVIDENCE"))))
 
 -- the program with the commands over items
 abbrev pub items_app : App

@@ -2,7 +2,7 @@
 ghost use Rattle.std.specs.Prelude.{◌≡◌, false, IfOk};
 ghost use Rattle.clap.specs.Words.{app_of, rule_of};
 ghost use Rattle.clap.specs.declared.builder.command.Command.TheViews.{out-Command};
-ghost use Rattle.certpath_engine.specs.Words.{certpath_app, targets_app, items_app, frame_app, path_app, why_app, questions_app, paths_app, recheck_app, with_question, with_files, with_policy, file_rule, target_rule, moment_rule, demand_rule, limit_rule, evidence_rule};
+ghost use Rattle.certpath_engine.specs.Words.{certpath_app, targets_app, items_app, frame_app, path_app, why_app, questions_app, paths_app, recheck_app, with_question, with_host, with_purpose, with_files, with_policy, file_rule, target_rule, moment_rule, demand_rule, limit_rule, evidence_rule, host_rule, purpose_rule};
 
 use clap::{Arg, ArgAction, Command};
 use std::alloc::{AllocError, Global};
@@ -58,7 +58,8 @@ fn path_command<'a>(alloc: Global) -> Result<Command<'a>, AllocError>
     let path = Command::new(alloc, "path").about(
         "Finds the first of the shortest valid paths, and checks it",
     );
-    with_question(alloc, path)
+    let path = with_question(alloc, path)?;
+    with_host(alloc, path)
 }
 
 /// The command `why`.
@@ -93,7 +94,8 @@ fn paths_command<'a>(alloc: Global) -> Result<Command<'a>, AllocError>
         "Finds the first of the shortest valid paths of every item, and checks them",
     );
     let paths = with_files(alloc, paths)?;
-    with_policy(alloc, paths)?.arg(evidence_argument(alloc))
+    let paths = with_policy(alloc, paths)?.arg(evidence_argument(alloc))?;
+    with_purpose(alloc, paths)
 }
 
 /// The command `recheck`.
@@ -109,7 +111,8 @@ fn recheck_command<'a>(alloc: Global) -> Result<Command<'a>, AllocError>
         "EVIDENCE",
         "What paths --evidence wrote",
     ))?;
-    with_policy(alloc, recheck)
+    let recheck = with_policy(alloc, recheck)?;
+    with_purpose(alloc, recheck)
 }
 
 /// A command with the words of a question on one target: the files, the target, the moment, whether lists are demanded, the limit.
@@ -120,6 +123,25 @@ fn with_question<'a>(alloc: Global, command: Command<'a>) -> Result<Command<'a>,
 {
     let command = with_files(alloc, command)?.arg(target_argument(alloc))?;
     with_policy(alloc, command)
+}
+
+/// A command with a host and a purpose that may be demanded.
+fn with_host<'a>(alloc: Global, command: Command<'a>) -> Result<Command<'a>, AllocError>
+    requires { (out-Command command).has_globals ≡ false }
+    ensures app { IfOk result (λ c. app_of c ≡ with_host (app_of command.entry)) }
+    ensures local { IfOk result (λ c. (out-Command c).has_globals ≡ false) }
+{
+    let command = command.arg(host_argument(alloc))?;
+    with_purpose(alloc, command)
+}
+
+/// A command with a purpose that may be demanded.
+fn with_purpose<'a>(alloc: Global, command: Command<'a>) -> Result<Command<'a>, AllocError>
+    requires { (out-Command command).has_globals ≡ false }
+    ensures app { IfOk result (λ c. app_of c ≡ with_purpose (app_of command.entry)) }
+    ensures local { IfOk result (λ c. (out-Command c).has_globals ≡ false) }
+{
+    command.arg(purpose_argument(alloc))
 }
 
 /// A command with the three files.
@@ -214,4 +236,26 @@ fn evidence_argument<'a>(alloc: Global) -> Arg<'a>
         .long("evidence")
         .value_name("FILE")
         .help("Writes to FILE what recheck needs to check all paths")
+}
+
+/// `--host NAME`.
+fn host_argument<'a>(alloc: Global) -> Arg<'a>
+    ensures rule { rule_of result ≡ host_rule }
+    ensures local { result.global ≡ false }
+{
+    Arg::new(alloc, "host")
+        .long("host")
+        .value_name("NAME")
+        .help("A name or an address that the target has to serve")
+}
+
+/// `--purpose NAME|OID`.
+fn purpose_argument<'a>(alloc: Global) -> Arg<'a>
+    ensures rule { rule_of result ≡ purpose_rule }
+    ensures local { result.global ≡ false }
+{
+    Arg::new(alloc, "purpose")
+        .long("purpose")
+        .value_name("NAME|OID")
+        .help("A purpose that each certificate of a path has to allow")
 }

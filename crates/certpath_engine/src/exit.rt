@@ -3,8 +3,11 @@ ghost use Rattle.std.specs.Prelude.{◌≡◌, [], Some, Ok, Err};
 ghost use Rattle.certpath_engine.specs.Exits.{frame_exit, framed_exit_of, message_text, words_exit_of, words_of};
 
 use crate::framing::FrameError;
+use crate::refusals::host_reason;
 use crate::words::WordFault;
 use cert_framing::End;
+use host_names::Refusal;
+use purpose_names::PurposeRefusal;
 use std::fmt;
 
 /// How far the command `frame` came.
@@ -25,6 +28,10 @@ pub enum Message<'a> {
     BadNumber,
     /// A moment is not of its form.
     BadMoment,
+    /// A text is no host.
+    BadHost(Refusal),
+    /// A text is no purpose that can be asked for.
+    BadPurpose(PurposeRefusal),
     /// This file can't be opened or read, or it is too long.
     CannotRead(&'a str),
     /// This file can't be created.
@@ -33,6 +40,8 @@ pub enum Message<'a> {
     VouchersLine(usize),
     /// This line of the evidence is bad.
     EvidenceLine(usize),
+    /// The evidence is for another purpose, for one and none is asked for, or for none.
+    OtherPurpose,
     /// Memory was refused.
     OutOfMemory,
     /// Standard output failed.
@@ -58,10 +67,19 @@ impl fmt::Display for Message<'_> {
             Message::Usage(text) => f.write_str(text.as_str()),
             Message::BadNumber => f.write_str("bad number\n"),
             Message::BadMoment => f.write_str("bad moment\n"),
+            Message::BadHost(reason) => {
+                let reason = host_reason(*reason);
+                write!(f, "bad host: {reason}\n")
+            }
+            Message::BadPurpose(reason) => {
+                let reason = reason.reason();
+                write!(f, "bad purpose: {reason}\n")
+            }
             Message::CannotRead(word) => write!(f, "cannot read {word}\n"),
             Message::CannotCreate(word) => write!(f, "cannot create {word}\n"),
             Message::VouchersLine(number) => write!(f, "vouchers line {number}\n"),
             Message::EvidenceLine(number) => write!(f, "evidence line {number}\n"),
+            Message::OtherPurpose => f.write_str("the evidence is for another purpose\n"),
             Message::OutOfMemory => f.write_str("out of memory\n"),
             Message::CannotWrite => f.write_str("cannot write\n"),
             Message::CannotWriteTo(word) => write!(f, "cannot write {word}\n"),
@@ -115,7 +133,7 @@ fn failed_exit<'a>(file: &'a str, error: FrameError) -> Exit<'a>
 
 /// The status for a command line that names nothing to do, and what is printed on standard error.
 ///
-/// Status 2 with `clap`'s text, `bad number` or `bad moment`; status 6 if memory was refused.
+/// Status 2 with `clap`'s text, `bad number`, `bad moment`, `bad host` or `bad purpose`; status 6 if memory was refused.
 pub fn words_status<'a>(fault: WordFault) -> Exit<'a>
     ensures status { result.status ≡ (words_exit_of fault).0 }
     ensures words { words_of result.message ≡ (words_exit_of fault).1 }
@@ -124,6 +142,8 @@ pub fn words_status<'a>(fault: WordFault) -> Exit<'a>
         WordFault::Refused(text) => ended(2, Message::Usage(text)),
         WordFault::Number => ended(2, Message::BadNumber),
         WordFault::Moment => ended(2, Message::BadMoment),
+        WordFault::Host(reason) => ended(2, Message::BadHost(reason)),
+        WordFault::Purpose(reason) => ended(2, Message::BadPurpose(reason)),
         WordFault::OutOfMemory => ended(6, Message::OutOfMemory),
     }
 }

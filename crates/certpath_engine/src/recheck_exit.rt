@@ -65,5 +65,6 @@ fn unsaid_exit<'a>(files: RecheckFiles<'a>, error: RecheckError) -> Exit<'a>
             ended(4, Message::CannotRead(files.evidence))
         }
         RecheckError::BadLine(number) => ended(8, Message::EvidenceLine(number)),
+        RecheckError::OtherPurpose => ended(1, Message::OtherPurpose),
     }
 }

@@ -32,6 +32,7 @@ pub(crate) struct FrameTexts<'a> {
 #[derive(Clone, Copy)]
 pub(crate) struct PathTexts<'a> {
     pub(crate) target: &'a str,
+    pub(crate) host: Option<&'a str>,
     pub(crate) all: AllTexts<'a>,
 }
 
@@ -58,6 +59,7 @@ pub(crate) struct AllTexts<'a> {
     pub(crate) moment: &'a str,
     pub(crate) demand: &'a str,
     pub(crate) limit: &'a str,
+    pub(crate) purpose: Option<&'a str>,
 }
 
 /// The command, and its words as they were written.
@@ -163,8 +165,9 @@ fn question_texts<'a>(found: &ArgMatches<'a>) -> Result<PathTexts<'a>, WordFault
     let Some(target) = found.get_str("target") else {
         return Err(WordFault::OutOfMemory);
     };
+    let host = found.get_str("host");
     match all_texts(found) {
-        Ok(all) => Ok(PathTexts { target, all }),
+        Ok(all) => Ok(PathTexts { target, host, all }),
         Err(fault) => Err(fault),
     }
 }
@@ -191,6 +194,7 @@ fn all_texts<'a>(found: &ArgMatches<'a>) -> Result<AllTexts<'a>, WordFault>
     let Some(limit) = found.get_str("limit") else {
         return Err(WordFault::OutOfMemory);
     };
+    let purpose = found.get_str("purpose");
     Ok(AllTexts {
         bundle,
         anchors,
@@ -198,5 +202,6 @@ fn all_texts<'a>(found: &ArgMatches<'a>) -> Result<AllTexts<'a>, WordFault>
         moment,
         demand,
         limit,
+        purpose,
     })
 }

@@ -1,7 +1,8 @@
 //! What the words of the command line ask for.
 ghost use Rattle.std.specs.Prelude.{map, string_bytes, IfOk, IfErr};
-ghost use Rattle.certpath_engine.specs.Asking.{ReadsFrame, ReadsPath, ReadsWhy, ReadsQuestions, ReadsPaths, ReadsRecheck, WritesQuestion, RefusesQuestion, NamesFiles, WritesSettings, RefusesSettings, AnswersWords};
+ghost use Rattle.certpath_engine.specs.Asking.{ReadsFrame, ReadsPath, ReadsWhy, ReadsQuestions, ReadsPaths, ReadsRecheck, AsksQuestion, AsksDemand, AsksPurpose, WritesTarget, RefusesDemands, RefusesQuestion, NamesFiles, WritesSettings, RefusesSettings, AnswersWords};
 
+use crate::demands::{Purpose, host_of, purpose_of};
 use crate::number::read_number;
 use crate::path_exit::PathFiles;
 use crate::questions_exit::ItemFiles;
@@ -10,7 +11,9 @@ use crate::recheck_exit::RecheckFiles;
 use crate::texts::{AllTexts, Asked, FrameTexts, PathTexts, PathsTexts, RecheckTexts, read_texts};
 use cert_judge::Policy;
 use certpath_moment::read_moment;
-use certpath_run::{AllSettings, Settings};
+use certpath_run::{AllSettings, AskedHost, AskedPurpose, Demand, Settings};
+use host_names::Refusal;
+use purpose_names::PurposeRefusal;
 use std::alloc::Global;
 
 /// What the words ask for.
@@ -35,6 +38,8 @@ pub enum Command<'a> {
         evidence: Option<&'a str>,
         /// The moment, whether lists are demanded, and the most content octets that an item has.
         settings: AllSettings,
+        /// The purpose that is demanded.
+        purpose: Option<Purpose>,
     },
     /// Check evidence.
     Recheck {
@@ -42,6 +47,8 @@ pub enum Command<'a> {
         files: RecheckFiles<'a>,
         /// The moment, whether lists are demanded, and the most content octets that an item has.
         settings: AllSettings,
+        /// The purpose that is demanded.
+        purpose: Option<Purpose>,
     },
     /// Ask which keys may have signed which items.
     Questions {
@@ -59,6 +66,32 @@ pub struct Question<'a> {
     pub files: PathFiles<'a>,
     /// The target, the moment, whether lists are demanded, and the most content octets that an item has.
     pub settings: Settings,
+    /// The host that is demanded.
+    pub host: Option<AskedHost<'a>>,
+    /// The purpose that is demanded.
+    pub purpose: Option<Purpose>,
+}
+
+impl<'a> Question<'a> {
+    /// What is demanded of the path.
+    pub fn demand(&self) -> Demand<'_>
+        ensures { AsksDemand self.now result }
+    {
+        Demand {
+            purpose: asked_of(&self.purpose),
+            host: self.host,
+        }
+    }
+}
+
+/// A purpose as a run is asked for it, where there is one.
+pub fn asked_of(purpose: &Option<Purpose>) -> Option<AskedPurpose<'_>>
+    ensures { AsksPurpose purpose.now result }
+{
+    match purpose {
+        Some(purpose) => Some(purpose.asked()),
+        None => None,
+    }
 }
 
 /// Why the words ask for nothing.
@@ -70,6 +103,10 @@ pub enum WordFault {
     Number,
     /// A moment is not of its form, or no date and time.
     Moment,
+    /// A text is no host.
+    Host(Refusal),
+    /// A text is no purpose that can be asked for.
+    Purpose(PurposeRefusal),
     /// Memory was refused.
     OutOfMemory,
 }
@@ -77,17 +114,17 @@ pub enum WordFault {
 /// Reads the words, the program's name first.
 ///
 /// `Refused` where `clap` does not take them, `Number` where an N is not one or more decimal digits, or above 4,294,967,295, `Moment`
-/// where the moment is not of its form, or no date and time.
+/// where the moment is not of its form, or no date and time; `Host` and `Purpose` where a text is none.
 pub fn read_words<'a>(alloc: Global, words: &'a [String]) -> Result<Command<'a>, WordFault>
     ensures { AnswersWords (map string_bytes words.entry.now) result }
 {
     match read_texts(alloc, words) {
         Ok(Asked::Frame(texts)) => frame_of(texts),
-        Ok(Asked::Path(texts)) => path_of(texts),
-        Ok(Asked::Why(texts)) => why_of(texts),
+        Ok(Asked::Path(texts)) => path_of(alloc, texts),
+        Ok(Asked::Why(texts)) => why_of(alloc, texts),
         Ok(Asked::Questions(texts)) => questions_of(texts),
-        Ok(Asked::Paths(texts)) => paths_of(texts),
-        Ok(Asked::Recheck(texts)) => recheck_of(texts),
+        Ok(Asked::Paths(texts)) => paths_of(alloc, texts),
+        Ok(Asked::Recheck(texts)) => recheck_of(alloc, texts),
         Err(fault) => Err(fault),
     }
 }
@@ -106,20 +143,20 @@ fn frame_of<'a>(texts: FrameTexts<'a>) -> Result<Command<'a>, WordFault>
 }
 
 /// The command `path` of these words.
-fn path_of<'a>(texts: PathTexts<'a>) -> Result<Command<'a>, WordFault>
+fn path_of<'a>(alloc: Global, texts: PathTexts<'a>) -> Result<Command<'a>, WordFault>
     ensures { ReadsPath texts.entry result }
 {
-    match question_of(texts) {
+    match asked_question(alloc, texts) {
         Ok(question) => Ok(Command::Path(question)),
         Err(fault) => Err(fault),
     }
 }
 
 /// The command `why` of these words.
-fn why_of<'a>(texts: PathTexts<'a>) -> Result<Command<'a>, WordFault>
+fn why_of<'a>(alloc: Global, texts: PathTexts<'a>) -> Result<Command<'a>, WordFault>
     ensures { ReadsWhy texts.entry result }
 {
-    match question_of(texts) {
+    match asked_question(alloc, texts) {
         Ok(question) => Ok(Command::Why(question)),
         Err(fault) => Err(fault),
     }
@@ -140,39 +177,73 @@ fn questions_of<'a>(texts: QuestionsTexts<'a>) -> Result<Command<'a>, WordFault>
 }
 
 /// The command `paths` of these words.
-fn paths_of<'a>(texts: PathsTexts<'a>) -> Result<Command<'a>, WordFault>
+fn paths_of<'a>(alloc: Global, texts: PathsTexts<'a>) -> Result<Command<'a>, WordFault>
     ensures { ReadsPaths texts.entry result }
 {
-    match settings_of(texts.all) {
-        Ok(settings) => Ok(Command::Paths {
+    let settings = match settings_of(texts.all) {
+        Ok(settings) => settings,
+        Err(fault) => return Err(fault),
+    };
+    match purpose_of(alloc, texts.all.purpose) {
+        Ok(purpose) => Ok(Command::Paths {
             files: files_of(texts.all),
             evidence: texts.evidence,
             settings,
+            purpose,
         }),
         Err(fault) => Err(fault),
     }
 }
 
 /// The command `recheck` of these words.
-fn recheck_of<'a>(texts: RecheckTexts<'a>) -> Result<Command<'a>, WordFault>
+fn recheck_of<'a>(alloc: Global, texts: RecheckTexts<'a>) -> Result<Command<'a>, WordFault>
     ensures { ReadsRecheck texts.entry result }
 {
-    match settings_of(texts.all) {
-        Ok(settings) => Ok(Command::Recheck {
+    let settings = match settings_of(texts.all) {
+        Ok(settings) => settings,
+        Err(fault) => return Err(fault),
+    };
+    match purpose_of(alloc, texts.all.purpose) {
+        Ok(purpose) => Ok(Command::Recheck {
             files: RecheckFiles {
                 searched: files_of(texts.all),
                 evidence: texts.evidence,
             },
             settings,
+            purpose,
         }),
         Err(fault) => Err(fault),
     }
 }
 
-/// The question of these words.
+/// The question of these words, with what is demanded.
+fn asked_question<'a>(alloc: Global, texts: PathTexts<'a>) -> Result<Question<'a>, WordFault>
+    ensures ok { IfOk result (AsksQuestion texts.entry) }
+    ensures refused { IfErr result (RefusesDemands texts.entry) }
+{
+    let settings = match question_settings(texts) {
+        Ok(settings) => settings,
+        Err(fault) => return Err(fault),
+    };
+    let host = match host_of(texts.host) {
+        Ok(host) => host,
+        Err(fault) => return Err(fault),
+    };
+    match purpose_of(alloc, texts.all.purpose) {
+        Ok(purpose) => Ok(Question {
+            files: files_of(texts.all),
+            settings,
+            host,
+            purpose,
+        }),
+        Err(fault) => Err(fault),
+    }
+}
+
+/// The settings of the question of these words.
 #[tactic(auto, using(crate::proofs::WordLemmas::settings_fault))]
-fn question_of<'a>(texts: PathTexts<'a>) -> Result<Question<'a>, WordFault>
-    ensures ok { IfOk result (λ question. WritesQuestion texts.entry question.files question.settings) }
+fn question_settings(texts: PathTexts<'_>) -> Result<Settings, WordFault>
+    ensures ok { IfOk result (WritesTarget texts.entry) }
     ensures refused { IfErr result (RefusesQuestion texts.entry) }
 {
     let Some(target) = read_number(texts.target) else {
@@ -182,13 +253,10 @@ fn question_of<'a>(texts: PathTexts<'a>) -> Result<Question<'a>, WordFault>
         Ok(settings) => settings,
         Err(fault) => return Err(fault),
     };
-    Ok(Question {
-        files: files_of(texts.all),
-        settings: Settings {
-            target: target as usize,
-            policy: settings.policy,
-            limit: settings.limit,
-        },
+    Ok(Settings {
+        target: target as usize,
+        policy: settings.policy,
+        limit: settings.limit,
     })
 }
 

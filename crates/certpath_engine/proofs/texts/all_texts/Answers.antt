@@ -4,7 +4,7 @@ use Rattle.certpath_engine.proofs.WordLemmas.{lacks_one, all_values}
 use Rattle.certpath_engine.proofs.texts.all_texts.Goals as goal
 
 pub returns : goal.returns
-returns c = all_values c.args.found.now _ c.in-Some.ensures c.in-Some-get_str.ensures c.in-Some-get_str-2.ensures c.in-Some-get_str-3.ensures c.in-Some-get_str-4.ensures c.in-Some-get_str-5.ensures
+returns c = all_values c.args.found.now _ c.in-Some.ensures c.in-Some-get_str.ensures c.in-Some-get_str-2.ensures c.in-Some-get_str-3.ensures c.in-Some-get_str-4.ensures c.in-Some-get_str-5.ensures c.get_str-purpose.ensures
 
 pub returns-in_default : goal.returns-in_default
 returns-in_default c = lacks_one all_arguments c.args.found.now 0 (codes "BUNDLE") (omega arith) refl c.in_default.ensures
