@@ -8,10 +8,10 @@ _certpath() {
   case ${COMP_WORDS[1]} in
     help) words="frame path paths questions recheck why" ;;
     frame) words="--help --limit" ;;
-    path) words="--at --demand-lists --help --limit --target" ;;
-    paths) words="--at --demand-lists --evidence --help --limit" ;;
+    path) words="--at --demand-lists --help --host --limit --purpose --target" ;;
+    paths) words="--at --demand-lists --evidence --help --limit --purpose" ;;
     questions) words="--help --limit" ;;
-    recheck) words="--at --demand-lists --help --limit" ;;
+    recheck) words="--at --demand-lists --help --limit --purpose" ;;
     why) words="--at --demand-lists --help --limit --target" ;;
   esac
   _certpath_words "$word" "$words"

@@ -16,9 +16,12 @@ SEE = installed.spelled("see './certpath --help'")
 
 ASKS = "BUNDLE ANCHORS VOUCHERS --target N --at MOMENT [--demand-lists] [--limit N]"
 FORMS = {
-    "path": ASKS, "why": ASKS, "paths": """BUNDLE ANCHORS VOUCHERS --at MOMENT [--demand-lists] [--limit N]
-                      [--evidence FILE]""",
-    "recheck": "BUNDLE ANCHORS VOUCHERS EVIDENCE --at MOMENT [--demand-lists] [--limit N]",
+    "path": f"""{ASKS}
+                     [--host NAME] [--purpose NAME|OID]""",
+    "why": ASKS, "paths": """BUNDLE ANCHORS VOUCHERS --at MOMENT [--demand-lists] [--limit N]
+                      [--evidence FILE] [--purpose NAME|OID]""",
+    "recheck": """BUNDLE ANCHORS VOUCHERS EVIDENCE --at MOMENT [--demand-lists] [--limit N]
+                        [--purpose NAME|OID]""",
     "questions": "BUNDLE ANCHORS [--limit N]", "frame": "FILE [--limit N]",
     "help": "[COMMAND] | --version | --build [CRATE]",
 }
@@ -66,29 +69,35 @@ MOMENT = """\
 """
 LIMIT = "  --limit N       the most content octets of an item [default: 16777216]\n"
 EVIDENCE = "  --evidence FILE writes to FILE what certpath recheck needs to check all lines\n"
+HOST = "  --host NAME     the target has to serve this host: a name, an IPv4 or an IPv6 address\n"
+PURPOSE = """\
+  --purpose NAME|OID
+                  each certificate of a path has to be for this purpose: serverAuth, clientAuth,
+                  codeSigning, emailProtection, timeStamping, OCSPSigning, or a number
+"""
 ASKED = "  -h, --help      prints this help\n"
 TARGET = "  --target N      the position in BUNDLE, from 0 on, of the certificate that needs a path\n"
 UNREAD, VOUCHERS, MEMORY = "4 a file can't be read", "5 a line of VOUCHERS is malformed", "6 out of memory"
 OUTPUT = "7 standard output fails"
-QUESTION = (FILES, f"{TARGET}{MOMENT}{LIMIT}", "0 a path", "1 none", "2 wrong words",
-            "3 the target is no certificate of BUNDLE", UNREAD, VOUCHERS, MEMORY, OUTPUT)
+ENDS = ("0 a path", "1 none", "2 wrong words",
+        "3 the target is no certificate of BUNDLE", UNREAD, VOUCHERS, MEMORY, OUTPUT)
 HELPS = {
     "path": ("""\
 Prints the class of each item, and the first of the shortest valid paths to an anchor. Where that is
-none, certpath why prints the reasons.""", *QUESTION),
+none, certpath why prints the reasons.""", FILES, f"{TARGET}{MOMENT}{LIMIT}{HOST}{PURPOSE}", *ENDS),
     "why": ("""\
 Prints the answer of certpath path; then each certificate that the target leads to by names, with
-each reason why it is no part of a path; then each revocation list that isn't used, and why.""", *QUESTION),
+each reason why it is no part of a path; then each revocation list that isn't used, and why.""", FILES, f"{TARGET}{MOMENT}{LIMIT}", *ENDS),
     "paths": ("""\
 Prints a line for each item of BUNDLE: the first of its shortest valid paths to an anchor, none, or
-what it is.""", FILES, f"{MOMENT}{LIMIT}{EVIDENCE}", "0 every certificate has a path", "1 some has none",
+what it is.""", FILES, f"{MOMENT}{LIMIT}{EVIDENCE}{PURPOSE}", "0 every certificate has a path", "1 some has none",
               "2 wrong words", "4 a file can't be read or created", VOUCHERS, MEMORY,
               "7 standard output or FILE can't be written"),
     "recheck": ("""\
 Prints check yes where EVIDENCE is right for these files, this time and these options: each path in
 it is the first of the shortest valid ones, and no other certificate has one. Else it prints check
-no. Nothing is searched.""", f"{FILES}  EVIDENCE  what certpath paths --evidence wrote\n", f"{MOMENT}{LIMIT}",
-                "0 check yes", "1 check no", "2 wrong words", UNREAD, VOUCHERS, MEMORY, OUTPUT,
+no. Nothing is searched.""", f"{FILES}  EVIDENCE  what certpath paths --evidence wrote\n", f"{MOMENT}{LIMIT}{PURPOSE}",
+                "0 check yes", "1 check no, or EVIDENCE is for another purpose", "2 wrong words", UNREAD, VOUCHERS, MEMORY, OUTPUT,
                 "8 a line of EVIDENCE is malformed"),
     "questions": ("""\
 Prints a line for each question that a checker of signatures has to answer: the position of an item

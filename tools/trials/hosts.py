@@ -19,7 +19,7 @@ from typing import List, NamedTuple, Optional
 sys.dont_write_bytecode = True
 sys.path.insert(0, os.path.dirname(os.path.dirname(os.path.abspath(__file__))))
 from program import repo
-from trials import hosts_model as model
+from trials import hosts_model as model, paths
 from trials.count import Trial, size
 from trials.synthetic import (CONSTRAINTS, USAGE, Authority, Made, certificate, element, extension,
                               name, sequence)
@@ -161,8 +161,15 @@ class Maker:
                 self.authority(self.root, self.root, anchor.extensions)]
 
 
+    def files(self, chain):
+        """Bundle, anchors and vouchers of a chain, as ./certpath reads them."""
+        target, between, anchor = (it.octets for it in chain)
+        pairs = [(self.middle.public, target), (self.root.public, between)]
+        return target + between, anchor, paths.vouchers(pairs)
+
+
 class Beside:
-    """Runs ./verify and openssl on the files of a chain."""
+    """Runs ./verify, ./certpath and openssl on the files of a chain."""
 
     def __init__(self, folder):
         self.folder = folder
@@ -187,6 +194,17 @@ class Beside:
         asked = f"--purpose={row.purpose}" if row.host is None else f"--host={row.host}"
         run = self.run(asked)
         return VERDICTS.get(run.returncode, f"status {run.returncode}"), run.stdout, run.stderr
+
+    def path(self, row, vouching):
+        """What ./certpath path answers, and its lines that name what is demanded."""
+        for title, octets in zip(("bundle", "anchors", "vouchers"), vouching):
+            with open(os.path.join(self.folder, title), "wb") as it:
+                it.write(octets)
+        asked = f"--purpose={row.purpose}" if row.host is None else f"--host={row.host}"
+        run = self.ran([sys.executable, "-IS", os.path.join(repo.TOP, "certpath"), "path", "bundle",
+                        "anchors", "vouchers", "--target", "0", "--at", "2026-12-01T00:00:00", asked])
+        named = [it for it in run.stdout.splitlines() if it.startswith(("host ", "purpose "))]
+        return VERDICTS.get(run.returncode, f"status {run.returncode}"), named
 
     def openssl(self, row):
         """What openssl answers."""
@@ -218,6 +236,9 @@ def try_rows(count):
             verdict, out, line = beside.ours(row)
             count.same(f"{row.line}, ./verify", verdict, row.ours)
             count.same(f"{row.line}, openssl", beside.openssl(row), row.openssl)
+            named = f"purpose {row.purpose}" if row.host is None else f"host {row.host}"
+            count.same(f"{row.line}, ./certpath path", beside.path(row, maker.files(chain)),
+                       (row.ours, [] if row.ours == "refused" else [named]))
             reason = reason_of(row)
             if reason:
                 count.same(f"{row.line}, its reason", reason in out, True)

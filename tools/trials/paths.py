@@ -103,7 +103,7 @@ def table(made):
     words = ["path", many, made("equal", one), made("equal_vouchers", vouchers([(key, one)])), "--target", str(EQUALS - 1), "--at", "2025-06-01T00:00:00"]
     lines = [f"{k} cert\n" for k in range(EQUALS)] + ["end clean\n", "anchors 1 of 1, clean\n", f"path {EQUALS - 1} anchor 0\n", "check yes\n"]
     rows.append((words, b"", 0, "".join(lines).encode(), b""))
-    return rows + voucher_rows(made, one, key) + file_rows(made, one, key) + word_rows(made, one) + command_rows(made, one, key)
+    return rows + voucher_rows(made, one, key) + file_rows(made, one, key) + word_rows(made, one) + command_rows(made, one, key) + demand_rows(made, one, key)
 
 
 def command_rows(made, one, key):
@@ -141,6 +141,58 @@ def recheck_rows(made, item, pair, at):
     files = [("missing.der", item, bad, good), (item, ".", bad, good), (item, item, "missing.txt", good), (item, item, lines, "missing"), (item, item, lines, "."), (".", item, bad, "missing")]
     told = ["missing.der", ".", "missing.txt", "missing", ".", "missing"]
     return rows + [(["recheck", *four, *at], b"", 4, b"", f"cannot read {word}\n".encode()) for four, word in zip(files, told)]
+
+
+def demand_rows(made, one, key):
+    """Rows of what may be demanded, on one certificate that is its own anchor, has no extKeyUsage and no subjectAltName: so it is for each
+    purpose, and serves no host; of the evidence for a purpose; and of words that are no host and no purpose."""
+    item, lines, at = made("one", one), made("its_vouchers", vouchers([(key, one)])), ["--at", "2025-06-01T00:00:00"]
+    front, path, check = b"0 cert\nend clean\nanchors 1 of 1, clean\n", b"path 0 anchor 0\n", b"check yes\n"
+    question = asked(item, item, lines)
+    shown = {"serverAuth": "serverAuth", "SERVERauth": "serverAuth", "sslserver": "serverAuth", "server": "serverAuth", "1.3.6.1.5.5.7.3.1": "serverAuth",
+             "client": "clientAuth", "codesign": "codeSigning", "smimesign": "emailProtection", "smimeencrypt": "emailProtection", "timestampsign": "timeStamping",
+             "ocspsigning": "OCSPSigning", "1.3.6.1.5.5.7.3.9": "OCSPSigning", "1.3.6.1.5.5.7.3.5": "1.3.6.1.5.5.7.3.5", "2.5.29.37.0": "2.5.29.37.0",
+             "2.999.18446744073709551615": "2.999.18446744073709551615"}
+    rows = [([*question, "--purpose", word], b"", 0, front + f"purpose {text}\n".encode() + path + check, b"") for word, text in shown.items()]
+    for host in ("www.example.test", "WWW.example.test.", "1.2.3.4", "[::1]"):
+        rows.append(([*question, f"--host={host}"], b"", 1, front + f"host {host}\n".encode() + b"none\n" + check, b""))
+    rows.append(([*question, "--host", "a.test", "--purpose", "client"], b"", 1, front + b"purpose clientAuth\nhost a.test\nnone\n" + check, b""))
+    for host, why in BAD_HOSTS.items():
+        rows.append(([*question, f"--host={host}"], b"", 2, b"", f"bad host: {why}\n".encode()))
+    for purpose, why in BAD_PURPOSES.items():
+        for words in (question, ["paths", item, item, lines, *at], ["recheck", item, item, lines, item, *at]):
+            rows.append(([*words, f"--purpose={purpose}"], b"", 2, b"", f"bad purpose: {why}\n".encode()))
+    rows += [(asked(item, item, lines, "0", "x") + ["--host", "*"], b"", 2, b"", b"bad moment\n"),
+             ([*question, "--host", "*", "--purpose", "x"], b"", 2, b"", b"bad host: it has a wildcard\n"),
+             (asked("missing.der", item, lines) + ["--purpose", "x"], b"", 2, b"", f"bad purpose: {UNKNOWN}\n".encode())]
+    return rows + purposed_rows(made, item, lines, at)
+
+
+def purposed_rows(made, item, lines, at):
+    """Rows of `paths` and `recheck` for a purpose."""
+    paths, recheck = ["paths", item, item, lines, *at], ["recheck", item, item, lines]
+    found = b"0 path 0 anchor 0\nend clean\nanchors 1 of 1, clean\npurpose serverAuth\ncheck yes\n"
+    text = "certpath evidence 1\npath 0 anchor 0\nrow\n0 any\nrow\n"
+    plain, server, none = made("plain_evidence", text.encode()), made("server_evidence", f"purpose serverAuth\n{text}".encode()), made("none_evidence", f"purpose serverAuth\n{text.replace('path 0 anchor 0', 'none')}".encode())
+    bad = made("bad_server_evidence", f"purpose serverAuth\n{text[:-1]}".encode())
+    yes, other = (0, b"check yes\n", b""), (1, b"", b"the evidence is for another purpose\n")
+    said = [("found_for", ["--purpose", "serverAuth"], yes), (server, ["--purpose", "sslserver"], yes), (server, ["--purpose", "1.3.6.1.5.5.7.3.1"], yes),
+            (none, ["--purpose", "server"], (1, b"check no\n", b"")), (server, ["--purpose", "client"], other), (server, [], other), (plain, ["--purpose", "server"], other),
+            (plain, [], yes), (bad, ["--purpose", "server"], (8, b"", b"evidence line 6\n"))]
+    rows = [([*paths, "--purpose", "sslserver"], b"", 0, found, b""), ([*paths, "--purpose", "server", "--evidence", "found_for"], b"", 0, found, b"")]
+    return rows + [([*recheck, evidence, *at, *words], b"", status, out, error) for evidence, words, (status, out, error) in said]
+
+
+# Texts that are no host and no purpose, and why.
+BAD_HOSTS = {"": "it is empty", ".": "it is empty", "https://a.test": "it is a URL or has a path", "a@a.test": "it is an e-mail address", "*.a.test": "it has a wildcard",
+             "::1%1": "it has a zone", "a.test:443": "it has a port", "::g": "it is no IPv6 address",
+             "ä.test": "it has a character outside ASCII; such a label is written xn--..", "a b.test": "it has a character that no name has",
+             ".".join(["a" * 49] * 5) + ".abcd": "it has more than 253 octets", "a..test": "it has an empty label", f"{'a' * 64}.test": "it has a label of more than 63 octets",
+             "-a.test": "it has a label with a hyphen at an end", "1.2.3": "its last label is a number, and it is no IPv4 address"}
+UNKNOWN = "it is neither a known name nor an object identifier"
+BAD_PURPOSES = {"": UNKNOWN, "web": UNKNOWN, "ocsphelper": UNKNOWN, "1": UNKNOWN, "3.1": UNKNOWN, "1.40": UNKNOWN, "1.3.06": UNKNOWN, "1..3": UNKNOWN, "1.3.": UNKNOWN, "+1.3": UNKNOWN,
+                "1.3.18446744073709551616": UNKNOWN, "anyExtendedKeyUsage": "anyExtendedKeyUsage is no purpose of its own",
+                "1.3" + ".6" * 128: "its identifier has more than 128 octets"}
 
 
 def asked(bundle, anchors, lines, target="0", moment="2025-06-01T00:00:00"):
