@@ -1,7 +1,10 @@
 -- What clap's clauses say of a subcommand, in the words of `Asks`.
-use Rattle.std.proofs.Common.{◌≡◌, ◌<◌, ℕ, suc, length, List, ◌∷◌, arith, Option, Some, None, true, codes, inr, refl, sym, ap, ◌∙◌, Result, Ok, Err}
+use Rattle.std.proofs.Common.{◌≡◌, ◌<◌, ℕ, suc, length, List, ◌∷◌, arith, Option, Some, None, true, codes, inr, refl, sym, ap, subst, ◌∙◌, Result, Ok, Err}
 use Rattle.std.specs.Option.{option_map}
 use Rattle.std.specs.Prelude.{slice_index_or}
+use Rattle.std.specs.Borrow.{Bor}
+use Rattle.host_names.specs.Refusals.{IsRefusedFor}
+use Rattle.host_names.specs.declared.refusal.Refusal.{Refusal}
 use Rattle.clap.specs.Matches.{found_of, first_value, subcommand_name_of}
 use Rattle.clap.specs.Simple.{App, HasMatchesOf, is_simple, subcommand_of, subcommand_rows_of}
 use Rattle.clap.specs.Walk.{Row, Text, first_of, rows_of}
@@ -11,7 +14,7 @@ use Rattle.clap.specs.declared.error.kind.ErrorKind.TheVariants.{OutOfMemory as 
 use Rattle.clap.proofs.WalkLemmas.{first_value-rows}
 use Rattle.clap.specs.declared.parser.matches.ArgMatches.{ArgMatches}
 use Rattle.certpath_engine.specs.Words.{certpath_app}
-use Rattle.certpath_engine.specs.Asking.{AreFrameTexts, ArePathTexts, AreQuestionsTexts, AreAllTexts, ArePathsTexts, AreRecheckTexts, LacksOneOf, TellsTexts, TellsQuestion, TellsAll, all_arguments, path_arguments, recheck_arguments, RefusesQuestion, RefusesSettings, AnswersTexts, IsRefusal}
+use Rattle.certpath_engine.specs.Asking.{AreFrameTexts, ArePathTexts, AreQuestionsTexts, AreAllTexts, ArePathsTexts, AreRecheckTexts, LacksOneOf, TellsTexts, TellsQuestion, TellsAll, all_arguments, path_arguments, recheck_arguments, RefusesHost, RefusesQuestion, RefusesSettings, AnswersTexts, IsRefusal}
 use Rattle.certpath_engine.specs.declared.texts.FrameTexts.{FrameTexts}
 use Rattle.certpath_engine.specs.declared.texts.PathTexts.{PathTexts}
 use Rattle.certpath_engine.specs.declared.questions_texts.QuestionsTexts.{QuestionsTexts}
@@ -160,3 +163,8 @@ settings_fault t faults.Moment r = r
 settings_fault t (faults.Host reason) r = r
 settings_fault t (faults.Purpose reason) r = r
 settings_fault t faults.OutOfMemory r = r
+
+-- ---- hosts
+
+pub refused_host : (word : Option (Bor Text)) (text : Bor Text) (octets : Text) (reason : Refusal) → word ≡ Some text → octets ≡ text.now → IsRefusedFor octets reason → RefusesHost word (faults.Host reason)
+refused_host word text octets reason is same refused = subst (λ w. RefusesHost w (faults.Host reason)) (sym is) (subst (λ t. IsRefusedFor t reason) same refused)
