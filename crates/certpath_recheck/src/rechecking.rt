@@ -156,7 +156,9 @@ pub fn run_recheck_for<B: Source, A: Source, V: Source, E: Source, W: Sink>(
         (record { reads = E.reads evidence.old; failures = E.failures evidence.old; ends = E.ends evidence.old; widest = E.widest evidence.old })
         (record { reads = E.reads evidence.new; failures = E.failures evidence.new; ends = E.ends evidence.new; widest = E.widest evidence.new }) }
 {
-    let said = match said_of_all(alloc, bundle, anchors, vouchers, evidence, settings, purpose) {
+    let said = match said_of_all(
+        alloc, bundle, anchors, vouchers, evidence, settings, purpose,
+    ) {
         Ok(said) => said,
         Err(error) => return Err(error),
     };

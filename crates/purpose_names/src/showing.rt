@@ -11,11 +11,7 @@ use std::alloc::Global;
 /// Appends a purpose, by the content octets of its identifier: its name in RFC 5280, or else its
 /// numbers, as `1.3.6.1.4.1.311.10.3.4`. Octets that spell no numbers of 64 bits are shown in
 /// hexadecimal. The only error is out of memory.
-pub fn push_purpose(
-    alloc: Global,
-    text: &mut String,
-    identifier: &[u8],
-) -> Result<(), OutOfMemory>
+pub fn push_purpose(alloc: Global, text: &mut String, identifier: &[u8]) -> Result<(), OutOfMemory>
     ensures { OnOk result ((shown : List ℕ) × IsShown identifier.now shown × (string_bytes text.new ≡ string_bytes text.old ++ shown)) }
 {
     match named(identifier) {

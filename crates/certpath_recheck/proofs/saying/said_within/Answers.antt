@@ -13,5 +13,9 @@ returns c =
     let items = inputs.items.items in
     let permitted : ArePermitsOf (demanded c.args.demand.now (target_octets items (length items))) items permits =
     subst (λ n. ArePermitsOf (demanded c.args.demand.now (target_octets items n)) items permits) c.len.ensures.len c.in_ok-permits.ensures in
-    of_ok _ _ (λ said h. (permits, permitted, by_equal (λ V. IsSaidOf (rules_by policy.moment policy.demand_lists V) inputs.items inputs.anchors c.args.inventory.now said)
-    _ _ _ _ c.new-restricted.ensures.vouch c.new-restricted.ensures.permit h)) c.said_by.result c.said_by.ensures
+    of_ok _ _ (λ said h. (
+      permits,
+      permitted,
+      by_equal (λ V. IsSaidOf (rules_by policy.moment policy.demand_lists V) inputs.items inputs.anchors c.args.inventory.now said)
+          _ _ _ _ c.new-restricted.ensures.vouch c.new-restricted.ensures.permit h,
+    )) c.said_by.result c.said_by.ensures
