@@ -6,5 +6,5 @@ mod evidence;
 mod rechecking;
 mod saying;
 
-pub use crate::rechecking::{RecheckError, run_recheck};
-pub use certpath_sources::{AllSettings, Input, RunError};
+pub use crate::rechecking::{RecheckError, run_recheck, run_recheck_for};
+pub use certpath_sources::{AllSettings, AskedPurpose, Input, RunError};
