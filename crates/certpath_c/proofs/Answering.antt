@@ -26,8 +26,8 @@ use Rattle.cert_model.specs.View.{time_view}
 use Rattle.cert_purpose.specs.Restricting.{VouchAlike}
 use Rattle.cert_purpose.proofs.Alike.{alike_agrees}
 use Rattle.cert_serving.specs.declared.permits.Permits.{Permits}
-use Rattle.cert_serving.specs.Demanding.{Demanded, PermitsOf}
-use Rattle.cert_serving.specs.Refusing.{are_permitted}
+use Rattle.cert_serving.specs.Demanding.{Demanded, PermitsOf, ProcessesFor}
+use Rattle.cert_serving.specs.Refusing.{are_permitted, are_processed}
 use Rattle.certcheck.specs.declared.vouchers.Vouchers.{Vouchers}
 use Rattle.certcheck.specs.Vouching.{HasPair}
 use Rattle.certpath_find.specs.Answered.{HoldsOfItems}
@@ -134,29 +134,44 @@ one_time m t u h k nano =
     λ i. record { year = year i; month = month i; day = day i; hour = hour i; minute = minute i; second = second i; nanosecond = nano i }
 
 -- what settings demand
-one_demand : (settings : Settings) (items : List (List ℕ)) (a b : Permits) → ArePermits settings items a → ArePermits settings items b → (octets : List ℕ) → are_permitted a octets → are_permitted b octets
-one_demand settings items a b pa pb octets h =
+same_demand : (settings : Settings) (items : List (List ℕ)) (a b : Permits) (pa : ArePermits settings items a) (pb : ArePermits settings items b)
+    → ◌≡◌ {A = Demanded} (demanded pa.wanted (slice_index_or items settings.target [])) (demanded pb.wanted (slice_index_or items settings.target []))
+same_demand settings items a b pa pb =
     let target = slice_index_or items settings.target [] in
     let host = one_host settings.host.now pa.wanted.host pb.wanted.host pa.is_wanted.host pb.is_wanted.host in
     let purpose = pa.is_wanted.purpose ∙ sym pb.is_wanted.purpose in
-    let same : ◌≡◌ {A = Demanded} (demanded pa.wanted target) (demanded pb.wanted target) = λ i. record { purpose = purpose i; host = host i; target = target } in
-    let permitted : PermitsOf (demanded pb.wanted target) items (are_permitted a) = subst (λ d. PermitsOf d items (are_permitted a)) same pa.permitted in
+    λ i. record { purpose = purpose i; host = host i; target = target }
+
+one_demand : (settings : Settings) (items : List (List ℕ)) (a b : Permits) → ArePermits settings items a → ArePermits settings items b → (octets : List ℕ) → are_permitted a octets → are_permitted b octets
+one_demand settings items a b pa pb octets h =
+    let permitted : PermitsOf (demanded pb.wanted (slice_index_or items settings.target [])) items (are_permitted a) =
+    subst (λ d. PermitsOf d items (are_permitted a)) (same_demand settings items a b pa pb) pa.permitted in
     (pb.permitted octets).1 ((permitted octets).0 h)
 
-one_pair : (vouchers : List Voucher) (pairs others : Vouchers) → ArePairs vouchers pairs → ArePairs vouchers others → (key item : List ℕ) → VouchesBy pairs key item → VouchesBy others key item
+-- beside the pairs, which process nothing
+one_processed : (settings : Settings) (items : List (List ℕ)) (a b : Permits) → ArePermits settings items a → ArePermits settings items b → (octets identifier : List ℕ) → ⊥ ⊎ are_processed a octets identifier
+    → ⊥ ⊎ are_processed b octets identifier
+one_processed settings items a b pa pb octets identifier (inl n) = absurd n
+one_processed settings items a b pa pb octets identifier (inr h) =
+    let processed : ProcessesFor (demanded pb.wanted (slice_index_or items settings.target [])) (are_processed a) =
+    subst (λ d. ProcessesFor d (are_processed a)) (same_demand settings items a b pa pb) pa.processed in
+    inr ((pb.processed octets identifier).1 ((processed octets identifier).0 h))
+
+one_pair : (vouchers : List Voucher) (pairs others : Vouchers) → ArePairs vouchers pairs → ArePairs vouchers others → (key item : List ℕ) → (VouchesBy pairs).Vouches key item → (VouchesBy others).Vouches key item
 one_pair vouchers pairs others p q key item h = (q (sha256 key) (sha256 item)).1 ((p (sha256 key) (sha256 item)).0 h)
 
 rules_alike : (settings : Settings) (vouchers : List Voucher) (octets : List (List ℕ)) (p q : Policy) (pairs others : Vouchers) (a b : Permits) (items : List Item) → IsPolicyOf settings p → IsPolicyOf settings q
     → ArePairs vouchers pairs → ArePairs vouchers others → ArePermits settings octets a → ArePermits settings octets b → VouchAlike (rules_in p pairs a) (rules_in q others b) items
 rules_alike settings vouchers octets p q pairs others a b items hp hq vp vq pa pb =
-    let there : (key item : List ℕ) → VouchesBy pairs key item × are_permitted a item → VouchesBy others key item × are_permitted b item =
+    let there : (key item : List ℕ) → (VouchesBy pairs).Vouches key item × are_permitted a item → (VouchesBy others).Vouches key item × are_permitted b item =
     λ key item h. (one_pair vouchers pairs others vp vq key item h.0, one_demand settings octets a b pa pb item h.1) in
-    let back : (key item : List ℕ) → VouchesBy others key item × are_permitted b item → VouchesBy pairs key item × are_permitted a item =
+    let back : (key item : List ℕ) → (VouchesBy others).Vouches key item × are_permitted b item → (VouchesBy pairs).Vouches key item × are_permitted a item =
     λ key item h. (one_pair vouchers others pairs vq vp key item h.0, one_demand settings octets b a pb pa item h.1) in record {
       moment = one_time settings.moment (time_view p.moment) (time_view q.moment) hp.moment.civil.row hq.moment.civil.row (hp.moment.civil.whole_second ∙ sym hq.moment.civil.whole_second);
       demand = hp.demand ∙ sym hq.demand;
       certificates = λ x c key at is. (there key x.octets, back key x.octets);
       lists = λ x l key at is. (there key x.octets, back key x.octets);
+      processed = λ x c identifier at is. (one_processed settings octets a b pa pb x.octets identifier, one_processed settings octets b a pb pa x.octets identifier);
     }
 
 -- the rows of an adequate answer are whole

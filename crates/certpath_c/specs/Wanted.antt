@@ -8,8 +8,9 @@ use Rattle.cert_judge.specs.declared.policy.Policy.{Policy}
 use Rattle.cert_judge.specs.Items.{rules_by}
 use Rattle.cert_judge.specs.Revoking.{Rules}
 use Rattle.cert_serving.specs.declared.permits.Permits.{Permits}
-use Rattle.cert_serving.specs.Demanding.{Demanded, PermitsOf}
-use Rattle.cert_serving.specs.Refusing.{are_permitted}
+use Rattle.cert_purpose.specs.Restricting.{restricted_by}
+use Rattle.cert_serving.specs.Demanding.{Demanded, PermitsOf, ProcessesFor}
+use Rattle.cert_serving.specs.Refusing.{are_permitted, are_processed}
 use Rattle.certcheck.specs.declared.vouchers.Vouchers.{Vouchers}
 use Rattle.certpath_c.specs.declared.asked.Settings.{Settings}
 use Rattle.certpath_c.specs.declared.wanted.Wanted.{Wanted}
@@ -42,12 +43,13 @@ HasWanted settings = (w : Wanted) × IsWantedBy settings w
 abbrev pub demanded : Wanted → List ℕ → Demanded
 demanded w target = record { purpose = option_copied w.purpose; host = option_map host_view w.host; target = target }
 
--- exactly those items are permitted that meet what the settings demand of a target
+-- exactly those items are permitted that meet what the settings demand of a target, and what is demanded may be critical
 pub record ArePermits (settings : Settings) (items : List (List ℕ)) (permits : Permits) : Type 0 where
   pub wanted : Wanted
   pub is_wanted : IsWantedBy settings wanted
   pub permitted : PermitsOf (demanded wanted (slice_index_or items settings.target [])) items (are_permitted permits)
+  pub processed : ProcessesFor (demanded wanted (slice_index_or items settings.target [])) (are_processed permits)
 
--- the pairs vouch for an item that is permitted
+-- the pairs vouch for an item that is permitted, and what the permit looks at is processed
 abbrev pub rules_in : Policy → Vouchers → Permits → Rules
-rules_in policy pairs permits = rules_by policy.moment policy.demand_lists (λ key item. VouchesBy pairs key item × are_permitted permits item)
+rules_in policy pairs permits = rules_by policy.moment policy.demand_lists (restricted_by (are_permitted permits) (are_processed permits) (VouchesBy pairs))

@@ -1,8 +1,8 @@
 use Rattle.std.specs.Prelude.{◌↔◌}
 use Rattle.std.proofs.Common.{subst, IsTrue}
 use Rattle.cert_graph.specs.Adequate.{IsAdequate, IsTrueAnswer}
-use Rattle.cert_serving.specs.Demanding.{PermitsOf}
-use Rattle.cert_serving.specs.Refusing.{are_permitted}
+use Rattle.cert_serving.specs.Demanding.{PermitsOf, ProcessesFor}
+use Rattle.cert_serving.specs.Refusing.{are_permitted, are_processed}
 use Rattle.certpath_c.specs.Answers.{IsAnswerOf, AreNoAnswer}
 use Rattle.certpath_c.proofs.Moved.{moved}
 use Rattle.certpath_c.proofs.checking.checked.Goals as goal
@@ -45,7 +45,8 @@ returns c =
         are_permits = record {
           wanted = c.args.judged.now.wanted;
           is_wanted = c.requires;
-          permitted = subst (λ d. PermitsOf d items (are_permitted permits)) c.demands_of-demands.ensures c.in_ok-permits.ensures;
+          permitted = subst (λ d. PermitsOf d items (are_permitted permits)) c.demands_of-demands.ensures c.in_ok-permits.ensures.permits;
+          processed = subst (λ d. ProcessesFor d (are_processed permits)) c.demands_of-demands.ensures c.in_ok-permits.ensures.processes;
         };
         answer = answer;
         is_answer = subst (λ w. IsAnswerOf w given.row given.positions.now given.entries.now answer) c.len-width.ensures.len is;

@@ -1,8 +1,8 @@
 use Rattle.std.proofs.Common.{subst}
 use Rattle.cert_graph.specs.Adequate.{IsAdequate, IsTrueAnswer}
 use Rattle.cert_search.specs.Exact.{HasExactRows, IsShort}
-use Rattle.cert_serving.specs.Demanding.{PermitsOf}
-use Rattle.cert_serving.specs.Refusing.{are_permitted}
+use Rattle.cert_serving.specs.Demanding.{PermitsOf, ProcessesFor}
+use Rattle.cert_serving.specs.Refusing.{are_permitted, are_processed}
 use Rattle.certpath_c.proofs.Moved.{moved}
 use Rattle.certpath_c.proofs.finding.answer_of.Goals as goal
 
@@ -28,7 +28,8 @@ returns c =
       are_permits = record {
         wanted = c.args.judged.now.wanted;
         is_wanted = c.requires;
-        permitted = subst (λ d. PermitsOf d items (are_permitted permits)) c.demands_of-demands.ensures c.in_ok-permits.ensures;
+        permitted = subst (λ d. PermitsOf d items (are_permitted permits)) c.demands_of-demands.ensures c.in_ok-permits.ensures.permits;
+        processed = subst (λ d. ProcessesFor d (are_processed permits)) c.demands_of-demands.ensures c.in_ok-permits.ensures.processes;
       };
       adequate = moved policy vouch.vouch.now inputs.vouchers vouch.permit.now permits items anchors (λ g. IsAdequate g target answer) pairs permitted found.adequate;
       holds = moved policy vouch.vouch.now inputs.vouchers vouch.permit.now permits items anchors (λ g. IsTrueAnswer g target answer) pairs permitted found.holds;
