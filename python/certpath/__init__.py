@@ -27,12 +27,14 @@ from .paths import Answer, Asked, Outcome, check, find
 from .questions import Holder, Question, holders_by_issuer, questions
 from .reports import path, paths, why
 from .serving import allows, serves
+from .verifying import Verified, verify
 from .vouchers import Vouchers
 
 __all__ = [
     "Answer", "Asked", "BadAnswer", "BadHost", "BadItem", "BadLine", "BadMoment", "BadName",
     "Certificate", "Contents", "End", "Error", "Holder", "Item", "Items", "Kind", "LIMIT", "LeftOut",
     "LibraryMissing", "Loaded", "Name", "NoField", "Other", "OutOfMemory", "Outcome", "Question",
-    "RevocationList", "Vouchers", "allows", "check", "class_of", "find", "frame",
-    "holders_by_issuer", "item_of", "load", "path", "paths", "questions", "serves", "version", "why",
+    "RevocationList", "Verified", "Vouchers", "allows", "check", "class_of", "find", "frame",
+    "holders_by_issuer", "item_of", "load", "path", "paths", "questions", "serves", "verify",
+    "version", "why",
 ]
