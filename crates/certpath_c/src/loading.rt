@@ -2,9 +2,9 @@
 
 ghost use Rattle.std.specs.Prelude.{◌≡◌, [], ◌∷◌, ◌++◌, map, option_map, count_by, IfOk, OnOk};
 ghost use Rattle.std.specs.List.{list_any};
-ghost use Rattle.certpath_files.specs.RowsTold.{spot_told, member_told, place_told, reason_told, row_told};
-ghost use Rattle.certpath_files.specs.FrontsTold.{fault_told};
-ghost use Rattle.certpath_pem.specs.SourcesTold.{source_told};
+ghost use Rattle.certpath_files.specs.RowViews.{spot_view, member_view, place_view, reason_view, row_view};
+ghost use Rattle.certpath_files.specs.FrontViews.{fault_view};
+ghost use Rattle.certpath_pem.specs.SourceViews.{source_view};
 ghost use Rattle.certpath_c.specs.Loading.{spot_line, spot_position, spot_label, member_set, member_number, fault_number, reason_number, missing_in, count_in, to_end_in, left_row, left_rows, is_item, is_signed, form_number, LoadAnswer};
 
 use crate::labels::label_number;
@@ -39,7 +39,7 @@ pub struct Loaded {
 }
 
 fn spot_line(spot: Spot<'_>) -> usize
-    ensures { result ≡ spot_line (spot_told spot.entry) }
+    ensures { result ≡ spot_line (spot_view spot.entry) }
 {
     match spot {
         Spot::File => 0,
@@ -50,7 +50,7 @@ fn spot_line(spot: Spot<'_>) -> usize
 }
 
 fn spot_position(spot: Spot<'_>) -> usize
-    ensures { result ≡ spot_position (spot_told spot.entry) }
+    ensures { result ≡ spot_position (spot_view spot.entry) }
 {
     match spot {
         Spot::Octet(position) => position,
@@ -61,7 +61,7 @@ fn spot_position(spot: Spot<'_>) -> usize
 }
 
 fn spot_label(spot: Spot<'_>) -> u32
-    ensures { result ≡ spot_label (spot_told spot.entry) }
+    ensures { result ≡ spot_label (spot_view spot.entry) }
 {
     match spot {
         Spot::Block(_, Some(label)) => label_number(label),
@@ -73,7 +73,7 @@ fn spot_label(spot: Spot<'_>) -> u32
 }
 
 fn member_set(member: Option<Member>) -> u32
-    ensures { result ≡ member_set (option_map member_told member) }
+    ensures { result ≡ member_set (option_map member_view member) }
 {
     match member {
         None => 0,
@@ -85,7 +85,7 @@ fn member_set(member: Option<Member>) -> u32
 }
 
 fn member_number(member: Option<Member>) -> usize
-    ensures { result ≡ member_number (option_map member_told member) }
+    ensures { result ≡ member_number (option_map member_view member) }
 {
     match member {
         None => 0,
@@ -94,7 +94,7 @@ fn member_number(member: Option<Member>) -> usize
 }
 
 fn fault_number(fault: Fault) -> u32
-    ensures { result ≡ fault_number (fault_told fault) }
+    ensures { result ≡ fault_number (fault_view fault) }
 {
     match fault {
         Fault::NoSequence => 16,
@@ -106,7 +106,7 @@ fn fault_number(fault: Fault) -> u32
 }
 
 fn reason_number(reason: Reason) -> u32
-    ensures { result ≡ reason_number (reason_told reason) }
+    ensures { result ≡ reason_number (reason_view reason) }
 {
     match reason {
         Reason::EmptyFile => 0,
@@ -132,7 +132,7 @@ fn reason_number(reason: Reason) -> u32
 
 /// How many octets of an element are missing.
 fn missing_in(fault: Fault) -> usize
-    ensures { result ≡ missing_in (fault_told fault) }
+    ensures { result ≡ missing_in (fault_view fault) }
 {
     match fault {
         Fault::Missing(count) => count,
@@ -142,7 +142,7 @@ fn missing_in(fault: Fault) -> usize
 
 /// How many octets a reason counts.
 fn count_in(reason: Reason) -> usize
-    ensures { result ≡ count_in (reason_told reason) }
+    ensures { result ≡ count_in (reason_view reason) }
 {
     match reason {
         Reason::Behind(count) => count,
@@ -154,7 +154,7 @@ fn count_in(reason: Reason) -> usize
 
 /// How many octets from here to the end are left out with it.
 fn to_end_in(reason: Reason) -> usize
-    ensures { result ≡ to_end_in (reason_told reason) }
+    ensures { result ≡ to_end_in (reason_view reason) }
 {
     match reason {
         Reason::ToEnd(_, count) => count,
@@ -164,7 +164,7 @@ fn to_end_in(reason: Reason) -> usize
 
 /// What is left out, as the header has it.
 fn left_row(place: Place<'_>, reason: Reason) -> LeftOut
-    ensures { result ≡ left_row (place_told place.entry) (reason_told reason) }
+    ensures { result ≡ left_row (place_view place.entry) (reason_view reason) }
 {
     LeftOut {
         line: spot_line(place.spot),
@@ -180,7 +180,7 @@ fn left_row(place: Place<'_>, reason: Reason) -> LeftOut
 
 /// Adds what a row leaves out.
 fn push_left(left: &mut Vec<LeftOut>, row: &Row<'_>) -> Result<(), AllocError>
-    ensures { OnOk result (left.new.items ≡ left.old.items ++ left_rows (row_told row.now ∷ [])) }
+    ensures { OnOk result (left.new.items ≡ left.old.items ++ left_rows (row_view row.now ∷ [])) }
 {
     match row {
         Row::Item(_, _, _) => Ok(()),
@@ -193,7 +193,7 @@ fn push_left(left: &mut Vec<LeftOut>, row: &Row<'_>) -> Result<(), AllocError>
 
 /// What is left out, in the order of the file.
 fn left_rows(alloc: Global, rows: &[Row<'_>]) -> Result<Vec<LeftOut>, AllocError>
-    ensures { IfOk result (λ left. left.items ≡ left_rows (map row_told rows.now)) }
+    ensures { IfOk result (λ left. left.items ≡ left_rows (map row_view rows.now)) }
 {
     let mut left = Vec::new(alloc);
     for row in rows {
@@ -203,7 +203,7 @@ fn left_rows(alloc: Global, rows: &[Row<'_>]) -> Result<Vec<LeftOut>, AllocError
 }
 
 fn is_item(row: &Row<'_>) -> bool
-    ensures { result ≡ is_item (row_told row.now) }
+    ensures { result ≡ is_item (row_view row.now) }
 {
     match row {
         Row::Item(_, _, _) => true,
@@ -213,14 +213,14 @@ fn is_item(row: &Row<'_>) -> bool
 
 /// How many items a file has.
 fn item_count(rows: &[Row<'_>]) -> usize
-    ensures { result ≡ count_by (λ r. is_item (row_told r)) rows.now }
+    ensures { result ≡ count_by (λ r. is_item (row_view r)) rows.now }
 {
     rows.iter().filter(|row| is_item(row)).count()
 }
 
 /// Whether a row is on SignedData.
 fn is_signed(row: &Row<'_>) -> bool
-    ensures { result ≡ is_signed (row_told row.now) }
+    ensures { result ≡ is_signed (row_view row.now) }
 {
     match row {
         Row::Item(place, _, _) => place.member.is_some(),
@@ -231,14 +231,14 @@ fn is_signed(row: &Row<'_>) -> bool
 
 /// Whether a file has SignedData.
 fn has_signed(rows: &[Row<'_>]) -> bool
-    ensures { result ≡ list_any (λ r. is_signed (row_told r)) rows.now }
+    ensures { result ≡ list_any (λ r. is_signed (row_view r)) rows.now }
 {
     rows.iter().any(|row| is_signed(row))
 }
 
 /// The number of a file's form.
 fn form_number(source: Source, rows: &[Row<'_>]) -> u32
-    ensures { result ≡ form_number (source_told source) (list_any (λ r. is_signed (row_told r)) rows.now) }
+    ensures { result ≡ form_number (source_view source) (list_any (λ r. is_signed (row_view r)) rows.now) }
 {
     match source {
         Source::Nothing => 0,

@@ -24,7 +24,7 @@ pub(crate) fn put_both<S: Copy, T: Copy>(
 ) -> bool
     ensures { PutsBoth buffer.old buffer.new values.now other.old other.new others.now result }
 {
-    if values.len() > buffer.len() {
+    if buffer.len() < values.len() {
         return false;
     }
     put(other, others) && put(buffer, values)
