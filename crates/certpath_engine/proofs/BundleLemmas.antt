@@ -22,6 +22,8 @@ bundle_answers app words m sub name (Ok asked) is_app matches named given is t =
 bundle_answers app words m sub name (Err (faults.Refused said)) is_app matches named given is t = absurd t
 bundle_answers app words m sub name (Err faults.Number) is_app matches named given is t = absurd t
 bundle_answers app words m sub name (Err faults.Moment) is_app matches named given is t = absurd t
+bundle_answers app words m sub name (Err (faults.Host reason)) is_app matches named given is t = absurd t
+bundle_answers app words m sub name (Err (faults.Purpose reason)) is_app matches named given is t = absurd t
 bundle_answers app words m sub name (Err faults.OutOfMemory) is_app matches named given is t = tt
 
 -- the values of an argument are those of its row

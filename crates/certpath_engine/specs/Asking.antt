@@ -130,6 +130,8 @@ GivesBundle rows (Ok asked) = (name_of asked ≡ codes "bundle") × AsksOf rows 
 GivesBundle rows (Err (Refused said)) = ⊥
 GivesBundle rows (Err Number) = ⊥
 GivesBundle rows (Err Moment) = ⊥
+GivesBundle rows (Err (Host reason)) = ⊥
+GivesBundle rows (Err (PurposeFault reason)) = ⊥
 GivesBundle rows (Err OutOfMemory) = Unit {0}
 
 -- the words of a question on one target; none only where one of its arguments has no value
