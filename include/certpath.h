@@ -33,8 +33,8 @@ enum {
     CERTPATH_OUT_OF_MEMORY = 1, /* the C library gave no memory */
     CERTPATH_TOO_SMALL = 2,     /* a buffer is too small; the result says how large it must be */
     CERTPATH_NO_FIELD = 3,      /* the item has no such field */
-    CERTPATH_BAD_NAME = 4,      /* the octets of a name can't be read */
-    CERTPATH_BAD_MOMENT = 5,    /* a moment is no date and time */
+    CERTPATH_BAD_NAME = 4,      /* octets are no name */
+    CERTPATH_BAD_MOMENT = 5,    /* a moment is no date and time, or before the year 0 */
     CERTPATH_BAD_ANSWER = 6,    /* an answer to be checked isn't one: its numbers don't fit */
     CERTPATH_BAD_LINE = 7,      /* a line of a voucher file is neither empty nor two digests */
     CERTPATH_NOT_CERTIFICATE = 8, /* the item is no certificate */
@@ -72,6 +72,104 @@ typedef struct {
  */
 int32_t certpath_frame(const uint8_t *octets, size_t octets_length, uint32_t limit,
                        certpath_span *items, size_t room, certpath_framed *framed);
+
+/* ---- reading files of any form */
+
+/* What a file is. */
+enum {
+    CERTPATH_FORM_EMPTY = 0, /* it has no octets */
+    CERTPATH_FORM_PEM = 1,   /* a text with blocks (RFC 7468) */
+    CERTPATH_FORM_DER = 2,   /* elements in DER, one after another */
+    CERTPATH_FORM_PKCS7 = 3, /* the same, with SignedData among them (RFC 5652, 5.1) */
+    CERTPATH_FORM_OTHER = 4  /* anything else, a text in UTF-16 too */
+};
+
+/* Labels of PEM blocks that are known; 0 stands for no label, or another one. */
+enum {
+    CERTPATH_LABEL_CERTIFICATE = 1,
+    CERTPATH_LABEL_X509_CRL = 2,
+    CERTPATH_LABEL_X509_CERTIFICATE = 3,
+    CERTPATH_LABEL_X_509_CERTIFICATE = 4, /* X.509 CERTIFICATE */
+    CERTPATH_LABEL_TRUSTED_CERTIFICATE = 5,
+    CERTPATH_LABEL_PKCS7 = 6,
+    CERTPATH_LABEL_CMS = 7,
+    CERTPATH_LABEL_PKCS_7_SIGNED_DATA = 8, /* PKCS #7 SIGNED DATA */
+    CERTPATH_LABEL_PRIVATE_KEY = 9,
+    CERTPATH_LABEL_ENCRYPTED_PRIVATE_KEY = 10,
+    CERTPATH_LABEL_PUBLIC_KEY = 11,
+    CERTPATH_LABEL_OPENSSH_PRIVATE_KEY = 12,
+    CERTPATH_LABEL_RSA_PRIVATE_KEY = 13,
+    CERTPATH_LABEL_EC_PRIVATE_KEY = 14,
+    CERTPATH_LABEL_DSA_PRIVATE_KEY = 15,
+    CERTPATH_LABEL_RSA_PUBLIC_KEY = 16,
+    CERTPATH_LABEL_CERTIFICATE_REQUEST = 17,
+    CERTPATH_LABEL_NEW_CERTIFICATE_REQUEST = 18,
+    CERTPATH_LABEL_ATTRIBUTE_CERTIFICATE = 19,
+    CERTPATH_LABEL_X509_ATTRIBUTE_CERTIFICATE = 20,
+    CERTPATH_LABEL_EC_PARAMETERS = 21,
+    CERTPATH_LABEL_DSA_PARAMETERS = 22,
+    CERTPATH_LABEL_DH_PARAMETERS = 23,
+    CERTPATH_LABEL_X9_42_DH_PARAMETERS = 24 /* X9.42 DH PARAMETERS */
+};
+
+/* Why something is left out of a file. */
+enum {
+    CERTPATH_LEFT_EMPTY_FILE = 0,     /* the file has no octet */
+    CERTPATH_LEFT_NO_FORM = 1,        /* the file is neither PEM nor DER */
+    CERTPATH_LEFT_WIDE_TEXT = 2,      /* the file is a text in UTF-16 */
+    CERTPATH_LEFT_NO_ITEM = 3,        /* neither a certificate nor a list by its shape */
+    CERTPATH_LEFT_BEHIND = 4,         /* `count` octets after the item of a block */
+    CERTPATH_LEFT_NO_END = 5,         /* no line ends the block */
+    CERTPATH_LEFT_WITH_HEADERS = 6,   /* header lines stand in the block */
+    CERTPATH_LEFT_NO_OCTETS = 7,      /* there is nothing in the block */
+    CERTPATH_LEFT_NOT_BASE64 = 8,     /* the lines of the block are no base64 */
+    CERTPATH_LEFT_OTHER_LABEL = 9,    /* the label is that of other things */
+    CERTPATH_LEFT_UNKNOWN_LABEL = 10, /* the label isn't a known one */
+    CERTPATH_LEFT_STRAY_END = 11,     /* an END line that ends no block */
+    CERTPATH_LEFT_BAD_BOUNDARY = 12,  /* a line with BEGIN or END that is no line of its own */
+    CERTPATH_LEFT_NO_TEXT = 13,       /* a line outside of blocks with octets that are no text */
+    CERTPATH_LEFT_NO_SIGNED_DATA = 14, /* the block holds no SignedData in DER */
+    CERTPATH_LEFT_NO_MEMBERS = 15,    /* SignedData with neither certificates nor lists */
+    CERTPATH_LEFT_NO_SEQUENCE = 16,   /* no SEQUENCE begins here */
+    CERTPATH_LEFT_NO_LENGTH = 17,     /* its length is indefinite (BER), or cut */
+    CERTPATH_LEFT_TOO_LONG = 18,      /* it has more content octets than CERTPATH_LIMIT */
+    CERTPATH_LEFT_MISSING = 19,       /* `count` octets of it are missing */
+    CERTPATH_LEFT_LONG_FORM = 20      /* its length isn't in the shortest form (BER) */
+};
+
+/* Something that is left out of a file. No octet of it is here, nor a label that isn't known. */
+typedef struct {
+    size_t line;     /* of PEM: of the line, or of the block's BEGIN, from 1; else 0 */
+    size_t position; /* of DER: of the octet at which it begins, from 0; else 0 */
+    uint32_t label;  /* of a block: CERTPATH_LABEL_CERTIFICATE or one after it, where it is known */
+    uint32_t set;    /* within SignedData: CERTPATH_CERTIFICATE or CERTPATH_LIST; else 0 */
+    size_t number;   /* within SignedData: the place in that set, from 0; else 0 */
+    uint32_t reason; /* CERTPATH_LEFT_EMPTY_FILE or one after it */
+    size_t count;    /* of octets, where the reason says so; else 0 */
+    size_t to_end;   /* how many octets from here on are left out with it, to the end of the file or
+                        of the set; 0 where what follows it is read */
+} certpath_left_out;
+
+typedef struct {
+    uint32_t form; /* CERTPATH_FORM_EMPTY or one after it */
+    size_t length; /* how many octets the items have together */
+    size_t count;  /* how many items there are */
+    size_t left;   /* how many things are left out */
+} certpath_loaded;
+
+/*
+ * Reads a file of any form. Writes its certificates and revocation lists into `items`, DER items
+ * one after another in the order of the file, as certpath_frame cuts them; and into `left` what is
+ * left out, in the same order. Of PEM the blocks of labels 1 to 8 are read, of SignedData its
+ * certificates and lists. An item has the shape of a certificate or of a list; nothing else of it
+ * is tested. What isn't taken by its label isn't decoded. docs/RULES.md has the rules.
+ *
+ * `loaded` is set with CERTPATH_DONE and CERTPATH_TOO_SMALL: the room that is needed is
+ * `loaded->length` octets and `loaded->left` structures. The items of a file of n octets have at
+ * most n.
+ */
+int32_t certpath_load(const uint8_t *octets, size_t octets_length, uint8_t *items, size_t room,
+                      certpath_left_out *left, size_t left_room, certpath_loaded *loaded);
 
 /* ---- single items */
 
@@ -111,7 +209,7 @@ int32_t certpath_field(const uint8_t *item, size_t item_length, uint32_t field, 
 
 /* A date and time in UTC, by the Gregorian calendar, also before 1582. */
 typedef struct {
-    int16_t year;  /* of an item 1950 to 9999 (RFC 5280, 4.1.2.5); else -9999 to 9999 */
+    int16_t year;  /* of an item 1950 to 9999 (RFC 5280, 4.1.2.5); else 0 to 9999 */
     int8_t month;  /* 1 to 12 */
     int8_t day;    /* 1 to 31 */
     int8_t hour;   /* 0 to 23 */
@@ -122,16 +220,46 @@ typedef struct {
 typedef struct {
     certpath_moment first; /* a certificate's notBefore; a list's thisUpdate */
     certpath_moment last;  /* a certificate's notAfter; a list's nextUpdate, or else its thisUpdate */
-    uint32_t has_last;     /* 1, or 0 for a list that has no nextUpdate, whose `last` says nothing */
+    uint32_t has_last;     /* 1, or 0 for a list that has no nextUpdate, whose `last` is `first` */
 } certpath_validity;
 
 /* The times of a certificate or a list; CERTPATH_NO_FIELD for anything else. */
 int32_t certpath_times(const uint8_t *item, size_t item_length, certpath_validity *validity);
 
+/* A field of an item. */
+typedef struct {
+    size_t length;     /* how many octets it has; 0 where the item doesn't have it */
+    uint32_t is_there; /* 1 where the item has it, else 0 */
+} certpath_extent;
+
+/* What an item is, and what it holds. */
+typedef struct {
+    uint32_t item_class;             /* CERTPATH_OTHER, CERTPATH_CERTIFICATE or CERTPATH_LIST */
+    certpath_validity validity;      /* as certpath_times sets it; all 0 for anything else */
+    certpath_extent issuer;          /* the fields, as certpath_field writes them */
+    certpath_extent subject;
+    certpath_extent key;
+    certpath_extent serial;
+    certpath_extent algorithm;
+    certpath_extent subject_key_id;  /* key identifiers that a certificate names, the content */
+    certpath_extent authority_key_id; /* of their elements (RFC 5280, 4.2.1.2 and 4.2.1.1) */
+    size_t length;                   /* how many octets all fields have together */
+} certpath_contents;
+
+/*
+ * Reads an item once: what it is, its times and all its fields, which are written into `octets` one
+ * after another in the order of `contents`. So the subject begins at `contents->issuer.length`.
+ * `contents` is set with CERTPATH_DONE and CERTPATH_TOO_SMALL; `contents->length` is the room that
+ * is needed, which is less than `item_length`. Of anything but a certificate or a list nothing is
+ * written, with CERTPATH_DONE.
+ */
+int32_t certpath_item(const uint8_t *item, size_t item_length, uint8_t *octets, size_t room,
+                      certpath_contents *contents);
+
 /*
  * Writes a name, by its element's octets, as text (UTF-8, no 0 at the end), as
- * `C=DE, O=Example, CN=www.example.test`. CERTPATH_BAD_NAME where it can't be read. `length` is set
- * with CERTPATH_DONE and CERTPATH_TOO_SMALL.
+ * `C=DE, O=Example, CN=www.example.test`. CERTPATH_BAD_NAME where the octets are no name, or more
+ * than one. `length` is set with CERTPATH_DONE and CERTPATH_TOO_SMALL.
  *
  * Values stand there as they stand in the name: with line ends, 0, terminal controls, marks that
  * turn the direction of writing, and with ", O=". So escape the text before it is shown, as
@@ -211,12 +339,20 @@ typedef struct {
     uint8_t item[32]; /* of the item, all of its octets */
 } certpath_voucher;
 
-/* What is asked: a path from an item of the bundle to an anchor. */
+/*
+ * What is asked: a path from an item of the bundle to an anchor. The last four fields came with
+ * version 3: where they are 0, as where an initializer leaves them out, no purpose and no host is
+ * demanded. certpath_find and certpath_check look at them, and the calls that write reports don't.
+ */
 typedef struct {
     size_t target;          /* the position of the certificate in the bundle, from 0 */
     uint32_t limit;         /* of the items of both files, content octets */
     uint32_t demands_lists; /* not 0: each certificate needs a revocation list that is used */
-    certpath_moment moment; /* at which all has to be valid, of the years -9999 to 9999 */
+    certpath_moment moment; /* at which all has to be valid, of the years 0 to 9999 */
+    const uint8_t *purpose; /* as certpath_allows takes it: each certificate has to allow it */
+    size_t purpose_length;
+    const uint8_t *host; /* as certpath_serves takes it: the target has to serve it */
+    size_t host_length;
 } certpath_settings;
 
 /* What is answered. */
@@ -246,7 +382,8 @@ typedef struct {
  * certificates in the bundle, from the target on, and into `table` the rows that show that the
  * answer is right, one after another. `answer` is set with CERTPATH_DONE and CERTPATH_TOO_SMALL:
  * the room that is needed is `answer->length` positions and `answer->entries` entries.
- * CERTPATH_BAD_MOMENT where the calendar has no such date, or a clock no such time.
+ * CERTPATH_BAD_MOMENT where the calendar has no such date, a clock no such time, or the year is
+ * negative; else CERTPATH_BAD_HOST where the host is none, and certpath_serves says why.
  */
 int32_t certpath_find(const uint8_t *bundle, size_t bundle_length, const uint8_t *anchors,
                       size_t anchors_length, const certpath_voucher *vouchers,
@@ -257,9 +394,9 @@ int32_t certpath_find(const uint8_t *bundle, size_t bundle_length, const uint8_t
 /*
  * Whether an answer is right, as its table shows: `says_yes` is set to 1 or 0 with
  * CERTPATH_DONE. The items are read by another reader than that of certpath_find, and nothing is
- * searched for. CERTPATH_BAD_ANSWER where the lengths aren't those of `answer`, an entry stands for
- * nothing, the table doesn't have whole rows, or an answer without a path has positions or an
- * anchor. CERTPATH_BAD_MOMENT as above.
+ * searched for. CERTPATH_BAD_MOMENT and CERTPATH_BAD_HOST as above; else CERTPATH_BAD_ANSWER where
+ * the lengths aren't those of `answer`, an entry stands for nothing, the table doesn't have whole
+ * rows, or an answer without a path has positions or an anchor, and nowhere else.
  */
 int32_t certpath_check(const uint8_t *bundle, size_t bundle_length, const uint8_t *anchors,
                        size_t anchors_length, const certpath_voucher *vouchers,
@@ -301,7 +438,7 @@ int32_t certpath_paths(const uint8_t *bundle, size_t bundle_length, const uint8_
 /* ---- the library */
 
 /* The version of these calls: it grows where one of them changes. */
-#define CERTPATH_VERSION 2
+#define CERTPATH_VERSION 3
 
 uint32_t certpath_version(void);
 

@@ -1,10 +1,11 @@
 /*
  * Reads a bundle and anchors, shows the certificates of the bundle by name, and answers by OpenSSL
  * the questions that certpath asks: which keys verify which signatures. Prints a line for each, and
- * the voucher file that `certpath path` reads into a third file, which must be a new one.
+ * at a date the first of the shortest paths from the first item to an anchor. The voucher file that
+ * `certpath path` reads is written into a third file, which must be a new one.
  *
  *     cc -Iinclude examples/c/questions.c -o questions dist/libcertpath.a -lcrypto
- *     ./questions samples/bundle.der samples/root.der new-vouchers.txt
+ *     ./questions samples/bundle.der samples/root.der new-vouchers.txt 2027-01-01
  *
  * Both files are DER items one after another, as ./bundle makes them.
  */
@@ -14,6 +15,7 @@
 #include <openssl/x509.h>
 #include <stdio.h>
 #include <stdlib.h>
+#include <string.h>
 
 /* ---- files and their items */
 
@@ -177,23 +179,26 @@ static int is_verified(const file_of_items *bundle, size_t position, const unsig
     return is_right;
 }
 
-static void write_digest(FILE *to, const unsigned char *octets, size_t length, char behind)
+static void write_digest(FILE *to, const unsigned char *digest, char behind)
 {
-    unsigned char digest[SHA256_DIGEST_LENGTH];
     size_t k;
-    SHA256(octets, length, digest);
-    for (k = 0; k < sizeof digest; k++)
+    for (k = 0; k < SHA256_DIGEST_LENGTH; k++)
         fprintf(to, "%02x", digest[k]);
     fputc(behind, to);
 }
 
-static void answer_questions(const file_of_items *bundle, const file_of_items *anchors, FILE *to)
+/* Gives the vouchers, and how many they are; the caller frees them. */
+static certpath_voucher *answer_questions(const file_of_items *bundle, const file_of_items *anchors,
+                                          FILE *to, size_t *vouched)
 {
     size_t count, k, length;
     certpath_question *questions;
+    certpath_voucher *vouchers;
     certpath_questions(bundle->octets, bundle->length, anchors->octets, anchors->length,
                        CERTPATH_LIMIT, NULL, 0, &count);
     questions = room_for(count, sizeof *questions);
+    vouchers = room_for(count, sizeof *vouchers);
+    *vouched = 0;
     if (certpath_questions(bundle->octets, bundle->length, anchors->octets, anchors->length,
                            CERTPATH_LIMIT, questions, count, &count) != CERTPATH_DONE)
         refuse("cannot ask questions");
@@ -206,12 +211,55 @@ static void answer_questions(const file_of_items *bundle, const file_of_items *a
                one->holder, yes ? "yes" : "no");
         if (yes) {
             const certpath_span *span = &bundle->items[one->item];
-            write_digest(to, key, length, ' ');
-            write_digest(to, bundle->octets + span->offset, span->length, '\n');
+            certpath_voucher *voucher = &vouchers[(*vouched)++];
+            SHA256(key, length, voucher->key);
+            SHA256(bundle->octets + span->offset, span->length, voucher->item);
+            write_digest(to, voucher->key, ' ');
+            write_digest(to, voucher->item, '\n');
         }
         free(key);
     }
     free(questions);
+    return vouchers;
+}
+
+/* ---- the path from the first item */
+
+static void show_path(const file_of_items *bundle, const file_of_items *anchors,
+                      const certpath_voucher *vouchers, size_t count, const char *date)
+{
+    certpath_settings settings;
+    certpath_moment *at = &settings.moment;
+    certpath_answer answer = {0, 0, 0, 0};
+    size_t *path = NULL, k;
+    uint64_t *table = NULL;
+    int32_t status;
+    memset(&settings, 0, sizeof settings);
+    settings.limit = CERTPATH_LIMIT;
+    if (sscanf(date, "%hd-%hhd-%hhd", &at->year, &at->month, &at->day) != 3)
+        refuse("a date is written as 2027-01-01");
+    /* a first call asks how much room the answer needs */
+    status = certpath_find(bundle->octets, bundle->length, anchors->octets, anchors->length,
+                           vouchers, count, &settings, NULL, 0, NULL, 0, &answer);
+    if (status == CERTPATH_TOO_SMALL) {
+        path = room_for(answer.length, sizeof *path);
+        table = room_for(answer.entries, sizeof *table);
+        status = certpath_find(bundle->octets, bundle->length, anchors->octets, anchors->length,
+                               vouchers, count, &settings, path, answer.length, table,
+                               answer.entries, &answer);
+    }
+    if (status != CERTPATH_DONE)
+        refuse(status == CERTPATH_BAD_MOMENT ? "there is no such date" : "out of memory");
+    if (answer.outcome == CERTPATH_PATH) {
+        printf("path:");
+        for (k = 0; k < answer.length; k++)
+            printf(" item %zu,", path[k]);
+        printf(" anchor %zu\n", answer.anchor);
+    } else {
+        printf("no path\n");
+    }
+    free(path);
+    free(table);
 }
 
 static void release(file_of_items *file)
@@ -223,16 +271,21 @@ static void release(file_of_items *file)
 int main(int count, char **words)
 {
     file_of_items bundle, anchors;
+    certpath_voucher *vouchers;
+    size_t vouched;
     FILE *to;
-    if (count != 4)
-        refuse("usage: questions BUNDLE ANCHORS VOUCHERS");
+    if (count != 4 && count != 5)
+        refuse("usage: questions BUNDLE ANCHORS VOUCHERS [YEAR-MONTH-DAY]");
     bundle = read_items(words[1]);
     anchors = read_items(words[2]);
     to = fopen(words[3], "wx");
     if (!to)
         refuse_file("the file of the vouchers is there already, or cannot be written:", words[3]);
     show_items(&bundle);
-    answer_questions(&bundle, &anchors, to);
+    vouchers = answer_questions(&bundle, &anchors, to, &vouched);
+    if (count == 5)
+        show_path(&bundle, &anchors, vouchers, vouched, words[4]);
+    free(vouchers);
     release(&bundle);
     release(&anchors);
     return fclose(to) != 0;

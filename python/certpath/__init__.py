@@ -1,11 +1,11 @@
-"""X.509 certificates and revocation lists, cut, classed and judged by proved code.
+"""X.509 certificates and revocation lists, read and judged by proved code.
 
     from datetime import datetime, timezone
     import certpath
     import certpath.openssl
 
-    bundle = certpath.frame(open("bundle.der", "rb").read())
-    anchors = certpath.frame(open("anchors.der", "rb").read())
+    bundle = certpath.load("chain.pem").items
+    anchors = certpath.load("root.pem").items
     for item in bundle:
         if item.kind is certpath.Kind.CERTIFICATE:
             print(item.subject, item.not_valid_after_utc)
@@ -13,24 +13,28 @@
     print(certpath.find(bundle, anchors, vouchers, target=0, at=datetime.now(timezone.utc)))
 
 Everything is read in a shared library, whose functions are proved; this package hands octets over
-and gives names to what comes back. It reads no DER. No call keeps anything, so any number of
-threads may call at once.
+and gives names to what comes back. It reads no DER and no PEM. No call keeps anything, so any
+number of threads may call at once.
 """
 from .cutting import End
-from .items import (LIMIT, Certificate, Item, Items, Kind, Other, RevocationList, class_of, frame)
+from .items import (LIMIT, Certificate, Contents, Item, Items, Kind, Other, RevocationList,
+                    class_of, frame, item_of)
 from .library import (BadAnswer, BadHost, BadItem, BadLine, BadMoment, BadName, Error,
                       LibraryMissing, NoField, OutOfMemory, version)
+from .loading import LeftOut, Loaded, load
 from .names import Name
 from .paths import Answer, Asked, Outcome, check, find
 from .questions import Holder, Question, holders_by_issuer, questions
 from .reports import path, paths, why
 from .serving import allows, serves
+from .verifying import Verified, verify
 from .vouchers import Vouchers
 
 __all__ = [
     "Answer", "Asked", "BadAnswer", "BadHost", "BadItem", "BadLine", "BadMoment", "BadName",
-    "Certificate", "End", "Error", "Holder", "Item", "Items", "Kind", "LIMIT", "LibraryMissing",
-    "Name", "NoField", "Other", "OutOfMemory", "Outcome", "Question", "RevocationList", "Vouchers",
-    "allows", "check", "class_of", "find", "frame", "holders_by_issuer", "path", "paths",
-    "questions", "serves", "version", "why",
+    "Certificate", "Contents", "End", "Error", "Holder", "Item", "Items", "Kind", "LIMIT", "LeftOut",
+    "LibraryMissing", "Loaded", "Name", "NoField", "Other", "OutOfMemory", "Outcome", "Question",
+    "RevocationList", "Verified", "Vouchers", "allows", "check", "class_of", "find", "frame",
+    "holders_by_issuer", "item_of", "load", "path", "paths", "questions", "serves", "verify",
+    "version", "why",
 ]

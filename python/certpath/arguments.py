@@ -5,7 +5,7 @@ the library that hasn't passed one of these functions.
 """
 import operator
 import os
-from typing import Optional
+from typing import Any, Optional, Type
 
 # The greatest numbers of the C types uint32_t and size_t (and uint64_t).
 MOST_32, MOST_64 = (1 << 32) - 1, (1 << 64) - 1
@@ -13,12 +13,12 @@ MOST_32, MOST_64 = (1 << 32) - 1, (1 << 64) - 1
 MOST_SHOWN_BITS = 128
 
 
-def type_name(value) -> str:
+def type_name(value: Any) -> str:
     """The name of a value's type, for a message."""
     return type(value).__name__
 
 
-def remedy_for_octets(value) -> str:
+def remedy_for_octets(value: Any) -> str:
     """What to do with a value that is no octets, to have some."""
     if isinstance(value, str):
         return "; a file is opened with mode 'rb'"
@@ -29,7 +29,7 @@ def remedy_for_octets(value) -> str:
     return "; its read() gives them" if hasattr(value, "read") else ""
 
 
-def octets(value, what: str) -> bytes:
+def octets(value: Any, what: str) -> bytes:
     """The octets of a `bytes`, or of another object whose buffer has elements of one octet.
 
     TypeError of anything else, though `bytes()` may take it: numbers, paths, lists.
@@ -53,7 +53,8 @@ def shown(number: int) -> str:
     return str(number) if bits <= MOST_SHOWN_BITS else f"a number of {bits} bits"
 
 
-def number(value, what: str, most: Optional[int], error: type = ValueError) -> int:
+def number(value: Any, what: str, most: Optional[int],
+           error: Type[Exception] = ValueError) -> int:
     """An int from 0 to `most`, or from 0 on if that is None; TypeError of what is no int,
     `error` of one out of that range."""
     if isinstance(value, bool):
@@ -67,7 +68,7 @@ def number(value, what: str, most: Optional[int], error: type = ValueError) -> i
     return found
 
 
-def flag(value, what: str) -> bool:
+def flag(value: Any, what: str) -> bool:
     """True or False; TypeError of anything else, as of the text "no"."""
     if not isinstance(value, bool):
         raise TypeError(f"{what}: True or False is needed, not {type_name(value)}")

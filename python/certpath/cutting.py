@@ -25,10 +25,11 @@ class Cutter:
     """Cuts octets into items, a window of them at a time, so that many small items take little
     memory beside the octets."""
 
-    def __init__(self, octets: bytes, limit: int):
+    def __init__(self, octets: bytes, limit: int) -> None:
         self.length, self.limit = len(octets), limit
         self.octets, self.framed = octets, library.Framed()
-        self.starts, self.spans = array("Q"), array("Q")
+        self.starts: "array[int]" = array("Q")
+        self.spans: "array[int]" = array("Q")
 
     def cut(self, at: int, length: int) -> Tuple[str, int]:
         """Cuts a window: notes where its items begin, and gives how it ends."""
@@ -64,3 +65,14 @@ class Cutter:
                 # an item is longer than the window
                 size *= 2
             at = end
+
+
+def is_one(octets: bytes, limit: int) -> bool:
+    """Whether octets are one item of at most so many content octets, and nothing else."""
+    span, framed = library.Span(), library.Framed()
+    status = library.loaded().certpath_frame(*library.octets_of(octets), limit, byref(span), 1,
+                                             byref(framed))
+    if status == library.TOO_SMALL:
+        return False
+    library.refuse(status)
+    return framed.count == 1 and ENDS[framed.end] == "clean"

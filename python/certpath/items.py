@@ -1,9 +1,11 @@
 """Items: the certificates and revocation lists of a file, and what they hold."""
 import enum
+from array import array
 from collections.abc import Sequence
 from ctypes import byref, c_size_t, c_uint32
 from datetime import datetime
-from typing import Iterator, List, Optional, Tuple, Union, overload
+from typing import (Any, Dict, Iterator, List, NamedTuple, Optional, Tuple, Type, TypeVar, Union,
+                    overload)
 
 from . import arguments, library
 from .cutting import Cutter, End
@@ -12,17 +14,15 @@ from .moments import datetime_of
 from .names import Name
 
 LIMIT = 16777216
-# How many octets of a field are asked for at first.
-ROOM = 512
 # What a call takes as octets.
 Octets = Union[bytes, bytearray, memoryview]
 # Stands for the class of an item that isn't known yet.
 UNKNOWN = 255
+T = TypeVar("T", bound="Item")
 # How many items are classed in one call.
 MANY = 1 << 16
 # How octets that aren't DER items can be made such.
-FROM_PEM = ("PEM has to be made DER: ssl.PEM_cert_to_DER_cert() reads one certificate, "
-            "./bundle of the repository whole files")
+FROM_PEM = "PEM or PKCS #7? certpath.load() reads it"
 
 
 class Kind(enum.Enum):
@@ -41,7 +41,42 @@ class Field(enum.IntEnum):
     ALGORITHM = 4
 
 
+# The numbers of fields.
+FIELDS = range(len(Field))
+
+
 KINDS = tuple(Kind)
+
+
+class Contents(NamedTuple):
+    """What an item is, its two times, and its fields in octets; None is what it doesn't have."""
+    kind: Kind
+    first: Optional[datetime]
+    """A certificate's notBefore, a list's thisUpdate."""
+    last: Optional[datetime]
+    """A certificate's notAfter, a list's nextUpdate."""
+    issuer: Optional[bytes]
+    subject: Optional[bytes]
+    key: Optional[bytes]
+    serial: Optional[bytes]
+    algorithm: Optional[bytes]
+    subject_key_id: Optional[bytes]
+    authority_key_id: Optional[bytes]
+
+
+def contents_of(octets: bytes) -> Contents:
+    """What the octets of an item are and hold, by one reading."""
+    found, buffer = library.contents_of(octets)
+    view, at, fields = memoryview(buffer), 0, []
+    for name in library.FIELDS:
+        extent = getattr(found, name)
+        end = at + extent.length
+        fields.append(bytes(view[at:end]) if extent.is_there else None)
+        at = end
+    times = found.validity
+    first = datetime_of(times.first) if found.item_class else None
+    last = datetime_of(times.last) if times.has_last else None
+    return Contents(KINDS[found.item_class], first, last, *fields)
 
 
 def class_number(octets: bytes, length: int) -> int:
@@ -56,26 +91,44 @@ def class_of(data: Octets) -> Kind:
     return KINDS[class_number(*library.octets_of(arguments.octets(data, "an item")))]
 
 
+def there(at: Optional[datetime]) -> datetime:
+    """A time that an item of this class has."""
+    if at is None:
+        raise library.NoField(library.NO_FIELD)
+    return at
+
+
 class Item(Fixed):
     """A certificate, a revocation list, or other octets. Items are equal if their octets are.
 
-    Fields are read when they are first asked for.
+    An item is read when it is first asked for something, and once. `item_of` gives one of the class
+    that its octets are.
     """
 
-    def __init__(self, octets: Octets):
+    _octets: bytes
+
+    def __init__(self, octets: Octets) -> None:
         self._set(_octets=arguments.octets(octets, "an item"))
 
     @classmethod
-    def _known(cls, octets: bytes):
+    def _known(cls: Type[T], octets: bytes) -> T:
         """An item whose octets are known to be of its class."""
         made = cls.__new__(cls)
         made.__dict__["_octets"] = octets
         return made
 
     @kept
+    def _contents(self) -> Contents:
+        return contents_of(self._octets)
+
+    def read(self) -> Contents:
+        """What the item is and holds. It is read once, whatever is asked of it afterwards."""
+        return self._contents
+
+    @property
     def kind(self) -> Kind:
         """What the item is."""
-        return class_of(self._octets)
+        return self._contents.kind
 
     def public_bytes(self) -> bytes:
         """The item's DER."""
@@ -84,11 +137,12 @@ class Item(Fixed):
     def field(self, field: Field) -> bytes:
         """A field's octets; NoField if the item has no such field."""
         number = arguments.number(field, "the field", arguments.MOST_32)
-        octets, length = library.octets_of(self._octets)
-        call = library.loaded().certpath_field
-        return library.sized(lambda *room: call(octets, length, number, *room), ROOM)
+        found = getattr(self._contents, library.FIELDS[number]) if number in FIELDS else None
+        if found is None:
+            raise library.NoField(library.NO_FIELD)
+        return found
 
-    def __eq__(self, other) -> bool:
+    def __eq__(self, other: object) -> bool:
         return isinstance(other, Item) and self._octets == other._octets
 
     def __hash__(self) -> int:
@@ -97,16 +151,16 @@ class Item(Fixed):
     def __repr__(self) -> str:
         return f"<{type(self).__name__}({len(self._octets)} octets)>"
 
-    def __reduce__(self):
+    def __reduce__(self) -> Tuple[Type["Item"], Tuple[bytes]]:
         return type(self), (self._octets,)
 
 
 class OfKind(Item):
     """An item of one class. Octets of another one are refused: BadItem."""
 
-    def __init__(self, octets: Octets):
+    def __init__(self, octets: Octets) -> None:
         super().__init__(octets)
-        found = class_of(self._octets)
+        found = self._contents.kind
         if found is not self.kind:
             raise library.BadItem(f"the octets of a {type(self).__name__} are needed, and these are "
                                   f"Kind.{found.name}; {FROM_PEM}")
@@ -130,14 +184,6 @@ class Signed(OfKind):
         """The identifier of the signature's algorithm, the content of its OBJECT IDENTIFIER."""
         return self.field(Field.ALGORITHM)
 
-    @kept
-    def _times(self) -> Tuple[datetime, Optional[datetime]]:
-        octets, length = library.octets_of(self._octets)
-        validity = library.Validity()
-        library.refuse(library.loaded().certpath_times(octets, length, byref(validity)))
-        last = datetime_of(validity.last) if validity.has_last else None
-        return datetime_of(validity.first), last
-
 
 class Certificate(Signed):
     """A certificate (RFC 5280, 4.1)."""
@@ -155,17 +201,27 @@ class Certificate(Signed):
     @property
     def not_valid_before_utc(self) -> datetime:
         """From when it is valid."""
-        return self._times[0]
+        return there(self._contents.first)
 
     @property
     def not_valid_after_utc(self) -> datetime:
         """Until when it is valid."""
-        return self._times[1]
+        return there(self._contents.last)
 
     @kept
     def public_key_bytes(self) -> bytes:
         """The key's DER, a SubjectPublicKeyInfo."""
         return self.field(Field.KEY)
+
+    @property
+    def subject_key_id(self) -> Optional[bytes]:
+        """The identifier of its key (RFC 5280, 4.2.1.2), or None if it names none."""
+        return self._contents.subject_key_id
+
+    @property
+    def authority_key_id(self) -> Optional[bytes]:
+        """The identifier of its issuer's key (RFC 5280, 4.2.1.1), or None if it names none."""
+        return self._contents.authority_key_id
 
 
 class RevocationList(Signed):
@@ -174,18 +230,41 @@ class RevocationList(Signed):
 
     @property
     def last_update_utc(self) -> datetime:
-        return self._times[0]
+        """When it was issued."""
+        return there(self._contents.first)
 
     @property
     def next_update_utc(self) -> Optional[datetime]:
         """When the next list is due, or None if it doesn't say so."""
-        return self._times[1]
+        return self._contents.last
 
 
-CLASSES = {Kind.OTHER: Other, Kind.CERTIFICATE: Certificate, Kind.LIST: RevocationList}
+CLASSES: Dict[Kind, Type[Item]] = {
+    Kind.OTHER: Other, Kind.CERTIFICATE: Certificate, Kind.LIST: RevocationList}
 
 
-class Items(Fixed, Sequence):
+def item_of(data: Octets) -> Item:
+    """The item that octets are, which are read once: a Certificate, a RevocationList or an Other.
+
+    >>> import certpath
+    >>> item = certpath.item_of(open("samples/leaf.der", "rb").read())
+    >>> print(item.subject, item.serial_number, item.not_valid_after_utc.date())
+    C=CZ, O=Example, CN=www.example.test 3 2031-11-22
+    >>> certpath.item_of(b"text").kind
+    <Kind.OTHER: 0>
+    """
+    return read_item(arguments.octets(data, "an item"))
+
+
+def read_item(octets: bytes) -> Item:
+    """The item that a `bytes` is, with what it holds."""
+    contents = contents_of(octets)
+    made = CLASSES[contents.kind]._known(octets)
+    made.__dict__["_contents"] = contents
+    return made
+
+
+class Items(Fixed, Sequence[Item]):
     """The items of octets in their order, each classed when it is first asked for.
 
     `data` are the octets, `limit` is the most content octets of an item, and `end` says how the
@@ -195,8 +274,11 @@ class Items(Fixed, Sequence):
     data: bytes
     limit: int
     end: End
+    _starts: "array[int]"
+    _kinds: bytearray
+    _items: Dict[int, Item]
 
-    def __init__(self, data: Octets, limit: int = LIMIT):
+    def __init__(self, data: Octets, limit: int = LIMIT) -> None:
         octets = arguments.octets(data, "data")
         limit = arguments.number(limit, "the limit", arguments.MOST_32)
         cutter = Cutter(octets, limit)
@@ -224,12 +306,12 @@ class Items(Fixed, Sequence):
                 self._class(first, min(first + MANY, len(self)))
         return map(KINDS.__getitem__, self._kinds)
 
-    def _part(self, first: int, end: int):
+    def _part(self, first: int, end: int) -> Tuple[Any, int]:
         """The octets of the items from a position up to another one, as a call takes them."""
         offset = self._starts[first]
         return library.part_of(self.data, offset, self._starts[end] - offset)
 
-    def _class(self, first: int, end: int):
+    def _class(self, first: int, end: int) -> None:
         """Classes the items from a position up to another one, by one call."""
         room = end - first
         found, count = (c_uint32 * room)(), c_size_t()
@@ -246,23 +328,31 @@ class Items(Fixed, Sequence):
     @overload
     def __getitem__(self, position: slice) -> List[Item]: ...
 
-    def __getitem__(self, position):
+    def __getitem__(self, position: Any) -> Any:
         if isinstance(position, slice):
             return [self[it] for it in range(*position.indices(len(self)))]
         position = range(len(self))[position]
         if position not in self._items:
-            kind = self.kind(position)
-            item = CLASSES[kind]._known(self.octets(position))
-            if kind is Kind.OTHER:
+            item = self._item(position)
+            if item.kind is Kind.OTHER:
                 # (it has nothing that is read but once, and a file may have millions of them)
                 return item
             return self._items.setdefault(position, item)
         return self._items[position]
 
+    def _item(self, position: int) -> Item:
+        """The item at a position. One that isn't classed yet is read."""
+        octets, kind = self.octets(position), self._kinds[position]
+        if kind != UNKNOWN:
+            return CLASSES[KINDS[kind]]._known(octets)
+        item = read_item(octets)
+        self._kinds[position] = item.kind.value
+        return item
+
     def __repr__(self) -> str:
         return f"<Items({len(self)} of {len(self.data)} octets, {self.end.word})>"
 
-    def __reduce__(self):
+    def __reduce__(self) -> Tuple[Type["Items"], Tuple[bytes, int]]:
         return Items, (self.data, self.limit)
 
 
@@ -272,7 +362,12 @@ Given = Union[Items, Octets]
 
 def frame(data: Octets, limit: int = LIMIT) -> Items:
     """Cuts octets into items: DER SEQUENCEs one after another, each of at most `limit` content
-    octets. `items.end` says how the octets end after them.
+    octets. `items.end` says how the octets end after them. `load` reads PEM and PKCS #7 too.
+
+    >>> import certpath
+    >>> items = certpath.frame(open("samples/bundle.der", "rb").read())
+    >>> [it.kind.name for it in items], items.end.is_clean
+    (['CERTIFICATE', 'CERTIFICATE', 'CERTIFICATE', 'LIST'], True)
 
     TypeError of what is no octets, such as a path or a number; ValueError of a limit that isn't
     from 0 to 4294967295.

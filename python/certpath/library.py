@@ -2,11 +2,12 @@
 import ctypes
 import functools
 import os
-from ctypes import POINTER, byref, c_int8, c_int16, c_int32, c_size_t, c_uint32, c_uint64
-from typing import Any
+from ctypes import (POINTER, byref, c_char_p, c_int8, c_int16, c_int32, c_size_t, c_uint32,
+                    c_uint64)
+from typing import Any, Callable, Dict, List, Tuple, Type
 
 # The version of the calls that this package makes (CERTPATH_VERSION in certpath.h).
-VERSION = 2
+VERSION = 3
 NAME = "libcertpath.so"
 # The library is in the package, or in dist/ if this is a checkout of the repository.
 FOLDERS = (os.path.dirname(os.path.abspath(__file__)),
@@ -48,36 +49,38 @@ class BadItem(Error, ValueError):
 class BadHost(Error, ValueError):
     """A text is no host; `reason` says why."""
 
-    def __init__(self, reason):
+    def __init__(self, reason: str):
         super().__init__(f"the host: {reason}")
         self.reason = reason
 
-    def __reduce__(self):
+    def __reduce__(self) -> Tuple[Type["BadHost"], Tuple[str]]:
         return BadHost, (self.reason,)
 
 
 class BadLine(Error, ValueError):
     """A line of a voucher file is neither empty nor two digests; `line` is its number, from 1."""
 
-    def __init__(self, line):
+    def __init__(self, line: int):
         super().__init__(f"vouchers line {line}: it is neither empty nor two digests of 64 hex "
                          "digits with one space between them")
         self.line = line
 
-    def __reduce__(self):
+    def __reduce__(self) -> Tuple[Type["BadLine"], Tuple[int]]:
         return BadLine, (self.line,)
 
 
 DONE, TOO_SMALL, BAD_LINE, BAD_HOST = 0, 2, 7, 9
+NO_FIELD = "the item has no such field"
 # What each status that refuses a call is, and what is said of it.
-ERRORS = {
+ERRORS: Dict[int, Tuple[Type[Exception], str]] = {
     1: (OutOfMemory, "out of memory: the C library gave none"),
-    3: (NoField, "the item has no such field"),
+    3: (NoField, NO_FIELD),
     4: (BadName, "the octets are no name"),
-    5: (BadMoment, "the calendar has no such date, or a clock no such time"),
+    5: (BadMoment, "the calendar has no such date, a clock no such time, or the year is negative"),
     6: (BadAnswer, "the numbers are no answer: an entry of the table stands for nothing, the table "
                    "has no whole rows, or there is a path where the outcome isn't PATH"),
     8: (BadItem, "the octets are no certificate in its one spelling"),
+    9: (BadHost, "the text is no host"),
 }
 # The octets of a voucher: two SHA-256 digests.
 PAIR = 64
@@ -100,13 +103,37 @@ class Validity(ctypes.Structure):
     _fields_ = [("first", Moment), ("last", Moment), ("has_last", c_uint32)]
 
 
+class Extent(ctypes.Structure):
+    _fields_ = [("length", c_size_t), ("is_there", c_uint32)]
+
+
+# The fields of an item, in the order in which a call writes them.
+FIELDS = ("issuer", "subject", "key", "serial", "algorithm", "subject_key_id", "authority_key_id")
+
+
+class Contents(ctypes.Structure):
+    _fields_ = [("item_class", c_uint32), ("validity", Validity),
+                *((name, Extent) for name in FIELDS), ("length", c_size_t)]
+
+
+class LeftOut(ctypes.Structure):
+    _fields_ = [("line", c_size_t), ("position", c_size_t), ("label", c_uint32), ("set", c_uint32),
+                ("number", c_size_t), ("reason", c_uint32), ("count", c_size_t),
+                ("to_end", c_size_t)]
+
+
+class Loaded(ctypes.Structure):
+    _fields_ = [("form", c_uint32), ("length", c_size_t), ("count", c_size_t), ("left", c_size_t)]
+
+
 class QuestionRow(ctypes.Structure):
     _fields_ = [("item", c_size_t), ("holder", c_size_t), ("is_anchor", c_uint32)]
 
 
 class Settings(ctypes.Structure):
     _fields_ = [("target", c_size_t), ("limit", c_uint32), ("demands_lists", c_uint32),
-                ("moment", Moment)]
+                ("moment", Moment), ("purpose", c_char_p), ("purpose_length", c_size_t),
+                ("host", c_char_p), ("host_length", c_size_t)]
 
 
 class AnswerRow(ctypes.Structure):
@@ -119,20 +146,22 @@ class Report(ctypes.Structure):
 
 
 # Octets are handed over as they lie in a `bytes`, which is never written.
-OCTETS, SIZE, SIZES = ctypes.c_char_p, c_size_t, POINTER(c_size_t)
+OCTETS, SIZE, SIZES = c_char_p, c_size_t, POINTER(c_size_t)
 INPUT = [OCTETS, SIZE]
 TEXT = [OCTETS, SIZE, SIZES]
 ASKED = [*INPUT, *INPUT, *INPUT, POINTER(Settings)]
 REPORT = [OCTETS, SIZE, POINTER(Report)]
 POSITIONS, TABLE = [SIZES, SIZE], [POINTER(c_uint64), SIZE]
 # What each function takes; all but the last answer a status.
-FUNCTIONS = {
+FUNCTIONS: Dict[str, List[Any]] = {
     "certpath_frame": [*INPUT, c_uint32, POINTER(Span), SIZE, POINTER(Framed)],
+    "certpath_load": [*INPUT, OCTETS, SIZE, POINTER(LeftOut), SIZE, POINTER(Loaded)],
+    "certpath_item": [*INPUT, OCTETS, SIZE, POINTER(Contents)],
     "certpath_class": [*INPUT, POINTER(c_uint32)],
     "certpath_classes": [*INPUT, c_uint32, POINTER(c_uint32), SIZE, SIZES],
-    "certpath_field": [*INPUT, c_uint32, *TEXT],
-    "certpath_times": [*INPUT, POINTER(Validity)],
     "certpath_name": [*INPUT, *TEXT],
+    "certpath_allows": [*INPUT, *INPUT, POINTER(c_uint32)],
+    "certpath_serves": [*INPUT, *INPUT, POINTER(c_uint32)],
     "certpath_questions": [*INPUT, *INPUT, c_uint32, POINTER(QuestionRow), SIZE, SIZES],
     "certpath_find": [*ASKED, *POSITIONS, *TABLE, POINTER(AnswerRow)],
     "certpath_check": [*ASKED, POINTER(AnswerRow), *POSITIONS, *TABLE, POINTER(c_uint32)],
@@ -141,15 +170,14 @@ FUNCTIONS = {
     "certpath_paths": [*ASKED, *REPORT],
     "certpath_version": [],
 }
-# What a library of this version may lack: the function is looked for when it is first called.
-FURTHER = {
-    "certpath_allows": [*INPUT, *INPUT, POINTER(c_uint32)],
-    "certpath_serves": [*INPUT, *INPUT, POINTER(c_uint32)],
-}
+
+
+# A call that takes a buffer, its room and a place for its result, and gives a status.
+Call = Callable[[Any, int, Any], int]
 
 
 @functools.lru_cache(maxsize=None)
-def loaded():
+def loaded() -> Any:
     """The library, with its functions typed."""
     paths = [os.path.join(folder, NAME) for folder in FOLDERS]
     path = next(filter(os.path.exists, paths), None)
@@ -168,46 +196,41 @@ def loaded():
     return library
 
 
-@functools.lru_cache(maxsize=None)
-def further(name: str) -> Any:
-    """A function that the library may lack: LibraryMissing if it does."""
-    try:
-        function = getattr(loaded(), name)
-    except AttributeError as error:
-        raise LibraryMissing(f"{NAME} has no {name}: {error}") from error
-    function.argtypes, function.restype = FURTHER[name], c_int32
-    return function
-
-
 def version() -> int:
     """The version of the library's calls."""
-    return loaded().certpath_version()
+    return int(loaded().certpath_version())
 
 
-def refuse(status):
+def refuse(status: int) -> None:
     """Raises the error that a status is, unless the call was done."""
     if status != DONE:
         error, said = ERRORS.get(status, (Error, f"the library refuses a call, status {status}"))
         raise error(said)
 
 
-def octets_of(octets):
+def octets_of(octets: bytes) -> Tuple[bytes, int]:
     """Octets as a call takes them, and their length."""
     return octets, len(octets)
 
 
-def part_of(octets, offset, length):
+def part_of(octets: bytes, offset: int, length: int) -> Tuple[Any, int]:
     """A part of a `bytes` as a call takes it, which isn't copied. It is there as long as somebody
     holds the `bytes`."""
-    return OCTETS(ctypes.cast(octets, ctypes.c_void_p).value + offset), length
+    begin = ctypes.cast(octets, ctypes.c_void_p).value or 0
+    return OCTETS(begin + offset), length
 
 
-def spans_at(address):
+def buffer_of(room: int) -> Any:
+    """Room for so many octets."""
+    return ctypes.create_string_buffer(room)
+
+
+def spans_at(address: int) -> Any:
     """The spans that lie at an address, as a call takes them."""
     return ctypes.cast(address, POINTER(Span))
 
 
-def text_of(call, guess):
+def text_of(call: Call, guess: int) -> str:
     """Makes a call that writes a report, with more room if it asks for it; gives the text.
 
     `call` takes a buffer, its room and a place for a Report, and gives the status.
@@ -220,7 +243,16 @@ def text_of(call, guess):
     return str(memoryview(buffer)[:report.length], "utf-8")
 
 
-def sized(call, guess):
+def contents_of(octets: bytes) -> Tuple[Contents, Any]:
+    """What an item holds: the structure, and a buffer that begins with its fields, one after
+    another. These have fewer octets than the item."""
+    found = Contents()
+    buffer = buffer_of(len(octets))
+    refuse(loaded().certpath_item(octets, len(octets), buffer, len(octets), byref(found)))
+    return found, buffer
+
+
+def sized(call: Call, guess: int) -> bytes:
     """Makes a call that writes octets, with more room if it asks for it; gives the octets.
 
     `call` takes a buffer, its room and a place for the length, and gives the status.
@@ -231,11 +263,11 @@ def sized(call, guess):
     return bytes(memoryview(buffer)[:length.value])
 
 
-def filled(call, room, result, needed):
+def filled(call: Call, room: int, result: Any, needed: Callable[[], int]) -> Tuple[Any, int]:
     """Makes a call, again with the room that its result needs if there was too little; gives the
     buffer and the status."""
     while True:
-        buffer = ctypes.create_string_buffer(room)
+        buffer = buffer_of(room)
         status = call(buffer, room, byref(result))
         if status != TOO_SMALL:
             return buffer, status

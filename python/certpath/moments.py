@@ -1,5 +1,6 @@
 """Moments, as datetimes and as the library has them."""
 from datetime import date, datetime, timezone
+from typing import Any
 
 from . import arguments, library
 
@@ -8,7 +9,7 @@ MOST = {"year": 32767, "month": 127, "day": 127, "hour": 127, "minute": 127, "se
 NOW = "datetime.now(timezone.utc)"
 
 
-def remedy_for(value) -> str:
+def remedy_for(value: Any) -> str:
     """How to have a datetime in the place of a value."""
     if value is None:
         return f"{NOW} is the present"

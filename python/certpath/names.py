@@ -1,6 +1,6 @@
 """Names, and their text."""
 import re
-from typing import List, Set
+from typing import List, Set, Tuple, Type
 
 from . import arguments, library
 from .fixed import Fixed, kept
@@ -94,7 +94,7 @@ def escaped_attribute(attribute: str) -> str:
 class Name(Fixed):
     """A name (RFC 5280, 4.1.2.4). Names are equal if their octets are."""
 
-    def __init__(self, octets: bytes):
+    def __init__(self, octets: bytes) -> None:
         self._set(_octets=arguments.octets(octets, "a name"))
 
     def public_bytes(self) -> bytes:
@@ -140,11 +140,11 @@ class Name(Fixed):
     def __repr__(self) -> str:
         return f"<Name({self})>"
 
-    def __eq__(self, other) -> bool:
+    def __eq__(self, other: object) -> bool:
         return isinstance(other, Name) and self._octets == other._octets
 
     def __hash__(self) -> int:
         return hash(self._octets)
 
-    def __reduce__(self):
+    def __reduce__(self) -> Tuple[Type["Name"], Tuple[bytes]]:
         return Name, (self._octets,)

@@ -4,11 +4,13 @@ import mmap
 from array import array
 from ctypes import Array, byref, c_size_t, c_uint32, c_uint64, sizeof
 from datetime import datetime
-from typing import NamedTuple, Optional, Sequence, Tuple, overload
+from typing import NamedTuple, Optional, Sequence, Tuple, Union, overload
 
 from . import arguments, library
 from .items import Given, Items, both
 from .moments import moment_of
+from .purposes import identifier_of
+from .serving import octets_of_host, refuse_host
 from .vouchers import VouchersGiven, vouchers_of
 
 # How many positions of a path, and rows of a table, are asked for at first.
@@ -36,6 +38,11 @@ class Asked(NamedTuple):
     target: int
     at: datetime
     demand_lists: bool
+    host: Optional[bytes] = None
+    """The host that the target has to serve; None if any host is."""
+    purpose: Optional[bytes] = None
+    """The purpose that each certificate of the path has to allow, as the content octets of its
+    OBJECT IDENTIFIER; None if any purpose is."""
 
 
 class Numbers(NamedTuple):
@@ -74,16 +81,42 @@ class Answer(Numbers):
     __replace__ = _replace
 
 
-def settings_of(bundle: Items, target: int, at: datetime, demand_lists: bool) -> library.Settings:
+# What a call takes as a host and as a purpose.
+HostGiven, PurposeGiven = Optional[Union[str, bytes]], Optional[Union[str, bytes]]
+
+
+def host_asked(host: HostGiven) -> Optional[bytes]:
+    """The host that the target has to serve, in octets; BadHost if it is none."""
+    if host is None:
+        return None
+    refuse_host(host)
+    return octets_of_host(host)
+
+
+def purpose_asked(purpose: PurposeGiven) -> Optional[bytes]:
+    """The purpose that each certificate has to allow, as the octets of its identifier; ValueError
+    if it is none."""
+    if purpose is None:
+        return None
+    identifier = identifier_of(purpose)
+    if not identifier:
+        raise ValueError("the purpose: no octets; None stands for any purpose")
+    return identifier
+
+
+def settings_of(bundle: Items, target: int, at: datetime, demand_lists: bool,
+                host: Optional[bytes] = None, purpose: Optional[bytes] = None) -> library.Settings:
     """What is asked, as a call takes it."""
     target = arguments.number(target, "the target", arguments.MOST_64)
     return library.Settings(target, bundle.limit, arguments.flag(demand_lists, "demand_lists"),
-                            moment_of(at))
+                            moment_of(at), *library.octets_of(purpose or b""),
+                            *library.octets_of(host or b""))
 
 
 def given(asked: Asked) -> tuple:
     """The arguments that the calls to find and to check share."""
-    settings = settings_of(asked.bundle, asked.target, asked.at, asked.demand_lists)
+    settings = settings_of(asked.bundle, asked.target, asked.at, asked.demand_lists, asked.host,
+                           asked.purpose)
     return (*library.octets_of(asked.bundle.data), *library.octets_of(asked.anchors.data),
             asked.vouchers, len(asked.vouchers) // library.PAIR, byref(settings))
 
@@ -100,23 +133,36 @@ def room_for(count: int) -> "Array[c_uint64]":
 
 
 def find(bundle: Given, anchors: Given, vouchers: VouchersGiven, target: int, at: datetime,
-         demand_lists: bool = False) -> Answer:
+         demand_lists: bool = False, *, host: HostGiven = None,
+         purpose: PurposeGiven = None) -> Answer:
     """The first of the shortest valid paths from an item of the bundle to an anchor, or that there
     is none, with a table that shows it. The answer is true if there is a path.
 
-        if certpath.find(bundle, anchors, vouchers, 0, datetime.now(timezone.utc)):
-            ..
+    >>> import certpath
+    >>> from datetime import timezone
+    >>> bundle, anchors = (certpath.load(it).items for it in ("samples/fullchain.pem",
+    ...                                                       "samples/root.pem"))
+    >>> vouchers = open("samples/vouchers.txt").read()
+    >>> at = datetime(2027, 1, 1, tzinfo=timezone.utc)
+    >>> answer = certpath.find(bundle, anchors, vouchers, 0, at, host="www.example.test")
+    >>> bool(answer), answer.positions, answer.anchor, certpath.check(answer)
+    (True, (0, 1), 0, True)
+    >>> bool(certpath.find(bundle, anchors, vouchers, 0, at, host="other.test"))
+    False
 
     `bundle` and `anchors` are Items or octets, `vouchers` are Vouchers, their octets, or the text
     of a voucher file, `target` is a position in the bundle. `at` is a datetime, of the years 1 to
     9999; one without a time zone is taken as UTC. With `demand_lists` each certificate of the path
-    needs a revocation list that is used.
+    needs a revocation list that is used. With a `host` the target has to serve it, as `serves` says,
+    and with a `purpose` each certificate of the path has to allow it, as `allows` says.
 
     TypeError of an argument of another type. BadItem of octets that aren't DER items to their last
-    one, BadLine of text of vouchers, BadMoment; other ValueErrors of numbers that are out of range,
-    two limits, and vouchers that aren't pairs. OutOfMemory if the C library gives no memory.
+    one, BadLine of text of vouchers, BadMoment, BadHost; other ValueErrors of numbers that are out
+    of range, two limits, no purpose, and vouchers that aren't pairs. OutOfMemory if the C library
+    gives no memory.
     """
-    asked = Asked(*both(bundle, anchors), vouchers_of(vouchers), target, at, demand_lists)
+    asked = Asked(*both(bundle, anchors), vouchers_of(vouchers), target, at, demand_lists,
+                  host_asked(host), purpose_asked(purpose))
     arguments_of_call = given(asked)
     row, room, table_room = library.AnswerRow(), ROOM, ROOM * len(asked.bundle)
     while True:
@@ -174,24 +220,25 @@ def check(answer: Answer, /) -> bool: ...
 
 @overload
 def check(bundle: Given, anchors: Given, vouchers: VouchersGiven, target: int, at: datetime,
-          answer: Answer, demand_lists: bool = False) -> bool: ...
+          answer: Answer, demand_lists: bool = False, *, host: HostGiven = None,
+          purpose: PurposeGiven = None) -> bool: ...
 
 
 def check(bundle, anchors=NOT_GIVEN, vouchers=NOT_GIVEN, target=NOT_GIVEN, at=NOT_GIVEN,
-          answer=NOT_GIVEN, demand_lists=NOT_GIVEN) -> bool:
+          answer=NOT_GIVEN, demand_lists=NOT_GIVEN, *, host=None, purpose=None) -> bool:
     """Whether an answer of `find`, or of anybody, is right, as its table shows.
 
     It reads the items by another reader than `find`, and searches for nothing. `check(answer)`
     repeats the question that an answer of `find` holds. Whoever got the answer from elsewhere asks
-    by his own: `check(bundle, anchors, vouchers, target, at, answer)`, with `demand_lists` if
-    `find` had it.
+    by his own: `check(bundle, anchors, vouchers, target, at, answer)`, with `demand_lists`, `host`
+    and `purpose` as `find` had them.
 
     BadAnswer if the numbers of the answer can't be one's: out of range, or a table without
     whole rows. Other errors are those of `find`.
     """
     further = anchors, vouchers, target, at
     if isinstance(bundle, Answer):
-        if any(it is not NOT_GIVEN for it in (*further, answer, demand_lists)):
+        if any(it is not NOT_GIVEN for it in (*further, answer, demand_lists)) or host or purpose:
             raise TypeError("check takes an answer alone, or what was asked and then the answer")
         if bundle.asked is None:
             raise TypeError("the answer doesn't hold what was asked: give check the bundle, the "
@@ -203,5 +250,5 @@ def check(bundle, anchors=NOT_GIVEN, vouchers=NOT_GIVEN, target=NOT_GIVEN, at=NO
     if not isinstance(answer, Answer):
         raise TypeError(f"answer: an Answer is needed, not {arguments.type_name(answer)}")
     demand_lists = False if demand_lists is NOT_GIVEN else demand_lists
-    return is_right(Asked(*both(bundle, anchors), vouchers_of(vouchers), target, at, demand_lists),
-                    answer)
+    return is_right(Asked(*both(bundle, anchors), vouchers_of(vouchers), target, at, demand_lists,
+                          host_asked(host), purpose_asked(purpose)), answer)

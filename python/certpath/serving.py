@@ -43,28 +43,33 @@ def allows(item: Union[Item, Octets], purpose: Union[str, bytes]) -> bool:
     """Whether a certificate is for a purpose (RFC 5280, 4.2.1.12): it has no extKeyUsage, or one
     that names the purpose or anyExtendedKeyUsage.
 
-        certpath.allows(certificate, "serverAuth")
+    >>> import certpath
+    >>> certpath.allows(open("samples/leaf.der", "rb").read(), "serverAuth")
+    True
 
     `item` is a Certificate or its DER; `purpose` is a name as `serverAuth` or `sslserver`, a number
     as `1.3.6.1.5.5.7.3.1`, or the content octets of an OBJECT IDENTIFIER. A certificate is for no
     purpose where its extKeyUsage is no DER of object identifiers, names none, or occurs twice.
     BadItem if the octets are no certificate, ValueError if the purpose is none.
     """
-    return answer(library.further("certpath_allows"), octets_of_item(item), identifier_of(purpose))
+    return answer(library.loaded().certpath_allows, octets_of_item(item), identifier_of(purpose))
 
 
 def serves(item: Union[Item, Octets], host: Union[str, bytes]) -> bool:
     """Whether a certificate serves a host (RFC 9525, 6): among the names of its one subjectAltName
     is a dNSName that matches the host's name, or an iPAddress of the host's octets.
 
-        certpath.serves(certificate, "www.example.test")
+    >>> import certpath
+    >>> leaf = open("samples/leaf.der", "rb").read()
+    >>> certpath.serves(leaf, "www.example.test"), certpath.serves(leaf, "example.test")
+    (True, False)
 
     `item` is a Certificate or its DER; `host` is the name of a host, an IPv4 address or an IPv6
     address. `*.example.test` matches one label in the place of the star, and `*.test` matches
     nothing. The subject's common name is never used. BadHost if the text is no host, with the
     reason; BadItem if the octets are no certificate.
     """
-    return answer(library.further("certpath_serves"), octets_of_item(item), octets_of_host(host))
+    return answer(library.loaded().certpath_serves, octets_of_item(item), octets_of_host(host))
 
 
 def refuse_host(host: Union[str, bytes]) -> None:

@@ -1,7 +1,7 @@
 """Vouchers: which keys vouch for which items."""
 import hashlib
 from ctypes import byref
-from typing import Iterable, Tuple, Union
+from typing import Dict, Iterable, Tuple, Union
 
 from . import arguments, library
 from .items import Octets
@@ -40,11 +40,11 @@ def pairs_of(octets: Octets, what: str = "vouchers") -> bytes:
 class Vouchers:
     """Which keys vouch for which items: pairs of SHA-256 digests, as a voucher file has them."""
 
-    def __init__(self, pairs: Iterable[Tuple[bytes, bytes]] = ()):
+    def __init__(self, pairs: Iterable[Tuple[bytes, bytes]] = ()) -> None:
         if isinstance(pairs, (str, bytes, bytearray, memoryview)):
             raise TypeError("vouchers: pairs of digests are needed; Vouchers.from_text() reads a "
                             "voucher file, Vouchers.from_octets() pairs one after another")
-        self._pairs = {}
+        self._pairs: Dict[bytes, None] = {}
         for key_digest, item_digest in pairs:
             self.add_digests(key_digest, item_digest)
 

@@ -44,13 +44,22 @@ def time_of(text):
     return element(0x17 if len(text) == 13 else 0x18, text.encode())
 
 
-def certificate(subject=b"\x30\x00", issuer=b"\x30\x00", begin="250101000000Z", end="260101000000Z"):
-    """A certificate of version 1, with a key and a signature that nobody can use."""
+def certificate(subject=b"\x30\x00", issuer=b"\x30\x00", begin="250101000000Z", end="260101000000Z",
+                extensions=()):
+    """A certificate of version 1, or 3 with extensions, with a key and a signature that nobody can
+    use."""
     algorithm = element(0x30, element(0x06, b"\x2a\x03"))
     key = element(0x30, element(0x30, element(0x06, b"\x2a\x03")), element(0x03, b"\x00"))
-    signed = element(0x30, element(0x02, b"\x01"), algorithm, issuer,
-                     element(0x30, time_of(begin), time_of(end)), subject, key)
+    version = element(0xa0, element(0x02, b"\x02")) if extensions else b""
+    more = element(0xa3, element(0x30, *extensions)) if extensions else b""
+    signed = element(0x30, version, element(0x02, b"\x01"), algorithm, issuer,
+                     element(0x30, time_of(begin), time_of(end)), subject, key, more)
     return element(0x30, signed, algorithm, element(0x03, b"\x00"))
+
+
+def extension(identifier, value):
+    """An extension that isn't critical, under 2.5.29."""
+    return element(0x30, element(0x06, bytes((0x55, 0x1d, identifier))), element(0x04, value))
 
 
 VERSION_1 = certificate()

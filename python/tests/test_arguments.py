@@ -147,10 +147,10 @@ class Files(Refusing):
         chain, root, _ = self.given
         for call in self.calls():
             for one, other, what in ((chain, pem(root), "the anchors"), (pem(chain), root, "the bundle")):
-                self.assertRegex(self.refuses(certpath.BadItem, call, one, other), f"^{what}: .*PEM has")
+                self.assertRegex(self.refuses(certpath.BadItem, call, one, other), f"^{what}: .*PEM or")
                 framed = certpath.frame(one), certpath.frame(other)
                 if call is not certpath.holders_by_issuer:
-                    self.assertRegex(self.refuses(certpath.BadItem, call, *framed), f"^{what}: .*PEM has")
+                    self.assertRegex(self.refuses(certpath.BadItem, call, *framed), f"^{what}: .*PEM or")
 
     def test_octets_after_items(self):
         chain, root, _ = self.given

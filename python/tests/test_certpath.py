@@ -374,7 +374,7 @@ class Reports(unittest.TestCase):
 
 class Library(unittest.TestCase):
     def test_version(self):
-        self.assertEqual(certpath.version(), 2)
+        self.assertEqual(certpath.version(), 3)
 
     def test_missing(self):
         ran = subprocess.run(
@@ -385,14 +385,15 @@ class Library(unittest.TestCase):
 
     def test_refused_memory(self):
         items, root = certpath.frame(sample("bundle.der")), sample("root.der")
-        root_item = certpath.Certificate(root)
         at, answer = datetime(2027, 1, 1), certpath.Answer(certpath.Outcome.NO_TARGET, (), 0, ())
         calls = {
             "certpath_frame": [lambda: certpath.frame(root)],
+            "certpath_load": [lambda: certpath.load(root)],
+            "certpath_item": [lambda: certpath.item_of(root), lambda: certpath.Item(root).kind],
             "certpath_class": [lambda: certpath.class_of(root), lambda: items.kind(0)],
+            "certpath_allows": [lambda: certpath.allows(root, "serverAuth")],
+            "certpath_serves": [lambda: certpath.serves(root, "a.test")],
             "certpath_classes": [items.kinds],
-            "certpath_field": [lambda: root_item.field(0)],
-            "certpath_times": [lambda: root_item.not_valid_after_utc],
             "certpath_name": [lambda: certpath.Name(b"\x30\x00").text],
             "certpath_questions": [lambda: certpath.questions(items, items)],
             "certpath_find": [lambda: certpath.find(items, items, b"", 0, at)],

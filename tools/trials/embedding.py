@@ -67,6 +67,12 @@ def tried(count, program, *words):
         count.row(number >= failed, f"{program}:\n{done.stdout[-2000:]}")
 
 
+def octets_of(path):
+    """The octets of a file."""
+    with open(path, "rb") as file:
+        return file.read()
+
+
 def made(room, name, octets):
     """A file of the octets."""
     path = os.path.join(room, name)
@@ -131,12 +137,19 @@ def c_example(count, room):
     program = compiled(count, room, source, [], [shared, "-lcrypto", f"-Wl,-rpath,{room}"])
     if program:
         vouchers = os.path.join(room, "vouchers.txt")
-        done = ran([program, at(BUNDLE), at(ANCHORS), vouchers])
-        count.row(done.returncode == 0, f"{source}:\n{done.stdout}")
+        done = ran([program, at(BUNDLE), at(ANCHORS), vouchers, "2027-01-01"])
+        # (the bundle has a list that revokes its first certificate)
+        count.row(done.returncode == 0 and done.stdout.endswith("\nno path\n"),
+                  f"{source}:\n{done.stdout}")
         count.row(same_lines(vouchers), f"{source}: other vouchers than samples/vouchers.txt")
         again = ran([program, at(BUNDLE), at(ANCHORS), vouchers])
         count.row(again.returncode == 1 and same_lines(vouchers), f"{source}: writes over a file")
         is_one_line(count, [program, forged_file(room), at(ANCHORS), os.path.join(room, "none")], source)
+        chain = made(room, "chain.der", b"".join(
+            octets_of(it) for it in (at("samples", "leaf.der"), at("samples", "intermediate.der"))))
+        done = ran([program, chain, at(ANCHORS), os.path.join(room, "others.txt"), "2027-01-01"])
+        count.row(done.stdout.endswith("\npath: item 0, item 1, anchor 0\n"),
+                  f"{source}:\n{done.stdout}")
         text = ran([program, at("README.md"), at(ANCHORS), os.path.join(room, "none")])
         count.row(text.returncode == 1, f"{source}: text is taken for items:\n{text.stdout}")
 
@@ -173,6 +186,52 @@ def python_example(count, room):
     count.same(f"{example} without the package", (done.returncode, done.stdout), (1, said))
 
 
+# The lines of examples/rust and examples/go on samples/fullchain.pem.
+LINES = ("certificate C=CZ, O=Example, CN=www.example.test, from 2026-11-22\n"
+         "certificate C=CZ, O=Example, CN=Example Intermediate, from 2026-11-22\n")
+
+
+def shows_items(count, program, room, which):
+    """An example shows the samples, from PEM and DER, keeps a forged name on its line, and says
+    that a key is left out."""
+    done = ran([program, at("samples", "fullchain.pem")])
+    count.row(done.stdout == LINES, f"{which}:\n{done.stdout[-2000:]}")
+    done = ran([program, at("samples", "leaf.der"), at("samples", "intermediate.der")])
+    count.row(done.stdout == LINES, f"{which}, DER:\n{done.stdout[-2000:]}")
+    done = ran([program, forged_file(room)])
+    count.row(done.stdout.count("\n") == 1 and r"CN=a\0A1 certificate: CN=forged" in done.stdout,
+              f"{which}, a forged name:\n{done.stdout!r:.2000}")
+    done = ran([program, at("samples", "keys", "leaf.pem")])
+    count.row("left out" in done.stdout, f"{which}, a key:\n{done.stdout[-2000:]}")
+    done = ran([program, at("none")])
+    count.row(done.returncode == 1, f"{which}, no file:\n{done.stdout[-2000:]}")
+
+
+def rust_example(count, room):
+    """The crate in examples/rust builds offline, and its example shows items."""
+    env = {**os.environ, "CARGO_TARGET_DIR": os.path.join(room, "target")}
+    folder = at("examples", "rust")
+    built = subprocess.run(["cargo", "build", "--offline", "--locked", "--examples"], cwd=folder,
+                           env=env, stdin=subprocess.DEVNULL, text=True, stdout=subprocess.PIPE,
+                           stderr=subprocess.STDOUT)
+    count.row(built.returncode == 0, f"cargo build:\n{built.stdout[-2000:]}")
+    if built.returncode == 0:
+        shows_items(count, os.path.join(room, "target", "debug", "examples", "show"), room, folder)
+
+
+def go_example(count, room):
+    """The program in examples/go builds without a network, and shows items."""
+    folder, program = at("examples", "go"), os.path.join(room, "show")
+    env = {**os.environ, "GOCACHE": os.path.join(room, "cache"), "GOPROXY": "off", "GOFLAGS": "",
+           "GOPATH": os.path.join(room, "path"), "CGO_ENABLED": "1"}
+    built = subprocess.run(["go", "build", "-o", program, "."], cwd=folder, env=env, text=True,
+                           stdin=subprocess.DEVNULL, stdout=subprocess.PIPE,
+                           stderr=subprocess.STDOUT)
+    count.row(built.returncode == 0, f"go build:\n{built.stdout[-2000:]}")
+    if built.returncode == 0:
+        shows_items(count, program, room, folder)
+
+
 def with_package():
     return {**os.environ, "PYTHONPATH": at("python"), "PYTHONDONTWRITEBYTECODE": "1"}
 
@@ -191,6 +250,16 @@ class Embedding(Trial):
         if not os.path.exists(HEADERS):
             self.skipTest(f"examples/c: no headers of OpenSSL, {HEADERS}")
         self.in_room(c_example)
+
+    def test_rust_example(self):
+        if not shutil.which("cargo"):
+            self.skipTest("examples/rust: cargo isn't installed")
+        self.in_room(rust_example)
+
+    def test_go_example(self):
+        if not shutil.which("go"):
+            self.skipTest("examples/go: go isn't installed")
+        self.in_room(go_example)
 
     def test_page_example(self):
         self.need_libcrypto()

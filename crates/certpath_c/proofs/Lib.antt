@@ -1,5 +1,13 @@
 pub mod Spans
 pub mod Pairs
 pub mod TableRows
+pub mod EntriesSoFar
+pub mod NoAnswers
+pub mod KeyIds
 pub mod ClassNumbers
 pub mod ReportFacts
+pub mod LeftRows
+pub mod Hosts
+pub mod Moved
+pub mod Answering
+pub mod FoundIsRight

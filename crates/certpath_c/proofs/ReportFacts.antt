@@ -78,6 +78,6 @@ answered IsRight bundle anchors vouchers settings policy (Ok text) buffer buffer
 answered IsRight bundle anchors vouchers settings policy (Err (Read input)) buffer buffer' report report' status is_policy ok bad puts = inr (inr (inr (inr (ap in_c puts.0, puts.1))))
 answered IsRight bundle anchors vouchers settings policy (Err (TooLong input)) buffer buffer' report report' status is_policy ok bad puts = inr (inr (inr (inr (ap in_c puts.0, puts.1))))
 answered IsRight bundle anchors vouchers settings policy (Err (BadLine n)) buffer buffer' report report' status is_policy ok bad puts =
-    inr (inr (inl (ap in_c puts.0, subst (HasFirstBad vouchers) (sym puts.1.line_is) (bad n refl), puts.1.length_kept, puts.1.kept)))
+    inr (inr (inl (ap in_c puts.0, (policy, is_policy), subst (HasFirstBad vouchers) (sym puts.1.line_is) (bad n refl), puts.1.length_kept, puts.1.kept)))
 answered IsRight bundle anchors vouchers settings policy (Err OutOfMemory) buffer buffer' report report' status is_policy ok bad puts = inr (inr (inr (inr (ap in_c puts.0, puts.1))))
 answered IsRight bundle anchors vouchers settings policy (Err Write) buffer buffer' report report' status is_policy ok bad puts = inr (inr (inr (inr (ap in_c puts.0, puts.1))))

@@ -1,5 +1,5 @@
 -- Answers on paths as the header has them.
-use Rattle.std.specs.Prelude.{◌≡◌, ◌+◌, ◌++◌, ℕ, List, [], ◌∷◌, length, map, Vec}
+use Rattle.std.specs.Prelude.{◌≡◌, ◌+◌, ◌^◌, ◌<◌, ◌++◌, ℕ, List, [], ◌∷◌, length, map, Vec}
 use Rattle.std.specs.List.{AllByRecursion}
 use Rattle.std.specs.declared.alloc.Global.{Global}
 use Rattle.cert_graph.specs.declared.reach.Reach.{Reach}
@@ -14,6 +14,19 @@ abbrev pub reach_number : Reach → ℕ
 reach_number No = 0
 reach_number (UpTo n) = n + 1
 reach_number Any = 18446744073709551615
+
+-- a reach that has a number of its own: a count has 32 bits
+abbrev pub FitsReach : Reach → Type 0
+FitsReach No = Unit {0}
+FitsReach (UpTo n) = n < 2 ^ 32
+FitsReach Any = Unit {0}
+
+abbrev pub FitsRow : Vec Reach Global → Type 0
+FitsRow row = AllByRecursion FitsReach row.items
+
+-- a row has an entry for each item
+abbrev pub IsWide : ℕ → Vec Reach Global → Type 0
+IsWide width row = length row.items ≡ width
 
 -- the entries of rows, one row after another
 abbrev pub rows_entries : List (Vec Reach Global) → List ℕ
@@ -50,10 +63,24 @@ pub record IsRowOf (answer : Answer) (row : AnswerRow) : Type 0 where
   pub anchor : row.anchor ≡ anchor_of answer
   pub entries : row.entries ≡ length (answer_entries answer)
 
--- a table of whole rows, whose entries these are
-pub record IsTableOf (width : ℕ) (entries : List ℕ) (table : Table) : Type 0 where
-  pub entries_are : rows_entries table.rows.items ≡ entries
-  pub whole : AllByRecursion (λ row. length row.items ≡ width) table.rows.items
+-- whole rows, whose entries these are
+pub record AreRowsOf (width : ℕ) (entries : List ℕ) (rows : List (Vec Reach Global)) : Type 0 where
+  pub entries_are : rows_entries rows ≡ entries
+  pub whole : AllByRecursion (IsWide width) rows
+  pub fit : AllByRecursion FitsRow rows
+
+abbrev pub IsTableOf : ℕ → List ℕ → Table → Type 0
+IsTableOf width entries table = AreRowsOf width entries table.rows.items
+
+-- a number that is no entry, entries that are no row, and entries that are no whole rows
+abbrev pub IsNoReach : ℕ → Type 0
+IsNoReach number = (r : Reach) → FitsReach r → reach_number r ≡ number → ⊥
+
+abbrev pub AreNoRow : List ℕ → Type 0
+AreNoRow entries = (row : List Reach) → AllByRecursion FitsReach row → map reach_number row ≡ entries → ⊥
+
+abbrev pub AreNoRows : ℕ → List ℕ → Type 0
+AreNoRows width entries = (rows : List (Vec Reach Global)) → ¬ AreRowsOf width entries rows
 
 abbrev pub IsPathOf : List ℕ → ℕ → Table → Answer → Type 0
 IsPathOf positions anchor table (Path ps a t) = (ps.items ≡ positions) × (a ≡ anchor) × (t ≡ table)
@@ -62,9 +89,15 @@ IsPathOf positions anchor table NoTarget = ⊥
 
 -- an answer's table has whole rows
 abbrev pub HasWholeRows : ℕ → Answer → Type 0
-HasWholeRows width (Path ps a table) = AllByRecursion (λ row. length row.items ≡ width) table.rows.items
-HasWholeRows width (NoPath table) = AllByRecursion (λ row. length row.items ≡ width) table.rows.items
+HasWholeRows width (Path ps a table) = AllByRecursion (IsWide width) table.rows.items
+HasWholeRows width (NoPath table) = AllByRecursion (IsWide width) table.rows.items
 HasWholeRows width NoTarget = Unit {0}
+
+-- each entry of its table has a number of its own
+abbrev pub FitsAnswer : Answer → Type 0
+FitsAnswer (Path ps a table) = AllByRecursion FitsRow table.rows.items
+FitsAnswer (NoPath table) = AllByRecursion FitsRow table.rows.items
+FitsAnswer NoTarget = Unit {0}
 
 -- the answer that the structure, the positions and the entries are
 pub record IsAnswerOf (width : ℕ) (row : AnswerRow) (positions entries : List ℕ) (answer : Answer) : Type 0 where
@@ -72,3 +105,8 @@ pub record IsAnswerOf (width : ℕ) (row : AnswerRow) (positions entries : List 
   pub positions_are : positions_of answer ≡ positions
   pub entries_are : answer_entries answer ≡ entries
   pub whole : HasWholeRows width answer
+  pub fits : FitsAnswer answer
+
+-- the structure, the positions and the entries are no answer
+abbrev pub AreNoAnswer : ℕ → AnswerRow → List ℕ → List ℕ → Type 0
+AreNoAnswer width row positions entries = (answer : Answer) → ¬ IsAnswerOf width row positions entries answer

@@ -1,5 +1,5 @@
 -- What is asked of paths.
-use Rattle.std.specs.Prelude.{◌≡◌, ◌⊎◌, ◌↔◌, ℕ, pos, Bool, not, List, [], ◌∷◌, nat_eq}
+use Rattle.std.specs.Prelude.{◌≡◌, ◌⊎◌, ◌↔◌, ◌≤ℤ◌, ℕ, pos, Bool, not, List, [], ◌∷◌, nat_eq}
 use Rattle.jiff_core.specs.Calendar.{IsDate}
 use Rattle.jiff_core.specs.Time.{IsTime}
 use Rattle.jiff_core.specs.declared.civil.datetime.DateTime.{DateTime}
@@ -39,14 +39,27 @@ pub record AreInputs (bundle anchors : List ℕ) (vouchers : List Voucher) (limi
   pub anchors_framing : IsFraming limit anchors anchor_items.items anchor_items.end
   pub pairs_are : ArePairs vouchers pairs
 
+-- a date of the calendar, and a time of a clock
+abbrev pub IsCivil : Moment → Type 0
+IsCivil m = IsDate m.year m.month m.day × IsTime m.hour m.minute m.second (pos 0)
+
+-- a year that isn't negative, a date and a time
+pub record IsMoment (m : Moment) : Type 0 where
+  pub year : pos 0 ≤ℤ m.year
+  pub civil : IsCivil m
+
+abbrev pub IsNoMoment : Moment → Type 0
+IsNoMoment m = ¬ IsMoment m
+
 -- the date and time that the structure holds
-pub record IsMomentOf (m : Moment) (t : DateTime) : Type 0 where
+pub record IsCivilOf (m : Moment) (t : DateTime) : Type 0 where
   pub row : IsRow (time_view t) m
   pub whole_second : t.time.subsec_nanosecond ≡ 0
 
--- the calendar has no such date, or a clock no such time
-abbrev pub IsNoMoment : Moment → Type 0
-IsNoMoment m = IsDate m.year m.month m.day × IsTime m.hour m.minute m.second (pos 0) → ⊥
+-- the structure is a moment, and this is its date and time
+pub record IsMomentOf (m : Moment) (t : DateTime) : Type 0 where
+  pub is_moment : IsMoment m
+  pub civil : IsCivilOf m t
 
 -- whether lists are demanded
 abbrev pub demands : Settings → Bool
@@ -55,3 +68,7 @@ demands settings = not (nat_eq settings.demands_lists 0)
 pub record IsPolicyOf (settings : Settings) (policy : Policy) : Type 0 where
   pub moment : IsMomentOf settings.moment policy.moment
   pub demand : policy.demand_lists ≡ demands settings
+
+-- the settings have a moment
+abbrev pub HasPolicy : Settings → Type 0
+HasPolicy settings = (policy : Policy) × IsPolicyOf settings policy

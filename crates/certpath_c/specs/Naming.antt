@@ -19,10 +19,13 @@ pub record IsNamed (octets buffer buffer' : List ℕ) (length' : ℕ) (fits : Bo
   pub length_is : length' ≡ length text
   pub written : Puts buffer buffer' text fits
 
--- (of octets that are refused as a name nothing more is said)
+-- the octets are no name, or a name and further octets
+abbrev pub IsNoName : List ℕ → Type 0
+IsNoName octets = (name : Name) → ¬ grammar.X509Name octets name []
+
 abbrev pub NameAnswer : List ℕ → List ℕ → List ℕ → ℕ → ℕ → ℤ → Type 0
 NameAnswer octets buffer buffer' size size' status =
     ((status ≡ done) × IsNamed octets buffer buffer' size' true)
     ⊎ ((status ≡ too_small) × IsNamed octets buffer buffer' size' false)
-    ⊎ ((status ≡ bad_name) × (buffer' ≡ buffer) × (size' ≡ size))
+    ⊎ ((status ≡ bad_name) × IsNoName octets × (buffer' ≡ buffer) × (size' ≡ size))
     ⊎ ((status ≡ out_of_memory) × (buffer' ≡ buffer) × (size' ≡ size))

@@ -16,7 +16,7 @@ use Rattle.certpath_sources.specs.declared.settings.RunError.TheVariants.{Read, 
 use Rattle.certpath_run.specs.declared.settings.Settings as run
 use Rattle.certpath_c.specs.declared.asked.Settings.{Settings}
 use Rattle.certpath_c.specs.declared.reports.Report.{Report}
-use Rattle.certpath_c.specs.Asked.{IsNoMoment, IsPolicyOf}
+use Rattle.certpath_c.specs.Asked.{IsNoMoment, IsPolicyOf, HasPolicy}
 use Rattle.certpath_c.specs.Status.{done, out_of_memory, too_small, bad_moment, bad_line}
 use Rattle.certpath_c.specs.Writing.{Puts}
 
@@ -74,12 +74,12 @@ pub record Reports (IsRight : Policy → Framed → Framed → Vouchers → List
   pub has_report : HasReport (IsRight policy) bundle anchors vouchers settings.limit text
   pub is_put : IsPut text buffer buffer' report report' fits
 
--- what each of the three answers, by what is right
+-- what each of the three answers, by what is right; the moment is looked at before the vouchers
 abbrev pub ReportAnswer : (Policy → Framed → Framed → Vouchers → List ℕ → Type 0) → List ℕ → List ℕ → List ℕ → Settings → List ℕ → List ℕ → Report → Report → ℤ → Type 0
 ReportAnswer IsRight bundle anchors vouchers settings buffer buffer' report report' status =
     ((status ≡ done) × Reports IsRight bundle anchors vouchers settings buffer buffer' report report' true)
     ⊎ ((status ≡ too_small) × Reports IsRight bundle anchors vouchers settings buffer buffer' report report' false)
-    ⊎ ((status ≡ bad_line) × HasFirstBad vouchers report'.bad_line × (report'.length ≡ report.length) × (buffer' ≡ buffer))
+    ⊎ ((status ≡ bad_line) × HasPolicy settings × HasFirstBad vouchers report'.bad_line × (report'.length ≡ report.length) × (buffer' ≡ buffer))
     ⊎ ((status ≡ bad_moment) × IsNoMoment settings.moment × IsKept buffer buffer' report report')
     ⊎ ((status ≡ out_of_memory) × IsKept buffer buffer' report report')
 

@@ -15,9 +15,9 @@ pub record IsRow (t : CivilTime) (m : Moment) : Type 0 where
   pub minute : m.minute ≡ pos t.minute
   pub second : m.second ≡ pos t.second
 
--- when the next list is due, where that is told
+-- when the next list is due, where that is told; else the first time again
 abbrev pub IsNext : Option CivilTime → Validity → Type 0
-IsNext None v = v.has_last ≡ 0
+IsNext None v = (v.last ≡ v.first) × (v.has_last ≡ 0)
 IsNext (Some t) v = IsRow t v.last × (v.has_last ≡ 1)
 
 abbrev pub IsValidityOf : Class → Validity → Type 0

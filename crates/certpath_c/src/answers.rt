@@ -1,7 +1,8 @@
 //! Answers on paths, as numbers.
 
 ghost use Rattle.std.specs.Prelude.{◌≡◌, ◌++◌, map, IfOk, OnOk};
-ghost use Rattle.certpath_c.specs.Answers.{reach_number, rows_entries, outcome_number, positions_of, anchor_of, answer_entries, IsRowOf};
+ghost use Rattle.std.specs.List.{AllByRecursion};
+ghost use Rattle.certpath_c.specs.Answers.{reach_number, FitsReach, FitsRow, FitsAnswer, rows_entries, outcome_number, positions_of, anchor_of, answer_entries, IsRowOf};
 
 use cert_graph::{Answer, Reach, Table};
 use std::alloc::{AllocError, Global};
@@ -17,7 +18,8 @@ pub struct AnswerRow {
 }
 
 fn reach_number(reach: Reach) -> u64
-    ensures { result ≡ reach_number reach }
+    ensures number { result ≡ reach_number reach }
+    ensures fits { FitsReach reach }
 {
     match reach {
         Reach::No => 0,
@@ -27,7 +29,8 @@ fn reach_number(reach: Reach) -> u64
 }
 
 fn push_row(entries: &mut Vec<u64>, row: &[Reach]) -> Result<(), AllocError>
-    ensures { OnOk result (entries.new.items ≡ entries.old.items ++ map reach_number row.now) }
+    ensures pushed { OnOk result (entries.new.items ≡ entries.old.items ++ map reach_number row.now) }
+    ensures fits { OnOk result (AllByRecursion FitsReach row.now) }
 {
     for reach in row {
         entries.push(reach_number(*reach))?;
@@ -35,20 +38,30 @@ fn push_row(entries: &mut Vec<u64>, row: &[Reach]) -> Result<(), AllocError>
     Ok(())
 }
 
+/// Adds the entries of a row.
+fn push_of(entries: &mut Vec<u64>, row: &Vec<Reach>) -> Result<(), AllocError>
+    ensures pushed { OnOk result (entries.new.items ≡ entries.old.items ++ map reach_number row.now.items) }
+    ensures fits { OnOk result (FitsRow row.now) }
+{
+    push_row(entries, row)
+}
+
 /// The entries of a table, one row after another.
 fn table_entries(alloc: Global, table: &Table) -> Result<Vec<u64>, AllocError>
-    ensures { IfOk result (λ entries. entries.items ≡ rows_entries table.now.rows.items) }
+    ensures entries { IfOk result (λ entries. entries.items ≡ rows_entries table.now.rows.items) }
+    ensures fit { OnOk result (AllByRecursion FitsRow table.now.rows.items) }
 {
     let mut entries = Vec::new(alloc);
     for row in &table.rows {
-        push_row(&mut entries, row)?;
+        push_of(&mut entries, row)?;
     }
     Ok(entries)
 }
 
 /// The entries of an answer's table.
 pub(crate) fn entries_of(alloc: Global, answer: &Answer) -> Result<Vec<u64>, AllocError>
-    ensures { IfOk result (λ entries. entries.items ≡ answer_entries answer.now) }
+    ensures entries { IfOk result (λ entries. entries.items ≡ answer_entries answer.now) }
+    ensures fits { OnOk result (FitsAnswer answer.now) }
 {
     match answer {
         Answer::Path { table, .. } => table_entries(alloc, table),

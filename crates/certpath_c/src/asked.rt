@@ -1,7 +1,8 @@
 //! What is asked of paths: files, vouchers, and settings.
 
-ghost use Rattle.std.specs.Prelude.{◌≡◌, IfOk, OnOk, IfSome, IsNone};
-ghost use Rattle.certpath_c.specs.Asked.{demands, IsOnePairMore, ArePairs, AreInputs, IsMomentOf, IsNoMoment, IsPolicyOf};
+ghost use Rattle.std.specs.Prelude.{◌≡◌, ◌≤ℤ◌, pos, IfOk, OnOk, OnSome, IfSome, IfNone};
+ghost use Rattle.std.specs.Bool.{OnTrue, OnFalse};
+ghost use Rattle.certpath_c.specs.Asked.{demands, IsCivil, IsCivilOf, IsOnePairMore, ArePairs, AreInputs, IsMomentOf, IsNoMoment, IsPolicyOf};
 
 use crate::framing::items_of;
 use crate::times::Moment;
@@ -20,14 +21,16 @@ pub struct Voucher {
     pub item: [u8; 32],
 }
 
-/// From which item a path is asked for, and how it is judged.
+/// From which item a path is asked for, how it is judged, and for which purpose and host.
 #[repr(C)]
 #[derive(Clone, Copy, Debug)]
-pub struct Settings {
+pub struct Settings<'a> {
     pub target: usize,
     pub limit: u32,
     pub demands_lists: u32,
     pub moment: Moment,
+    pub purpose: &'a [u8],
+    pub host: &'a [u8],
 }
 
 /// What was read of the files and the vouchers.
@@ -38,10 +41,11 @@ pub(crate) struct Inputs {
     pub vouchers: Vouchers,
 }
 
-/// The moment that a caller means.
-fn moment_of(moment: &Moment) -> Option<DateTime>
-    ensures found { IfSome result (IsMomentOf moment.now) }
-    ensures none { IsNone result → IsNoMoment moment.now }
+/// The date and time of the calendar and the clock that a caller means.
+fn civil_of(moment: &Moment) -> Option<DateTime>
+    ensures found { IfSome result (IsCivilOf moment.now) }
+    ensures is { OnSome result (IsCivil moment.now) }
+    ensures none { IfNone result (IsCivil moment.now → ⊥) }
 {
     match DateTime::new(
         moment.year,
@@ -57,16 +61,38 @@ fn moment_of(moment: &Moment) -> Option<DateTime>
     }
 }
 
-fn demands(settings: &Settings) -> bool
+/// Whether a moment is before the year 0.
+fn is_early(moment: &Moment) -> bool
+    ensures early { OnTrue result (pos 0 ≤ℤ moment.now.year → ⊥) }
+    ensures late { OnFalse result (pos 0 ≤ℤ moment.now.year) }
+{
+    moment.year < 0
+}
+
+/// The moment that a caller means, of the years 0 to 9999.
+fn moment_of(moment: &Moment) -> Option<DateTime>
+    ensures found { IfSome result (IsMomentOf moment.now) }
+    ensures none { IfNone result (IsNoMoment moment.now) }
+{
+    if is_early(moment) {
+        return None;
+    }
+    match civil_of(moment) {
+        Some(time) => Some(time),
+        None => None,
+    }
+}
+
+fn demands(settings: &Settings<'_>) -> bool
     ensures { result ≡ demands settings.now }
 {
     settings.demands_lists != 0
 }
 
 /// The policy of settings; none where their moment is no date and time.
-pub(crate) fn policy_of(settings: &Settings) -> Option<Policy>
+pub(crate) fn policy_of(settings: &Settings<'_>) -> Option<Policy>
     ensures found { IfSome result (IsPolicyOf settings.now) }
-    ensures none { IsNone result → IsNoMoment settings.now.moment }
+    ensures none { IfNone result (IsNoMoment settings.now.moment) }
 {
     let moment = moment_of(&settings.moment)?;
     Some(Policy::new(moment, demands(settings)))

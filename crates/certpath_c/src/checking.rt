@@ -1,14 +1,17 @@
 //! Whether answers are right.
 
-ghost use Rattle.std.specs.Prelude.{◌≡◌, cond, IfOk, IfSome};
-ghost use Rattle.certpath_c.specs.Checking.{IsCheckedBy, CheckAnswer};
+ghost use Rattle.std.specs.Prelude.{◌≡◌, cond, IfOk, IfSome, IfNone};
+ghost use Rattle.certpath_c.specs.Checking.{IsCheckedBy, HasNoAnswer, CheckAnswer};
+ghost use Rattle.certpath_c.specs.Wanted.{IsWantedBy};
 
 use crate::answers::AnswerRow;
 use crate::asked::{Settings, Voucher, inputs_of, policy_of};
-use crate::status::{BAD_ANSWER, BAD_MOMENT, DONE, OUT_OF_MEMORY};
+use crate::status::{BAD_ANSWER, BAD_HOST, BAD_MOMENT, DONE, OUT_OF_MEMORY};
 use crate::tables::given_answer;
+use crate::wanted::{Judged, demands_of, wanted_of};
 use asn1_core::OutOfMemory;
-use cert_judge::Policy;
+use cert_purpose::Restricted;
+use cert_serving::Permits;
 use certcheck::check;
 use std::alloc::Global;
 
@@ -33,25 +36,30 @@ fn checked(
     bundle: &[u8],
     anchors: &[u8],
     vouchers: &[Voucher],
-    settings: &Settings,
-    policy: &Policy,
+    settings: &Settings<'_>,
+    judged: &Judged<'_>,
     given: &Given<'_>,
 ) -> Result<Option<bool>, OutOfMemory>
-    ensures { IfOk result (λ o. IfSome o (IsCheckedBy bundle.now anchors.now vouchers.now settings.now policy.now given.now.row given.now.positions.now given.now.entries.now)) }
+    requires { IsWantedBy settings.now judged.now.wanted }
+    ensures found { IfOk result (λ o. IfSome o (IsCheckedBy bundle.now anchors.now vouchers.now settings.now judged.now.policy given.now.row given.now.positions.now given.now.entries.now)) }
+    ensures none { IfOk result (λ o. IfNone o (HasNoAnswer bundle.now settings.now.limit given.now.row given.now.positions.now given.now.entries.now)) }
 {
     let inputs = inputs_of(alloc, bundle, anchors, vouchers, settings.limit)?;
     let width = inputs.items.len();
-    let Some(answer) = given_answer(alloc, &given.row, given.positions, given.entries, width)?
-    else {
+    let found = given_answer(alloc, &given.row, given.positions, given.entries, width)?;
+    let Some(answer) = found else {
         return Ok(None);
     };
+    let demands = demands_of(&inputs.items, settings.target, &judged.wanted);
+    let permits = Permits::new(alloc, &inputs.items, &demands)?;
+    let vouch = Restricted::new(&inputs.vouchers, &permits);
     let said = check(
         alloc,
         &inputs.items,
         settings.target,
         &inputs.anchors,
-        &inputs.vouchers,
-        policy,
+        &vouch,
+        &judged.policy,
         &answer,
     )?;
     Ok(Some(said))
@@ -64,7 +72,7 @@ pub extern "C" fn certpath_check(
     bundle: &[u8],
     anchors: &[u8],
     vouchers: &[Voucher],
-    settings: &Settings,
+    settings: &Settings<'_>,
     row: &AnswerRow,
     positions: &[usize],
     entries: &[u64],
@@ -75,12 +83,16 @@ pub extern "C" fn certpath_check(
     let Some(policy) = policy_of(settings) else {
         return BAD_MOMENT;
     };
+    let Some(wanted) = wanted_of(settings) else {
+        return BAD_HOST;
+    };
+    let judged = Judged { policy, wanted };
     let given = Given {
         row: *row,
         positions,
         entries,
     };
-    let Ok(found) = checked(alloc, bundle, anchors, vouchers, settings, &policy, &given) else {
+    let Ok(found) = checked(alloc, bundle, anchors, vouchers, settings, &judged, &given) else {
         return OUT_OF_MEMORY;
     };
     let Some(said) = found else {

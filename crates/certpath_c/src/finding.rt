@@ -1,49 +1,47 @@
 //! Paths from an item to an anchor.
 
 ghost use Rattle.std.specs.Prelude.{◌≡◌, IfOk};
-ghost use Rattle.certpath_c.specs.Finding.{IsFoundBy, PutsBoth, FindAnswer};
+ghost use Rattle.certpath_c.specs.Finding.{IsFoundBy, FindAnswer};
+ghost use Rattle.certpath_c.specs.Wanted.{IsWantedBy};
 
 use crate::answers::{AnswerRow, entries_of, positions_of, row_of};
 use crate::asked::{Settings, Voucher, inputs_of, policy_of};
-use crate::status::{BAD_MOMENT, DONE, OUT_OF_MEMORY, TOO_SMALL};
-use crate::writing::put;
+use crate::status::{BAD_HOST, BAD_MOMENT, DONE, OUT_OF_MEMORY, TOO_SMALL};
+use crate::wanted::{Judged, demands_of, wanted_of};
+use crate::writing::put_both;
 use asn1_core::OutOfMemory;
 use cert_graph::Answer;
-use cert_judge::Policy;
+use cert_purpose::Restricted;
+use cert_serving::Permits;
 use certpath_find::find;
 use std::alloc::Global;
 
-/// The answer by a policy, of the files as they are cut. The only error is out of memory.
+/// The answer by a policy, of the files as they are cut, for a purpose and a host. The only error is
+/// out of memory.
 fn answer_of(
     alloc: Global,
     bundle: &[u8],
     anchors: &[u8],
     vouchers: &[Voucher],
-    settings: &Settings,
-    policy: &Policy,
+    settings: &Settings<'_>,
+    judged: &Judged<'_>,
 ) -> Result<Answer, OutOfMemory>
-    ensures { IfOk result (IsFoundBy bundle.now anchors.now vouchers.now settings.now policy.now) }
+    requires { IsWantedBy settings.now judged.now.wanted }
+    ensures { IfOk result (IsFoundBy bundle.now anchors.now vouchers.now settings.now judged.now.policy) }
 {
     let inputs = inputs_of(alloc, bundle, anchors, vouchers, settings.limit)?;
+    let demands = demands_of(&inputs.items, settings.target, &judged.wanted);
+    let permits = Permits::new(alloc, &inputs.items, &demands)?;
+    let vouch = Restricted::new(&inputs.vouchers, &permits);
     let answer = find(
         alloc,
         &inputs.items,
         settings.target,
         &inputs.anchors,
-        &inputs.vouchers,
-        policy,
+        &vouch,
+        &judged.policy,
     )?;
     Ok(answer)
-}
-
-/// Writes both, or neither where one of them doesn't fit.
-fn put_both(positions: &mut [usize], path: &[usize], table: &mut [u64], entries: &[u64]) -> bool
-    ensures { PutsBoth positions.old positions.new path.now table.old table.new entries.now result }
-{
-    if path.len() > positions.len() {
-        return false;
-    }
-    put(table, entries) && put(positions, path)
 }
 
 /// `certpath_find` of the header.
@@ -53,7 +51,7 @@ pub extern "C" fn certpath_find(
     bundle: &[u8],
     anchors: &[u8],
     vouchers: &[Voucher],
-    settings: &Settings,
+    settings: &Settings<'_>,
     positions: &mut [usize],
     table: &mut [u64],
     row: &mut AnswerRow,
@@ -63,7 +61,11 @@ pub extern "C" fn certpath_find(
     let Some(policy) = policy_of(settings) else {
         return BAD_MOMENT;
     };
-    let Ok(answer) = answer_of(alloc, bundle, anchors, vouchers, settings, &policy) else {
+    let Some(wanted) = wanted_of(settings) else {
+        return BAD_HOST;
+    };
+    let judged = Judged { policy, wanted };
+    let Ok(answer) = answer_of(alloc, bundle, anchors, vouchers, settings, &judged) else {
         return OUT_OF_MEMORY;
     };
     let Ok(entries) = entries_of(alloc, &answer) else {

@@ -1,7 +1,7 @@
 //! Names as text.
 
-ghost use Rattle.std.specs.Prelude.{IfSome, IfOk, string_bytes};
-ghost use Rattle.certpath_c.specs.Naming.{IsNameText, NameAnswer};
+ghost use Rattle.std.specs.Prelude.{IfSome, IfNone, IfOk, string_bytes};
+ghost use Rattle.certpath_c.specs.Naming.{IsNameText, IsNoName, NameAnswer};
 
 use crate::status::{BAD_NAME, DONE, OUT_OF_MEMORY, TOO_SMALL};
 use crate::writing::put;
@@ -12,7 +12,8 @@ use x509_names::X509Name;
 
 /// The text of a name, where the octets are one.
 fn text_of(alloc: Global, name: &[u8]) -> Result<Option<String>, OutOfMemory>
-    ensures { IfOk result (λ r. IfSome r (λ text. IsNameText name.now (string_bytes text))) }
+    ensures found { IfOk result (λ r. IfSome r (λ text. IsNameText name.now (string_bytes text))) }
+    ensures none { IfOk result (λ r. IfNone r (IsNoName name.now)) }
 {
     match X509Name::from_der(alloc, name) {
         Ok((rest, found)) => {
@@ -23,7 +24,8 @@ fn text_of(alloc: Global, name: &[u8]) -> Result<Option<String>, OutOfMemory>
             Ok(Some(text))
         }
         Err(Refusal::Failure(_)) => Err(OutOfMemory),
-        Err(_) => Ok(None),
+        Err(Refusal::Error(_)) => Ok(None),
+        Err(Refusal::Incomplete(_)) => Ok(None),
     }
 }
 

@@ -21,7 +21,7 @@ pub struct Report {
 }
 
 /// What the program is asked by these settings.
-fn asked_of(settings: &Settings, policy: Policy) -> RunSettings
+fn asked_of(settings: &Settings<'_>, policy: Policy) -> RunSettings
     ensures { result ≡ run_settings settings.now policy }
 {
     RunSettings {
@@ -124,7 +124,7 @@ pub extern "C" fn certpath_path(
     bundle: &[u8],
     anchors: &[u8],
     vouchers: &[u8],
-    settings: &Settings,
+    settings: &Settings<'_>,
     text: &mut [u8],
     report: &mut Report,
 ) -> i32
@@ -145,7 +145,7 @@ pub extern "C" fn certpath_why(
     bundle: &[u8],
     anchors: &[u8],
     vouchers: &[u8],
-    settings: &Settings,
+    settings: &Settings<'_>,
     text: &mut [u8],
     report: &mut Report,
 ) -> i32
@@ -166,7 +166,7 @@ pub extern "C" fn certpath_paths(
     bundle: &[u8],
     anchors: &[u8],
     vouchers: &[u8],
-    settings: &Settings,
+    settings: &Settings<'_>,
     text: &mut [u8],
     report: &mut Report,
 ) -> i32

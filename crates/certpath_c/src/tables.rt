@@ -1,7 +1,8 @@
 //! Answers on paths, from numbers.
 
-ghost use Rattle.std.specs.Prelude.{◌≡◌, map, IfOk, IfSome};
-ghost use Rattle.certpath_c.specs.Answers.{reach_number, IsTableOf, IsPathOf, IsAnswerOf};
+ghost use Rattle.std.specs.Prelude.{◌≡◌, ◌⊎◌, ◌↔◌, ◌<◌, map, length, IsTrue, IfOk, IfSome, IfNone};
+ghost use Rattle.std.specs.List.{AllByRecursion};
+ghost use Rattle.certpath_c.specs.Answers.{reach_number, FitsReach, IsNoReach, AreNoRow, AreNoRows, AreNoAnswer, IsTableOf, IsPathOf, IsAnswerOf};
 
 use crate::answers::AnswerRow;
 use cert_graph::{Answer, Reach, Table};
@@ -9,7 +10,8 @@ use std::alloc::{AllocError, Global};
 
 /// The reach of a number; none where it stands for none.
 fn reach_of(number: u64) -> Option<Reach>
-    ensures { IfSome result (λ r. reach_number r ≡ number) }
+    ensures found { IfSome result (λ r. (reach_number r ≡ number) × FitsReach r) }
+    ensures none { IfNone result (IsNoReach number) }
 {
     if number == 0 {
         return Some(Reach::No);
@@ -25,7 +27,8 @@ fn reach_of(number: u64) -> Option<Reach>
 
 /// The reaches of a row.
 fn reaches_of(alloc: Global, entries: &[u64]) -> Result<Option<Vec<Reach>>, AllocError>
-    ensures { IfOk result (λ o. IfSome o (λ row. map reach_number row.items ≡ entries.now)) }
+    ensures found { IfOk result (λ o. IfSome o (λ row. (map reach_number row.items ≡ entries.now) × AllByRecursion FitsReach row.items)) }
+    ensures none { IfOk result (λ o. IfNone o (AreNoRow entries.now)) }
 {
     let mut row = Vec::new(alloc);
     for entry in entries {
@@ -37,14 +40,22 @@ fn reaches_of(alloc: Global, entries: &[u64]) -> Result<Option<Vec<Reach>>, Allo
     Ok(Some(row))
 }
 
+/// Whether there are fewer entries than a row has, or rows have none.
+fn is_short(entries: &[u64], width: usize) -> bool
+    ensures { IsTrue result ↔ ((width ≡ 0) ⊎ (length entries.now < width)) }
+{
+    width == 0 || entries.len() < width
+}
+
 /// The table of entries; none where they aren't whole rows of this width.
 fn table_of(alloc: Global, entries: &[u64], width: usize) -> Result<Option<Table>, AllocError>
-    ensures { IfOk result (λ o. IfSome o (IsTableOf width entries.now)) }
+    ensures found { IfOk result (λ o. IfSome o (IsTableOf width entries.now)) }
+    ensures none { IfOk result (λ o. IfNone o (AreNoRows width entries.now)) }
 {
     let mut rows = Vec::new(alloc);
     let mut rest = entries;
     while !rest.is_empty() {
-        if width == 0 || rest.len() < width {
+        if is_short(rest, width) {
             return Ok(None);
         }
         let (front, others) = rest.split_at(width);
@@ -81,7 +92,8 @@ pub(crate) fn given_answer(
     entries: &[u64],
     width: usize,
 ) -> Result<Option<Answer>, AllocError>
-    ensures { IfOk result (λ o. IfSome o (IsAnswerOf width row.now positions.now entries.now)) }
+    ensures found { IfOk result (λ o. IfSome o (IsAnswerOf width row.now positions.now entries.now)) }
+    ensures none { IfOk result (λ o. IfNone o (AreNoAnswer width row.now positions.now entries.now)) }
 {
     if row.length != positions.len() || row.entries != entries.len() {
         return Ok(None);

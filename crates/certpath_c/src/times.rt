@@ -46,7 +46,7 @@ fn row_of(time: &DateTime) -> Moment
     }
 }
 
-fn certificate_times(fields: &CertFields<'_>) -> Validity
+pub(crate) fn certificate_times(fields: &CertFields<'_>) -> Validity
     ensures { IsValidityOf (certificate (certificate_view fields.now)) result }
 {
     Validity {
@@ -56,7 +56,7 @@ fn certificate_times(fields: &CertFields<'_>) -> Validity
     }
 }
 
-fn list_times(fields: &ListFields<'_>) -> Validity
+pub(crate) fn list_times(fields: &ListFields<'_>) -> Validity
     ensures { IsValidityOf (list (list_view fields.now)) result }
 {
     let first = row_of(&fields.this_update);

@@ -3,12 +3,12 @@
 ghost use Rattle.std.specs.Prelude.{◌≡◌};
 
 /// CERTPATH_VERSION of the header.
-const VERSION: u32 = 2;
+const VERSION: u32 = 3;
 
 /// `certpath_version` of the header.
 #[unsafe(no_mangle)]
 pub extern "C" fn certpath_version() -> u32
-    ensures { result ≡ 2 }
+    ensures { result ≡ 3 }
 {
     VERSION
 }

@@ -1,8 +1,9 @@
 """Rows: what the proved library says of an entry by itself."""
 from functools import lru_cache
-from typing import Iterable, Iterator, NamedTuple, Set
+from typing import Dict, Iterable, Iterator, NamedTuple, Optional, Set
 
-from ..items import CLASSES, Certificate, Item, Kind, Name, class_of, frame
+from ..cutting import is_one
+from ..items import Contents, Kind, Name, contents_of, frame
 from ..library import BadName
 from .entries import CHAIN, Entry
 from .files import digest
@@ -72,9 +73,13 @@ def shown(name: bytes) -> str:
 @lru_cache(maxsize=KEYS_KEPT)
 def key_digest(octets: bytes) -> str:
     """The digest of a certificate's key; empty of anything else."""
-    if class_of(octets) is not Kind.CERTIFICATE:
-        return ""
-    return digest(Certificate(octets).public_key_bytes)
+    key = contents_of(octets).key
+    return "" if key is None else digest(key)
+
+
+def digest_of(name: Optional[bytes]) -> str:
+    """The digest of a name; empty where there is none."""
+    return "" if name is None else digest(name)
 
 
 def fault_of_hash(entry: Entry) -> str:
@@ -87,55 +92,55 @@ def fault_of_hash(entry: Entry) -> str:
 
 
 def moment(at) -> str:
-    return "" if at is None else at.strftime("%Y-%m-%dT%H:%M:%S").zfill(19)
+    return "" if at is None else at.isoformat()[:len("2027-01-01T00:00:00")]
 
 
-def serial(number: int) -> str:
+def serial(octets: bytes) -> str:
     """A serial number in hex, two digits an octet."""
+    number = int.from_bytes(octets, "big", signed=True)
     digits = f"{number:x}"
     return digits.zfill(len(digits) + len(digits) % 2)
 
 
-def read_fields(row: Row, item: Item) -> Read:
-    """The columns of a certificate or a list, and what it may be linked by."""
-    issuer = item.issuer.public_bytes()
-    row = row._replace(issuer=shown(issuer), algorithm=item.signature_algorithm.hex())
-    if not isinstance(item, Certificate):
-        return Read(row._replace(not_before=moment(item.last_update_utc),
-                                 not_after=moment(item.next_update_utc)), "", digest(issuer))
-    subject = item.subject.public_bytes()
-    row = row._replace(subject=shown(subject), not_before=moment(item.not_valid_before_utc),
-                       not_after=moment(item.not_valid_after_utc),
-                       serial=serial(item.serial_number),
-                       key_sha256=digest(item.public_key_bytes))
-    return Read(row, digest(subject), digest(issuer))
+def columns_of(contents: Contents) -> Dict[str, str]:
+    """The columns that a certificate or a list has, beside those of each entry."""
+    found = {"issuer": shown(contents.issuer), "algorithm": contents.algorithm.hex(),
+             "not_before": moment(contents.first), "not_after": moment(contents.last)}
+    if contents.kind is Kind.CERTIFICATE:
+        found.update(subject=shown(contents.subject), serial=serial(contents.serial),
+                     key_sha256=digest(contents.key))
+    return found
 
 
 def end_of(octets: bytes, limit: int) -> str:
     """Why octets aren't one item, as `certpath frame` says it; empty where they are."""
-    items = frame(octets, limit)
-    if items.end.is_clean and len(items) == 1:
+    if is_one(octets, limit):
         return ""
+    items = frame(octets, limit)
     if items.end.is_clean:
         return f"not one item: {len(items)} items"
     return f"not one item: {len(items)} items, end {items.end.word} {items.end.at}"
 
 
-def row_of(entry: Entry, kind: str) -> Row:
-    """The columns that an entry has by itself."""
+def row_of(entry: Entry, kind: str, **columns: str) -> Row:
+    """The columns that an entry has by itself, and further ones."""
     number = "" if entry.number is None else str(entry.number)
-    return Row(*entry.place, number, entry.timestamp, entry.source, len(entry.octets), kind)
+    return Row(*entry.place, number, entry.timestamp, entry.source, len(entry.octets), kind,
+               **columns)
 
 
 def read(entry: Entry, limit: int) -> Read:
     """The row of an entry. What isn't one item under the limit is `other`, whatever else it is."""
     if entry.end:
-        return Read(row_of(entry, entry.end)._replace(cause=entry.cause))
+        return Read(row_of(entry, entry.end, cause=entry.cause))
     amiss = end_of(entry.octets, limit)
-    kind = Kind.OTHER if amiss else class_of(entry.octets)
-    causes = filter(None, (entry.cause, amiss, fault_of_hash(entry)))
-    row = row_of(entry, WORDS[kind])._replace(sha256=digest(entry.octets), cause="; ".join(causes))
-    return Read(row) if kind is Kind.OTHER else read_fields(row, CLASSES[kind](entry.octets))
+    contents = None if amiss else contents_of(entry.octets)
+    cause = "; ".join(filter(None, (entry.cause, amiss, fault_of_hash(entry))))
+    own = {"sha256": digest(entry.octets), "cause": cause}
+    if contents is None or contents.kind is Kind.OTHER:
+        return Read(row_of(entry, OTHER, **own))
+    row = row_of(entry, WORDS[contents.kind], **own, **columns_of(contents))
+    return Read(row, digest_of(contents.subject), digest_of(contents.issuer))
 
 
 def with_chains(entries: Iterable[Entry], met: Set[str]) -> Iterator[Entry]:

@@ -57,7 +57,7 @@ enum { ROOM = 1 << 16 };
 
 /* What a call wrote: its results and its buffer. */
 typedef struct {
-    unsigned char result[64];
+    unsigned char result[192];
     unsigned char buffer[ROOM];
 } written;
 
@@ -115,6 +115,18 @@ static int32_t algorithm(written *to)
     return field(CERTPATH_ALGORITHM, to);
 }
 
+static int32_t contents(written *to)
+{
+    return certpath_item(bundle + one.offset, one.length, to->buffer, ROOM,
+                         (certpath_contents *)to->result);
+}
+
+static int32_t load(written *to)
+{
+    return certpath_load(bundle, bundle_length, to->buffer, ROOM, NULL, 0,
+                         (certpath_loaded *)to->result);
+}
+
 static int32_t times(written *to)
 {
     return certpath_times(bundle + one.offset, one.length, (certpath_validity *)to->result);
@@ -146,7 +158,7 @@ static int32_t questions(written *to)
 /* What is found goes into the buffer, a path and behind it a table. */
 enum { PATH = 64, ENTRIES = 1024 };
 
-static certpath_settings settings = {0, CERTPATH_LIMIT, 0, {0, 0, 0, 0, 0, 0}};
+static certpath_settings settings = {0, CERTPATH_LIMIT, 0, {0, 0, 0, 0, 0, 0}, NULL, 0, NULL, 0};
 
 static int32_t find(written *to)
 {
@@ -158,6 +170,22 @@ static int32_t find(written *to)
 }
 
 static written found;
+
+/* The same for a host and a purpose, for which each certificate is read. */
+static int32_t serving(written *to)
+{
+    static const char HOST[] = "www.example.test", PURPOSE[] = "\x2b\x06\x01\x05\x05\x07\x03\x01";
+    certpath_settings asked = settings;
+    asked.host = (const uint8_t *)HOST;
+    asked.host_length = sizeof HOST - 1;
+    asked.purpose = (const uint8_t *)PURPOSE;
+    asked.purpose_length = sizeof PURPOSE - 1;
+    return certpath_find(bundle, bundle_length, anchors, anchors_length,
+                         (const certpath_voucher *)vouchers,
+                         vouchers_length / sizeof(certpath_voucher), &asked,
+                         (size_t *)to->buffer, PATH, (uint64_t *)to->buffer + PATH, ENTRIES,
+                         (certpath_answer *)to->result);
+}
 
 static int32_t check(written *to)
 {
@@ -195,11 +223,13 @@ typedef struct {
 
 static const named OF_AN_ITEM[] = {
     {"class", class_of}, {"issuer", issuer}, {"subject", subject},     {"key", key},
-    {"serial", serial},  {"times", times},   {"algorithm", algorithm}, {"name", name}};
+    {"serial", serial},  {"times", times},   {"algorithm", algorithm}, {"name", name},
+    {"item", contents}};
 
 static const named OF_FILES[] = {
-    {"frame", frame}, {"classes", classes}, {"questions", questions}, {"find", find},
-    {"check", check}, {"path", path},       {"why", why},             {"paths", paths}};
+    {"frame", frame}, {"load", load},       {"classes", classes}, {"questions", questions},
+    {"find", find},   {"serving", serving}, {"check", check},     {"path", path},
+    {"why", why},     {"paths", paths}};
 
 /* The vouchers as a file: two digests in hex a line. */
 static void write_lines(void)

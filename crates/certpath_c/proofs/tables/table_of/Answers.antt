@@ -1,9 +1,25 @@
-use Rattle.certpath_c.proofs.TableRows.{row_more}
+use Rattle.std.proofs.Common.{◌≡◌, ◌<◌, ◌≤◌, length, arith, refl, sym, subst}
+use Rattle.std.proofs.lemmas.Grind.{common_steps}
+use Rattle.certpath_c.specs.Answers.{AreNoRows}
+use Rattle.certpath_c.proofs.TableRows.{row_more, no_rows_few, no_rows_front}
 use Rattle.certpath_c.proofs.tables.table_of.Goals as goal
 
 pub loop-rest-preserved : goal.loop-rest-preserved
 loop-rest-preserved c =
-    let read = rw c.in-Some.is at c.in_ok-row.ensures in
+    let read = rw c.in-Some.is at c.in_ok-row.ensures.found in
     let split = c.split_at.ensures in
-    let more = row_more c.args.width c.args.entries.now c.loop-rest.rest.now c.split_at.result.0.now c.split_at.result.1.now c.loop-rest.rows.items c.in-Some.row c.loop-rest.invariant split.by_index.0 read split.front_len in
+    let some : 0 < c.args.width = grind (arith, common_steps) in
+    let more = row_more c.args.width c.args.entries.now c.loop-rest.rest.now c.split_at.result.0.now c.split_at.result.1.now c.loop-rest.rows.items c.in-Some.row c.loop-rest.invariant split.by_index.0 read.0 read.1 split.front_len some in
     rw c.in_ok-push.ensures.items more
+
+pub returns-then-is_short-clause-none : goal.returns-then-is_short-clause-none
+returns-then-is_short-clause-none c =
+    let some : 0 < length c.loop-rest.rest.now = grind (arith, common_steps) in
+    c.loop-rest.invariant.none (no_rows_few c.args.width c.loop-rest.rest.now some (c.if-is_short.ensures.0 refl))
+
+pub returns-in_default-clause-none : goal.returns-in_default-clause-none
+returns-in_default-clause-none c =
+    let none = rw c.in_default.is at c.in_ok-row.ensures.none in
+    let split = c.split_at.ensures in
+    let some : 0 < c.args.width = grind (arith, common_steps) in
+    c.loop-rest.invariant.none (subst (AreNoRows c.args.width) (sym split.by_index.0) (no_rows_front c.args.width c.split_at.result.0.now c.split_at.result.1.now split.front_len some none))

@@ -1,0 +1,3 @@
+module certpath.example/show
+
+go 1.19

@@ -1,0 +1,138 @@
+"""Files of any form: PEM, DER and PKCS #7, and what is left out of them."""
+import os
+from ctypes import byref
+from typing import List, NamedTuple, Optional, Union
+
+from . import arguments, library
+from .items import Items, Octets
+
+# The forms of files, by the numbers of certpath.h.
+FORMS = ("empty", "PEM", "DER", "PKCS #7", "other")
+# The labels of PEM blocks that are known, by the numbers of certpath.h.
+LABELS = ("CERTIFICATE", "X509 CRL", "X509 CERTIFICATE", "X.509 CERTIFICATE",
+          "TRUSTED CERTIFICATE", "PKCS7", "CMS", "PKCS #7 SIGNED DATA", "PRIVATE KEY",
+          "ENCRYPTED PRIVATE KEY", "PUBLIC KEY", "OPENSSH PRIVATE KEY", "RSA PRIVATE KEY",
+          "EC PRIVATE KEY", "DSA PRIVATE KEY", "RSA PUBLIC KEY", "CERTIFICATE REQUEST",
+          "NEW CERTIFICATE REQUEST", "ATTRIBUTE CERTIFICATE", "X509 ATTRIBUTE CERTIFICATE",
+          "EC PARAMETERS", "DSA PARAMETERS", "DH PARAMETERS", "X9.42 DH PARAMETERS")
+# Why something is left out, by the numbers of certpath.h; {} is how many octets are meant.
+REASONS = ("the file is empty", "the file is neither PEM nor DER", "the file is a text in UTF-16",
+           "neither certificate nor revocation list", "{} after the item", "its END is missing",
+           "headers stand within", "there is nothing in it", "not base64",
+           "the block holds neither certificate nor revocation list", "the label isn't known",
+           "an END that ends no block", "a BEGIN or an END that is no line of its own "
+           "(are newlines missing?)", "octets around the blocks that are no text",
+           "no SignedData in DER", "SignedData without certificates and revocation lists",
+           "neither certificate nor revocation list", "its length is indefinite (BER) or cut",
+           "its length is above 16777216", "{} of it missing",
+           "its length is not in the shortest form (BER)")
+# The elements of SignedData, by the numbers of their sets.
+MEMBERS = {1: "certificate", 2: "revocation list"}
+# How many things that are left out there is room for at first.
+ROOM = 16
+
+
+class LeftOut(NamedTuple):
+    """Something that is left out of a file. No octet of it is here."""
+    line: Optional[int]
+    """The line of a PEM file, from 1: its own, or that of the block's BEGIN; None if it has none."""
+    position: Optional[int]
+    """The octet of a DER file at which it begins, from 0; None if it has none."""
+    label: Optional[str]
+    """The block's label, if that is a known one: another one may be part of a key."""
+    reason: str
+    """Why it is left out, in words."""
+
+    @property
+    def place(self) -> str:
+        """Where it is, as `line 3` or `octet 120`; empty of a file as a whole."""
+        if self.line is not None:
+            return f"line {self.line}"
+        return "" if self.position is None else f"octet {self.position}"
+
+    def __str__(self) -> str:
+        label = "" if self.label is None else f" {self.label}"
+        return f"{self.place}{label}: {self.reason}".lstrip(": ")
+
+
+class Loaded(NamedTuple):
+    """What a file holds, and what is left out of it."""
+    name: Optional[str]
+    """The file's name; None of octets without one."""
+    form: str
+    """"PEM", "DER", "PKCS #7", "empty" or "other"."""
+    items: Items
+    """Its certificates and revocation lists, in its order, with what else has the shape of one."""
+    left: List[LeftOut]
+    """What is left out, in its order."""
+
+
+def octet_count(number: int) -> str:
+    return f"{number} octet" if number == 1 else f"{number} octets"
+
+
+def reason_of(row: library.LeftOut) -> str:
+    """Why something is left out, in words."""
+    said = REASONS[row.reason].format(octet_count(row.count))
+    if row.to_end:
+        end = "set" if row.set else "file"
+        said = f"{said}, {octet_count(row.to_end)} to the {end}'s end"
+    if row.set:
+        said = f"{MEMBERS[row.set]} {row.number} of the SignedData: {said}"
+    return said
+
+
+def left_out(row: library.LeftOut, form: str) -> LeftOut:
+    """What is left out, of a file of this form."""
+    has_position = form in ("DER", "PKCS #7")
+    label = LABELS[row.label - 1] if row.label else None
+    return LeftOut(row.line or None, row.position if has_position else None, label, reason_of(row))
+
+
+def octets_in(source: Union[str, "os.PathLike[str]", Octets]) -> bytes:
+    """The octets of a file by its path, or octets that are given."""
+    if isinstance(source, (str, os.PathLike)):
+        with open(source, "rb") as file:
+            return file.read()
+    return arguments.octets(source, "the source")
+
+
+def name_of(source: Union[str, "os.PathLike[str]", Octets]) -> Optional[str]:
+    """The name of a file by its path."""
+    return os.fsdecode(source) if isinstance(source, (str, os.PathLike)) else None
+
+
+def load(source: Union[str, "os.PathLike[str]", Octets], name: Optional[str] = None) -> Loaded:
+    """The certificates and revocation lists of a file, of PEM (RFC 7468), DER or PKCS #7 (RFC 5652,
+    5.1), and what is left out of it.
+
+    >>> import certpath
+    >>> loaded = certpath.load("samples/fullchain.pem")
+    >>> loaded.form, len(loaded.items), loaded.left
+    ('PEM', 2, [])
+    >>> for it in certpath.load("samples/keys/leaf.pem").left:
+    ...     print(it)
+    line 1 PRIVATE KEY: the block holds neither certificate nor revocation list
+
+    `source` is a path, as a str or a PathLike, or octets. What is left out raises nothing, and is
+    in `left`: a private key, a block that is cut, text without a block. An item has the shape of a
+    certificate or of a revocation list; what else is wrong with it, its `kind` says.
+
+    OSError if the file can't be read, TypeError of another source. OutOfMemory if the C library
+    gives no memory.
+    """
+    octets = octets_in(source)
+    found, room, left_room = library.Loaded(), len(octets), ROOM
+    while True:
+        items = library.buffer_of(room)
+        left = (library.LeftOut * left_room)()
+        status = library.loaded().certpath_load(*library.octets_of(octets), items, room, left,
+                                                left_room, byref(found))
+        if status != library.TOO_SMALL:
+            break
+        room, left_room = found.length, found.left
+    library.refuse(status)
+    form = FORMS[found.form]
+    return Loaded(name_of(source) if name is None else name, form,
+                  Items(bytes(memoryview(items)[:found.length])),
+                  [left_out(it, form) for it in left[:found.left]])
