@@ -18,7 +18,7 @@ LABELS = ("CERTIFICATE", "X509 CRL", "X509 CERTIFICATE", "X.509 CERTIFICATE",
 # Why something is left out, by the numbers of certpath.h; {} is how many octets are meant.
 REASONS = ("the file is empty", "the file is neither PEM nor DER", "the file is a text in UTF-16",
            "neither certificate nor revocation list", "{} after the item", "its END is missing",
-           "headers stand within", "there is nothing in it", "not base64",
+           "header lines within", "there is nothing in it", "not base64",
            "the block holds neither certificate nor revocation list", "the label isn't known",
            "an END that ends no block", "a BEGIN or an END that is no line of its own "
            "(are newlines missing?)", "octets around the blocks that are no text",
