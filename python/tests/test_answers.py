@@ -104,7 +104,7 @@ class Questions(Chain):
         chain, anchors, vouchers = self.given
         asked = self.answer.asked
         self.assertEqual((asked.bundle.data, asked.anchors.data, asked.vouchers, *asked[3:]),
-                         (chain, anchors, vouchers.octets(), 0, AT, False))
+                         (chain, anchors, vouchers.octets(), 0, AT, False, None, None))
         vouchers.add(b"key", b"item")
         self.assertEqual(len(asked.vouchers), 64 * (len(vouchers) - 1))
 

@@ -104,7 +104,7 @@ class Constructors(Refusing):
             for other in ({*given.values()} - {octets}) | {pem(octets), b"garbage", octets + b"\x00"}:
                 if made is not certpath.Other or certpath.class_of(other) is not certpath.Kind.OTHER:
                     said = self.refuses(certpath.BadItem, made, other)
-                    self.assertRegex(said, "PEM has to be made DER")
+                    self.assertRegex(said, "PEM or PKCS #7")
         self.assertTrue(issubclass(certpath.BadItem, ValueError))
 
     def test_items_have_their_kind(self):
@@ -307,7 +307,7 @@ class Messages(unittest.TestCase):
         for status, (error, said) in library.ERRORS.items():
             with self.assertRaises(error) as raised:
                 library.refuse(status)
-            self.assertEqual(str(raised.exception), said)
+            self.assertIn(said, str(raised.exception))
             self.assertNotRegex(said, "status")
         library.refuse(library.DONE)
 

@@ -86,22 +86,15 @@ class Contents(unittest.TestCase):
             self.assertEqual((item.subject_key_id, item.authority_key_id), (own, issuers))
 
     def test_read_once(self):
-        octets, count = sample("leaf.der"), 0
-
-        def counted(*given):
-            nonlocal count
-            count += 1
-            return library.loaded().certpath_item(*given)
-
-        handle = mock.Mock(wraps=library.loaded())
-        handle.certpath_item = counted
-        with mock.patch.object(library, "loaded", lambda: handle):
-            for item in (certpath.Certificate(octets), certpath.item_of(octets),
-                         certpath.Item(octets), certpath.frame(octets)[0]):
-                count = 0 if type(item) is certpath.Item else count - 1
-                fields = item.read(), item.kind, item.read().issuer, item.field(3)
-                self.assertEqual((len(fields), count), (4, 1 if type(item) is certpath.Item else 0))
-            self.assertFalse(handle.certpath_class.called)
+        octets = sample("leaf.der")
+        for make in (certpath.Certificate, certpath.item_of, certpath.Item,
+                     lambda it: certpath.frame(it)[0]):
+            with mock.patch.object(library, "contents_of", wraps=library.contents_of) as read, \
+                    mock.patch.object(library.loaded(), "certpath_class") as classed:
+                item = make(octets)
+                self.assertEqual((item.kind, item.read().kind), 2 * (certpath.Kind.CERTIFICATE,))
+                self.assertEqual(item.field(3), item.read().serial)
+                self.assertEqual((read.call_count, classed.call_count), (1, 0))
 
     def test_item_of(self):
         for octets in self.octets:

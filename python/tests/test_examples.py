@@ -10,7 +10,7 @@ from tests.common import TOP
 
 # The modules that a script imports, but for those of packages that may be missing.
 MODULES = [it.name for it in pkgutil.iter_modules(certpath.__path__, "certpath.")
-           if not it.ispkg and not it.name.endswith((".libcrypto", ".openssl"))]
+           if not it.ispkg and not it.name.endswith(("certpath.libcertpath", ".libcrypto", ".openssl"))]
 
 
 class Examples(unittest.TestCase):

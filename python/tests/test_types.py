@@ -71,7 +71,7 @@ class Hints(unittest.TestCase):
             for function in functions(tree):
                 count += 1
                 with self.subTest(module=module, function=function.name):
-                    self.assertEqual(unnamed(function), HIDDEN.get(function.name, []))
+                    self.assertEqual(unnamed(function), [])
         self.assertGreater(count, 50)
 
     def test_the_package_says_that_it_has_them(self):
@@ -92,10 +92,6 @@ class Hints(unittest.TestCase):
                                  env={**os.environ, "MYPYPATH": os.path.dirname(FOLDER)},
                                  stdin=subprocess.DEVNULL, stdout=subprocess.PIPE, text=True)
         return [*map(int, re.findall(r"(?m)^caller\.py:(\d+): error: ", ran.stdout))]
-
-
-# Arguments of any type: what is said of them is whether they can be used.
-HIDDEN = {"remedy_for": ["value"]}
 
 
 if __name__ == "__main__":
