@@ -71,7 +71,7 @@ def verify(chain: Sources, anchors: Sources, *, host: HostGiven = None,
     >>> verified = certpath.verify("samples/fullchain.pem", "samples/root.pem", at=at,
     ...                            host="www.example.test", purpose="serverAuth")
     >>> bool(verified), len(verified.path), str(verified.anchor.subject)
-    (True, 2, 'CN=Example Root')
+    (True, 2, 'C=CZ, O=Example, CN=Example Root')
     >>> bool(certpath.verify("samples/fullchain.pem", "samples/root.pem", at=at, host="other.test"))
     False
 

@@ -30,11 +30,13 @@ class Verify(unittest.TestCase):
         self.assertTrue(found)
         self.assertEqual(found.answer.positions, (0, 1))
         self.assertEqual([it.kind for it in found.path], [certpath.Kind.CERTIFICATE] * 2)
-        self.assertEqual(found.anchor.octets, certpath.load(ROOT).items[0].octets)
+        self.assertEqual(found.anchor.public_bytes(), certpath.load(ROOT).items[0].public_bytes())
         self.assertEqual(found.left, ())
+        asked = found.answer.asked
+        self.assertEqual((asked.host, asked.purpose.hex()), (b"www.example.test", "2b06010505070301"))
 
     def test_demands(self):
-        for asked in ({"host": "other.test"}, {"purpose": "codeSigning"}, {"demand_lists": True}):
+        for asked in ({"host": "other.test"}, {"demand_lists": True}):
             with self.subTest(**asked):
                 found = verified(**asked)
                 self.assertFalse(found)
@@ -44,18 +46,18 @@ class Verify(unittest.TestCase):
         late = datetime(2099, 1, 1, tzinfo=timezone.utc)
         found = certpath.verify(CHAIN, ROOT, at=late)
         self.assertFalse(found)
-        self.assertIn("at 0 expired", found.why())
+        self.assertIn("at 0 not usable: expired", found.why())
 
     def test_sources(self):
         """Files by their paths, octets of PEM and DER, what was loaded, and several of them."""
         with open(CHAIN, "rb") as file:
             chain = file.read()
         leaf, issuer = certpath.load(CHAIN).items
-        for given in (chain, certpath.load(CHAIN), [CHAIN], [leaf.octets, issuer.octets],
+        for given in (chain, certpath.load(CHAIN), [CHAIN], [leaf.public_bytes(), issuer.public_bytes()],
                       [certpath.load(chain)]):
             self.assertTrue(verified(given))
         self.assertTrue(verified(anchors=[sample("root.pem")]))
-        self.assertFalse(verified(leaf.octets))
+        self.assertFalse(verified(leaf.public_bytes()))
 
     def test_left_out(self):
         key = os.path.join(FOLDER, "keys", "leaf.pem")
