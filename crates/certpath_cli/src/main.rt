@@ -123,6 +123,7 @@ fn bundle_files<'a, R: Runtime + AllocGlobal>(rt: &R, words: &[&'a str]) -> Bund
 
 /// The files of these words, or how far the run came without one. Each is opened once those before it
 /// are read, so that there may be more of them than can be open at once.
+#[tactic(auto, using(crate::proofs::WordFacts::of_one))]
 fn files_read<'a, R: Runtime + AllocGlobal>(
     rt: &R,
     words: &[&'a str],
@@ -132,9 +133,13 @@ fn files_read<'a, R: Runtime + AllocGlobal>(
 {
     let mut files = Vec::new(rt.alloc());
     for word in words {
-        let file = file_read(rt, word)?;
-        if files.push(file).is_err() {
-            return Err(BundleOutcome::Bundled(Err(BundleError::OutOfMemory)));
+        match file_read(rt, word) {
+            Ok(file) => {
+                if files.push(file).is_err() {
+                    return Err(BundleOutcome::Bundled(Err(BundleError::OutOfMemory)));
+                }
+            }
+            Err(outcome) => return Err(outcome),
         }
     }
     Ok(files)
