@@ -385,11 +385,6 @@ class Hosts(Trial):
         self.need("openssl")
         self.need_libcrypto()
         self.program()
-        for name in certpath.library.FURTHER:
-            try:
-                certpath.library.further(name)
-            except certpath.LibraryMissing as error:
-                self.lack(f"a library with the calls for hosts and purposes: {error}")
 
     def test_rows(self):
         try_rows(self)

@@ -34,7 +34,7 @@ COMMANDS = {
 # Command lines on a file of many octets, with less memory than these, and how they end.
 LARGE, LITTLE = 96 * MEGABYTE, 90 * MEGABYTE
 ON_LARGE = (
-    (("bundle", "large"), 6, "bundle: out of memory"),
+    (("bundle", "large"), 6, "out of memory"),
     (("vouch", "large", ROOT_DER), 4, "vouch: out of memory"),
     (("verify", "large", "--anchors", ROOT), 6, "verify: out of memory"),
     (("certpath", "path", "large", ROOT_DER, VOUCHERS, "--target", "0", *AT, *UNLIMITED), 6,

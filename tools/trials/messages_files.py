@@ -1,4 +1,5 @@
 """The files for the trials of messages: a chain, lists, containers, damaged files, and a case for each reason."""
+import base64
 import os
 
 from dev.items import element, octets
@@ -114,10 +115,25 @@ def containers(files, issuer, leaf):
     files.keep("other.pem", pem(issuer.octets.replace(b"200101000000Z", b"201301000000Z", 1)))
     files.keep("other.der", issuer.octets.replace(b"200101000000Z", b"201301000000Z", 1))
     files.keep("flat.pem", files.octets(leaf.file).replace(b"\n", b" "))
+    files.keep("odd.pem", *odd_blocks(leaf.octets))
     files.keep("nothing")
     files.keep("notes", b"Remember the milk.\n")
     files.keep("dirt.pem", leaf, files.octets(key) * 3)
     files.keep("rubbish.der", leaf.octets, b"rubbish")
+
+
+def block(octets, begin="CERTIFICATE", end=None, headers=""):
+    """A PEM block, maybe with lines of headers, and an END of another label."""
+    lines = base64.encodebytes(octets).decode().rstrip()
+    return f"-----BEGIN {begin}-----\n{headers}{lines}\n-----END {end or begin}-----\n".encode()
+
+
+def odd_blocks(leaf):
+    """Blocks of a file of which none is taken whole, each for another cause."""
+    cut = [bytes.fromhex(it) for it in ("30800000", "30847fffffff00", "30821000" + 9 * "78", "30810500" + 4 * "78")]
+    return [b"\0 before\n", *map(block, cut), block(leaf + b"xx"), block(leaf, headers="Proc-Type: 4,ENCRYPTED\n\n"),
+            b"-----END CERTIFICATE-----\n-----END FOO BAR-----\n", block(leaf, end="X509 CRL"), block(leaf, end="FOO BAR"),
+            block(leaf, "FOO BAR"), block(leaf).rpartition(b"-----END")[0]]
 
 
 def folders(files, issuer):

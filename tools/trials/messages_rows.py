@@ -78,6 +78,11 @@ FILES = (
     Row(f"verify leaf.pem folder {ROOT}", 4, ("verify: cannot read folder: it is a folder; name its files",), f"verify leaf.pem folder/int.pem {ROOT}"),
     Row(f"verify laef.pem {ROOT}", 4, ("verify: cannot read laef.pem: no such file; is the name right?",), GOOD),
     Row("./bundle - <&-", 4, ("cannot read -",), "./bundle - < leaf.pem"),
+    Row(f"./verify - {ROOT} <&-", 4, ("verify: cannot read -: standard input is closed",), GOOD),
+    Row(f"{GOOD} odd.pem", 0, (
+        "octets around the blocks that are no text", "its length is indefinite (BER) or cut", "its length is above 16777216", "4087 octets of it missing",
+        "its length is not in the shortest form (BER)", "2 octets after the item", "headers within", "an END (CERTIFICATE) without a BEGIN",
+        "an END without a BEGIN", "it ends as X509 CRL", "its END has another label", "its label isn't known", "its END is missing"), GOOD),
     Row(f"verify /dev/zero {ROOT}", 4, ("verify: /dev/zero: it has more than 268435456 octets; split it",)),
     Row(f"verify cut.p7c {ROOT}", 4, ("verify: cut.p7c: PKCS #7 that openssl can't unpack, as it is damaged or isn't SignedData; mend the file, or leave it out",),
         f"verify all.p7c {ROOT} --quiet"),

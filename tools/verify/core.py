@@ -1,4 +1,5 @@
 """The package `certpath` of this repository, and what it shows of items."""
+import errno
 import hashlib
 import sys
 from collections import OrderedDict
@@ -126,5 +127,8 @@ def run_of(call):
     """What a call gives; the run ends if there is no memory."""
     try:
         return call()
-    except (certpath.OutOfMemory, MemoryError) as error:
+    except (certpath.OutOfMemory, MemoryError, OSError) as error:
+        # (a folder that is looked at wants memory of the system too)
+        if isinstance(error, OSError) and error.errno != errno.ENOMEM:
+            raise
         raise Fault(MEMORY, "out of memory") from error
