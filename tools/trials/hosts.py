@@ -23,7 +23,7 @@ from trials import hosts_model as model, paths
 from trials.count import Trial, size
 from trials.synthetic import (CONSTRAINTS, USAGE, Authority, Made, certificate, element, extension,
                               name, sequence)
-from verify import core, demands
+from verify import core, demands, waiting
 from verify.faults import NONE, PATH, WORDS
 
 certpath, purposes = core.certpath, core.certpath.purposes
@@ -336,6 +336,8 @@ def try_forms(count):
 
 def try_chains(count, chains):
     """Random chains: which of them are paths, and what the library says of each certificate."""
+    # (the seconds of a run of ./verify are for this whole process here)
+    waiting.BUDGET.given = sys.maxsize
     chance, maker = Chance(SEED), Maker()
     for _ in range(chains):
         held_by = [chance.holds(True), chance.holds(False), chance.holds(False)]
