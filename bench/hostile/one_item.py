@@ -30,7 +30,7 @@ def with_subject(*sets):
 
 
 # Many small parts take more than 16 times their octets in memory, as docs/COST.md states.
-SMALL_PARTS = Known("memory for each small part", times=270)
+SMALL_PARTS = Known("memory for each small part", times=300)
 MANY = {"sizes": (125_000, 250_000, 500_000, 1_000_000), "small": (10_000, 40_000), "unit": "parts"}
 LONG = {"sizes": (2, 4, 8, 16), "small": (1, 4), "unit": "identifiers"}
 ONE_ITEM = tuple(MOST * it // 8 for it in (1, 2, 4, 8))

@@ -8,7 +8,7 @@ from parts import (ECDSA_SHA256, FIRST, LAST, VALIDITY, VERSION_3, element, entr
 # What OpenSSL holds of one item.
 OF_OPENSSL = Known("some 250 octets of OpenSSL for each entry or extension of one item", times=70)
 # What the proved library holds while it reads one item.
-OF_TREES = Known("memory for each small part of one item", times=80)
+OF_TREES = Known("memory for each small part of one item, beside 25 MB of Python and OpenSSL", times=100)
 X, LEAF, ROOT = name("x"), name("leaf"), name("root")
 KEY = next(p256_keys(1))
 OF_RSA = Known("16 verifications an item, up to 6 ms each", growth=12, seconds=100.0)

@@ -54,6 +54,13 @@ class Row(NamedTuple):
     openssl: str
     common_name: str = "leaf"
     go: str = ""
+    program: str = ""
+
+
+def both(said):
+    """What ./verify and certpath path answer: one word, or two with a slash between."""
+    ours, _, program = said.partition("/")
+    return ours, program or ours
 
 
 class Holds(NamedTuple):
@@ -121,7 +128,7 @@ def host_rows():
         common = next((text for kind, text in kinds if kind == "cn"), "leaf")
         given = [(kind, octets_of(kind, text)) for kind, text in kinds if kind != "cn"]
         held_by = [holds(given, (), words), holds(), holds()]
-        yield Row(f"{names} | {host}: {why}", held_by, host, None, ours, openssl, common, go)
+        yield Row(f"{names} | {host}: {why}", held_by, host, None, ours, openssl, common, go, ours)
 
 
 def purpose_rows():
@@ -134,7 +141,9 @@ def purpose_rows():
             if not usages and {"twice", "malformed"} & {*words}:
                 usages = ["serverAuth"]
             made.append(holds((), usages, (), words))
-        yield Row(f"{' | '.join(chain)} | {purpose}: {why}", made, None, purpose, ours, openssl)
+        ours, program = both(ours)
+        yield Row(f"{' | '.join(chain)} | {purpose}: {why}", made, None, purpose, ours, openssl,
+                  program=program)
 
 
 class Maker:
@@ -239,7 +248,7 @@ def try_rows(count):
             count.same(f"{row.line}, openssl", beside.openssl(row), row.openssl)
             named = f"purpose {row.purpose}" if row.host is None else f"host {row.host}"
             count.same(f"{row.line}, ./certpath path", beside.path(row, maker.files(chain)),
-                       (row.ours, [] if row.ours == "refused" else [named]))
+                       (row.program, [] if row.program == "refused" else [named]))
             reason = reason_of(row)
             if reason:
                 count.same(f"{row.line}, its reason", reason in out, True)
