@@ -128,7 +128,7 @@ def run_of(call):
     try:
         return call()
     except (certpath.OutOfMemory, MemoryError, OSError) as error:
-        # (a folder that is looked at wants memory of the system too)
+        # (the system needs memory to list a folder, too)
         if isinstance(error, OSError) and error.errno != errno.ENOMEM:
             raise
         raise Fault(MEMORY, "out of memory") from error
