@@ -16,6 +16,7 @@ pub mod Joined
 pub mod BuiltFacts
 pub mod Changing
 pub mod Sharing
+pub mod RowByRow
 pub mod AgreeingInventories
 pub mod OneInventory
 pub mod Anything

@@ -94,3 +94,8 @@ inventory_iff g inventory rows same count table stands h = (
   },
   λ x. h.1 (subst (λ (rs : List (List Reach)). OfEach (IsAdequateVerdict g rs) inventory.verdicts.items) (sym same) x.each),
 )
+
+-- no row is left of none
+pub no_row_left : (rows : List (List Reach)) (row : List Reach) → length rows ≡ 0 → drop (length rows - 1) rows ≡ row ∷ [] → ⊥
+no_row_left [] row none e = let size = ap (λ (rs : List (List Reach)). length rs) e in omega arith
+no_row_left (r ∷ rows) row none e = omega arith

@@ -1,116 +1,84 @@
-ghost use Rattle.std.specs.Prelude.{◌↔◌, map, IsTrue, IfOk};
+ghost use Rattle.std.specs.Prelude.{◌≡◌, ◌+◌, ◌<◌, ◌↔◌, List, length, IsTrue, IfOk};
+ghost use Rattle.cert_graph.specs.declared.reach.Reach.{Reach};
 ghost use Rattle.cert_graph.specs.declared.inventory.Verdict.TheVariants.{Pathless};
 ghost use Rattle.cert_graph.specs.Adequate.{IsAdequatePath};
 ghost use Rattle.cert_graph.specs.Inventory.{IsAdequateVerdict, StandsAtLast, OfEach, IsAdequateInventory, IsTrueInventory};
-ghost use Rattle.cert_graph.specs.Lookup.{IsLookup};
+ghost use Rattle.cert_graph.specs.Lookup.{IsIndex, IsLookup};
 ghost use Rattle.cert_graph.specs.Nodes.{graph_of};
 ghost use Rattle.cert_graph.specs.Tables.{IsTable};
 
-use crate::rows::follows_row;
 use crate::shown::{is_closed, is_lowest, is_shortest, is_valid_path};
-use crate::tables::is_table;
-use crate::{Inventory, Lookup, Nodes, Reach, Verdict, lookup_of, rows_of};
+use crate::standing::is_standing_table;
+use crate::{Inventory, Lookup, Nodes, Verdict, lookup_of};
 use std::alloc::{AllocError, Global};
 
-/// Whether the last of some rows, if there is one, is its own successor.
-fn stands_at_last(nodes: &Nodes, rows: &[Vec<Reach>]) -> bool
-    ensures { IsTrue result ↔ StandsAtLast (graph_of nodes.now) (map (λ r. r.items) rows.now) }
-{
-    if rows.is_empty() {
-        return true;
-    }
-    let row = &rows[rows.len() - 1];
-    follows_row(nodes, row, row)
-}
-
-/// Whether a path is adequate by rows that are a table already, one fewer than it has certificates.
+/// Whether a path is adequate by rows that are a table already, one fewer than it has certificates. The rows are those
+/// of the look-up.
 fn is_shown_path(
     nodes: &Nodes,
     lookup: &Lookup,
     target: usize,
     positions: &[usize],
     anchor: usize,
-    rows: &[Vec<Reach>],
 ) -> bool
-    requires lookup { IsLookup nodes.now (map (λ r. r.items) rows.now) lookup.now }
-    requires table { IsTable (graph_of nodes.now) (map (λ r. r.items) rows.now) }
-    ensures { IsTrue result ↔ IsAdequatePath (graph_of nodes.now) target positions.now anchor (map (λ r. r.items) rows.now) }
+    requires index { IsIndex nodes.now lookup.now }
+    requires some { 0 < length positions.now }
+    ensures { (rows : List (List Reach)) → IsLookup nodes.now rows lookup.now → IsTable (graph_of nodes.now) rows → length rows + 1 ≡ length positions.now → IsTrue result ↔ IsAdequatePath (graph_of nodes.now) target positions.now anchor rows }
 {
-    if positions.len() != rows.len() + 1 {
-        return false;
-    }
+    let last = positions.len() - 1;
     if !is_valid_path(nodes, lookup, target, positions, anchor) {
         return false;
     }
-    if lookup.has_anchor_below(nodes, positions[rows.len()], anchor) {
+    if lookup.has_anchor_below(nodes, positions[last], anchor) {
         return false;
     }
-    if !is_shortest(nodes, lookup, target, rows) {
+    if !is_shortest(nodes, lookup, target, last) {
         return false;
     }
-    is_lowest(nodes, lookup, target, &positions[1..], rows)
+    is_lowest(nodes, lookup, target, &positions[1..])
 }
 
-/// Whether that there is no path is adequate by rows of which the last stands, or by none.
-fn is_shown_none(nodes: &Nodes, lookup: &Lookup, target: usize, rows: &[Vec<Reach>]) -> bool
-    requires lookup { IsLookup nodes.now (map (λ r. r.items) rows.now) lookup.now }
-    requires table { IsTable (graph_of nodes.now) (map (λ r. r.items) rows.now) }
-    requires stands { StandsAtLast (graph_of nodes.now) (map (λ r. r.items) rows.now) }
-    ensures { IsTrue result ↔ IsAdequateVerdict (graph_of nodes.now) (map (λ r. r.items) rows.now) target Pathless }
+/// Whether that there is no path is adequate by so many rows of which the last stands, or by none.
+fn is_shown_none(nodes: &Nodes, lookup: &Lookup, target: usize, count: usize) -> bool
+    requires { IsIndex nodes.now lookup.now }
+    ensures { (rows : List (List Reach)) → IsLookup nodes.now rows lookup.now → IsTable (graph_of nodes.now) rows → StandsAtLast (graph_of nodes.now) rows → length rows ≡ count → IsTrue result ↔ IsAdequateVerdict (graph_of nodes.now) rows target Pathless }
 {
     if !nodes.is_certificate(target) {
         return false;
     }
-    if rows.is_empty() {
+    if count == 0 {
         return false;
     }
-    is_closed(nodes, lookup, rows.len() - 1, target)
+    is_closed(nodes, lookup, count - 1, target)
 }
 
-/// Whether a verdict is adequate by its part of rows that are a table whose last row stands.
-fn is_shown(
-    nodes: &Nodes,
-    lookup: &Lookup,
-    rows: &[Vec<Reach>],
-    target: usize,
-    verdict: &Verdict,
-) -> bool
-    requires lookup { IsLookup nodes.now (map (λ r. r.items) rows.now) lookup.now }
-    requires table { IsTable (graph_of nodes.now) (map (λ r. r.items) rows.now) }
-    requires stands { StandsAtLast (graph_of nodes.now) (map (λ r. r.items) rows.now) }
-    ensures { IsTrue result ↔ IsAdequateVerdict (graph_of nodes.now) (map (λ r. r.items) rows.now) target verdict.now }
+/// Whether a verdict is adequate by its part of so many rows that are a table whose last row stands.
+fn is_shown(nodes: &Nodes, lookup: &Lookup, count: usize, target: usize, verdict: &Verdict) -> bool
+    requires { IsIndex nodes.now lookup.now }
+    ensures { (rows : List (List Reach)) → IsLookup nodes.now rows lookup.now → IsTable (graph_of nodes.now) rows → StandsAtLast (graph_of nodes.now) rows → length rows ≡ count → IsTrue result ↔ IsAdequateVerdict (graph_of nodes.now) rows target verdict.now }
 {
     match verdict {
         Verdict::FirstPath { positions, anchor } => {
             if positions.is_empty() {
                 return false;
             }
-            if positions.len() - 1 > rows.len() {
+            if positions.len() - 1 > count {
                 return false;
             }
-            is_shown_path(
-                nodes,
-                lookup,
-                target,
-                positions,
-                *anchor,
-                &rows[..positions.len() - 1],
-            )
+            is_shown_path(nodes, lookup, target, positions, *anchor)
         }
-        Verdict::Pathless => is_shown_none(nodes, lookup, target, rows),
+        Verdict::Pathless => is_shown_none(nodes, lookup, target, count),
         Verdict::NoCertificate => !nodes.is_certificate(target),
     }
 }
 
-/// Whether each of some verdicts is adequate by rows that are a table whose last row stands.
-fn are_shown(nodes: &Nodes, lookup: &Lookup, rows: &[Vec<Reach>], verdicts: &[Verdict]) -> bool
-    requires lookup { IsLookup nodes.now (map (λ r. r.items) rows.now) lookup.now }
-    requires table { IsTable (graph_of nodes.now) (map (λ r. r.items) rows.now) }
-    requires stands { StandsAtLast (graph_of nodes.now) (map (λ r. r.items) rows.now) }
-    ensures { IsTrue result ↔ OfEach (IsAdequateVerdict (graph_of nodes.now) (map (λ r. r.items) rows.now)) verdicts.now }
+/// Whether each of some verdicts is adequate by so many rows that are a table whose last row stands.
+fn are_shown(nodes: &Nodes, lookup: &Lookup, count: usize, verdicts: &[Verdict]) -> bool
+    requires { IsIndex nodes.now lookup.now }
+    ensures { (rows : List (List Reach)) → IsLookup nodes.now rows lookup.now → IsTable (graph_of nodes.now) rows → StandsAtLast (graph_of nodes.now) rows → length rows ≡ count → IsTrue result ↔ OfEach (IsAdequateVerdict (graph_of nodes.now) rows) verdicts.now }
 {
     for (target, verdict) in verdicts.iter().enumerate() {
-        if !is_shown(nodes, lookup, rows, target, verdict) {
+        if !is_shown(nodes, lookup, count, target, verdict) {
             return false;
         }
     }
@@ -120,7 +88,7 @@ fn are_shown(nodes: &Nodes, lookup: &Lookup, rows: &[Vec<Reach>], verdicts: &[Ve
 /// Whether an inventory is adequate: whether its one table shows by inequalities that each verdict is true. One verdict
 /// too many or too few, positions and anchors that are none, rows that don't follow each other: `Ok(false)`.
 ///
-/// The only error is out of memory.
+/// The only error is out of memory. Holds two rows at a time, whatever the number of rows.
 pub fn check_all_nodes(
     alloc: Global,
     nodes: &Nodes,
@@ -132,13 +100,9 @@ pub fn check_all_nodes(
     if inventory.verdicts.len() != nodes.items.len() {
         return Ok(false);
     }
-    let rows = rows_of(alloc, nodes.items.len(), &inventory.steps)?;
-    if !is_table(nodes, &rows) {
-        return Ok(false);
-    }
-    if !stands_at_last(nodes, &rows) {
+    if !is_standing_table(alloc, nodes, &inventory.steps)? {
         return Ok(false);
     }
     let lookup = lookup_of(alloc, nodes, &inventory.steps)?;
-    Ok(are_shown(nodes, &lookup, &rows, &inventory.verdicts))
+    Ok(are_shown(nodes, &lookup, inventory.steps.len(), &inventory.verdicts))
 }

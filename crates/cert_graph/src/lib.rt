@@ -28,6 +28,7 @@ mod reach;
 mod rows;
 mod shown;
 mod stairs;
+mod standing;
 mod tables;
 
 pub use answer::{Answer, Table};

@@ -1,4 +1,4 @@
-ghost use Rattle.std.specs.Prelude.{◌≡◌, ◌<◌, ◌↔◌, List, length, map, IsTrue};
+ghost use Rattle.std.specs.Prelude.{◌≡◌, ◌<◌, ◌↔◌, List, length, IsTrue};
 ghost use Rattle.cert_graph.specs.declared.reach.Reach.{Reach};
 ghost use Rattle.cert_graph.specs.Adequate.{row_of};
 ghost use Rattle.cert_graph.specs.Graph.{IsValidPath};
@@ -8,7 +8,7 @@ ghost use Rattle.cert_graph.specs.Steps.{Next, MayFollow, Lowest};
 ghost use Rattle.cert_graph.specs.Tables.{IsShortest, IsClosed};
 
 use crate::path::counted_on;
-use crate::{Lookup, Nodes, Reach};
+use crate::{Lookup, Nodes};
 
 fn may_follow(
     nodes: &Nodes,
@@ -70,20 +70,12 @@ pub(crate) fn is_valid_path(
 }
 
 /// Whether at no place of a path a smaller position would do, by the rows for what is left of it.
-pub(crate) fn is_lowest(
-    nodes: &Nodes,
-    lookup: &Lookup,
-    target: usize,
-    issuers: &[usize],
-    rows: &[Vec<Reach>],
-) -> bool
-    requires lookup { IsLookup nodes.now (map (λ r. r.items) rows.now) lookup.now }
-    requires long { length rows.now ≡ length issuers.now }
-    ensures { IsTrue result ↔ Lowest (graph_of nodes.now) (map (λ r. r.items) rows.now) target 0 issuers.now }
+pub(crate) fn is_lowest(nodes: &Nodes, lookup: &Lookup, target: usize, issuers: &[usize]) -> bool
+    ensures { (rows : List (List Reach)) → IsLookup nodes.now rows lookup.now → length rows ≡ length issuers.now → IsTrue result ↔ Lowest (graph_of nodes.now) rows target 0 issuers.now }
 {
     let mut last = target;
     let mut counted = 0;
-    let mut left = rows.len();
+    let mut left = issuers.len();
     for issuer in issuers {
         left -= 1;
         if lookup.may_take_below(left, last, counted, *issuer) {
@@ -95,26 +87,21 @@ pub(crate) fn is_lowest(
     true
 }
 
-/// Whether rows show that no path has fewer certificates than there are rows, and one.
-pub(crate) fn is_shortest(
-    nodes: &Nodes,
-    lookup: &Lookup,
-    target: usize,
-    rows: &[Vec<Reach>],
-) -> bool
-    requires { IsLookup nodes.now (map (λ r. r.items) rows.now) lookup.now }
-    ensures { IsTrue result ↔ IsShortest (graph_of nodes.now) target (map (λ r. r.items) rows.now) }
+/// Whether so many rows show that no path has fewer certificates than there are rows, and one.
+pub(crate) fn is_shortest(nodes: &Nodes, lookup: &Lookup, target: usize, count: usize) -> bool
+    requires { IsIndex nodes.now lookup.now }
+    ensures { (rows : List (List Reach)) → IsLookup nodes.now rows lookup.now → length rows ≡ count → IsTrue result ↔ IsShortest (graph_of nodes.now) target rows }
 {
-    if rows.is_empty() {
+    if count == 0 {
         return true;
     }
     if lookup.has_anchor(nodes, target) {
         return false;
     }
-    if rows.len() < 2 {
+    if count < 2 {
         return true;
     }
-    lookup.is_shut(rows.len() - 2, target)
+    lookup.is_shut(count - 2, target)
 }
 
 /// Whether a target is unusable, or neither an anchor nor an issuer that a row reaches follows it. The row is given by

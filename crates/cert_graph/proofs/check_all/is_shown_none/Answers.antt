@@ -1,20 +1,25 @@
 -- The last row shows it.
-use Rattle.std.proofs.Common.{◌≡◌, ◌-◌, ◌+◌, ◌<◌, rules, length, map, Vec, Global, arith, refl}
-use Rattle.std.proofs.lemmas.List.{length-map}
-use Rattle.cert_graph.specs.declared.reach.Reach.{Reach}
+use Rattle.std.proofs.Common.{◌≡◌, ◌-◌, ◌+◌, ◌<◌, List, length, true, arith, refl}
+use Rattle.std.specs.Prelude.{◌↔◌}
 use Rattle.cert_graph.specs.Adequate.{row_of}
-use Rattle.cert_graph.proofs.Sharing.{pathless_iff}
+use Rattle.cert_graph.proofs.Sharing.{pathless_iff, no_row_left}
+use Rattle.cert_graph.proofs.TableFacts.{refuted}
 use Rattle.cert_graph.proofs.check_all.is_shown_none.Goals as goal
 
+pub returns-then-not-is_certificate : goal.returns-then-not-is_certificate
+returns-then-not-is_certificate c = λ rows look table stands many. refuted (λ h. let yes : c.is_certificate.result ≡ true = c.is_certificate.ensures.1 h.certificate in cc)
+
+pub returns-then-count-eq0 : goal.returns-then-count-eq0
+returns-then-count-eq0 c = λ rows look table stands many.
+    let none : length rows ≡ 0 = omega (arith, c.if-count-eq0.true) in
+    refuted (λ h. no_row_left rows h.row none h.one)
+
 pub returns : goal.returns
-returns c =
+returns c = λ rows look table stands many.
     let nodes = c.args.nodes.now in
-    let vectors = c.args.rows.now in
-    let rows = map (λ (r : Vec Reach Global). r.items) vectors in
-    let same = length-map vectors (λ (r : Vec Reach Global). r.items) in
-    let some : 0 < length vectors = search rules in
-    let k = length vectors - 1 in
+    let other : c.args.count ≡ 0 → ⊥ = c.if-count-eq0.false in
+    let k = c.args.count - 1 in
     let within : k < length rows = omega arith in
     let last : k + 1 ≡ length rows = omega arith in
-    pathless_iff nodes c.args.target rows (row_of rows k) k (c.is_certificate.ensures.0 c.if-not-is_certificate.false) last refl c.requires.table c.requires.stands
-    (c.is_closed.ensures rows c.requires.lookup within)
+    pathless_iff nodes c.args.target rows (row_of rows k) k (c.is_certificate.ensures.0 c.if-not-is_certificate.false) last refl table stands
+    (c.is_closed.ensures rows look within)
