@@ -48,10 +48,14 @@ none_taking g row members stairs i count d h past before n o =
     before x.0 (omega arith) (x.1.1 d).1
 
 -- the flight that is found from behind tells the row's stairs
+-- each flight begins above those before it
+abbrev pub Ascend : List Flight → Type 0
+Ascend flights = (i j : ℕ) (d : Flight) → i < j → j < length flights → (get_or flights i d).row < (get_or flights j d).row
+
 pub flight_found : (g : Graph) (rows : List (List Reach)) (members : List ℕ) (flights : List Flight) (m k : ℕ) (d : Flight) → AreFlights g rows members flights → k < length rows → m < length flights → (get_or flights m d).row ≤ k
     → ((j : ℕ) → m < j → j < length flights → k < (get_or flights j d).row) → AreStairs g (row_of rows k) members (get_or flights m d).stairs.items
 flight_found g rows members flights m k d h within inside starts later =
-    let x = h k within in
+    let x = h.covers k within in
     let i = x.0 in
     let there = x.1.0 in
     let p = x.1.1 d in

@@ -28,35 +28,48 @@ pub flight_pushed : (g : Graph) (rows : List (List Reach)) (row : List Reach) (m
 flight_pushed g rows row members flights f number stairs h =
     let lr = length-append rows (row ∷ []) in
     let lf = length-append flights (f ∷ []) in (
-      λ k lt. elim (cases_lt k (length rows)) [
-        | inl below ↦
-            let x = h.0 k below in
-            let there = x.1.0 in (
-              x.0,
-              (
-                omega arith,
-                λ d.
-                    let p = x.1.1 d in
-                    subst (λ (y : Flight). (y.row ≤ k) × AreStairs g (row_of (rows ++ row ∷ []) k) members y.stairs.items) (sym (get_or_append_left flights (f ∷ []) d x.0 there))
-                    (p.0, subst (λ (r : List Reach). AreStairs g r members (get_or flights x.0 d).stairs.items) (sym (row_before rows row k below)) p.1),
-              ),
-              λ j d later inside. elim (at_push flights f d j inside) [
-                | inl old ↦ subst (λ (y : Flight). k < y.row) (sym old.1) (x.2 j d later old.0)
-                | inr new ↦ let past : k < f.row = omega arith in subst (λ (y : Flight). k < y.row) (sym new.1) past
-              ],
-            )
-        | inr above ↦
-            let last : length rows ≡ k = omega arith in
-            let starts : f.row ≤ k = omega arith in (
-              length flights,
-              (
-                omega arith,
-                λ d. subst (λ (y : Flight). (y.row ≤ k) × AreStairs g (row_of (rows ++ row ∷ []) k) members y.stairs.items) (sym (get_or_push flights f d (length flights) refl))
-                    (starts, subst (λ (r : List Reach). AreStairs g r members f.stairs.items) (sym (row_last rows row k last)) stairs),
-              ),
-              λ j d later inside. absurd (omega arith),
-            )
-      ],
+      record {
+        ascend = λ i j d before inside. elim (at_push flights f d j inside) [
+          | inl old ↦
+              let there : i < length flights = omega (arith, old.0) in
+              subst (λ (y : Flight). (get_or (flights ++ f ∷ []) i d).row < y.row) (sym old.1)
+              (subst (λ (y : Flight). y.row < (get_or flights j d).row) (sym (get_or_append_left flights (f ∷ []) d i there)) (h.0.ascend i j d before old.0))
+          | inr new ↦
+              let there : i < length flights = omega arith in
+              let below : (get_or flights i d).row < f.row = subst (λ (n : ℕ). (get_or flights i d).row < n) (sym number) (h.1 i d there) in
+              subst (λ (y : Flight). (get_or (flights ++ f ∷ []) i d).row < y.row) (sym new.1)
+              (subst (λ (y : Flight). y.row < f.row) (sym (get_or_append_left flights (f ∷ []) d i there)) below)
+        ];
+        covers = λ k lt. elim (cases_lt k (length rows)) [
+          | inl below ↦
+              let x = h.0.covers k below in
+              let there = x.1.0 in (
+                x.0,
+                (
+                  omega arith,
+                  λ d.
+                      let p = x.1.1 d in
+                      subst (λ (y : Flight). (y.row ≤ k) × AreStairs g (row_of (rows ++ row ∷ []) k) members y.stairs.items) (sym (get_or_append_left flights (f ∷ []) d x.0 there))
+                      (p.0, subst (λ (r : List Reach). AreStairs g r members (get_or flights x.0 d).stairs.items) (sym (row_before rows row k below)) p.1),
+                ),
+                λ j d later inside. elim (at_push flights f d j inside) [
+                  | inl old ↦ subst (λ (y : Flight). k < y.row) (sym old.1) (x.2 j d later old.0)
+                  | inr new ↦ let past : k < f.row = omega arith in subst (λ (y : Flight). k < y.row) (sym new.1) past
+                ],
+              )
+          | inr above ↦
+              let last : length rows ≡ k = omega arith in
+              let starts : f.row ≤ k = omega arith in (
+                length flights,
+                (
+                  omega arith,
+                  λ d. subst (λ (y : Flight). (y.row ≤ k) × AreStairs g (row_of (rows ++ row ∷ []) k) members y.stairs.items) (sym (get_or_push flights f d (length flights) refl))
+                      (starts, subst (λ (r : List Reach). AreStairs g r members f.stairs.items) (sym (row_last rows row k last)) stairs),
+                ),
+                λ j d later inside. absurd (omega arith),
+              )
+        ];
+      },
       λ k d lt. elim (at_push flights f d k lt) [
         | inl old ↦
             let before = h.1 k d old.0 in
@@ -73,32 +86,35 @@ pub flight_kept : (g : Graph) (rows : List (List Reach)) (row : List Reach) (mem
     → AreFlightsSoFar g rows members flights → AreFlightsSoFar g (rows ++ row ∷ []) members flights
 flight_kept g rows row members flights some stairs h =
     let lr = length-append rows (row ∷ []) in (
-      λ k lt. elim (cases_lt k (length rows)) [
-        | inl below ↦
-            let x = h.0 k below in (
-              x.0,
-              (
-                x.1.0,
-                λ d.
-                    let p = x.1.1 d in
-                    (p.0, subst (λ (r : List Reach). AreStairs g r members (get_or flights x.0 d).stairs.items) (sym (row_before rows row k below)) p.1),
-              ),
-              x.2,
-            )
-        | inr above ↦
-            let last : length rows ≡ k = omega arith in
-            let there : length flights - 1 < length flights = omega arith in (
-              length flights - 1,
-              (
-                there,
-                λ d.
-                    let before = h.1 (length flights - 1) d there in
-                    let starts : (get_or flights (length flights - 1) d).row ≤ k = omega arith in
-                    (starts, subst (λ (r : List Reach). AreStairs g r members (get_or flights (length flights - 1) d).stairs.items) (sym (row_last rows row k last)) (stairs d)),
-              ),
-              λ j d later inside. absurd (omega arith),
-            )
-      ],
+      record {
+        ascend = h.0.ascend;
+        covers = λ k lt. elim (cases_lt k (length rows)) [
+          | inl below ↦
+              let x = h.0.covers k below in (
+                x.0,
+                (
+                  x.1.0,
+                  λ d.
+                      let p = x.1.1 d in
+                      (p.0, subst (λ (r : List Reach). AreStairs g r members (get_or flights x.0 d).stairs.items) (sym (row_before rows row k below)) p.1),
+                ),
+                x.2,
+              )
+          | inr above ↦
+              let last : length rows ≡ k = omega arith in
+              let there : length flights - 1 < length flights = omega arith in (
+                length flights - 1,
+                (
+                  there,
+                  λ d.
+                      let before = h.1 (length flights - 1) d there in
+                      let starts : (get_or flights (length flights - 1) d).row ≤ k = omega arith in
+                      (starts, subst (λ (r : List Reach). AreStairs g r members (get_or flights (length flights - 1) d).stairs.items) (sym (row_last rows row k last)) (stairs d)),
+                ),
+                λ j d later inside. absurd (omega arith),
+              )
+        ];
+      },
       λ k d lt. let before = h.1 k d lt in omega arith,
     )
 
@@ -170,7 +186,13 @@ no_rows g groups flights count empty = (
   count,
   λ k group own lt.
       let inside : k < length flights = omega arith in
-      subst (AreFlightsSoFar g [] (get_or groups k group).members.items) (sym (empty k own inside)) (λ j early. absurd (omega arith), λ j d early. absurd (omega arith)),
+      subst (AreFlightsSoFar g [] (get_or groups k group).members.items) (sym (empty k own inside)) (
+        record {
+          ascend = λ i j d before early. absurd (omega arith);
+          covers = λ j early. absurd (omega arith);
+        },
+        λ j d early. absurd (omega arith),
+      ),
 )
 
 -- one row more, by its changes

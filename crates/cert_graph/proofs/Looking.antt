@@ -166,15 +166,19 @@ lookup_take nodes rows n lookup h = record {
   index = h.index;
   flights = (
     h.flights.0,
-    λ k group own lt j inside.
-        let l = length-take n rows in
-        let below : j < n = omega arith in
-        let within : j < length rows = omega arith in
-        let members = (get_or nodes.groups.items k group).members.items in
-        let x = h.flights.1 k group own lt j within in (
-          x.0,
-          (x.1.0, λ d. let p = x.1.1 d in (p.0, subst (λ (r : List Reach). AreStairs (graph_of nodes) r members (get_or (get_or (flights_in lookup.flights.items) k own) x.0 d).stairs.items) (sym (get_or-take n rows j [] below)) p.1)),
-          x.2,
-        ),
+    λ k group own lt.
+        let flights = h.flights.1 k group own lt in record {
+          ascend = flights.ascend;
+          covers = λ j inside.
+              let l = length-take n rows in
+              let below : j < n = omega arith in
+              let within : j < length rows = omega arith in
+              let members = (get_or nodes.groups.items k group).members.items in
+              let x = flights.covers j within in (
+                x.0,
+                (x.1.0, λ d. let p = x.1.1 d in (p.0, subst (λ (r : List Reach). AreStairs (graph_of nodes) r members (get_or (get_or (flights_in lookup.flights.items) k own) x.0 d).stairs.items) (sym (get_or-take n rows j [] below)) p.1)),
+                x.2,
+              );
+        },
   );
 }

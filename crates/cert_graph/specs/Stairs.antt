@@ -20,10 +20,10 @@ pub record AreStairs (g : Graph) (row : List Reach) (members : List ℕ) (stairs
   pub opened : (k count : ℕ) (d : Stair) → k < length stairs → Takes (slice_index_or stairs k d).reach count → OpenIn g row members count (slice_index_or stairs k d).position
   pub covers : (w count : ℕ) → OpenIn g row members count w → (k : ℕ) × IsAt stairs k (λ s. (s.position ≤ w) × Takes s.reach count)
 
--- the last flight that begins at or before a row has the row's stairs
-abbrev pub AreFlights : Graph → List (List Reach) → List ℕ → List Flight → Type 0
-AreFlights g rows members flights =
-    (k : ℕ) → k < length rows → (i : ℕ) × IsAt flights i (λ f. (f.row ≤ k) × AreStairs g (row_of rows k) members f.stairs.items) × ((j : ℕ) (d : Flight) → i < j → j < length flights → k < (slice_index_or flights j d).row)
+-- Flights that begin one above the other. The last that begins at or before a row has the row's stairs.
+pub record AreFlights (g : Graph) (rows : List (List Reach)) (members : List ℕ) (flights : List Flight) : Type 0 where
+  pub ascend : (i j : ℕ) (d : Flight) → i < j → j < length flights → (slice_index_or flights i d).row < (slice_index_or flights j d).row
+  pub covers : (k : ℕ) → k < length rows → (i : ℕ) × IsAt flights i (λ f. (f.row ≤ k) × AreStairs g (row_of rows k) members f.stairs.items) × ((j : ℕ) (d : Flight) → i < j → j < length flights → k < (slice_index_or flights j d).row)
 
 -- flights over some rows, each of which begins in one of them
 abbrev pub AreFlightsSoFar : Graph → List (List Reach) → List ℕ → List Flight → Type 0

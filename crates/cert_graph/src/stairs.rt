@@ -65,17 +65,24 @@ fn first_stair(stairs: &[Stair], count: usize) -> Option<usize>
     None
 }
 
-/// The least member of a group that is open in a row at a count.
+/// The least member of a group that is open in a row at a count. Halves the flights, and then goes up the stairs of one.
 pub(crate) fn least_in(flights: &[Flight], row: usize, count: usize) -> Option<usize>
     ensures { (nodes : Nodes) (rows : List (List Reach)) (members : List ℕ) → AreFlights (graph_of nodes) rows members flights.now → row < length rows → IsLeastOption (OpenIn (graph_of nodes) (row_of rows row) members count) result }
 {
-    for back in 0..flights.len() {
-        let flight = &flights[flights.len() - 1 - back];
-        if flight.row <= row {
-            return first_stair(&flight.stairs, count);
+    let mut low = 0;
+    let mut high = flights.len();
+    while low < high {
+        let middle = low + (high - low) / 2;
+        if flights[middle].row <= row {
+            low = middle + 1;
+        } else {
+            high = middle;
         }
     }
-    None
+    if low == 0 {
+        return None;
+    }
+    first_stair(&flights[low - 1].stairs, count)
 }
 
 /// Whether two stairs are one.

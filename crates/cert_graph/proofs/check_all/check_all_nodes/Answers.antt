@@ -1,5 +1,5 @@
 -- The table once, then each verdict by it.
-use Rattle.std.proofs.Common.{◌≡◌, ◌∙◌, refl, List, length, true, Vec, Global, arith, sym, subst}
+use Rattle.std.proofs.Common.{◌≡◌, refl, List, length, true, Vec, Global, arith, subst}
 use Rattle.std.specs.Prelude.{◌↔◌}
 use Rattle.cert_graph.specs.declared.inventory.Verdict.{Verdict}
 use Rattle.cert_graph.specs.declared.changes.Change.{Change}

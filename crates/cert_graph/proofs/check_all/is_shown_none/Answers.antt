@@ -1,6 +1,5 @@
 -- The last row shows it.
-use Rattle.std.proofs.Common.{◌≡◌, ◌-◌, ◌+◌, ◌<◌, List, length, true, arith, refl}
-use Rattle.std.specs.Prelude.{◌↔◌}
+use Rattle.std.proofs.Common.{◌≡◌, ◌-◌, ◌+◌, ◌<◌, length, true, arith, refl}
 use Rattle.cert_graph.specs.Adequate.{row_of}
 use Rattle.cert_graph.proofs.Sharing.{pathless_iff, no_row_left}
 use Rattle.cert_graph.proofs.TableFacts.{refuted}

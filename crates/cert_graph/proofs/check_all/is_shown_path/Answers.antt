@@ -1,6 +1,5 @@
 -- Each part of an adequate path, but for the table.
-use Rattle.std.proofs.Common.{◌≡◌, ℕ, ◌-◌, ◌+◌, ◌<◌, List, length, take, drop, true, arith}
-use Rattle.std.specs.Prelude.{◌↔◌}
+use Rattle.std.proofs.Common.{◌≡◌, ℕ, ◌-◌, ◌+◌, ◌<◌, length, take, drop, true, arith}
 use Rattle.cert_graph.specs.Nodes.{graph_of}
 use Rattle.cert_graph.proofs.Checks.{rest_is}
 use Rattle.cert_graph.proofs.TableFacts.{refuted, ends_iff, shortest_of, path_iff}

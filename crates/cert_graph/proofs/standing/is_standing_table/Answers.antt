@@ -1,5 +1,5 @@
 -- One row more is compared with the one before it, which then becomes the same.
-use Rattle.std.proofs.Common.{◌≡◌, ◌∙◌, ◌<◌, ℕ, List, length, replicate, take, true, Vec, Global, ap, arith, subst, sym}
+use Rattle.std.proofs.Common.{◌≡◌, ◌∙◌, ◌<◌, ℕ, List, length, replicate, true, Vec, Global, ap, arith, subst, sym}
 use Rattle.std.specs.Prelude.{◌↔◌}
 use Rattle.std.proofs.lemmas.List.{take_all, with_items_is}
 use Rattle.cert_graph.specs.declared.changes.Change.{Change}
