@@ -34,6 +34,7 @@ sys.path[:0] = [HERE, os.path.join(TOP, "tools")]
 from program import repo
 import graphs
 import judged
+import links
 import one_item
 import reports
 import signed
