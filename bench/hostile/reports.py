@@ -8,7 +8,7 @@ from signed import KEY, ROOT, X, issuers, signed_by_none
 PAIRS = square("a line for each certificate of a name and each issuer of that name", 5_000)
 LOOKED_UP = square("each list is looked up for each key of its issuer's name")
 LINKS = square("each copy is linked to each key")
-PATHS = square("each path is printed whole, and the check keeps each row")
+PATHS = square("each path is printed whole")
 RISES = square("a reach rises at n/2 items in n/4 rounds")
 # Sizes for reports that have as many lines as there are pairs of items.
 SQUARE = {"sizes": (250, 500, 1_000, 2_000), "small": (100, 400)}
@@ -29,7 +29,7 @@ also("questions", "keys-none", **SQUARE, known=ASKED)
 also("questions", "issuers-each", known=ASKED)
 also("questions", "no-issuers", "chain-none")
 
-ROWS_READ = square("the check keeps each row that it reads", 5_000)
+ROWS_READ = square("the check looks at each link for each row that it reads", 16)
 
 
 def without_path(count, rows):
