@@ -1,7 +1,7 @@
 #!/usr/bin/env python3
 """Gives odd PEM and DER files to ./bundle and, where they are installed, to `openssl storeutl`,
 Python's `ssl`, the package `cryptography` and Go's `pem.Decode`. Each file is a row of the table of
-docs/PEM.md, under the same title: how many items each of them takes.
+docs/DIFFERENCES.md, under the same title: how many items each of them takes.
 
     python3 tools/trials/pem_peers.py            compares with the table
     python3 tools/trials/pem_peers.py --write    prints the table's rows
@@ -25,9 +25,9 @@ try:
 except ImportError:
     x509 = None
 
-PAGE = "docs/PEM.md"
+PAGE = "docs/DIFFERENCES.md"
 HEAD = ("| file | `openssl storeutl` | Python `ssl` | `cryptography` | Go `pem.Decode` "
-        "| `certpath bundle` |")
+        "| `certpath bundle` | why they differ |")
 GO = shutil.which("go")
 ERROR, ABSENT = "error", None
 MARK = b"\xef\xbb\xbf"
@@ -228,7 +228,7 @@ def table():
     """The rows of the page's table, by their titles."""
     lines = repo.read(PAGE).split(HEAD)[1].split("\n")[2:]
     found = [[it.strip() for it in line.strip("|").split("|")] for line in lines[:lines.index("")]]
-    return {row[0]: row[1:] for row in found}
+    return {row[0]: row[1:-1] for row in found}
 
 
 def faults():
@@ -246,7 +246,7 @@ def faults():
 def main(words):
     if words == ["--write"]:
         for title, found in rows():
-            print(f"| {title} | {' | '.join(it or '' for it in found)} |")
+            print(f"| {title} | {' | '.join(it or '' for it in found)} | |")
         return 0
     found = [*faults()]
     for line in found:

@@ -9,3 +9,4 @@ mod Examples
 mod ShapeFacts
 mod FramedFacts
 mod PushedFacts
+mod FirstFacts

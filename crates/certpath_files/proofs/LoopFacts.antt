@@ -13,8 +13,8 @@ use Rattle.certpath_files.specs.Signed.{Sets}
 use Rattle.certpath_files.specs.Rows.{Row, left_out, Spot, at, no_members, Held, added}
 use Rattle.certpath_files.specs.Walks.{walk}
 use Rattle.certpath_files.specs.Sequences.{Wanted, member_rows, signed_rows, sequence_rows}
-use Rattle.certpath_files.specs.Blocks as files
-use Rattle.certpath_files.specs.Blocks.{after_rows, octet_rows, entry_rows}
+use Rattle.certpath_files.specs.Blocks.{after_rows, entry_rows}
+use Rattle.certpath_files.specs.Firsts.{begun_rows, first_rows}
 use Rattle.certpath_files.specs.Odd.{line_rows, quiet_after, odd_rows}
 use Rattle.certpath_files.proofs.AddFacts.{added-added, added-none, in_two}
 use Rattle.certpath_files.proofs.WalkFacts.{walk_on, walk_end}
@@ -78,12 +78,12 @@ sets_added first second third spot sets (inr e) f g =
     in_two first second third _ _ f g ∙ ap (added first) (sym (both_sets spot sets (lists_there sets.certificates sets.lists e)))
 
 -- the octets of a block that begin with a whole SEQUENCE
-pub octets_added : (first second third : Held) (wanted : Wanted) (may_go_on : Bool) (spot : Spot) (o front : List ℕ) (size : ℕ) → whole size ≡ front_of o → second ≡ added first (sequence_rows wanted spot front) → front ≡ take size o
-    → third ≡ added second (after_rows may_go_on spot (length o - size)) → third ≡ added first (octet_rows wanted may_go_on spot o)
-octets_added first second third wanted may_go_on spot o front size e f n g =
+pub octets_added : (first second third : Held) (wanted : Wanted) (may_go_on : Bool) (spot : Spot) (o front : List ℕ) (count size : ℕ) → whole size ≡ front_of o → second ≡ added first (sequence_rows wanted spot front) → front ≡ take size o
+    → third ≡ added second (after_rows may_go_on spot (count - size)) → third ≡ added first (first_rows wanted may_go_on spot o count)
+octets_added first second third wanted may_go_on spot o front count size e f n g =
     in_two first second third _ _ f g
-    ∙ ap (λ z. added first (sequence_rows wanted spot z ++ after_rows may_go_on spot (length o - size))) n
-    ∙ ap (λ z. added first (files.front_rows wanted may_go_on spot o z)) e
+    ∙ ap (λ z. added first (sequence_rows wanted spot z ++ after_rows may_go_on spot (count - size))) n
+    ∙ ap (λ z. added first (begun_rows wanted may_go_on spot o count z)) e
 
 pub walk_stop : (front : List ℕ → Front) (rows : ℕ → ℕ → List ℕ → List Row) (offset number : ℕ) (rest : List ℕ) (old new goal : Held) → rest ≢ [] → size_in (front rest) ≡ None
     → new ≡ added old (rows offset number rest) → added old (walk front rows 0 offset number rest) ≡ goal → new ≡ goal

@@ -17,3 +17,4 @@ pub mod Blocks
 pub mod Odd
 pub mod Files
 pub mod Laws
+pub mod Firsts

@@ -3,19 +3,21 @@
 ghost use Rattle.std.specs.Prelude.{◌≡◌, OnOk, option_copied};
 ghost use Rattle.std.specs.List.{flat_map};
 ghost use Rattle.certpath_pem.specs.Views.{entry_view};
-ghost use Rattle.certpath_pem.specs.Contents.{content_view};
+ghost use Rattle.certpath_pem.specs.Contents.{start_view};
 ghost use Rattle.certpath_pem.specs.Blocks.{entries_of};
 ghost use Rattle.certpath_files.specs.Rows.{added};
 ghost use Rattle.certpath_files.specs.RowViews.{spot_view};
 ghost use Rattle.certpath_files.specs.ReportViews.{held_in};
-ghost use Rattle.certpath_files.specs.Blocks.{shown_label, after_rows, octet_rows, content_rows, entry_rows};
+ghost use Rattle.certpath_files.specs.Blocks.{shown_label, after_rows, entry_rows};
+ghost use Rattle.certpath_files.specs.Firsts.{first_rows, start_rows};
 ghost use Rattle.certpath_files.specs.SequenceViews.{wanted_view};
 
 use crate::front::{Front, front_of};
 use crate::report::Report;
 use crate::rows::{Reason, Spot, at};
 use crate::sequences::{Wanted, take_sequence};
-use certpath_pem::{Block, Content, Cursor, Entry, LabelKind, content_of, label_kind};
+use crate::starts::start_of_block;
+use certpath_pem::{Block, Content, Cursor, Entry, LabelKind, Start, label_kind};
 use std::alloc::{AllocError, Global};
 
 /// A label that may be shown: a known one.
@@ -46,20 +48,21 @@ fn leave_after<'a>(
     report.leave(at(spot), Reason::Behind(count))
 }
 
-/// Adds the rows of the octets that a block holds.
+/// Adds the rows of so many octets that a block holds, by the first ones.
 fn take_octets<'a>(
     report: &mut Report<'a>,
     spot: Spot<'a>,
     octets: &[u8],
+    count: usize,
     wanted: Wanted,
     may_go_on: bool,
 ) -> Result<(), AllocError>
-    ensures { OnOk result (held_in report.new ≡ added (held_in report.old) (octet_rows (wanted_view wanted) may_go_on (spot_view spot.entry) octets.now)) }
+    ensures { OnOk result (held_in report.new ≡ added (held_in report.old) (first_rows (wanted_view wanted) may_go_on (spot_view spot.entry) octets.now count)) }
 {
     match front_of(octets) {
         Front::Whole(size) => {
             take_sequence(report, spot, &octets[..size], wanted)?;
-            leave_after(report, spot, may_go_on, octets.len() - size)
+            leave_after(report, spot, may_go_on, count.saturating_sub(size))
         }
         Front::Passed(fault, _) => report.leave(at(spot), Reason::Faulty(fault)),
         Front::Stops(fault) => report.leave(at(spot), Reason::Faulty(fault)),
@@ -67,17 +70,19 @@ fn take_octets<'a>(
 }
 
 /// Adds the rows of what a block holds.
-fn take_content<'a>(
+fn take_start<'a>(
     report: &mut Report<'a>,
     spot: Spot<'a>,
-    content: &Content,
+    start: &Start,
     wanted: Wanted,
     may_go_on: bool,
 ) -> Result<(), AllocError>
-    ensures { OnOk result (held_in report.new ≡ added (held_in report.old) (content_rows (wanted_view wanted) may_go_on (spot_view spot.entry) (content_view content.now))) }
+    ensures { OnOk result (held_in report.new ≡ added (held_in report.old) (start_rows (wanted_view wanted) may_go_on (spot_view spot.entry) (start_view start.now))) }
 {
-    match content {
-        Content::Octets(octets) => take_octets(report, spot, octets, wanted, may_go_on),
+    match &start.content {
+        Content::Octets(octets) => {
+            take_octets(report, spot, octets, start.count, wanted, may_go_on)
+        }
         Content::Unended => report.leave(at(spot), Reason::NoEnd),
         Content::Headers => report.leave(at(spot), Reason::WithHeaders),
         Content::Empty => report.leave(at(spot), Reason::NoOctets),
@@ -101,8 +106,8 @@ fn take_block<'a>(
         LabelKind::Known => return report.leave(at(spot), Reason::OtherLabel),
         LabelKind::Unknown => return report.leave(at(spot), Reason::UnknownLabel),
     };
-    let content = content_of(alloc, block.body, block.is_ended)?;
-    take_content(report, spot, &content, wanted, may_go_on)
+    let start = start_of_block(alloc, block)?;
+    take_start(report, spot, &start, wanted, may_go_on)
 }
 
 /// Adds the rows of an entry of the report of a text.

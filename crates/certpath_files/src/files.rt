@@ -55,10 +55,11 @@ fn take_file<'a>(
 
 /// What a file holds: its certificates and revocation lists in order, and what is left out of it.
 ///
-/// One pass over the file for what it is, and one for what it holds. Beside the report it takes at
-/// most seven octets of memory for four of the longest block of PEM, and none for DER. The report
-/// has room for as many octets as the file has, of PEM for three of four, and a row for each item
-/// and each thing that is left out.
+/// One pass over the file for what it is, and one for what it holds. Beside the report it takes no
+/// memory for DER, and for PEM three octets for four of the longest block, and 16 MiB at most; only
+/// a block that begins with the octet 3f, which no item does, is decoded whole. The report has room
+/// for as many octets as the file has, of PEM for three of four, and a row for each item and each
+/// thing that is left out.
 pub fn items_of(alloc: Global, octets: &[u8]) -> Result<Report<'_>, AllocError>
     ensures { IfOk result (λ report. held_in report ≡ report_of (file_rows octets.now)) }
 {

@@ -14,6 +14,7 @@ mod rows;
 mod sequences;
 mod shape;
 mod signed;
+mod starts;
 
 pub use crate::files::items_of;
 pub use crate::front::{Fault, Front, front_of};

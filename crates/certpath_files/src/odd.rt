@@ -16,7 +16,7 @@ use std::alloc::AllocError;
 fn is_no_text(octet: u8) -> bool
     ensures { result ≡ is_no_text octet }
 {
-    octet <= 8 || (14 <= octet && octet <= 31) || octet == 127
+    (octet <= 31 && (octet <= 8 || 14 <= octet)) || octet == 127
 }
 
 fn is_odd(line: &[u8]) -> bool

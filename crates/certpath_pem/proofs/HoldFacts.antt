@@ -125,6 +125,19 @@ text_there line b e = elim (option_tells (label_of begin_words line)) [
   ]
 ]
 
+-- a line without five hyphens
+no_words : (word line : List ℕ) → holds dashes line ≡ false → holds (dashes ++ word) line ≡ false
+no_words word line none = elim (tells (holds (dashes ++ word) line)) [
+  | inr not ↦ not
+  | inl there ↦
+      let w = holds_says (dashes ++ word) line there in
+      let more : IsWithin dashes line = record { before = w.before; after = word ++ w.after; octets_are = w.octets_are } in
+      absurd (not_both (holds dashes line) (within_holds dashes line more) none)
+]
+
+pub no_dashes_is_text : (line : List ℕ) → holds dashes line ≡ false → boundary_of line ≡ text
+no_dashes_is_text line none = text_there line (no_words (codes "BEGIN") line none) (no_words (codes "END") line none)
+
 -- one octet further
 pub held_more : (words s after : List ℕ) (a : ℕ) → s ≡ a ∷ after → begins_with words s ≡ false → holds words s ≡ holds words after
 held_more words s after a is not =
