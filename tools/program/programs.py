@@ -76,7 +76,8 @@ def found(crate):
     elif sorted(record) != sorted(WORDS):
         amiss = f"{record_path} is missing, or is no record"
     elif record["sources"] != sources.digest(crate):
-        amiss, status = "dist/ is older than the sources" if crate == CERTPATH else "it is older than its sources", OUTDATED
+        older = "dist/ is older than the" if crate == CERTPATH else "it is older than its"
+        amiss, status = f"{older} sources", OUTDATED
     elif sum_of(path) != record["program"]:
         amiss = f"{path} is missing, or was changed: its SHA-256 isn't that of its record"
     else:
@@ -102,8 +103,8 @@ def become(crate, path, words):
         os.execv(path, [path, *words])
     except OSError as error:
         needs = read_record(paths(crate)[1]).get("needs")
-        name = os.path.relpath(path, repo.TOP)
-        streams.report(f"{TITLES.get(crate, crate)}: {name} can't be started ({error.strerror}), and needs {needs}: {remedy(crate)}")
+        amiss = f"{path} can't be started ({error.strerror}), and needs {needs}"
+        streams.report(f"{TITLES.get(crate, crate)}: {amiss}: {remedy(crate)}")
         sys.exit(NO_PROGRAM)
 
 
