@@ -1,6 +1,7 @@
-"""Whether what each command takes is said alike: by its help, by its page, by the completion, and by the program's own grammar.
+"""Whether what each command takes is said alike: by its help, by its page, and by the completion. The help of a command of
+certpath is the program's own.
 
-The manual page is made of docs/CLI.md, and the completion of the helps (tools/dev/manual.py)."""
+The manual page and the completion are made of docs/CLI.md and the helps (tools/dev/manual.py)."""
 import os
 import re
 import subprocess
@@ -82,11 +83,10 @@ def completed(name):
 def of_certpath(names):
     """For each command of the program: who says what it takes, and what that is."""
     for name in names:
-        own, help_text, page = own_help(name), help_of("certpath", name), section(f"certpath {name}")
-        lists = {f"{SCRIPT} {name} {HELP}": help_text} | ({f"{PROGRAM} {name} {HELP}": own} if own else {})
-        forms = {f"the form of {SCRIPT} {name} {HELP}": form(help_text), f"{CLI}, certpath {name}": form(page)}
-        yield name, {who: listed(text) for who, text in lists.items()} | {who: options(text) for who, text in forms.items()} | completed(name)
-        yield name, {who: files(form(text)) for who, text in (lists | forms).items()}
+        own, page = own_help(name), section(f"certpath {name}")
+        title = f"{CLI}, certpath {name}"
+        yield name, {title: options(form(page))} | completed(name) | ({f"{PROGRAM} {name} {HELP}": listed(own)} if own else {})
+        yield name, {title: files(form(page))} | ({f"{PROGRAM} {name} {HELP}": files(form(own))} if own else {})
 
 
 def of_scripts():

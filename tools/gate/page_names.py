@@ -7,6 +7,7 @@ import os
 import re
 
 from gate import syntax
+from install import completions
 from program import repo, usage
 
 # Pages that speak of what was.
@@ -113,6 +114,7 @@ def crates_counted():
 def options_there():
     """A command line of a page has options that its command knows, and an option named elsewhere is in some script or source."""
     known = {it: {*OPTION.findall(repo.read(path))} for it, path in GRAMMARS.items()}
+    known["certpath"] |= {option.name for it in usage.COMMANDS for option in completions.of_subcommand(it)}
     found = [(place, it) for place, text in spans() for it in OPTION.findall(text)]
     for path, place, line in lines():
         command = COMMAND.match(line)
@@ -132,7 +134,7 @@ def is_script(path):
 
 def statuses_there():
     """An exit status that a page names is one that a command names in its help."""
-    helps = [*map(repo.read, GRAMMARS.values()), *map(usage.help_of, usage.HELPS)]
+    helps = [usage.GENERAL, *map(repo.read, GRAMMARS.values())]
     named = {it for one in helps for text in NUMBERED.findall(one) for it in re.findall(r"(?:^|[;,] )\s*(\d+)\b", " ".join(text.split()))}
     for path, place, line in lines():
         for number in STATUS.findall(line):

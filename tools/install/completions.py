@@ -9,12 +9,10 @@ from program import installed, repo, usage
 from verify import words
 
 PAGE = "docs/CLI.md"
-# A line of a command's help that begins an option: its name, what it takes, and what it does.
-OPTION = re.compile(r"(?m)^  (?:-\w, )?(--[a-z][a-z-]*)(?: ([A-Z][A-Z|]*))?  *(\S.*)$")
-# A line of the list of commands in the help of all.
-COMMAND = re.compile(r"(?m)^  ([a-z]+)  +(\S.*)$")
+# A line of the list of commands in the help of all; an option in the form of a command.
+COMMAND, OPTION = re.compile(r"(?m)^  ([a-z]+)  +(\S.*)$"), re.compile(r"--[a-z][a-z-]*")
 # A row of a table of options in a page.
-ROW = re.compile(r"(?m)^\| `(--[a-z-]+)(?: ([A-Z]+))?`[^|]*\| ([^|]*) \|")
+ROW = re.compile(r"(?m)^\| `(--[a-z-]+)(?: ([A-Z]+)(?:\\\|[A-Z]+)?)?`[^|]*\| ([^|]*) \|")
 HELP = ("--help", None, "print the help")
 # So many characters say what an option does.
 MOST_SAID = 70
@@ -34,13 +32,9 @@ class Option(NamedTuple):
 
 def short(text):
     """What an option does, in one short line."""
+    text, _, _ = text.partition("; ")
     text = " ".join(re.sub(r"\[([^\]]*)\]\([^)]*\)", r"\1", text).replace("`", "").split())
     return text if len(text) <= MOST_SAID else f"{text[:MOST_SAID].rpartition(' ')[0]} .."
-
-
-def of_help(text):
-    """The options of a help text."""
-    return [Option(name, takes or None, short(says)) for name, takes, says in OPTION.findall(text)]
 
 
 def of_parser(made):
@@ -54,10 +48,14 @@ def of_parser(made):
     return found
 
 
-def of_page(name):
-    """The options of a command by the table in its section of the page."""
-    section = re.search(rf"(?ms)^## `{name}`\n(.*?)(?=^## |\Z)", repo.read(PAGE))[1]
-    return [*(Option(option, takes or None, short(says)) for option, takes, says in ROW.findall(section)), Option(*HELP)]
+def section_of(name):
+    """The section of the page that is on a command."""
+    return re.search(rf"(?ms)^## `{name}`\n(.*?)(?=^## |\Z)", repo.read(PAGE))[1]
+
+
+def of_text(text):
+    """The options of the tables in a text."""
+    return [Option(name, takes or None, short(says)) for name, takes, says in ROW.findall(text)]
 
 
 def inventory():
@@ -76,12 +74,16 @@ def subcommands():
 
 
 def of_subcommand(name):
-    return of_help(usage.help_of(name))
+    """The options of a command of certpath: those of the form that its section begins with. What one
+    does may be said in the section of another command."""
+    described = {it.name: it for command in usage.COMMANDS for it in of_text(section_of(f"certpath {command}"))}
+    form = section_of(f"certpath {name}").strip().partition("\n\n")[0]
+    return [*(described[it] for it in OPTION.findall(form)), Option(*HELP)]
 
 
 def scripts():
     """The options of each script, by its name."""
-    return {"verify": of_parser(words.parser()), "vouch": of_page("vouch"), "bundle": [Option(*HELP)],
+    return {"verify": of_parser(words.parser()), "vouch": [*of_text(section_of("vouch")), Option(*HELP)], "bundle": [Option(*HELP)],
             "inventory": inventory()}
 
 

@@ -1,6 +1,7 @@
 """What an installation has, whoever makes it: the Python package with its library, the program and
 the scripts, by their paths from the top of the repository."""
 import os
+import re
 
 from program import installed, programs, repo
 
@@ -17,6 +18,8 @@ NOTICES = ("LICENSE-APACHE", "LICENSE-MIT", "NOTICE")
 RECORDS = (programs.SHIPPED_RECORD, programs.LIBRARY_RECORD)
 HEADER = os.path.join("include", "certpath.h")
 EXECUTABLE, PLAIN = 0o755, 0o644
+# What a record says of the machine that is needed.
+NEEDS = re.compile(r"Linux (\S+) glibc (\d+)\.(\d+)")
 
 
 class Unfit(Exception):
@@ -61,14 +64,10 @@ def needs():
     two numbers. Unfit if a record is missing, or says something else."""
     found = []
     for path in RECORDS:
-        try:
-            lines = repo.read(path).splitlines()
-        except (OSError, ValueError):
-            lines = []
-        said = next((it.split()[1:] for it in lines if it.startswith("needs ")), [])
-        if len(said) != 4 or said[0] != "Linux" or said[2] != "glibc":
+        said = NEEDS.fullmatch(programs.read_record(path).get("needs", ""))
+        if said is None:
             raise Unfit(f"{path} doesn't name the machine that is needed")
-        found.append((said[1], tuple(programs.numbers(said[3]))))
+        found.append((said[1], (int(said[2]), int(said[3]))))
     if len({machine for machine, _ in found}) != 1:
         raise Unfit(f"{' and '.join(RECORDS)} name different machines")
     return found[0][0], max(version for _, version in found)

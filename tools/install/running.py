@@ -4,7 +4,7 @@ import os
 import shutil
 
 from install import contents, placing
-from program import programs, streams
+from program import streams
 
 WELL, WORDS, UNFIT, UNWRITTEN = 0, 2, 4, 7
 FILE, FOLDER = "file", "folder"
@@ -171,9 +171,7 @@ def hints(place):
     if folder not in os.environ.get("PATH", "").split(os.pathsep):
         yield f"{folder} isn't on the path: export PATH=\"{folder}:$PATH\""
     yield f"programs that are linked to the shared library find it once ldconfig knows {place.at('lib')}, or by -Wl,-rpath"
-    needed = "Linux {} glibc {}.{}".format(contents.needs()[0], *contents.needs()[1])
-    if not programs.fits(needed):
-        yield f"the program needs {needed}, and this is {programs.machine()}"
+    yield "the program needs Linux {} with glibc {}.{} or later".format(contents.needs()[0], *contents.needs()[1])
 
 
 def done(words):

@@ -4,6 +4,28 @@ from program import streams
 # So many positions are in a line, and so many reasons get a line of their own.
 MOST_POSITIONS, MOST_REASONS = 5, 100
 OTHERS = "further reasons (--verbose shows them)"
+# Lines for standard error are written together, up to so many characters at once.
+MOST_HELD = 65_536
+
+
+class Lines:
+    """Lines for standard error that are held and written many at a time."""
+
+    def __init__(self):
+        self.held, self.size = [], 0
+
+    def add(self, text):
+        """Adds a line."""
+        line = streams.shown(text)
+        self.held.append(line)
+        self.size += len(line)
+        if self.size > MOST_HELD:
+            self.flush()
+
+    def flush(self):
+        """Writes the lines that are held."""
+        streams.write_lines(self.held)
+        self.held, self.size = [], 0
 
 
 class Group:
@@ -28,7 +50,7 @@ class Report:
     """Reports why items have no line, or not all lines: at once and each if it is verbose, else by reason and at the end."""
 
     def __init__(self, is_verbose):
-        self.is_verbose, self.count, self.groups, self.lines = is_verbose, 0, {}, streams.Lines()
+        self.is_verbose, self.count, self.groups, self.lines = is_verbose, 0, {}, Lines()
 
     def add(self, file, position, why):
         """Reports an item, by the name of its file and its position there."""

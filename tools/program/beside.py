@@ -51,25 +51,6 @@ def run(words):
     os.close(written)
     with open(read, encoding="utf-8", errors="surrogateescape") as errors:
         streams.write_lines(errors.read().replace(begun, file).splitlines())
-    return kept(begun, file, status)
-
-
-def ended(child, watched):
-    """Waits for the program's end, or ends it by a signal that comes; gives the status."""
-    while True:
-        number = signal.sigwait(watched)
-        if number != signal.SIGCHLD:
-            os.kill(child, signal.SIGKILL)
-            os.waitpid(child, 0)
-            return SIGNALLED + number
-        process, status = os.waitpid(child, os.WNOHANG)
-        if process:
-            status = os.waitstatus_to_exitcode(status)
-            return SIGNALLED - status if status < 0 else status
-
-
-def kept(begun, file, status):
-    """Gives evidence its name if it is whole; gives the status."""
     try:
         if status in (0, 1):
             if os.path.exists(file):
@@ -78,10 +59,21 @@ def kept(begun, file, status):
     except OSError:
         streams.report(f"cannot write {file}")
         status = UNWRITTEN
-    remove(begun)
+    if os.path.lexists(begun):
+        os.remove(begun)
     return status
 
 
-def remove(path):
-    if os.path.lexists(path):
-        os.remove(path)
+def ended(child, watched):
+    """Waits for the program's end, or ends it by a signal that comes; gives the status."""
+    process = 0
+    while not process:
+        number = signal.sigwait(watched)
+        if number != signal.SIGCHLD:
+            os.kill(child, signal.SIGKILL)
+            os.waitpid(child, 0)
+            return SIGNALLED + number
+        # (a child that is stopped sends it, too)
+        process, status = os.waitpid(child, os.WNOHANG)
+    status = os.waitstatus_to_exitcode(status)
+    return SIGNALLED - status if status < 0 else status

@@ -11,27 +11,25 @@ import tempfile
 
 from program import programs, repo, sources, streams
 
-# What `rt ci` runs a program on, beside src/.
-RUN_ON = ("args", "stdin", "stdout", "status", "data")
+# What a crate's program doesn't need of its folder.
+LEFT_OUT = ("out", "wrong", "must-fail")
 SIGNALS = (signal.SIGTERM, signal.SIGINT, signal.SIGHUP)
-VERSION_OF_LIBC = re.compile(rb"GLIBC_([0-9.]+)\0")
+VERSION_OF_LIBC = re.compile(rb"GLIBC_(\d+(?:\.\d+)*)\0")
 
 
 def copied(crate, to):
-    """Copies what the crate's program is made of: its crates without their wrong bodies, their
-    lines of crates.txt, and HANDLES; gives how many crates these are."""
+    """Copies what the crate's program is made of: its crates, their lines of crates.txt, and
+    HANDLES; gives how many crates these are."""
+    def left_out(_, names):
+        return {it for it in names if it in LEFT_OUT or not sources.is_source(it)}
+
     crates, lines = repo.below([crate], repo.crates()), repo.lines()
     # (`rt ci` runs at the top of a repository)
     os.makedirs(os.path.join(to, ".git"))
     shutil.copyfile(os.path.join(repo.TOP, "HANDLES"), os.path.join(to, "HANDLES"))
     sources.put(os.path.join(to, "crates.txt"), "".join(f"{lines[it]}\n" for it in crates).encode())
-    for name in crates:
-        for part in (*sources.PARTS, *(RUN_ON if name == crate else ())):
-            one, other = (os.path.join(top, "crates", name, part) for top in (repo.TOP, to))
-            if os.path.isdir(one):
-                shutil.copytree(one, other, ignore=lambda _, names: {it for it in names if not sources.is_source(it)})
-            elif os.path.isfile(one):
-                shutil.copyfile(one, other)
+    for it in crates:
+        shutil.copytree(*(os.path.join(top, "crates", it) for top in (repo.TOP, to)), ignore=left_out)
     return len(crates)
 
 
@@ -46,8 +44,8 @@ def kit():
 
 def needs_of(octets):
     """The machine that a program needs, by the versions of the C library that it names."""
-    versions = {it.decode() for it in VERSION_OF_LIBC.findall(octets)}
-    return f"Linux x86_64 glibc {max(versions, key=programs.numbers, default='2.0')}"
+    versions = [[*map(int, it.decode().split("."))] for it in VERSION_OF_LIBC.findall(octets)]
+    return f"Linux x86_64 glibc {'.'.join(map(str, max(versions, default=[2, 0])))}"
 
 
 def keep(crate, program, digest):
@@ -68,23 +66,22 @@ def stop(number, _):
     sys.exit(128 + number)
 
 
-def proved(copy, room):
-    """Whether `rt ci` proves the copy. It ends before this does, and asked to end it ends all that it
-    started."""
-    child = subprocess.Popen(["rt", "ci"], cwd=copy, env={**os.environ, "TMPDIR": room}, stdin=subprocess.DEVNULL,
-                             stdout=sys.stderr, stderr=subprocess.STDOUT, start_new_session=True)
-    try:
-        return child.wait() == 0
-    finally:
-        if child.returncode is None:
+def proved(copy):
+    """Whether `rt ci` proves the copy, beside which it keeps its files. It ends before this does, and
+    asked to end it ends all that it started."""
+    with subprocess.Popen(["rt", "ci"], cwd=copy, env={**os.environ, "TMPDIR": os.path.dirname(copy)},
+                          stdin=subprocess.DEVNULL, stdout=sys.stderr, stderr=subprocess.STDOUT,
+                          start_new_session=True) as child:
+        try:
+            return child.wait() == 0
+        finally:
             child.terminate()
-            child.wait()
 
 
 def build(crate):
     """Proves a crate with all below it and puts its program and the record in place; gives whether
     that was done, and else says why not."""
-    title = programs.title(crate)
+    title = programs.TITLES.get(crate, crate)
     if not shutil.which("rt"):
         streams.report(f"{title}: rt, the toolchain that builds it, isn't on the path")
         return False
@@ -93,13 +90,12 @@ def build(crate):
             signal.signal(it, stop)
     try:
         with tempfile.TemporaryDirectory(prefix="certpath-build-") as top:
-            copy, room = os.path.join(top, "copy"), os.path.join(top, "tmp")
+            copy = os.path.join(top, "copy")
             # (as root, `rt` runs programs as nobody, who has to reach them)
             os.chmod(top, 0o711)
-            os.mkdir(room, 0o711)
             count, digest = copied(crate, copy), sources.digest(crate, copy)
             streams.report(f"{title}: rt ci proves {count} crates, which takes up to an hour")
-            if proved(copy, room):
+            if proved(copy):
                 keep(crate, os.path.join(copy, "crates", crate, "out", crate), digest)
                 return True
         streams.report(f"{title}: it wasn't built, since rt ci failed")

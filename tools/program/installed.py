@@ -34,20 +34,3 @@ def spelled(text):
     """A text with commands as one types them here: `./verify`, or `certpath-verify`. Without sources
     nothing is said of building."""
     return OF_BUILDS.sub("", renamed(text)) if IS_INSTALLED else text
-
-
-def fault():
-    """What keeps the program of an installation from being run, none if nothing does."""
-    return None if os.access(PROGRAM, os.X_OK) else f"{PROGRAM} isn't there, or may not be executed"
-
-
-def version(number):
-    """What `certpath --version` prints of an installation: its version, the digest of the sources
-    of the program, where that is and what built it."""
-    try:
-        with open(RECORD, encoding="utf-8") as file:
-            said = dict(it.split(" ", 1) for it in file.read().splitlines() if " " in it)
-    except (OSError, ValueError):
-        said = {}
-    digest, kit = (said.get(it, "not known") for it in ("sources", "kit"))
-    return f"certpath {number}\nsources {digest}\nprogram {PROGRAM}, built by {kit}\n"

@@ -20,6 +20,8 @@ BUILD = "./certpath --build"
 OLDER = f"dist/ is older than the sources: {BUILD} builds it"
 # The statuses where dist/ is older than the sources, and where there is no program to run.
 OUTDATED, NO_PROGRAM = 69, 70
+# The names of programs in messages, if these aren't those of their crates.
+TITLES = {CERTPATH: "certpath"}
 
 
 class Lack:
@@ -29,13 +31,17 @@ class Lack:
         self.why, self.status = why, status
 
 
-def title(crate):
-    """The name of a crate's program in messages."""
-    return "certpath" if crate == CERTPATH else crate
+def remedy(crate):
+    """What to do if a crate's program can't be run."""
+    if installed.IS_INSTALLED:
+        return installed.REMEDY
+    return f"{BUILD} builds it" if crate == CERTPATH else f"{BUILD} {crate} builds it"
 
 
 def paths(crate):
     """The paths of a crate's program and of its record."""
+    if installed.IS_INSTALLED:
+        return installed.PROGRAM, installed.RECORD
     own = os.path.join(OWN, crate)
     return (SHIPPED, SHIPPED_RECORD) if crate == CERTPATH else (own, f"{own}.built")
 
@@ -59,29 +65,24 @@ def sum_of(path):
 def found(crate):
     """The path of a crate's program as its sources are now, or none and what is lacking. In an
     installation it is the one program there."""
+    path, record_path = paths(crate)
+    record, status = read_record(record_path), NO_PROGRAM
     if installed.IS_INSTALLED:
-        amiss = installed.fault()
-        return (None, Lack(f"{amiss}: {installed.REMEDY}")) if amiss else (installed.PROGRAM, None)
-    path, record = paths(crate)[0], read_record(paths(crate)[1])
-    remedy = BUILD if crate == CERTPATH else f"{BUILD} {crate}"
-    if sorted(record) == sorted(WORDS) and record["sources"] != sources.digest(crate):
-        older = OLDER if crate == CERTPATH else f"it is older than its sources: {remedy} builds it"
-        return None, Lack(older, OUTDATED)
-    amiss = fault(path, record, paths(crate)[1]) if record or crate == CERTPATH else "it isn't built yet"
-    return (None, Lack(f"{amiss}: {remedy} builds it")) if amiss else (os.path.join(repo.TOP, path), None)
-
-
-def fault(path, record, record_path):
-    """What keeps a program from being run, none if nothing does."""
-    if sorted(record) != sorted(WORDS):
-        return f"{record_path} is missing, or is no record"
-    if sum_of(path) != record["program"]:
-        return f"{path} is missing, or was changed: its SHA-256 isn't that of its record"
-    if not os.access(os.path.join(repo.TOP, path), os.X_OK):
-        return f"{path} has no permission to be executed"
-    if not fits(record["needs"]):
-        return f"{path} needs {record['needs']}, and this is {machine()}"
-    return None
+        if os.access(path, os.X_OK):
+            return path, None
+        amiss = f"{path} isn't there, or may not be executed"
+    elif not record and crate != CERTPATH:
+        amiss = "it isn't built yet"
+    elif sorted(record) != sorted(WORDS):
+        amiss = f"{record_path} is missing, or is no record"
+    elif record["sources"] != sources.digest(crate):
+        older = "dist/ is older than the" if crate == CERTPATH else "it is older than its"
+        amiss, status = f"{older} sources", OUTDATED
+    elif sum_of(path) != record["program"]:
+        amiss = f"{path} is missing, or was changed: its SHA-256 isn't that of its record"
+    else:
+        return os.path.join(repo.TOP, path), None
+    return None, Lack(f"{amiss}: {remedy(crate)}", status)
 
 
 def is_library_old():
@@ -95,36 +96,15 @@ def is_outdated():
     return bool(lack) and lack.status == OUTDATED or is_library_old()
 
 
-def machine():
-    """This machine as records name it: system, processor and C library."""
-    its = os.uname()
-    try:
-        library = os.confstr("CS_GNU_LIBC_VERSION")
-    except (OSError, ValueError):
-        library = None
-    return f"{its.sysname} {its.machine} {library or 'without glibc'}"
-
-
-def fits(needs):
-    """Whether this machine has the system and processor that are needed, and a C library as new."""
-    *here, version = machine().split(" ")
-    *there, least = needs.split(" ")
-    return here == there and numbers(version) >= numbers(least)
-
-
-def numbers(version):
-    return [int(it) if it.isdigit() else 0 for it in version.split(".")]
-
-
 def become(crate, path, words):
     """Becomes the program on the words; ends with status 70 if it can't be started."""
     end_by_pipe()
     try:
         os.execv(path, [path, *words])
     except OSError as error:
-        name = os.path.relpath(path, repo.TOP)
-        remedy = installed.REMEDY if installed.IS_INSTALLED else f"{BUILD} builds it"
-        streams.report(f"{title(crate)}: {name} can't be started ({error.strerror}): {remedy}")
+        needs = read_record(paths(crate)[1]).get("needs")
+        amiss = f"{path} can't be started ({error.strerror}), and needs {needs}"
+        streams.report(f"{TITLES.get(crate, crate)}: {amiss}: {remedy(crate)}")
         sys.exit(NO_PROGRAM)
 
 

@@ -47,7 +47,7 @@ def ready(crate):
     from program import programs
     path, lack = programs.found(crate)
     if lack:
-        programs.streams.report(f"{programs.title(crate)}: {lack.why}")
+        programs.streams.report(f"{programs.TITLES.get(crate, crate)}: {lack.why}")
         sys.exit(lack.status)
     return path
 

@@ -16,20 +16,14 @@ YOUNG = 2_000_000_000
 
 def scanned(folder):
     """The files below a folder with their `os.stat_result`; none if there is no folder."""
-    found, folders = [], [folder]
-    while folders:
-        try:
-            entries = os.scandir(folders.pop())
-        except (FileNotFoundError, NotADirectoryError):
-            continue
-        with entries:
-            for entry in entries:
-                if not is_source(entry.name):
-                    continue
-                if entry.is_dir(follow_symlinks=False):
-                    folders.append(entry.path)
-                else:
-                    found.append((entry.path, entry.stat()))
+    found = []
+    try:
+        with os.scandir(folder) as entries:
+            for it in entries:
+                if is_source(it.name):
+                    found += scanned(it.path) if it.is_dir(follow_symlinks=False) else [(it.path, it.stat())]
+    except (FileNotFoundError, NotADirectoryError):
+        pass
     return found
 
 

@@ -1,14 +1,10 @@
-"""What ./vouch and ./verify write: words on standard error, octets on standard output."""
+"""What the scripts write: words on standard error, octets on standard output."""
 import os
 import sys
 
 if sys.stderr is None:
     # it is closed; `print` would write its lines to standard output
     sys.stderr = open(os.devnull, "w", encoding="utf-8")
-
-
-# Lines for standard error are written together, up to so many characters at once.
-MOST_HELD = 65_536
 
 
 def counted(number, word):
@@ -46,26 +42,6 @@ def within_memory(name, status, call):
     # (what the call held is free here)
     report(f"{name}: out of memory")
     return status
-
-
-class Lines:
-    """Lines for standard error that are held and written many at a time."""
-
-    def __init__(self):
-        self.held, self.size = [], 0
-
-    def add(self, text):
-        """Adds a line."""
-        line = shown(text)
-        self.held.append(line)
-        self.size += len(line)
-        if self.size > MOST_HELD:
-            self.flush()
-
-    def flush(self):
-        """Writes the lines that are held."""
-        write_lines(self.held)
-        self.held, self.size = [], 0
 
 
 def wrote(octets):

@@ -3,6 +3,7 @@ trace; and the Debian package of the same files."""
 import os
 import re
 import shutil
+import stat
 import subprocess
 import sys
 
@@ -13,7 +14,12 @@ from trials import installing_places as places
 INSTALL = os.path.join(repo.TOP, "install")
 HEADERS = "/usr/include/openssl/evp.h"
 EXAMPLE = os.path.join(repo.TOP, "examples", "c", "questions.c")
-CONTAINER, IMAGE = "examples/container/Dockerfile", "certpath-trial"
+CONTAINER, IMAGE, BASE = "examples/container/Dockerfile", "certpath-trial", "debian:bookworm-slim"
+# Tools that build images, by words that both take.
+BUILDERS = ("docker", "podman")
+# The page's list of what is below a prefix, and a path there.
+PAGE, BELOW = "docs/INSTALL.md", re.compile(r"(?ms)^What is below the prefix then:\n\n(.*?)\n\n")
+LISTED = re.compile(r"(?m)(?:^    |, )([a-z.]+/\S*?|\.a)(?=,? )")
 SONAME = re.compile(r"\(SONAME\).*\[(.*)\]")
 # What completion offers: what is typed, and words that have to be among those offered.
 OFFERED = (("certpath pa", ("path", "paths")), ("certpath path --t", ("--target",)), ("certpath-verify --anch", ("--anchors",)),
@@ -104,6 +110,16 @@ class Prefix(places.InRoom):
         self.same("--uninstall", install("--prefix", "/usr/local", "--destdir", room, "--uninstall")[0], 0)
         self.same("what --uninstall leaves", os.path.lexists(room), False)
 
+    def test_page(self):
+        """The page lists what is below the prefix: each place is there, and nothing is elsewhere."""
+        install("--prefix", self.prefix)
+        listed = LISTED.findall(BELOW.search(repo.read(PAGE))[1])
+        places_of = [it if "/" in it else f"lib/libcertpath{it}" for it in listed]
+        missing = [it for it in places_of if not os.path.lexists(os.path.join(self.prefix, it))]
+        files = [it for it, mode in places.held(self.prefix).items() if not (isinstance(mode, int) and stat.S_ISDIR(mode))]
+        self.same(f"places that {PAGE} lists", (len(listed), missing), (13, []))
+        self.same(f"files that {PAGE} doesn't list", [it for it in files if not it.startswith(tuple(places_of))], [])
+
     def test_refusals(self):
         """Nothing is written over, and no list leads elsewhere."""
         made_before(self.prefix)
@@ -168,7 +184,7 @@ class Prefix(places.InRoom):
 
 
 class Container(places.InRoom):
-    """The image of examples/container: its steps on this system, and itself if docker works."""
+    """The image of examples/container: its steps on this system, and itself if docker or podman works."""
 
     def test_steps(self):
         """What the image is made of suffices for ./install, and for the commands."""
@@ -183,14 +199,18 @@ class Container(places.InRoom):
         places.try_quick_start(self, "the image's files", places.environment(os.path.join(made, "usr", "local", "bin")))
 
     def test_image(self):
-        if not shutil.which("docker") or places.ran(["docker", "info"], "/")[0]:
-            self.skipTest("docker isn't there, or doesn't run")
+        tool = next((it for it in BUILDERS if shutil.which(it) and not places.ran([it, "info"], "/")[0]), None)
+        if tool is None:
+            self.skipTest(f"{' and '.join(BUILDERS)} aren't there, or don't run")
+        if places.ran([tool, "image", "inspect", BASE], "/")[0] and places.ran([tool, "pull", "-q", BASE], "/")[0]:
+            self.skipTest(f"{tool} has no {BASE}, and can't fetch it")
+        self.row(f"FROM {BASE} AS " in repo.read(CONTAINER), f"{CONTAINER} isn't made of {BASE}")
         for it in (("build", "-q", "-t", IMAGE, "-f", CONTAINER, "."),
                    ("run", "--rm", "--network", "none", "--read-only", "--tmpfs", "/tmp", "-v", f"{repo.TOP}/samples:/data:ro", IMAGE,
                     "certpath-verify", "fullchain.pem", "--anchors", "root.pem", "--at", "2026-12-01", "--quiet"),
                    ("image", "rm", IMAGE)):
-            status, text = places.ran(["docker", *it], repo.TOP)
-            self.row(status == 0, f"docker {it[0]}: status {status}: {text[-2000:]}")
+            status, text = places.ran([tool, *it], repo.TOP)
+            self.row(status == 0, f"{tool} {it[0]}: status {status}: {text[-2000:]}")
 
 
 class Completion(places.InRoom):

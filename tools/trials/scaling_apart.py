@@ -12,9 +12,12 @@ import hashlib
 import json
 import os
 import random
+import re
+import sqlite3
 import subprocess
 import sys
 from base64 import b64encode
+from contextlib import closing
 from datetime import datetime
 from typing import NamedTuple, Optional
 
@@ -28,6 +31,8 @@ SHARED = "localhost"
 ANSWER, TIMESTAMP = 200, 1_790_000_000_000
 
 
+# The page, and its question for certificates that were issued for precertificates.
+PAGE, QUERY = "docs/SCALE.md", re.compile(r"(?s)SELECT pre\.sha256, .*?;")
 # What is compared of a row; octets of a block, for so many entries.
 COLUMNS, BLOCKSIZE = ("class", "outcome", "path", "anchor"), 60_000
 
@@ -48,7 +53,7 @@ class Maker:
     """Makes certificates and lists; a number makes the choices, and keys are new each time."""
 
     def __init__(self, seed, entries):
-        self.entries, self.first = entries, {}
+        self.entries, self.first, self.issued = entries, {}, []
         from cryptography import x509
         from cryptography.hazmat.primitives import hashes, serialization
         from cryptography.hazmat.primitives.asymmetric import ec, rsa
@@ -114,9 +119,7 @@ class Maker:
             signer, key = self.keys[issuer], self.chance.choice(self.keys)
             made = self.builder(subject, key, f"Authority {issuer}", signer)
             if self.one_in(6):
-                poisoned = made.add_extension(self.x509.PrecertPoison(), True)
-                yield Made(self.signed(poisoned, signer).public_bytes(self.der), issuer,
-                           self.signed(made, signer).tbs_certificate_bytes)
+                yield from self.precertificate(made, signer, issuer)
                 continue
             octets = self.signed(made, signer).public_bytes(self.der)
             damaged = octets[:-1] + bytes([octets[-1] ^ 1])
@@ -126,6 +129,16 @@ class Maker:
         for _ in range(SELF_ISSUED):
             key = self.chance.choice(self.keys)
             yield Made(self.certificate(SHARED, key, SHARED, key))
+
+    def precertificate(self, made, signer, issuer):
+        """A precertificate; in one of two cases the certificate is issued, too."""
+        poisoned = self.signed(made.add_extension(self.x509.PrecertPoison(), True), signer)
+        octets, final = poisoned.public_bytes(self.der), self.signed(made, signer)
+        yield Made(octets, issuer, final.tbs_certificate_bytes)
+        if self.one_in(2):
+            issued = final.public_bytes(self.der)
+            self.issued.append([hashlib.sha256(it).hexdigest() for it in (octets, issued)])
+            yield Made(issued, issuer)
 
     def answer(self, made):
         """An entry of an answer to get-entries (RFC 6962, 3.4 and 4.6), and its chain."""
@@ -169,7 +182,7 @@ class Maker:
         self.put(folder, BUNDLE, b"".join(everything))
         self.put(folder, ANCHORS, b"".join(roots))
         digests = [[hashlib.sha256(it).hexdigest() for it in some] for some in (everything, roots)]
-        self.put(folder, LOG, json.dumps([files, entries, *digests]).encode())
+        self.put(folder, LOG, json.dumps([files, entries, *digests, self.issued]).encode())
 
     def put(self, folder, name, octets):
         with open(os.path.join(folder, name), "wb") as to:
@@ -195,7 +208,7 @@ def trial(count, interpreter, room, entries=ENTRIES):
     subprocess.run([interpreter, "-W", "ignore", __file__, str(entries), folder], check=True)
     bundle, anchors, vouchers = (os.path.join(folder, it) for it in (BUNDLE, ANCHORS, VOUCHERS))
     with open(os.path.join(folder, LOG), encoding="ascii") as file:
-        files, places, digests, held = json.load(file)
+        files, places, digests, held, issued = json.load(file)
     with open(vouchers, "wb") as to:
         subprocess.run([os.path.join(repo.TOP, "vouch"), bundle, anchors], check=True, stdout=to,
                        stderr=subprocess.DEVNULL)
@@ -204,8 +217,8 @@ def trial(count, interpreter, room, entries=ENTRIES):
                            stdout=subprocess.PIPE, check=False).stdout.splitlines()
     paths = [os.path.join(folder, it) for it in files]
     log, out = Written(paths, anchors, vouchers, 0, 0), os.path.join(room, "made-apart")
-    run = Run(interpreter, log, out, "--blocksize", str(BLOCKSIZE * entries // ENTRIES),
-              "--workers", "2").wait()
+    words = ["--blocksize", str(BLOCKSIZE * entries // ENTRIES), "--workers", "2"]
+    run = Run(interpreter, log, out, *words).wait()
     rows = {(it["file"], int(it["offset"])): it for it in rows_of(run.out)}
     wanted = {(os.path.join(folder, file), offset): expected(lines[position], digests, held)
               for file, offset, position in places}
@@ -220,6 +233,14 @@ def trial(count, interpreter, room, entries=ENTRIES):
               and not any(it["cause"] for it in rows.values()), "other sources, or a fault")
     count.row(all(it["reasons"] and not it["reasons"].startswith("not asked")
                   for it in rows.values() if it["outcome"] == "none"), "none without a reason")
+    database = os.path.join(room, "made-apart.sqlite")
+    Run(interpreter, log, out, *words, "--resume", "--sqlite", database).wait()
+    with closing(sqlite3.connect(database)) as opened:
+        joined = {*opened.execute(QUERY.search(repo.read(PAGE))[0])}
+    logged = {it["sha256"] for it in rows.values() if it["source"] == "precert_entry"}
+    wanted = {(pre, final) for pre, final in issued if pre in logged}
+    count.row(len(wanted) > len(rows) // 50 and joined == wanted,
+              f"{len(joined)} certificates issued for precertificates, {len(wanted)} were made")
     return len(rows)
 
 
