@@ -283,11 +283,11 @@ def note_lines(crate):
     """What crates.txt says of a crate, and where its contracts are."""
     listed = repo.crates()
     lines = []
-    said = [f"[Contracts](../../docs/CONTRACTS.md#{crate})."] if crate in contracts.crates() else []
+    said = [f"[Contracts](../../docs/CONTRACTS.md#{crate})"] if crate in contracts.crates() else []
     if believe.has_pages(crate):
-        said.append(f"What to believe: `python3 tools/dev/believe.py {crate}`.")
+        said.append(f"[{'w' if said else 'W'}hat to believe](../../docs/TRUST.md)")
     if said:
-        lines.append("- " + "\n  ".join(said))
+        lines.append(f"- {', '.join(said)}.")
     if listed[crate]:
         lines.append(wrapped(f"- Depends on {linked(listed[crate])}.").rstrip("\n"))
     if not crate.endswith(TOPS) and not crate.startswith(EXAMPLES):
