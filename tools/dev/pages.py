@@ -118,9 +118,48 @@ def described(crate):
     return " ".join(first.split()).replace("](../../docs/", "](")
 
 
+# The layers from the bottom up, each with its crates: a crate depends on crates of its own layer or of those below.
+LAYERS = (
+    ("Headers, devices", "asn1_core asn1_device"),
+    ("Elements, identifiers", "asn1_any asn1_oid asn1_unsigned"),
+    ("Values", "asn1_traits asn1_values asn1_strings asn1_times asn1_lists asn1_pairs asn1_tagged asn1_rs"),
+    ("Trees", "der_tree ber_tree der_parser"),
+    ("Certificates: parts", "x509_core x509_objects x509_names x509_time x509_items"),
+    ("Certificates: extension values", "x509_flags x509_policies x509_general x509_points x509_leaves x509_values x509_timestamps x509_deep"),
+    ("Certificates: whole", "x509_ext x509_certs x509_lists x509_requests x509_algorithms x509_loggers x509_validate x509_parser"),
+    ("Items, classes, names of hosts and purposes", "cert_framing cert_model host_names purpose_names"),
+    ("Graphs and judging", "cert_graph cert_groups cert_judge cert_reasons cert_purpose"),
+    ("The check", "certcheck cert_reading cert_questions cert_serving"),
+    ("The search", "x509_links certpath_rebuild certpath_typed cert_search certpath_find"),
+    ("The program", "certpath_pem certpath_files certpath_bundle certpath_why certpath_input certpath_vouchers certpath_evidence "
+                    "certpath_moment certpath_sources certpath_recheck certpath_run certpath_engine certpath_cli"),
+    ("For other languages", "certpath_c"),
+    ("Rows, tests, benches, examples", "hex_rows asn1_rows cert_rows x509_rows check_rows reasons_rows asn1_tests der_tests judge_tests "
+                                       "run_tests item_bench judge_bench workload_bench example_certificate example_own_type example_path"),
+)
+
+
+def layer_of():
+    """The layer of each crate, by its number; each crate has one, and depends on none of a layer above."""
+    found = {crate: number for number, (_, names) in enumerate(LAYERS) for crate in names.split()}
+    listed = repo.crates()
+    for crate in listed:
+        if crate not in found:
+            raise LookupError(f"LAYERS in tools/dev/pages.py has no crate {crate}")
+        for below in listed[crate]:
+            if below in listed and found[below] > found[crate]:
+                raise LookupError(f"LAYERS in tools/dev/pages.py has {crate} below {below}, on which it depends")
+    return found
+
+
 def crates():
-    """A line for each crate, in the order of crates.txt."""
-    return "".join(believe.wrapped(f"- [`{crate}`](../{note(crate)}): {described(crate)}") + "\n" for crate in repo.crates())
+    """A line for each crate, by layers, in each in the order of crates.txt."""
+    layers = layer_of()
+    parts = []
+    for number, (title, _) in enumerate(LAYERS):
+        lines = (believe.wrapped(f"- [`{it}`](../{note(it)}): {described(it)}") for it in repo.crates() if layers[it] == number)
+        parts.append(f"### {title}\n\n" + "".join(f"{line}\n" for line in lines))
+    return "\n".join(parts)
 
 
 # ---- rules
@@ -244,11 +283,11 @@ def note_lines(crate):
     """What crates.txt says of a crate, and where its contracts are."""
     listed = repo.crates()
     lines = []
-    said = [f"[Contracts](../../docs/CONTRACTS.md#{crate})."] if crate in contracts.crates() else []
+    said = [f"[Contracts](../../docs/CONTRACTS.md#{crate})"] if crate in contracts.crates() else []
     if believe.has_pages(crate):
-        said.append(f"What to believe: `python3 tools/dev/believe.py {crate}`.")
+        said.append(f"[{'w' if said else 'W'}hat to believe](../../docs/TRUST.md)")
     if said:
-        lines.append("- " + "\n  ".join(said))
+        lines.append(f"- {', '.join(said)}.")
     if listed[crate]:
         lines.append(wrapped(f"- Depends on {linked(listed[crate])}.").rstrip("\n"))
     if not crate.endswith(TOPS) and not crate.startswith(EXAMPLES):
