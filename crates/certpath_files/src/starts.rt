@@ -50,7 +50,7 @@ fn is_enough(start: &Start) -> bool
     }
 }
 
-/// What a block holds, with as many of its octets as its rows are told by.
+/// What a block holds, with as many of its octets as its rows depend on.
 ///
 /// That is all of them where the block begins with a tag in the high form, which no item does: its
 /// octets have no bound.
