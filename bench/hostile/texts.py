@@ -143,6 +143,16 @@ def bundle_parts(size):
     return [element(0x30, element(0x30, b"\x05\x00" * (size // 2 - 20)), b"\x30\x00\x03\x00")]
 
 
+@of_octets("bundle-block", "a PEM block that is no item", "bundle")
+def bundle_block(size):
+    return [pem(element(0x30, bytes(size * 3 // 4)))]
+
+
+@of_octets("bundle-high", "a PEM block whose tag has the high form and doesn't end", "bundle")
+def bundle_high(size):
+    return [pem(b"\x3f" + b"\x80" * (size * 3 // 4))]
+
+
 @of_octets("bundle-2", "items of two octets, each left out", "bundle", known=REPORTED)
 def bundle_2(size):
     return [b"\x30\x00" * (size // 2)]
