@@ -1,7 +1,7 @@
 #!/usr/bin/env python3
 """Makes of the sources the lists of docs/CRATES.md that say what a crate is and where an extension is, docs/INDEX.md, which leads
 from the sections of standards to definitions, the lists of scripts in tools/README.md, and of each crate's README.md the lines
-that say what it depends on and what runs it.
+that say where its contracts are and what runs it.
 
     python3 tools/dev/pages.py               writes them into the pages; makes a README.md if a crate has none
     python3 tools/dev/pages.py index CRATE   prints the pages of definitions of a crate, with what each defines
@@ -280,16 +280,13 @@ def wrapped(line):
 
 
 def note_lines(crate):
-    """What crates.txt says of a crate, and where its contracts are."""
-    listed = repo.crates()
+    """Where a crate's contracts are, and what runs it. What it depends on crates.txt says."""
     lines = []
     said = [f"[Contracts](../../docs/CONTRACTS.md#{crate})"] if crate in contracts.crates() else []
     if believe.has_pages(crate):
         said.append(f"[{'w' if said else 'W'}hat to believe](../../docs/TRUST.md)")
     if said:
         lines.append(f"- {', '.join(said)}.")
-    if listed[crate]:
-        lines.append(wrapped(f"- Depends on {linked(listed[crate])}.").rstrip("\n"))
     if not crate.endswith(TOPS) and not crate.startswith(EXAMPLES):
         rows = runs(crate)
         tried = f"- Rows and tests: {linked(rows)}." if rows else "- No crate of rows or tests depends on it."
