@@ -4,5 +4,7 @@ pub mod OfIssuers
 pub mod OfLists
 pub mod OfLinks
 pub mod Marks
+pub mod Listing
+pub mod Repeating
 pub mod Worked
 pub mod WorkedKeys

@@ -10,10 +10,14 @@ mod certificates;
 mod issuers;
 pub mod laws;
 pub mod laws_by;
+mod linking;
 mod links;
+mod listed;
 mod lists;
+mod repeats;
 
 pub use crate::certificates::{Unusable, has_reason, why_unusable};
 pub use crate::issuers::{NoIssuer, has_issuer_reason, why_no_issuer};
+pub use crate::linking::Linking;
 pub use crate::links::{Unlinked, why_unlinked, why_unlinked_to_anchor};
 pub use crate::lists::{Unused, has_list_reason, why_list_unused, why_list_unused_by_any};

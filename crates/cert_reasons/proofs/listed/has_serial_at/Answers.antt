@@ -1,7 +1,7 @@
 use Rattle.cert_judge.specs.Items.{IsListWith}
-use Rattle.cert_reasons.specs.Found.{HasSerial}
+use Rattle.cert_reasons.specs.Listed.{HasSerial}
 use Rattle.cert_reasons.proofs.Marks.{there_at}
-use Rattle.cert_reasons.proofs.links.has_serial_at.Goals as goal
+use Rattle.cert_reasons.proofs.listed.has_serial_at.Goals as goal
 
 pub returns-in-Some : goal.returns-in-Some
 returns-in-Some c =
