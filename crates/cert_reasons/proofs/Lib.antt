@@ -6,3 +6,6 @@ pub mod OfLinks
 pub mod Marks
 pub mod Worked
 pub mod WorkedKeys
+pub mod Reading
+pub mod Contents
+pub mod Once

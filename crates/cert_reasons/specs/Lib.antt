@@ -5,3 +5,4 @@ pub mod Lists
 pub mod Links
 pub mod Found
 pub mod Examples
+pub mod Values
