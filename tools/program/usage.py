@@ -18,7 +18,9 @@ ASKS = "BUNDLE ANCHORS VOUCHERS --target N --at MOMENT [--demand-lists] [--limit
 FORMS = {
     "path": f"""{ASKS}
                      [--host NAME] [--purpose NAME|OID]""",
-    "why": ASKS, "paths": """BUNDLE ANCHORS VOUCHERS --at MOMENT [--demand-lists] [--limit N]
+    "why": f"""{ASKS}
+                    [--host NAME] [--purpose NAME|OID]""",
+    "paths": """BUNDLE ANCHORS VOUCHERS --at MOMENT [--demand-lists] [--limit N]
                       [--evidence FILE] [--purpose NAME|OID]""",
     "recheck": """BUNDLE ANCHORS VOUCHERS EVIDENCE --at MOMENT [--demand-lists] [--limit N]
                         [--purpose NAME|OID]""",
@@ -88,7 +90,7 @@ Prints the class of each item, and the first of the shortest valid paths to an a
 none, certpath why prints the reasons.""", FILES, f"{TARGET}{MOMENT}{LIMIT}{HOST}{PURPOSE}", *ENDS),
     "why": ("""\
 Prints the answer of certpath path; then each certificate that the target leads to by names, with
-each reason why it is no part of a path; then each revocation list that isn't used, and why.""", FILES, f"{TARGET}{MOMENT}{LIMIT}", *ENDS),
+each reason why it is no part of a path; then each revocation list that isn't used, and why.""", FILES, f"{TARGET}{MOMENT}{LIMIT}{HOST}{PURPOSE}", *ENDS),
     "paths": ("""\
 Prints a line for each item of BUNDLE: the first of its shortest valid paths to an anchor, none, or
 what it is.""", FILES, f"{MOMENT}{LIMIT}{EVIDENCE}{PURPOSE}", "0 every certificate has a path", "1 some has none",

@@ -8,3 +8,6 @@ pub mod Listing
 pub mod Repeating
 pub mod Worked
 pub mod WorkedKeys
+pub mod Reading
+pub mod Contents
+pub mod Once

@@ -8,3 +8,4 @@ pub mod Linking
 pub mod Repeats
 pub mod Found
 pub mod Examples
+pub mod Values

@@ -8,10 +8,11 @@ ghost use Rattle.cert_judge.specs.declared.items.ReadItem.TheVariants.{Certifica
 ghost use Rattle.cert_reasons.specs.Linking.{HasItsLists};
 ghost use Rattle.certpath_why.specs.Reached.{ArePositions, HasSubject, IsCertificateAt};
 ghost use Rattle.certpath_why.specs.Lines.{missing_line};
-ghost use Rattle.certpath_why.specs.Why.{AreTexts, TellsUnusable, TellsNoIssuer, TellsLink, TellsAnchor, missing_lines, TellsLinks, TellsCertificate, TellsAt};
+ghost use Rattle.certpath_why.specs.Why.{AreTexts, TellsUnusable, TellsNoIssuer, TellsLink, TellsAnchor, missing_lines, TellsLinks, TellsCertificate, TellsAt, octets_at};
 ghost use Rattle.certpath_why.specs.Found.{IsFound};
 ghost use Rattle.certpath_why.specs.Appended.{Appends};
 
+use crate::demanded::{Sought, push_unmet};
 use crate::found::{Found, certificate_at};
 use crate::lines::{
     Link, push_all_no_issuer, push_all_unusable, push_link, push_missing, push_subject,
@@ -195,6 +196,7 @@ fn tell_certificate<V: Vouch>(
     text: &mut String,
     alloc: Global,
     found: &Found<'_, '_>,
+    sought: &Sought<'_, '_>,
     target: usize,
     place: usize,
     certificate: &CertificateItem<'_>,
@@ -202,10 +204,12 @@ fn tell_certificate<V: Vouch>(
     policy: &Policy,
 ) -> Result<(), OutOfMemory>
     requires known { IsFound found.now }
-    ensures { OnOk result (Appends (TellsCertificate (rules_by policy.now.moment policy.now.demand_lists (V.vouches_for vouch.now)) (map item_of found.now.items.now) (map item_of found.now.anchors.now) target place (certificate_item certificate.now) (certificate_of certificate.now)) (string_bytes text.old) (string_bytes text.new)) }
+    requires target { sought.now.target.now ≡ octets_at (map item_of found.now.items.now) target }
+    ensures { OnOk result (Appends (TellsCertificate sought.now.demand.now (rules_by policy.now.moment policy.now.demand_lists (V.vouches_for vouch.now)) (map item_of found.now.items.now) (map item_of found.now.anchors.now) target place (certificate_item certificate.now) (certificate_of certificate.now)) (string_bytes text.old) (string_bytes text.new)) }
 {
     push_subject(text, alloc, &found.labels, place, certificate.subject)?;
     tell_unusable(text, alloc, place, certificate, vouch, policy)?;
+    push_unmet(text, alloc, sought, place, certificate)?;
     tell_no_issuer(text, alloc, target, place, certificate)?;
     tell_all_links(text, alloc, found, place, certificate, vouch, policy)?;
     Ok(())
@@ -216,14 +220,16 @@ pub(crate) fn tell_at<V: Vouch>(
     text: &mut String,
     alloc: Global,
     found: &Found<'_, '_>,
+    sought: &Sought<'_, '_>,
     target: usize,
     place: usize,
     vouch: &V,
     policy: &Policy,
 ) -> Result<(), OutOfMemory>
     requires known { IsFound found.now }
+    requires target { sought.now.target.now ≡ octets_at (map item_of found.now.items.now) target }
     requires certificate { IsCertificateAt (map item_of found.now.items.now) place }
-    ensures { OnOk result (Appends (TellsAt (rules_by policy.now.moment policy.now.demand_lists (V.vouches_for vouch.now)) (map item_of found.now.items.now) (map item_of found.now.anchors.now) target place) (string_bytes text.old) (string_bytes text.new)) }
+    ensures { OnOk result (Appends (TellsAt sought.now.demand.now (rules_by policy.now.moment policy.now.demand_lists (V.vouches_for vouch.now)) (map item_of found.now.items.now) (map item_of found.now.anchors.now) target place) (string_bytes text.old) (string_bytes text.new)) }
 {
     let Some(certificate) = certificate_at(found.items, place) else {
         return Ok(());
@@ -232,6 +238,7 @@ pub(crate) fn tell_at<V: Vouch>(
         text,
         alloc,
         found,
+        sought,
         target,
         place,
         certificate,

@@ -1,6 +1,6 @@
 use Rattle.std.proofs.Common.{refl}
 use Rattle.certpath_why.proofs.Joined.{then_appended}
-use Rattle.certpath_why.proofs.why.push_why.Goals as goal
+use Rattle.certpath_why.proofs.why.push_why_by.Goals as goal
 
 pub returns : goal.returns
 returns g c =
