@@ -127,8 +127,9 @@ fn push_why_by<V: Vouch, S: Vouch>(
 /// The bounds are those of the answer's row: of an answer of `find`, exactly how far each issuer leads.
 ///
 /// The only error is out of memory; the text then ends anywhere. Certificates and lists are found by sorted
-/// maps of names; each link costs what `why_unlinked` costs, and each list what `why_list_unused_by_any`
-/// costs for the keys of its issuer's name.
+/// maps of names. Each certificate that is told costs one pass over the entries of its issuer's lists, each
+/// link what `Linking::why_unlinked` costs, and each list what `why_list_unused_by_any` costs for the keys
+/// of its issuer's name.
 pub fn push_why<V: Vouch>(
     text: &mut String,
     alloc: Global,
