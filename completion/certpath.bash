@@ -13,7 +13,7 @@ _certpath() {
     paths) words="--at --demand-lists --evidence --help --limit --purpose" ;;
     questions) words="--help --limit" ;;
     recheck) words="--at --demand-lists --help --limit --purpose" ;;
-    why) words="--at --demand-lists --help --limit --target" ;;
+    why) words="--at --demand-lists --help --host --limit --purpose --target" ;;
   esac
   _certpath_words "$word" "$words"
 }

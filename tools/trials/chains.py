@@ -27,6 +27,10 @@ commonName = optional
 {extensions}
 [user_certificates]
 onlyuser = TRUE
+[odd_names]
+DNS.1 = a.test\\, www.example.test
+DNS.2 = b.test\\nat 0 to 1 linked
+DNS.3 = c\\\\.test
 """
 BEGIN, END = "20250101000000Z", "20350101000000Z"
 AUTHORITY, NO_AUTHORITY = "basicConstraints=critical,CA:TRUE", "basicConstraints=critical,CA:FALSE"

@@ -157,10 +157,15 @@ def demand_rows(made, one, key):
     for host in ("www.example.test", "WWW.example.test.", "1.2.3.4", "[::1]"):
         rows.append(([*question, f"--host={host}"], b"", 1, front + f"host {host}\n".encode() + b"none\n" + check, b""))
     rows.append(([*question, "--host", "a.test", "--purpose", "client"], b"", 1, front + b"purpose clientAuth\nhost a.test\nnone\n" + check, b""))
+    reasons = ["why", *question[1:]]
+    linked = b"at 0 to 0 linked\nat 0 to anchor 0 linked\n"
+    unserved = b"purpose clientAuth\nhost a.test\nnone\n" + check + b"at 0 (empty)\nat 0 doesn't serve a.test: it names no host\n"
+    rows += [([*reasons, "--purpose", "server"], b"", 0, b"purpose serverAuth\n" + path + check + b"at 0 (empty)\n" + linked, b""),
+             ([*reasons, "--host", "a.test", "--purpose", "client"], b"", 1, unserved + linked, b"")]
     for host, why in BAD_HOSTS.items():
-        rows.append(([*question, f"--host={host}"], b"", 2, b"", f"bad host: {why}\n".encode()))
+        rows += [([*words, f"--host={host}"], b"", 2, b"", f"bad host: {why}\n".encode()) for words in (question, reasons)]
     for purpose, why in BAD_PURPOSES.items():
-        for words in (question, ["paths", item, item, lines, *at], ["recheck", item, item, lines, item, *at]):
+        for words in (question, reasons, ["paths", item, item, lines, *at], ["recheck", item, item, lines, item, *at]):
             rows.append(([*words, f"--purpose={purpose}"], b"", 2, b"", f"bad purpose: {why}\n".encode()))
     rows += [(asked(item, item, lines, "0", "x") + ["--host", "*"], b"", 2, b"", b"bad moment\n"),
              ([*question, "--host", "*", "--purpose", "x"], b"", 2, b"", b"bad host: it has a wildcard\n"),

@@ -76,14 +76,16 @@ class Maker:
         """A leaf whose issuer has two certificates, of which another one is at hand than the one that the leaf names."""
         return self.case(self.leaf(self.authority()), self.authority(**bundled))
 
-    def of_list(self, words=(), signer=None, **further):
-        """A chain with a list that would revoke the leaf; another certificate of the issuer's name may sign it."""
+    def of_list(self, words=(), signer=None, leaf=None, **further):
+        """A chain with a list that would revoke the leaf, which may be otherwise; another certificate of the issuer's name may sign it."""
         issuer = self.authority()
-        leaf = self.leaf(issuer)
+        leaf = self.leaf(issuer, **(leaf or {}))
         return self.case(leaf, issuer, self.chain.list(self.authority(**signer) if signer else issuer, [2], **further), words=words)
 
 
 OTHER_ID = "subjectKeyIdentifier=0102030405"
+SERVER, CLIENT, HOST = ("--purpose", "serverAuth"), ("--purpose", "client"), ("--host", "www.example.test")
+USED_BY_OTHERS, NAMES = "extendedKeyUsage=clientAuth,emailProtection", "subjectAltName={}"
 DEMANDED, ONLY_USERS = ("--demand-lists",), (ISSUER_ID, "issuingDistributionPoint=critical,@user_certificates")
 CONSTRAINED = "nameConstraints={}permitted;DNS:example.org"
 EXTENDED_USAGE, STAMPING = "extendedKeyUsage=critical,serverAuth", "extendedKeyUsage=critical,timeStamping"
@@ -121,6 +123,17 @@ def revoked_issuer(made):
 def wrong_root(made, subject):
     case = made.of_leaf()
     return case._replace(anchors=[made.chain.certificate(subject, "rsa", extensions=OF_ROOT)])
+
+
+def named(made, names, words=HOST):
+    """A chain whose leaf has these names."""
+    return made.of_leaf(extensions=(*OF_LEAF, NAMES.format(names)))._replace(words=words)
+
+
+def demanded(made, names, of_issuer, words=(*HOST, *SERVER)):
+    """A chain whose leaf has these names, and whose certificate between has further extensions."""
+    issuer = made.authority(extensions=(*OF_AUTHORITY, *of_issuer))
+    return made.case(made.leaf(issuer, extensions=(*OF_LEAF, NAMES.format(names))), issuer, words=words)
 
 
 def control_characters(made):
@@ -163,14 +176,35 @@ CASES = {
     "list that no key vouches for": lambda made: made.of_list(signer={"key": "rsa"}),
     "list that no key vouches for, demanded": lambda made: made.of_list(DEMANDED, signer={"key": "rsa"}),
     "names with control characters": control_characters,
+    "host and purpose": lambda made: demanded(made, "DNS:example.test,DNS:*.api.example.test", [USED_BY_OTHERS]),
+    "host and purpose that are met": lambda made: demanded(made, "DNS:*.example.test", ["extendedKeyUsage=anyExtendedKeyUsage"]),
+    "purpose of the leaf alone": lambda made: made.of_leaf(extensions=(*OF_LEAF, EXTENDED_USAGE))._replace(words=CLIENT),
+    "critical extended key usage, asked for": lambda made: made.of_leaf(extensions=(*OF_LEAF, EXTENDED_USAGE))._replace(words=SERVER),
+    "critical extended key usage, a host asked for": lambda made: demanded(made, "DNS:www.example.test", [EXTENDED_USAGE], HOST),
+    "purposes without a name": lambda made: made.of_leaf(extensions=(*OF_LEAF, "extendedKeyUsage=OCSPSigning,1.2.840.113556"))._replace(words=SERVER),
+    "revoked, and for another purpose": lambda made: made.of_list(SERVER, leaf={"extensions": (*OF_LEAF, USED_BY_OTHERS)}),
+    "not vouched for, and for another purpose": lambda made: made.of_leaf(digest="sha1", extensions=(*OF_LEAF, USED_BY_OTHERS))._replace(words=SERVER),
+    "critical names, asked for": lambda made: named(made, "critical,DNS:www.example.test"),
+    "critical names of an issuer": lambda made: demanded(made, "DNS:www.example.test", [NAMES.format("critical,DNS:ca.example.test")], HOST),
+    "common name alone": lambda made: made.of_leaf()._replace(words=("--host", "leaf")),
+    "names of no host": lambda made: named(made, "email:a@www.example.test,URI:https://www.example.test,RID:1.2.3"),
+    "addresses": lambda made: named(made, "IP:192.0.2.1,IP:2001:db8::1,DNS:192.0.2.2", ("--host", "192.0.2.2")),
+    "many names": lambda made: named(made, ",".join(f"DNS:h{k}.example.test" for k in range(22))),
+    "a long name": lambda made: named(made, f"DNS:{'a' * 300}.example.test,DNS:b.test"),
+    "names with a comma, a line and a backslash": lambda made: named(made, "@odd_names"),
 }
 
 
+def head(why):
+    """How many lines `why` has up to the check: those of what is demanded, the answer, and the check."""
+    return why.index("check yes") + 1
+
+
 def path_report(case, why):
-    """The report of `certpath path`, with the answer and the check that `why` begins with."""
+    """The report of `certpath path`, with what is demanded, the answer and the check that `why` begins with."""
     kinds = ["list" if it.subject is None else "cert" for it in case.bundle]
     count = len(case.anchors)
-    return [*(f"{k} {kind}" for k, kind in enumerate(kinds)), "end clean", f"anchors {count} of {count}, clean", *why[:2]]
+    return [*(f"{k} {kind}" for k, kind in enumerate(kinds)), "end clean", f"anchors {count} of {count}, clean", *why[:head(why)]]
 
 
 def tried(t, title, root, want):
@@ -188,7 +222,7 @@ def tried(t, title, root, want):
     summary = f"vouch: {counted(len(case.bundle), 'item')}, {vouched} vouched for, {counted(lines, 'line')}, {len(want.vouch)} reported"
     yield "./vouch", (status, told), (0, [*want.vouch, summary])
     words = [*files.values(), "--target", "0", "--at", AT, *case.words]
-    ends = 0 if want.why[0].startswith("path ") else 1
+    ends = 0 if want.why[head(want.why) - 2].startswith("path ") else 1
     for command, report in (("path", path_report(case, want.why)), ("why", want.why)):
         status, found, told = t.run("certpath", [command, *words])
         yield command, (status, found.decode(errors="backslashreplace").split("\n"), told), (ends, [*report, ""], [])

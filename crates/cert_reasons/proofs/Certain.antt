@@ -18,7 +18,7 @@ use Rattle.cert_reasons.specs.Order.{AreAll}
 use Rattle.cert_reasons.specs.Certificates.{HasReason, order_of}
 
 -- a position among the first k is below k
-taken : {X : Type 0} (xs : List X) (k i : ℕ) → i < length (take k xs) → i < k
+pub taken : {X : Type 0} (xs : List X) (k i : ℕ) → i < length (take k xs) → i < k
 taken xs k i lt = let le = length-take k xs in omega arith
 
 pub no_reason : (P : Identifier → Type 0) (moment : CivilTime) (c : Certificate) (r : Unusable) → IsUsable P moment c → HasReason P moment c r → ⊥

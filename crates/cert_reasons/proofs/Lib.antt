@@ -4,5 +4,10 @@ pub mod OfIssuers
 pub mod OfLists
 pub mod OfLinks
 pub mod Marks
+pub mod Listing
+pub mod Repeating
 pub mod Worked
 pub mod WorkedKeys
+pub mod Reading
+pub mod Contents
+pub mod Once

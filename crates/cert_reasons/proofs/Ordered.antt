@@ -1,6 +1,6 @@
 -- Lists of reasons, from the first on.
 use Rattle.std.specs.Prelude.{◌↔◌, ◌⊎◌}
-use Rattle.std.proofs.Common.{◌≡◌, ◌∙◌, refl, ap, sym, subst, zero, suc, ℕ, ◌+◌, ◌<◌, List, [], ◌∷◌, ◌++◌, length, length-append, arith, get_or, inl, inr}
+use Rattle.std.proofs.Common.{◌≡◌, ◌∙◌, refl, ap, sym, subst, zero, suc, ℕ, ◌+◌, ◌<◌, ◌≤◌, List, [], ◌∷◌, ◌++◌, length, length-append, arith, get_or, inl, inr}
 use Rattle.std.specs.List.{Contains, AllPairs}
 use Rattle.std.proofs.Math.ListN.{get_or-append}
 use Rattle.std.proofs.Math.Seq.{get_or-append_seam}
@@ -82,6 +82,25 @@ module _ {R : Type 0} (order : R → ℕ × ℕ) (Stands : R → Type 0) where
           | inr past ↦ let same : (order r).1 ≡ (order x).1 = omega arith in absurd (none (subst Stands (one r (pair_same (order r) (order x) e.0 same)) o.0))
         ]
       ],
+    );
+    ordered = h.ordered;
+  }
+
+  -- none between two places
+  pub up_skip : (rs : List R) (kind from to : ℕ) → from ≤ to → AreUpTo order Stands (kind, from) rs → ((r : R) → Stands r → (order r).0 ≡ kind → from ≤ (order r).1 → (order r).1 < to → ⊥) → AreUpTo order Stands (kind, to) rs
+  up_skip rs kind from to le h none = record {
+    exact = λ r. (
+      λ at. let o = (h.exact r).0 at in (o.0, elim o.1 [ inl lt ↦ inl lt | inr e ↦ let lt = e.1 in inr (e.0, omega arith) ]),
+      λ o. (h.exact r).1 (
+        o.0,
+        elim o.1 [
+          | inl lt ↦ inl lt
+          | inr e ↦ elim (cases_lt (order r).1 from) [
+            | inl less ↦ inr (e.0, less)
+            | inr past ↦ absurd (none r o.0 e.0 past e.1)
+          ]
+        ],
+      ),
     );
     ordered = h.ordered;
   }

@@ -3,5 +3,9 @@ pub mod Certificates
 pub mod Issuers
 pub mod Lists
 pub mod Links
+pub mod Listed
+pub mod Linking
+pub mod Repeats
 pub mod Found
 pub mod Examples
+pub mod Values

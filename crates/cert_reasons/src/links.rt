@@ -1,17 +1,17 @@
 //! Why a certificate is not linked to an issuer or an anchor (RFC 5280, 6.1.3).
 
-ghost use Rattle.std.specs.Prelude.{◌≡◌, ◌↔◌, ◌<◌, [], ℕ, map, length, Any, IsTrue, IfOk, OnOk, true, false};
-ghost use Rattle.cert_graph.specs.Entries.{IsAt};
-ghost use Rattle.cert_model.specs.Fields.{Entry};
+ghost use Rattle.std.specs.Prelude.{◌≡◌, ◌↔◌, [], map, Any, IsTrue, IfOk, OnOk, true, false};
+ghost use Rattle.std.specs.List.Sorted.{IsStrictlyIncreasing};
 ghost use Rattle.cert_model.specs.Octets.{name_octets};
 ghost use Rattle.cert_judge.specs.ItemGraph.{HaveSameKeyId, IsIssuedUnder, IsLink, IsAnchorLink};
-ghost use Rattle.cert_judge.specs.Items.{certificate_of, certificate_item, list_of, item_of, rules_by, IsListWith};
+ghost use Rattle.cert_judge.specs.Items.{certificate_of, certificate_item, item_of, rules_by};
 ghost use Rattle.cert_reasons.specs.Order.{AreAll, AreUpTo, behind};
 ghost use Rattle.cert_reasons.specs.Links.{HasLinkReason, link_order};
-ghost use Rattle.cert_reasons.specs.Found.{AreMarked, HasSerial, RevokesAt, HasFoundReason};
+ghost use Rattle.cert_reasons.specs.Listed.{AreListed, IsVouchedAt};
+ghost use Rattle.cert_reasons.specs.Found.{HasFoundReason};
 
-use cert_judge::{CertificateItem, Policy, ReadItem, Vouch, has_entry, is_used_item};
-use jiff::civil::DateTime;
+use crate::listed::{Listed, has_vouched, listed_among, places_below, vouched_among};
+use cert_judge::{CertificateItem, Policy, ReadItem, Vouch};
 use std::alloc::{AllocError, Global};
 
 /// Why a certificate is not linked to an issuer or anchor whose subject is its issuer. Items are counted
@@ -32,21 +32,19 @@ pub enum Unlinked {
 
 /// A name and key under which a certificate may have been issued, and whether the key identifiers agree.
 #[derive(Clone, Copy)]
-struct Signer<'b> {
-    name: &'b [u8],
-    key: &'b [u8],
-    agree: bool,
+pub(crate) struct Signer<'b> {
+    pub(crate) name: &'b [u8],
+    pub(crate) key: &'b [u8],
+    pub(crate) agree: bool,
 }
 
 /// What was found of a link: its reasons follow from it.
 #[derive(Clone, Copy)]
-struct Findings<'b, 'a> {
-    items: &'b [ReadItem<'a>],
-    /// Of each item, whether it is a list that is used.
-    used: &'b [bool],
-    serial: &'b [u8],
+struct Findings<'b> {
     vouched: bool,
     agree: bool,
+    /// The places of the lists that are used and have an entry of the serial number.
+    revoking: &'b [usize],
     /// Lists are demanded, and none is used.
     lacking: bool,
 }
@@ -59,7 +57,10 @@ fn are_equal(named: &[u8], own: &[u8]) -> bool
 
 /// Whether the key identifier that a certificate names for its issuer is the issuer's own, or one is
 /// missing.
-fn agree_on_key_id(certificate: &CertificateItem<'_>, issuer: &CertificateItem<'_>) -> bool
+pub(crate) fn agree_on_key_id(
+    certificate: &CertificateItem<'_>,
+    issuer: &CertificateItem<'_>,
+) -> bool
     ensures { IsTrue result ↔ HaveSameKeyId (certificate_of certificate.now) (certificate_of issuer.now) }
 {
     match certificate.authority_key_id {
@@ -71,126 +72,53 @@ fn agree_on_key_id(certificate: &CertificateItem<'_>, issuer: &CertificateItem<'
     }
 }
 
-/// Of each item, whether it is a list that is used under a name and key.
-fn used_marks<V: Vouch>(
-    alloc: Global,
-    items: &[ReadItem<'_>],
-    vouch: &V,
-    moment: &DateTime,
-    name: &[u8],
-    key: &[u8],
-) -> Result<Vec<bool>, AllocError>
-    ensures { IfOk result (λ used. AreMarked (V.vouches_for vouch.now) moment.now name.now key.now items.now used.items (length items.now)) }
-{
-    let mut used = Vec::new(alloc);
-    for item in items {
-        let mark = is_used_item(item, vouch, moment, name, key);
-        used.push(mark)?;
-    }
-    Ok(used)
-}
-
-fn is_marked(used: &[bool], place: usize) -> bool
-    ensures { IsTrue result ↔ IsAt used.now place (λ b. b ≡ true) }
-{
-    match used.get(place) {
-        Some(mark) => *mark,
-        None => false,
-    }
-}
-
-fn has_mark(used: &[bool]) -> bool
-    ensures { IsTrue result ↔ Any (λ b. b ≡ true) used.now }
-{
-    for mark in used {
-        if *mark {
-            return true;
-        }
-    }
-    false
-}
-
-fn has_serial(item: &ReadItem<'_>, serial: &[u8]) -> bool
-    ensures { IsTrue result ↔ IsListWith (HasSerial serial.now) item.now }
-{
-    match item {
-        ReadItem::List(list) => has_entry(&list.fields.entries, serial),
-        _ => false,
-    }
-}
-
-fn has_serial_at(items: &[ReadItem<'_>], place: usize, serial: &[u8]) -> bool
-    ensures { IsTrue result ↔ IsAt items.now place (IsListWith (HasSerial serial.now)) }
-{
-    match items.get(place) {
-        Some(item) => has_serial(item, serial),
-        None => false,
-    }
-}
-
-fn is_revoking(items: &[ReadItem<'_>], used: &[bool], place: usize, serial: &[u8]) -> bool
-    ensures { IsTrue result ↔ RevokesAt items.now used.now serial.now place }
-{
-    is_marked(used, place) && has_serial_at(items, place, serial)
-}
-
-fn has_link_reason(findings: &Findings<'_, '_>, reason: Unlinked) -> bool
-    ensures { IsTrue result ↔ HasFoundReason findings.now reason }
-{
-    match reason {
-        Unlinked::NotVouched => !findings.vouched,
-        Unlinked::KeyIdsDiffer => !findings.agree,
-        Unlinked::RevokedBy(place) => {
-            is_revoking(findings.items, findings.used, place, findings.serial)
-        }
-        Unlinked::NoUsedList => findings.lacking,
-    }
-}
-
 /// Adds a reason, where it applies.
 fn add(
     found: &mut Vec<Unlinked>,
-    findings: &Findings<'_, '_>,
+    findings: &Findings<'_>,
     reason: Unlinked,
+    applies: bool,
 ) -> Result<(), AllocError>
-    requires { AreUpTo link_order (HasFoundReason findings.now) (link_order reason) found.old.items }
+    requires applies { IsTrue applies ↔ HasFoundReason findings.now reason }
+    requires before { AreUpTo link_order (HasFoundReason findings.now) (link_order reason) found.old.items }
     ensures { OnOk result (AreUpTo link_order (HasFoundReason findings.now) (behind (link_order reason)) found.new.items) }
 {
-    if has_link_reason(findings, reason) {
+    if applies {
         found.push(reason)?;
     }
     Ok(())
 }
 
-fn add_of_link(found: &mut Vec<Unlinked>, findings: &Findings<'_, '_>) -> Result<(), AllocError>
+fn add_of_link(found: &mut Vec<Unlinked>, findings: &Findings<'_>) -> Result<(), AllocError>
     requires { AreUpTo link_order (HasFoundReason findings.now) (0, 0) found.old.items }
     ensures { OnOk result (AreUpTo link_order (HasFoundReason findings.now) (2, 0) found.new.items) }
 {
-    add(found, findings, Unlinked::NotVouched)?;
-    add(found, findings, Unlinked::KeyIdsDiffer)?;
+    add(found, findings, Unlinked::NotVouched, !findings.vouched)?;
+    add(found, findings, Unlinked::KeyIdsDiffer, !findings.agree)?;
     Ok(())
 }
 
-fn add_revoking(found: &mut Vec<Unlinked>, findings: &Findings<'_, '_>) -> Result<(), AllocError>
-    requires { AreUpTo link_order (HasFoundReason findings.now) (2, 0) found.old.items }
+fn add_revoking(found: &mut Vec<Unlinked>, findings: &Findings<'_>) -> Result<(), AllocError>
+    requires ascends { IsStrictlyIncreasing findings.now.revoking.now }
+    requires before { AreUpTo link_order (HasFoundReason findings.now) (2, 0) found.old.items }
     ensures { OnOk result (AreUpTo link_order (HasFoundReason findings.now) (3, 0) found.new.items) }
 {
-    let items = findings.items;
-    for place in 0..items.len() {
-        add(found, findings, Unlinked::RevokedBy(place))?;
+    for place in findings.revoking {
+        found.push(Unlinked::RevokedBy(*place))?;
     }
     Ok(())
 }
 
-fn add_lacking(found: &mut Vec<Unlinked>, findings: &Findings<'_, '_>) -> Result<(), AllocError>
+fn add_lacking(found: &mut Vec<Unlinked>, findings: &Findings<'_>) -> Result<(), AllocError>
     requires { AreUpTo link_order (HasFoundReason findings.now) (3, 0) found.old.items }
     ensures { OnOk result (AreUpTo link_order (HasFoundReason findings.now) (4, 0) found.new.items) }
 {
-    add(found, findings, Unlinked::NoUsedList)?;
+    add(found, findings, Unlinked::NoUsedList, findings.lacking)?;
     Ok(())
 }
 
-fn reasons_from(alloc: Global, findings: &Findings<'_, '_>) -> Result<Vec<Unlinked>, AllocError>
+fn reasons_from(alloc: Global, findings: &Findings<'_>) -> Result<Vec<Unlinked>, AllocError>
+    requires { IsStrictlyIncreasing findings.now.revoking.now }
     ensures { IfOk result (λ found. AreAll link_order (HasFoundReason findings.now) found.items) }
 {
     let mut found = Vec::new(alloc);
@@ -200,13 +128,55 @@ fn reasons_from(alloc: Global, findings: &Findings<'_, '_>) -> Result<Vec<Unlink
     Ok(found)
 }
 
-fn is_lacking(policy: &Policy, listed: bool) -> bool
-    ensures { IsTrue result ↔ ((policy.now.demand_lists ≡ true) × (listed ≡ false)) }
+/// Whether lists are demanded and a key vouches for none of some lists.
+fn is_lacking<V: Vouch>(
+    items: &[ReadItem<'_>],
+    lists: &[usize],
+    vouch: &V,
+    key: &[u8],
+    policy: &Policy,
+) -> bool
+    ensures lacking { IsTrue result → (policy.now.demand_lists ≡ true) × (Any (IsVouchedAt (V.vouches_for vouch.now) items.now key.now) lists.now → ⊥) }
+    ensures listed { result ≡ false → policy.now.demand_lists ≡ true → Any (IsVouchedAt (V.vouches_for vouch.now) items.now key.now) lists.now }
 {
-    policy.demands_lists() && !listed
+    if !policy.demands_lists() {
+        return false;
+    }
+    !has_vouched(items, lists, vouch, key)
 }
 
-fn why_unlinked_under<V: Vouch>(
+/// The reasons why a certificate is not issued under a name and key, by the lists of that name that
+/// are in force and revoke it.
+pub(crate) fn why_unlinked_under<V: Vouch>(
+    alloc: Global,
+    items: &[ReadItem<'_>],
+    certificate: &CertificateItem<'_>,
+    listed: &Listed,
+    signer: &Signer<'_>,
+    vouch: &V,
+    policy: &Policy,
+) -> Result<Vec<Unlinked>, AllocError>
+    requires { AreListed items.now policy.now.moment signer.now.name.now certificate.now.fields.serial.now listed.now }
+    ensures all { IfOk result (λ found. AreAll link_order (HasLinkReason (rules_by policy.now.moment policy.now.demand_lists (V.vouches_for vouch.now)) (map item_of items.now) (certificate_item certificate.now) (certificate_of certificate.now) signer.now.name.now signer.now.key.now (IsTrue signer.now.agree)) found.items) }
+    ensures none { name_octets (certificate_of certificate.now).issuer ≡ signer.now.name.now → IfOk result (λ found. (found.items ≡ [])
+        ↔ (IsIssuedUnder (rules_by policy.now.moment policy.now.demand_lists (V.vouches_for vouch.now)) (map item_of items.now) (certificate_item certificate.now) (certificate_of certificate.now) signer.now.name.now signer.now.key.now × IsTrue signer.now.agree)) }
+{
+    let against = vouched_among(alloc, items, &listed.revoking, vouch, signer.key)?;
+    let revoking = against.as_slice();
+    let vouched = vouch.vouches(signer.key, certificate.octets);
+    let lacking = is_lacking(items, &listed.in_force, vouch, signer.key, policy);
+    let findings = Findings {
+        vouched,
+        agree: signer.agree,
+        revoking,
+        lacking,
+    };
+    let found = reasons_from(alloc, &findings)?;
+    Ok(found)
+}
+
+/// The same by all items, among which the lists of that name are looked for.
+fn why_unlinked_among<V: Vouch>(
     alloc: Global,
     items: &[ReadItem<'_>],
     certificate: &CertificateItem<'_>,
@@ -219,19 +189,10 @@ fn why_unlinked_under<V: Vouch>(
         ↔ (IsIssuedUnder (rules_by policy.now.moment policy.now.demand_lists (V.vouches_for vouch.now)) (map item_of items.now) (certificate_item certificate.now) (certificate_of certificate.now) signer.now.name.now signer.now.key.now × IsTrue signer.now.agree)) }
 {
     let moment = policy.moment();
-    let used = used_marks(alloc, items, vouch, &moment, signer.name, signer.key)?;
-    let marks = used.as_slice();
-    let vouched = vouch.vouches(signer.key, certificate.octets);
-    let listed = has_mark(marks);
-    let findings = Findings {
-        items,
-        used: marks,
-        serial: certificate.fields.serial,
-        vouched,
-        agree: signer.agree,
-        lacking: is_lacking(policy, listed),
-    };
-    let found = reasons_from(alloc, &findings)?;
+    let serial = certificate.fields.serial;
+    let places = places_below(alloc, items.len())?;
+    let listed = listed_among(alloc, items, &places, &moment, signer.name, serial)?;
+    let found = why_unlinked_under(alloc, items, certificate, &listed, signer, vouch, policy)?;
     Ok(found)
 }
 
@@ -239,9 +200,10 @@ fn why_unlinked_under<V: Vouch>(
 /// lists among the items. Exactly those that apply, in their order; where its issuer is the issuer's
 /// subject, none exactly where it is linked.
 ///
-/// The only error is out of memory. It asks the voucher once of the certificate, and once of each list of
-/// that issuer that is in force. It costs one pass over the items, and one over the entries of each list
-/// that is used.
+/// The only error is out of memory. It asks the voucher once of the certificate, once of each list of
+/// that issuer that is in force and has an entry of its serial number, and where lists are demanded
+/// once of each that is in force. It costs one pass over the items, and one over the entries of each
+/// list of that issuer: for many issuers use [`Linking`](crate::Linking).
 pub fn why_unlinked<V: Vouch>(
     alloc: Global,
     items: &[ReadItem<'_>],
@@ -259,7 +221,7 @@ pub fn why_unlinked<V: Vouch>(
         key: issuer.key,
         agree: agree_on_key_id(certificate, issuer),
     };
-    let found = why_unlinked_under(alloc, items, certificate, &signer, vouch, policy)?;
+    let found = why_unlinked_among(alloc, items, certificate, &signer, vouch, policy)?;
     Ok(found)
 }
 
@@ -285,6 +247,6 @@ pub fn why_unlinked_to_anchor<V: Vouch>(
         key: anchor.key,
         agree: true,
     };
-    let found = why_unlinked_under(alloc, items, certificate, &signer, vouch, policy)?;
+    let found = why_unlinked_among(alloc, items, certificate, &signer, vouch, policy)?;
     Ok(found)
 }

@@ -16,7 +16,7 @@ use certpath_input::InputError;
 use certpath_recheck::{RecheckError, run_recheck_for};
 use certpath_run::{
     AllOutcome, AllSettings, AskedPurpose, Findings, Outcome, QuestionsError, RunError,
-    find_evidence_for, run_all_for, run_for, run_questions, run_why,
+    find_evidence_for, run_all_for, run_for, run_questions, run_why_for,
 };
 use certpath_sources::write_text;
 use std::alloc::Global;
@@ -210,12 +210,13 @@ fn tell_why<'a, R: Runtime + AllocGlobal>(
         Err(outcome) => return outcome,
     };
     let mut writer = WriteSink::new(io::writer(rt));
-    let answer = run_why(
+    let answer = run_why_for(
         rt.alloc(),
         &mut inputs.bundle,
         &mut inputs.anchors,
         &mut inputs.vouchers,
         &question.settings,
+        &question.demand(),
         &mut writer,
     );
     PathOutcome::Ran(files, answer)

@@ -68,9 +68,9 @@ with_host app = with_purpose (with_rule app host_rule)
 abbrev pub path_app : App
 path_app = with_host (with_question (new_app (codes "path")))
 
--- `why` with those of a question
+-- `why` with them too
 abbrev pub why_app : App
-why_app = with_question (new_app (codes "why"))
+why_app = with_host (with_question (new_app (codes "why")))
 
 -- `questions BUNDLE ANCHORS [--limit N]`
 abbrev pub questions_app : App

@@ -81,7 +81,8 @@ fn why_command<'a>(alloc: Global) -> Result<Command<'a>, AllocError>
     let why = Command::new(alloc, "why").about(
         "Prints the answer of path, and what stands in the way of a path",
     );
-    with_question(alloc, why)
+    let why = with_question(alloc, why)?;
+    with_host(alloc, why)
 }
 
 /// The command `questions`.

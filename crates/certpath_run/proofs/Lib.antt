@@ -1,4 +1,5 @@
 mod InventoryFacts
 mod ReportFacts
+mod Why
 mod Within
 mod Written

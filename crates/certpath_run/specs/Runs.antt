@@ -1,5 +1,5 @@
 -- What a run does to its readers and its writer. Where a device tells no octets, the relations say of some stream.
-use Rattle.std.specs.Prelude.{◌≡◌, ℕ, true, List, [], ◌++◌, Option}
+use Rattle.std.specs.Prelude.{◌≡◌, ℕ, true, List, [], ◌++◌, Option, None}
 use Rattle.std.specs.Io.KnownBytes.{Appends}
 use Rattle.asn1_device.specs.Counts.{AppendsFront}
 use Rattle.cert_framing.specs.Held.{Framed}
@@ -10,16 +10,19 @@ use Rattle.cert_judge.specs.Classed.{AreClassed}
 use Rattle.cert_judge.specs.ItemGraph.{graph_of_items}
 use Rattle.cert_judge.specs.Items.{rules_by}
 use Rattle.cert_judge.specs.Revoking.{Item, Rules}
+use Rattle.cert_judge.specs.Vouching.{Vouching, processing_too}
+use Rattle.cert_serving.specs.Refusing.{are_processed}
+use Rattle.cert_serving.specs.declared.permits.Permits.{Permits}
 use Rattle.certcheck.specs.declared.vouchers.Vouchers.{Vouchers}
 use Rattle.certpath_sources.specs.Inputs.{VouchesBy, HasText}
-use Rattle.certpath_sources.specs.Demands.{HoldsFor, demand_lines}
+use Rattle.certpath_sources.specs.Demands.{ArePermitsOf, HoldsFor, IfNeither, VouchesWhere, demand_lines, demanded, of_purpose, target_octets}
 use Rattle.certpath_sources.specs.declared.demand.Demand.{Demand}
 use Rattle.certpath_run.specs.declared.settings.Settings.{Settings}
 use Rattle.certpath_run.specs.declared.settings.Outcome.{Outcome}
 use Rattle.certpath_run.specs.declared.settings.Outcome.TheVariants.{Path, NoPath, NoTarget}
 use Rattle.certpath_run.specs.Report.{report_with, answer_line}
 use Rattle.certpath_sources.specs.Check.{check_line}
-use Rattle.certpath_why.specs.Why.{IsWhy}
+use Rattle.certpath_why.specs.Why.{IsWhyFor}
 
 abbrev pub kind_of : Answer → Outcome
 kind_of (answers.Path positions anchor table) = Path
@@ -41,18 +44,23 @@ pub record IsReportWith (lines : List ℕ) (r : Rules) (items anchors : Framed) 
 abbrev pub IsReport : Rules → Framed → Framed → ℕ → List ℕ → Outcome → Type 0
 IsReport = IsReportWith []
 
--- the true answer, what the check says of it: yes; and what stands in the way of a path
-pub record IsWhyReport (r : Rules) (items anchors : Framed) (target : ℕ) (text : List ℕ) (outcome : Outcome) : Type 0 where
+-- The lines of what is demanded, the true answer, what the check says of it: yes; and what stands in the way of a path. The lines of
+-- certificates are by the first rules, and the answer is by the second: these vouch for less where something is demanded.
+pub record IsWhyReportWith (demand : Demand) (r search : Rules) (items anchors : Framed) (target : ℕ) (text : List ℕ) (outcome : Outcome) : Type 0 where
   pub classed : List Item
   pub classed_anchors : List Item
   pub answer : Answer
   pub are_classed : AreClassed items.items classed
   pub anchors_are_classed : AreClassed anchors.items classed_anchors
-  pub holds : IsTrueAnswer (graph_of_items r classed classed_anchors) target answer
+  pub holds : IsTrueAnswer (graph_of_items search classed classed_anchors) target answer
   pub why : List ℕ
-  pub is_why : IsWhy r classed classed_anchors target answer why
-  pub text_is : text ≡ answer_line answer ++ (check_line true ++ why)
+  pub is_why : IsWhyFor demand r search classed classed_anchors target answer why
+  pub text_is : text ≡ demand_lines demand ++ (answer_line answer ++ (check_line true ++ why))
   pub outcome_is : outcome ≡ kind_of answer
+
+-- without a demand
+abbrev pub IsWhyReport : Rules → Framed → Framed → ℕ → List ℕ → Outcome → Type 0
+IsWhyReport r = IsWhyReportWith (of_purpose None) r r
 
 -- the inputs were read, and exactly their text was written
 pub record Writes (IsRight : Framed → Framed → Vouchers → List ℕ → Type 0) (bundle bundle' anchors anchors' vouchers vouchers' sink sink' : Option (List ℕ)) (limit : ℕ) : Type 0 where
@@ -77,3 +85,15 @@ IsReportFor settings demand outcome items anchors pairs text =
 
 abbrev pub IsWhyOn : Settings → Outcome → Framed → Framed → Vouchers → List ℕ → Type 0
 IsWhyOn settings outcome items anchors pairs text = IsWhyReport (rules_by settings.policy.moment settings.policy.demand_lists (VouchesBy pairs)) items anchors settings.target text outcome
+
+-- the pairs vouch for a key and an item, whatever is permitted, and what the permit looks at may be critical
+abbrev pub VouchesAnyWhere : Permits → Vouchers → Vouching
+VouchesAnyWhere permits pairs = processing_too (are_processed permits) (VouchesBy pairs)
+
+-- And where a purpose and a host are demanded of its path. Without a demand it is as it was; else its links are those of whatever is
+-- permitted, and its answer is that over the items that meet the demand.
+abbrev pub IsWhyReportFor : Settings → Demand → Outcome → Framed → Framed → Vouchers → List ℕ → Type 0
+IsWhyReportFor settings demand outcome items anchors pairs text =
+    IfNeither demand.purpose demand.host (IsWhyOn settings outcome items anchors pairs text)
+    ((permits : Permits) × ArePermitsOf (demanded demand (target_octets items.items settings.target)) items.items permits
+    × IsWhyReportWith demand (rules_by settings.policy.moment settings.policy.demand_lists (VouchesAnyWhere permits pairs)) (rules_by settings.policy.moment settings.policy.demand_lists (VouchesWhere permits pairs)) items anchors settings.target text outcome)

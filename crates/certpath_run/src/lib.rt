@@ -17,7 +17,7 @@ mod running_all;
 mod settings;
 
 pub use crate::asking::{ItemInput, QuestionsError, run_questions};
-pub use crate::explaining::run_why;
+pub use crate::explaining::{run_why, run_why_for};
 pub use crate::finding::{Findings, find_evidence, find_evidence_for};
 pub use crate::running::{run, run_for};
 pub use crate::running_all::{run_all, run_all_for};

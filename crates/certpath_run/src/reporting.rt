@@ -1,14 +1,18 @@
 //! What is reported of inputs that were read.
 
-ghost use Rattle.std.specs.Prelude.{◌≡◌, ◌++◌, IfOk, string_bytes};
-ghost use Rattle.cert_judge.specs.Items.{rules_by};
+ghost use Rattle.std.specs.Prelude.{◌≡◌, ◌++◌, IfOk, map, string_bytes};
+ghost use Rattle.cert_judge.specs.Classed.{AreClassed};
+ghost use Rattle.cert_judge.specs.Items.{item_of, rules_by};
+ghost use Rattle.cert_judge.specs.Vouching.{processing_too};
 ghost use Rattle.cert_model.specs.View.{time_view};
+ghost use Rattle.cert_purpose.specs.Restricting.{restricted_by};
 ghost use Rattle.cert_serving.specs.declared.permits.Permits.{Permits};
 ghost use Rattle.certpath_run.specs.Judging.{AreJudgedOf};
 ghost use Rattle.certpath_run.specs.Report.{answer_line};
 ghost use Rattle.certpath_sources.specs.Check.{check_line};
 ghost use Rattle.certpath_sources.specs.Demands.{ArePermitsOf, VouchesWhere, demanded, demand_lines, target_octets};
-ghost use Rattle.certpath_run.specs.Runs.{IsReportWith, IsReportFor, IsWhyOn};
+ghost use Rattle.certpath_sources.specs.Inputs.{VouchesBy};
+ghost use Rattle.certpath_run.specs.Runs.{IsReportWith, IsReportFor, IsWhyOn, IsWhyReportFor, IsWhyReportWith, VouchesAnyWhere};
 
 use crate::answering::{Answered, answer_on};
 use crate::judging::judged_by;
@@ -16,12 +20,11 @@ use crate::remembering::remembered_for;
 use crate::report::{push_answer, report_of};
 use crate::settings::{Outcome, Settings};
 use asn1_core::OutOfMemory;
-use cert_judge::{JudgedItem, Vouch};
-use cert_purpose::Restricted;
+use cert_judge::{JudgedItem, ReadItem, Vouch};
+use cert_purpose::{Permit, Restricted};
 use certcheck::RememberedVouchers;
-use certpath_find::judged_items;
-use certpath_sources::{Demand, Inputs, permits_of, push_check};
-use certpath_why::{push_why, read_items};
+use certpath_sources::{Demand, Inputs, permits_of, push_check, push_demand};
+use certpath_why::{push_why, push_why_for, read_items};
 use std::alloc::{AllocError, Global};
 
 /// A report, and the kind of the answer.
@@ -114,42 +117,150 @@ pub(crate) fn report_on(
     )
 }
 
-/// The lines of the answer and of what the check says.
-fn answer_text(alloc: Global, answered: &Answered) -> Result<String, AllocError>
-    ensures { IfOk result (λ text. string_bytes text ≡ answer_line answered.now.answer ++ check_line answered.now.said) }
+/// The lines of what is demanded, of the answer and of what the check says.
+fn answer_text(
+    alloc: Global,
+    demand: &Demand<'_>,
+    answered: &Answered,
+) -> Result<String, AllocError>
+    ensures { IfOk result (λ text. string_bytes text ≡ demand_lines demand.now ++ (answer_line answered.now.answer ++ check_line answered.now.said)) }
 {
     let mut text = String::new(alloc);
+    push_demand(&mut text, demand)?;
     push_answer(&mut text, &answered.answer)?;
     push_check(&mut text, answered.said)?;
     Ok(text)
 }
 
+/// Items and anchors as they are read.
+#[derive(Drop)]
+struct Both<'a> {
+    items: Vec<ReadItem<'a>>,
+    anchors: Vec<ReadItem<'a>>,
+}
+
+fn both_read<'a>(alloc: Global, inputs: &'a Inputs) -> Result<Both<'a>, OutOfMemory>
+    ensures items { IfOk result (λ both. AreClassed inputs.now.items.items (map item_of both.items.items)) }
+    ensures anchors { IfOk result (λ both. AreClassed inputs.now.anchors.items (map item_of both.anchors.items)) }
+{
+    let items = read_items(alloc, &inputs.items)?;
+    let anchors = read_items(alloc, &inputs.anchors)?;
+    Ok(Both { items, anchors })
+}
+
 /// Finds the answer, checks it, and reports what stands in the way of a path.
-pub(crate) fn why_on(
+fn why_alone<'a>(
     alloc: Global,
-    inputs: &Inputs,
+    inputs: &'a Inputs,
+    items: &[JudgedItem<'a>],
+    anchors: &[JudgedItem<'a>],
+    vouch: &RememberedVouchers<'a>,
     settings: &Settings,
 ) -> Result<Reported, OutOfMemory>
-    ensures { IfOk result (λ r. IsWhyOn settings.now r.outcome inputs.now.items inputs.now.anchors inputs.now.vouchers (string_bytes r.text)) }
+    requires items { AreJudgedOf (time_view settings.now.policy.moment) inputs.now.items.items items.now }
+    requires anchors { AreJudgedOf (time_view settings.now.policy.moment) inputs.now.anchors.items anchors.now }
+    ensures { IfOk result (λ r. IsWhyOn settings.now r.outcome inputs.now.items inputs.now.anchors vouch.now.vouchers.now (string_bytes r.text)) }
 {
-    let moment = settings.policy.moment();
-    let items = judged_items(alloc, &inputs.items, &moment)?;
-    let anchors = judged_items(alloc, &inputs.anchors, &moment)?;
-    let remembered = remembered_for(alloc, &inputs.vouchers, &items, &anchors);
-    let answered = answer_on(alloc, inputs, &items, &anchors, &remembered, settings)?;
-    let mut text = answer_text(alloc, &answered)?;
-    let read = read_items(alloc, &inputs.items)?;
-    let read_anchors = read_items(alloc, &inputs.anchors)?;
+    let demand = Demand::none();
+    let answered = answer_on(alloc, inputs, items, anchors, vouch, settings)?;
+    let mut text = answer_text(alloc, &demand, &answered)?;
+    let read = both_read(alloc, inputs)?;
     push_why(
         &mut text,
         alloc,
-        &read,
-        &read_anchors,
+        &read.items,
+        &read.anchors,
         settings.target,
         &answered.answer,
-        &remembered,
+        vouch,
         &settings.policy,
     )?;
     let outcome = answered.outcome();
     Ok(Reported { text, outcome })
+}
+
+/// Likewise of an answer whose path meets a demand.
+fn why_by<'a, P: Permit>(
+    alloc: Global,
+    inputs: &'a Inputs,
+    items: &[JudgedItem<'a>],
+    anchors: &[JudgedItem<'a>],
+    vouch: &RememberedVouchers<'a>,
+    permit: &P,
+    settings: &Settings,
+    demand: &Demand<'_>,
+) -> Result<Reported, OutOfMemory>
+    requires items { AreJudgedOf (time_view settings.now.policy.moment) inputs.now.items.items items.now }
+    requires anchors { AreJudgedOf (time_view settings.now.policy.moment) inputs.now.anchors.items anchors.now }
+    ensures { IfOk result (λ r. IsWhyReportWith demand.now
+        (rules_by settings.now.policy.moment settings.now.policy.demand_lists (processing_too (P.processes permit.now) (VouchesBy vouch.now.vouchers.now)))
+        (rules_by settings.now.policy.moment settings.now.policy.demand_lists (restricted_by (P.permits permit.now) (P.processes permit.now) (VouchesBy vouch.now.vouchers.now)))
+        inputs.now.items inputs.now.anchors settings.now.target (string_bytes r.text) r.outcome) }
+{
+    let restricted = Restricted::new(vouch, permit);
+    let answered = answer_on(alloc, inputs, items, anchors, &restricted, settings)?;
+    let mut text = answer_text(alloc, demand, &answered)?;
+    let read = both_read(alloc, inputs)?;
+    push_why_for(
+        &mut text,
+        alloc,
+        &read.items,
+        &read.anchors,
+        settings.target,
+        &answered.answer,
+        vouch,
+        permit,
+        demand,
+        &settings.policy,
+    )?;
+    let outcome = answered.outcome();
+    Ok(Reported { text, outcome })
+}
+
+/// Likewise by the items that meet the demand.
+fn why_within<'a>(
+    alloc: Global,
+    inputs: &'a Inputs,
+    items: &[JudgedItem<'a>],
+    anchors: &[JudgedItem<'a>],
+    vouch: &RememberedVouchers<'a>,
+    settings: &Settings,
+    demand: &Demand<'_>,
+) -> Result<Reported, OutOfMemory>
+    requires items { AreJudgedOf (time_view settings.now.policy.moment) inputs.now.items.items items.now }
+    requires anchors { AreJudgedOf (time_view settings.now.policy.moment) inputs.now.anchors.items anchors.now }
+    ensures { IfOk result (λ r. (permits : Permits) × ArePermitsOf (demanded demand.now (target_octets inputs.now.items.items settings.now.target)) inputs.now.items.items permits
+        × IsWhyReportWith demand.now (rules_by settings.now.policy.moment settings.now.policy.demand_lists (VouchesAnyWhere permits vouch.now.vouchers.now)) (rules_by settings.now.policy.moment settings.now.policy.demand_lists (VouchesWhere permits vouch.now.vouchers.now))
+        inputs.now.items inputs.now.anchors settings.now.target (string_bytes r.text) r.outcome) }
+{
+    let permits = permits_of(alloc, &inputs.items, settings.target, demand)?;
+    why_by(
+        alloc, inputs, items, anchors, vouch, &permits, settings, demand,
+    )
+}
+
+/// Finds the answer where something may be demanded, checks it, and reports what stands in the way of a path.
+pub(crate) fn why_on(
+    alloc: Global,
+    inputs: &Inputs,
+    settings: &Settings,
+    demand: &Demand<'_>,
+) -> Result<Reported, OutOfMemory>
+    ensures { IfOk result (λ r. IsWhyReportFor settings.now demand.now r.outcome inputs.now.items inputs.now.anchors inputs.now.vouchers (string_bytes r.text)) }
+{
+    let items = judged_by(alloc, &inputs.items, &settings.policy)?;
+    let anchors = judged_by(alloc, &inputs.anchors, &settings.policy)?;
+    let remembered = remembered_for(alloc, &inputs.vouchers, &items, &anchors);
+    if demand.is_none() {
+        return why_alone(alloc, inputs, &items, &anchors, &remembered, settings);
+    }
+    why_within(
+        alloc,
+        inputs,
+        &items,
+        &anchors,
+        &remembered,
+        settings,
+        demand,
+    )
 }

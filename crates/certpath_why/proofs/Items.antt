@@ -14,13 +14,15 @@ use Rattle.cert_model.specs.Class.{certificate, list, other}
 use Rattle.cert_judge.specs.declared.items.CertificateItem.{CertificateItem}
 use Rattle.cert_judge.specs.declared.items.ReadItem.{ReadItem}
 use Rattle.cert_judge.specs.declared.items.ReadItem.TheVariants.{Certificate as certificate_read, List as list_read, Other as other_read}
-use Rattle.cert_judge.specs.Items.{item_of, certificate_of, certificate_item}
+use Rattle.cert_judge.specs.Items.{item_of, certificate_of, certificate_item, IsListWith}
 use Rattle.cert_judge.specs.ItemGraph.{IsCertificateWith}
 use Rattle.cert_judge.specs.Revoking.{Item}
 use Rattle.cert_judge.proofs.Grouping.{element}
 use Rattle.cert_judge.proofs.Linking.{with_iff}
+use Rattle.cert_reasons.specs.Listed.{IsOf}
 use Rattle.cert_reasons.proofs.Certain.{viewed_by}
-use Rattle.certpath_why.specs.Found.{subject_place, IsCertificateRead}
+use Rattle.cert_reasons.proofs.Marks.{there_at}
+use Rattle.certpath_why.specs.Found.{subject_place, list_place, IsCertificateRead}
 use Rattle.certpath_why.specs.Reached.{HasSubject, IsCertificateAt, IsIssuerByName, ArePositions}
 
 -- what is so of a certificate that was read is so of the item at its position
@@ -89,6 +91,28 @@ shows_subject items q w = elim (cases_lt w (length items)) [
       )
 ]
 
+list_shows : (x : ReadItem) (q : List ℕ) → (shown_at Name (Some (list_place x)) ≡ Some q) ↔ IsListWith (IsOf q) x
+list_shows (certificate_read c) q = (λ e. absurd (empty e), λ h. absurd h)
+list_shows (list_read l) q = (λ e. held e, λ h. ap Some h)
+list_shows (other_read o) q = (λ e. absurd (empty e), λ h. absurd h)
+
+pub shows_list : (items : List ReadItem) (q : List ℕ) (w : ℕ) → Shows Name (map list_place items) w q ↔ IsAt items w (IsListWith (IsOf q))
+shows_list items q w = elim (cases_lt w (length items)) [
+  | inl lt ↦
+      let e = element items w lt in
+      let is : slice_get (map list_place items) w ≡ Some (list_place e.0) = slice_get-map list_place items w ∙ ap (λ o. option_map list_place o) (slice_get-get_or items w e.0 lt ∙ ap Some (sym e.1)) in
+      let one = list_shows e.0 q in
+      let there = there_at items w e.0 lt e.1 (IsListWith (IsOf q)) in (
+        λ s. there.0 (one.0 (ap (shown_at Name) (sym is) ∙ s)),
+        λ h. ap (shown_at Name) is ∙ one.1 (there.1 h),
+      )
+  | inr past ↦
+      let longer = length-map items list_place in (
+        λ s. absurd (empty (sym (ap (shown_at Name) (slice_get_past (map list_place items) w (omega arith))) ∙ s)),
+        λ h. let below = h.0 in absurd (omega arith),
+      )
+]
+
 pub positions_as : {P Q : ℕ → Type 0} (ps : List ℕ) → ((v : ℕ) → P v ↔ Q v) → ArePositions P ps → ArePositions Q ps
 positions_as ps iff h = record {
   ascends = h.ascends;
@@ -98,6 +122,10 @@ positions_as ps iff h = record {
 -- a certificate of a subject is one
 pub subject_certificate : (items : List Item) (name : List ℕ) (w : ℕ) → HasSubject items name w → IsCertificateAt items w
 subject_certificate items name w h = (h.0, λ d. let x = h.1 d in (x.0, x.1, tt))
+
+-- a certificate that was read has the subject
+pub read_subject : (items : List ReadItem) (v : ℕ) (x : CertificateItem) (name : List ℕ) → IsAt items v (λ y. y ≡ certificate_read x) → HasSubject (map item_of items) name v → name ≡ x.subject.now
+read_subject items v x name at h = sym (x.subject_is ∙ (with_read (λ d. name_octets d.subject ≡ name) items v x at).1 h)
 
 -- ---- issuers by name
 

@@ -8,3 +8,9 @@ mod Bounding
 mod Lengths
 mod Worked
 mod Keys
+mod Listing
+mod Shown
+mod Unmet
+mod Told
+mod WorkedDemands
+mod Hosting

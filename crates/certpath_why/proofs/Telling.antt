@@ -24,7 +24,9 @@ use Rattle.certpath_why.proofs.Texts.{texts_append, texts_one}
 use Rattle.cert_reasons.specs.Order.{AreAll}
 use Rattle.cert_reasons.specs.Links.{HasLinkReason, link_order}
 use Rattle.certpath_why.specs.Lines.{to_item, to_anchor, link_lines}
-use Rattle.certpath_why.specs.Why.{TellsLink, TellsAnchor, AreTexts, missing_lines, TellsLinks, TellsUnusable, TellsNoIssuer, TellsCertificate, TellsAt, TellsItem, TellsItemAt, TellsList, AreKeysOf, positions}
+use Rattle.certpath_sources.specs.declared.demand.Demand.{Demand}
+use Rattle.certpath_why.specs.Demanded.{AreDemandLines}
+use Rattle.certpath_why.specs.Why.{TellsLink, TellsAnchor, AreTexts, missing_lines, TellsLinks, TellsUnusable, TellsNoIssuer, TellsCertificate, TellsAt, TellsItem, TellsItemAt, TellsList, AreKeysOf, positions, octets_at}
 use Rattle.certpath_why.specs.Lines.{subject_line}
 use Rattle.certpath_why.specs.Appended.{Appends}
 use Rattle.certpath_why.specs.Reached.{HasSubject, ArePositions}
@@ -79,18 +81,24 @@ tells_links r items anchors v x ws hs first one two last w h a b is =
       },
     )
 
-pub tells_certificate : (r : Rules) (items anchors : List Item) (target v : ℕ) (x : CertificateItem) (first one two three last : List ℕ)
-    → one ≡ first ++ subject_line v x.subject.now → Appends (TellsUnusable r v (certificate_item x) (certificate_of x)) one two → Appends (TellsNoIssuer (nat_eq v target) v (certificate_of x)) two three
-    → Appends (TellsLinks r items anchors v (certificate_item x) (certificate_of x)) three last → Appends (TellsCertificate r items anchors target v (certificate_item x) (certificate_of x)) first last
-tells_certificate r items anchors target v x first one two three last is a b l =
+pub tells_certificate : (demand : Demand) (r : Rules) (items anchors : List Item) (own : List ℕ) (target v : ℕ) (x : CertificateItem) (first one two three four last : List ℕ)
+    → own ≡ octets_at items target
+    → one ≡ first ++ subject_line v x.subject.now → Appends (TellsUnusable r v (certificate_item x) (certificate_of x)) one two → Appends (AreDemandLines demand own v (certificate_item x) (certificate_of x)) two three
+    → Appends (TellsNoIssuer (nat_eq v target) v (certificate_of x)) three four
+    → Appends (TellsLinks r items anchors v (certificate_item x) (certificate_of x)) four last → Appends (TellsCertificate demand r items anchors target v (certificate_item x) (certificate_of x)) first last
+tells_certificate demand r items anchors own target v x first one two three four last at is a u b l =
     let c = certificate_of x in
-    let own = subject_line v (name_octets c.subject) in
-    let begun : one ≡ first ++ own = subst (λ n. one ≡ first ++ subject_line v n) x.subject_is is in (
-      own ++ (a.0 ++ (b.0 ++ l.0)),
-      then_appended first own (a.0 ++ (b.0 ++ l.0)) one last (then_appended one a.0 (b.0 ++ l.0) two last (then_appended two b.0 l.0 three last l.1 b.1) a.1) begun,
+    let subject = subject_line v (name_octets c.subject) in
+    let begun : one ≡ first ++ subject = subst (λ n. one ≡ first ++ subject_line v n) x.subject_is is in
+    let end : last ≡ three ++ (b.0 ++ l.0) = then_appended three b.0 l.0 four last l.1 b.1 in
+    let middle : last ≡ two ++ (u.0 ++ (b.0 ++ l.0)) = then_appended two u.0 (b.0 ++ l.0) three last end u.1 in (
+      subject ++ (a.0 ++ (u.0 ++ (b.0 ++ l.0))),
+      then_appended first subject (a.0 ++ (u.0 ++ (b.0 ++ l.0))) one last (then_appended one a.0 (u.0 ++ (b.0 ++ l.0)) two last middle a.1) begun,
       record {
         unusable = a.0;
         unusable_is = a.2;
+        unmet = u.0;
+        unmet_is = subst (λ o. AreDemandLines demand o v (certificate_item x) c u.0) at u.2;
         no_issuer = b.0;
         no_issuer_is = b.2;
         links = l.0;
@@ -99,12 +107,12 @@ tells_certificate r items anchors target v x first one two three last is a b l =
       },
     )
 
-pub tells_at : (r : Rules) (read : List ReadItem) (anchors : List Item) (target v : ℕ) (x : CertificateItem) (first last : List ℕ) → IsAt read v (λ y. y ≡ certificate_read x)
-    → Appends (TellsCertificate r (map item_of read) anchors target v (certificate_item x) (certificate_of x)) first last → Appends (TellsAt r (map item_of read) anchors target v) first last
-tells_at r read anchors target v x first last at t = (
+pub tells_at : (demand : Demand) (r : Rules) (read : List ReadItem) (anchors : List Item) (target v : ℕ) (x : CertificateItem) (first last : List ℕ) → IsAt read v (λ y. y ≡ certificate_read x)
+    → Appends (TellsCertificate demand r (map item_of read) anchors target v (certificate_item x) (certificate_of x)) first last → Appends (TellsAt demand r (map item_of read) anchors target v) first last
+tells_at demand r read anchors target v x first last at t = (
   t.0,
   t.1,
-  (at_read (λ y. IsCertificateWith (λ c. TellsCertificate r (map item_of read) anchors target v y c t.0) y) read v x at).0 (certificate_of x, refl, t.2),
+  (at_read (λ y. IsCertificateWith (λ c. TellsCertificate demand r (map item_of read) anchors target v y c t.0) y) read v x at).0 (certificate_of x, refl, t.2),
 )
 
 pub tells_list : (r : Rules) (items anchors : List Item) (p : ℕ) (x : ListItem) (keys : List (List ℕ)) (rs : List Unused) (first last : List ℕ) → AreKeysOf items anchors x.issuer.now keys

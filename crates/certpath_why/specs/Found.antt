@@ -14,9 +14,16 @@ subject_place (certificate_read x) = record { name = Some x.subject; key = None;
 subject_place (list_read x) = record { name = None; key = None; id = None }
 subject_place (other_read octets) = record { name = None; key = None; id = None }
 
+-- a list shows its issuer, and other items show nothing
+abbrev pub list_place : ReadItem → Place
+list_place (certificate_read x) = record { name = None; key = None; id = None }
+list_place (list_read x) = record { name = Some x.issuer; key = None; id = None }
+list_place (other_read octets) = record { name = None; key = None; id = None }
+
 -- The directories are those of the items and the anchors.
 pub record IsFound (f : Found) : Type 0 where
   pub subjects : IsDirectory (map subject_place f.items.now) f.subjects.buckets.items
+  pub lists : IsDirectory (map list_place f.items.now) f.lists.buckets.items
   pub roots : IsDirectory (map subject_place f.anchors.now) f.roots.buckets.items
 
 -- a position is marked

@@ -1,9 +1,14 @@
 pub mod Texts
 pub mod Lines
+pub mod Listed
+pub mod Uses
+pub mod Hosts
+pub mod Demanded
 pub mod Reached
 pub mod Bounds
 pub mod Why
 pub mod Laws
+pub mod Examples
 pub mod Appended
 pub mod LinkText
 pub mod Numbered

@@ -1,7 +1,7 @@
 -- What stands in the way of a path: the lines of a certificate, of a list, and the whole. A text is related
 -- to the items by the definitions of reasons, each list of which is exact and in its order. This page is to
 -- be believed.
-use Rattle.std.specs.Prelude.{◌≡◌, ◌↔◌, ◌⊎◌, ℕ, zero, suc, nat_eq, Bool, if◌then◌else◌, List, [], ◌∷◌, ◌++◌, length, Contains}
+use Rattle.std.specs.Prelude.{◌≡◌, ◌↔◌, ◌⊎◌, ℕ, zero, suc, nat_eq, Bool, if◌then◌else◌, List, [], ◌∷◌, ◌++◌, length, map, Contains, None}
 use Rattle.std.specs.List.{flat_map}
 use Rattle.cert_graph.specs.Entries.{IsAt}
 use Rattle.cert_graph.specs.declared.answer.Answer.{Answer}
@@ -19,7 +19,10 @@ use Rattle.cert_reasons.specs.Certificates.{HasReason, order_of}
 use Rattle.cert_reasons.specs.Issuers.{HasIssuerReason, issuer_order}
 use Rattle.cert_reasons.specs.Links.{HasLinkReason, link_order}
 use Rattle.cert_reasons.specs.Lists.{HasReasonAmong, list_order}
+use Rattle.certpath_sources.specs.Demands.{of_purpose, target_octets}
+use Rattle.certpath_sources.specs.declared.demand.Demand.{Demand}
 use Rattle.certpath_why.specs.Bounds.{reach_by, IsBound}
+use Rattle.certpath_why.specs.Demanded.{AreDemandLines}
 use Rattle.certpath_why.specs.Lines.{reach_lines, subject_line, unusable_line, issuer_line, missing_line, to_item, to_anchor, link_lines, list_lines}
 use Rattle.certpath_why.specs.Reached.{HasSubject, IsCertificateAt, IsFurther, ArePositions}
 
@@ -67,18 +70,24 @@ pub record TellsLinks (r : Rules) (items anchors : List Item) (v : ℕ) (x : Ite
   pub to_roots_is : AreTexts (TellsAnchor r items anchors v x c) roots to_roots
   pub text_is : text ≡ to_issuers ++ (to_roots ++ missing_lines v (name_octets c.issuer) issuers roots)
 
+-- the octets of the item at a position; none where there is none
+abbrev pub octets_at : List Item → ℕ → List ℕ
+octets_at items v = target_octets (map (λ x. x.octets) items) v
+
 -- All lines of a certificate.
-pub record TellsCertificate (r : Rules) (items anchors : List Item) (target v : ℕ) (x : Item) (c : Certificate) (text : List ℕ) : Type 0 where
+pub record TellsCertificate (demand : Demand) (r : Rules) (items anchors : List Item) (target v : ℕ) (x : Item) (c : Certificate) (text : List ℕ) : Type 0 where
   pub unusable : List ℕ
   pub unusable_is : TellsUnusable r v x c unusable
+  pub unmet : List ℕ
+  pub unmet_is : AreDemandLines demand (octets_at items target) v x c unmet
   pub no_issuer : List ℕ
   pub no_issuer_is : TellsNoIssuer (nat_eq v target) v c no_issuer
   pub links : List ℕ
   pub links_are : TellsLinks r items anchors v x c links
-  pub text_is : text ≡ subject_line v (name_octets c.subject) ++ (unusable ++ (no_issuer ++ links))
+  pub text_is : text ≡ subject_line v (name_octets c.subject) ++ (unusable ++ (unmet ++ (no_issuer ++ links)))
 
-abbrev pub TellsAt : Rules → List Item → List Item → ℕ → ℕ → List ℕ → Type 0
-TellsAt r items anchors target v text = IsAt items v (λ x. IsCertificateWith (λ c. TellsCertificate r items anchors target v x c text) x)
+abbrev pub TellsAt : Demand → Rules → List Item → List Item → ℕ → ℕ → List ℕ → Type 0
+TellsAt demand r items anchors target v text = IsAt items v (λ x. IsCertificateWith (λ c. TellsCertificate demand r items anchors target v x c text) x)
 
 -- a certificate among these has this subject and key
 abbrev pub HasKeyHere : List Item → List ℕ → List ℕ → Type 0
@@ -109,26 +118,34 @@ positions zero = []
 positions (suc k) = positions k ++ k ∷ []
 
 -- The lines of the target, where it is a certificate, and then of each further one that is reached from it; then how
--- far each of those leads whose path length, or that of an issuer above it, stands in the way.
-pub record TellsReached (r : Rules) (items anchors : List Item) (target : ℕ) (answer : Answer) (text : List ℕ) : Type 0 where
+-- far each of those leads whose path length, or that of an issuer above it, stands in the way. The lines
+-- of certificates are by the first rules, and the answer is by the second: these vouch for less where something is demanded.
+pub record TellsReached (demand : Demand) (r search : Rules) (items anchors : List Item) (target : ℕ) (answer : Answer) (text : List ℕ) : Type 0 where
   pub further : List ℕ
   pub further_are : ArePositions (IsFurther items target) further
   pub own : List ℕ
-  pub own_is : TellsAt r items anchors target target own ⊎ ((IsCertificateAt items target → ⊥) × (own ≡ []))
+  pub own_is : TellsAt demand r items anchors target target own ⊎ ((IsCertificateAt items target → ⊥) × (own ≡ []))
   pub rest : List ℕ
-  pub rest_is : AreTexts (TellsAt r items anchors target) further rest
+  pub rest_is : AreTexts (TellsAt demand r items anchors target) further rest
   pub bound : List ℕ
-  pub bound_are : ArePositions (IsBound r items target (reach_by answer)) bound
+  pub bound_are : ArePositions (IsBound search items target (reach_by answer)) bound
   pub text_is : text ≡ own ++ (rest ++ flat_map (λ v. reach_lines v (reach_by answer v)) bound)
 
 -- The whole: what is reached, and the lists that nobody uses.
-pub record IsWhy (r : Rules) (items anchors : List Item) (target : ℕ) (answer : Answer) (text : List ℕ) : Type 0 where
+pub record IsWhyFor (demand : Demand) (r search : Rules) (items anchors : List Item) (target : ℕ) (answer : Answer) (text : List ℕ) : Type 0 where
   pub reached : List ℕ
-  pub reached_is : TellsReached r items anchors target answer reached
+  pub reached_is : TellsReached demand r search items anchors target answer reached
   pub lists : List ℕ
   pub lists_are : AreTexts (TellsItemAt r items anchors) (positions (length items)) lists
   pub text_is : text ≡ reached ++ lists
 
 -- exactly those lines are appended
+abbrev pub AppendsWhyFor : Demand → Rules → Rules → List Item → List Item → ℕ → Answer → List ℕ → List ℕ → Type 0
+AppendsWhyFor demand r search items anchors target answer old new = (text : List ℕ) × (new ≡ old ++ text) × IsWhyFor demand r search items anchors target answer text
+
+-- without a demand
+abbrev pub IsWhy : Rules → List Item → List Item → ℕ → Answer → List ℕ → Type 0
+IsWhy r = IsWhyFor (of_purpose None) r r
+
 abbrev pub AppendsWhy : Rules → List Item → List Item → ℕ → Answer → List ℕ → List ℕ → Type 0
-AppendsWhy r items anchors target answer old new = (text : List ℕ) × (new ≡ old ++ text) × IsWhy r items anchors target answer text
+AppendsWhy r = AppendsWhyFor (of_purpose None) r r

@@ -6,6 +6,7 @@ ghost use Rattle.cert_graph.specs.Entries.{IsAt};
 ghost use Rattle.cert_graph.specs.declared.reach.Reach.TheVariants.{No, UpTo};
 ghost use Rattle.cert_judge.specs.ItemGraph.{IsLink};
 ghost use Rattle.cert_judge.specs.Items.{item_of, certificate_item, rules_by};
+ghost use Rattle.cert_reasons.specs.Linking.{HasItsLists};
 ghost use Rattle.certpath_why.specs.Bounds.{reach_by, IsHeldBack, IsBound};
 ghost use Rattle.certpath_why.specs.Found.{AreMarked, IsFound, IsMarked};
 ghost use Rattle.certpath_why.specs.Lines.{reach_lines};
@@ -15,7 +16,7 @@ use crate::found::{Found, certificate_at};
 use crate::marks::{marked_but, no_marks, put_mark};
 use cert_graph::{Answer, Reach, reach_at};
 use cert_judge::{CertificateItem, Policy, Vouch};
-use cert_reasons::{Unlinked, why_unlinked};
+use cert_reasons::{Linking, Unlinked};
 use std::alloc::{AllocError, Global};
 
 /// How far the issuer at a position leads by an answer's row, if there is no path.
@@ -69,24 +70,23 @@ fn is_none(reasons: &[Unlinked]) -> bool
 /// counted below it.
 fn is_held_back<V: Vouch>(
     alloc: Global,
-    found: &Found<'_, '_>,
     answer: &Answer,
-    certificate: &CertificateItem<'_>,
+    linking: &Linking<'_, '_>,
     issuer: usize,
     vouch: &V,
-    policy: &Policy,
 ) -> Result<bool, AllocError>
-    requires { HasSubject (map item_of found.now.items.now) certificate.now.issuer.now issuer }
+    requires lists { HasItsLists linking.now }
+    requires subject { HasSubject (map item_of linking.now.items.now) linking.now.certificate.now.issuer.now issuer }
     ensures { IfOk result (λ held. IsTrue held ↔ ((reach_by answer.now issuer ≡ UpTo 0)
-        × IsAt (map item_of found.now.items.now) issuer (IsLink (rules_by policy.now.moment policy.now.demand_lists (V.vouches_for vouch.now)) (map item_of found.now.items.now) (certificate_item certificate.now)))) }
+        × IsAt (map item_of linking.now.items.now) issuer (IsLink (rules_by linking.now.policy.moment linking.now.policy.demand_lists (V.vouches_for vouch.now)) (map item_of linking.now.items.now) (certificate_item linking.now.certificate.now)))) }
 {
     if !takes_none_below(reach_in(answer, issuer)) {
         return Ok(false);
     }
-    let Some(item) = certificate_at(found.items, issuer) else {
+    let Some(item) = certificate_at(linking.items(), issuer) else {
         return Ok(false);
     };
-    let reasons = why_unlinked(alloc, found.items, certificate, item, vouch, policy)?;
+    let reasons = linking.why_unlinked(alloc, item, vouch)?;
     Ok(is_none(&reasons))
 }
 
@@ -94,20 +94,19 @@ fn is_held_back<V: Vouch>(
 fn mark_among<V: Vouch>(
     marks: &mut Vec<bool>,
     alloc: Global,
-    found: &Found<'_, '_>,
     answer: &Answer,
-    certificate: &CertificateItem<'_>,
+    linking: &Linking<'_, '_>,
     issuers: &[usize],
     vouch: &V,
-    policy: &Policy,
 ) -> Result<(), AllocError>
-    requires issuers { ArePositions (HasSubject (map item_of found.now.items.now) certificate.now.issuer.now) issuers.now }
-    requires count { length marks.now.items ≡ length found.now.items.now }
+    requires lists { HasItsLists linking.now }
+    requires issuers { ArePositions (HasSubject (map item_of linking.now.items.now) linking.now.certificate.now.issuer.now) issuers.now }
+    requires count { length marks.now.items ≡ length linking.now.items.now }
     ensures { OnOk result (AreMarked (λ v. Contains issuers.now v × ((reach_by answer.now v ≡ UpTo 0)
-        × IsAt (map item_of found.now.items.now) v (IsLink (rules_by policy.now.moment policy.now.demand_lists (V.vouches_for vouch.now)) (map item_of found.now.items.now) (certificate_item certificate.now)))) marks.old.items marks.new.items) }
+        × IsAt (map item_of linking.now.items.now) v (IsLink (rules_by linking.now.policy.moment linking.now.policy.demand_lists (V.vouches_for vouch.now)) (map item_of linking.now.items.now) (certificate_item linking.now.certificate.now)))) marks.old.items marks.new.items) }
 {
     for issuer in issuers {
-        let held = is_held_back(alloc, found, answer, certificate, *issuer, vouch, policy)?;
+        let held = is_held_back(alloc, answer, linking, *issuer, vouch)?;
         if !held {
             continue;
         }
@@ -141,16 +140,8 @@ fn mark_from<V: Vouch>(
         return Ok(());
     }
     let issuers = found.issuers(certificate.issuer);
-    mark_among(
-        marks,
-        alloc,
-        found,
-        answer,
-        certificate,
-        issuers,
-        vouch,
-        policy,
-    )?;
+    let linking = found.linking(alloc, certificate, policy)?;
+    mark_among(marks, alloc, answer, &linking, issuers, vouch)?;
     Ok(())
 }
 

@@ -5,19 +5,21 @@ ghost use Rattle.cert_graph.specs.Entries.{IsAt};
 ghost use Rattle.cert_model.specs.Octets.{name_octets};
 ghost use Rattle.cert_judge.specs.Items.{item_of, certificate_of, certificate_item, rules_by};
 ghost use Rattle.cert_judge.specs.declared.items.ReadItem.TheVariants.{Certificate as certificate_read};
+ghost use Rattle.cert_reasons.specs.Linking.{HasItsLists};
 ghost use Rattle.certpath_why.specs.Reached.{ArePositions, HasSubject, IsCertificateAt};
 ghost use Rattle.certpath_why.specs.Lines.{missing_line};
-ghost use Rattle.certpath_why.specs.Why.{AreTexts, TellsUnusable, TellsNoIssuer, TellsLink, TellsAnchor, missing_lines, TellsLinks, TellsCertificate, TellsAt};
+ghost use Rattle.certpath_why.specs.Why.{AreTexts, TellsUnusable, TellsNoIssuer, TellsLink, TellsAnchor, missing_lines, TellsLinks, TellsCertificate, TellsAt, octets_at};
 ghost use Rattle.certpath_why.specs.Found.{IsFound};
 ghost use Rattle.certpath_why.specs.Appended.{Appends};
 
+use crate::demanded::{Sought, push_unmet};
 use crate::found::{Found, certificate_at};
 use crate::lines::{
     Link, push_all_no_issuer, push_all_unusable, push_link, push_missing, push_subject,
 };
 use asn1_core::OutOfMemory;
-use cert_judge::{CertificateItem, Policy, Vouch};
-use cert_reasons::{why_no_issuer, why_unlinked, why_unlinked_to_anchor, why_unusable};
+use cert_judge::{CertificateItem, Policy, ReadItem, Vouch};
+use cert_reasons::{Linking, why_no_issuer, why_unusable};
 use std::alloc::{AllocError, Global};
 
 fn tell_unusable<V: Vouch>(
@@ -63,20 +65,19 @@ fn tell_no_issuer(
 fn tell_link<V: Vouch>(
     text: &mut String,
     alloc: Global,
-    found: &Found<'_, '_>,
     place: usize,
-    certificate: &CertificateItem<'_>,
+    linking: &Linking<'_, '_>,
     issuer: usize,
     vouch: &V,
-    policy: &Policy,
 ) -> Result<(), AllocError>
-    requires { HasSubject (map item_of found.now.items.now) certificate.now.issuer.now issuer }
-    ensures { OnOk result (Appends (TellsLink (rules_by policy.now.moment policy.now.demand_lists (V.vouches_for vouch.now)) (map item_of found.now.items.now) place (certificate_item certificate.now) (certificate_of certificate.now) issuer) (string_bytes text.old) (string_bytes text.new)) }
+    requires lists { HasItsLists linking.now }
+    requires subject { HasSubject (map item_of linking.now.items.now) linking.now.certificate.now.issuer.now issuer }
+    ensures { OnOk result (Appends (TellsLink (rules_by linking.now.policy.moment linking.now.policy.demand_lists (V.vouches_for vouch.now)) (map item_of linking.now.items.now) place (certificate_item linking.now.certificate.now) (certificate_of linking.now.certificate.now) issuer) (string_bytes text.old) (string_bytes text.new)) }
 {
-    let Some(item) = certificate_at(found.items, issuer) else {
+    let Some(item) = certificate_at(linking.items(), issuer) else {
         return Ok(());
     };
-    let reasons = why_unlinked(alloc, found.items, certificate, item, vouch, policy)?;
+    let reasons = linking.why_unlinked(alloc, item, vouch)?;
     push_link(text, Link::Item(place, issuer), &reasons)?;
     Ok(())
 }
@@ -84,27 +85,17 @@ fn tell_link<V: Vouch>(
 fn tell_links<V: Vouch>(
     text: &mut String,
     alloc: Global,
-    found: &Found<'_, '_>,
     place: usize,
-    certificate: &CertificateItem<'_>,
+    linking: &Linking<'_, '_>,
     issuers: &[usize],
     vouch: &V,
-    policy: &Policy,
 ) -> Result<(), AllocError>
-    requires { ArePositions (HasSubject (map item_of found.now.items.now) certificate.now.issuer.now) issuers.now }
-    ensures { OnOk result (Appends (AreTexts (TellsLink (rules_by policy.now.moment policy.now.demand_lists (V.vouches_for vouch.now)) (map item_of found.now.items.now) place (certificate_item certificate.now) (certificate_of certificate.now)) issuers.now) (string_bytes text.old) (string_bytes text.new)) }
+    requires lists { HasItsLists linking.now }
+    requires issuers { ArePositions (HasSubject (map item_of linking.now.items.now) linking.now.certificate.now.issuer.now) issuers.now }
+    ensures { OnOk result (Appends (AreTexts (TellsLink (rules_by linking.now.policy.moment linking.now.policy.demand_lists (V.vouches_for vouch.now)) (map item_of linking.now.items.now) place (certificate_item linking.now.certificate.now) (certificate_of linking.now.certificate.now)) issuers.now) (string_bytes text.old) (string_bytes text.new)) }
 {
     for issuer in issuers {
-        tell_link(
-            text,
-            alloc,
-            found,
-            place,
-            certificate,
-            *issuer,
-            vouch,
-            policy,
-        )?;
+        tell_link(text, alloc, place, linking, *issuer, vouch)?;
     }
     Ok(())
 }
@@ -113,20 +104,20 @@ fn tell_links<V: Vouch>(
 fn tell_anchor<V: Vouch>(
     text: &mut String,
     alloc: Global,
-    found: &Found<'_, '_>,
+    anchors: &[ReadItem<'_>],
     place: usize,
-    certificate: &CertificateItem<'_>,
+    linking: &Linking<'_, '_>,
     root: usize,
     vouch: &V,
-    policy: &Policy,
 ) -> Result<(), AllocError>
-    requires { HasSubject (map item_of found.now.anchors.now) certificate.now.issuer.now root }
-    ensures { OnOk result (Appends (TellsAnchor (rules_by policy.now.moment policy.now.demand_lists (V.vouches_for vouch.now)) (map item_of found.now.items.now) (map item_of found.now.anchors.now) place (certificate_item certificate.now) (certificate_of certificate.now) root) (string_bytes text.old) (string_bytes text.new)) }
+    requires lists { HasItsLists linking.now }
+    requires subject { HasSubject (map item_of anchors.now) linking.now.certificate.now.issuer.now root }
+    ensures { OnOk result (Appends (TellsAnchor (rules_by linking.now.policy.moment linking.now.policy.demand_lists (V.vouches_for vouch.now)) (map item_of linking.now.items.now) (map item_of anchors.now) place (certificate_item linking.now.certificate.now) (certificate_of linking.now.certificate.now) root) (string_bytes text.old) (string_bytes text.new)) }
 {
-    let Some(anchor) = certificate_at(found.anchors, root) else {
+    let Some(anchor) = certificate_at(anchors, root) else {
         return Ok(());
     };
-    let reasons = why_unlinked_to_anchor(alloc, found.items, certificate, anchor, vouch, policy)?;
+    let reasons = linking.why_unlinked_to_anchor(alloc, anchor, vouch)?;
     push_link(text, Link::Anchor(place, root), &reasons)?;
     Ok(())
 }
@@ -134,18 +125,18 @@ fn tell_anchor<V: Vouch>(
 fn tell_anchors<V: Vouch>(
     text: &mut String,
     alloc: Global,
-    found: &Found<'_, '_>,
+    anchors: &[ReadItem<'_>],
     place: usize,
-    certificate: &CertificateItem<'_>,
+    linking: &Linking<'_, '_>,
     roots: &[usize],
     vouch: &V,
-    policy: &Policy,
 ) -> Result<(), AllocError>
-    requires { ArePositions (HasSubject (map item_of found.now.anchors.now) certificate.now.issuer.now) roots.now }
-    ensures { OnOk result (Appends (AreTexts (TellsAnchor (rules_by policy.now.moment policy.now.demand_lists (V.vouches_for vouch.now)) (map item_of found.now.items.now) (map item_of found.now.anchors.now) place (certificate_item certificate.now) (certificate_of certificate.now)) roots.now) (string_bytes text.old) (string_bytes text.new)) }
+    requires lists { HasItsLists linking.now }
+    requires roots { ArePositions (HasSubject (map item_of anchors.now) linking.now.certificate.now.issuer.now) roots.now }
+    ensures { OnOk result (Appends (AreTexts (TellsAnchor (rules_by linking.now.policy.moment linking.now.policy.demand_lists (V.vouches_for vouch.now)) (map item_of linking.now.items.now) (map item_of anchors.now) place (certificate_item linking.now.certificate.now) (certificate_of linking.now.certificate.now)) roots.now) (string_bytes text.old) (string_bytes text.new)) }
 {
     for root in roots {
-        tell_anchor(text, alloc, found, place, certificate, *root, vouch, policy)?;
+        tell_anchor(text, alloc, anchors, place, linking, *root, vouch)?;
     }
     Ok(())
 }
@@ -186,17 +177,17 @@ fn tell_all_links<V: Vouch>(
 {
     let issuers = found.issuers(certificate.issuer);
     let roots = found.roots(certificate.issuer);
-    tell_links(
+    let linking = found.linking(alloc, certificate, policy)?;
+    tell_links(text, alloc, place, &linking, issuers, vouch)?;
+    tell_anchors(
         text,
         alloc,
-        found,
+        found.anchors,
         place,
-        certificate,
-        issuers,
+        &linking,
+        roots,
         vouch,
-        policy,
     )?;
-    tell_anchors(text, alloc, found, place, certificate, roots, vouch, policy)?;
     tell_missing(text, alloc, found, place, certificate, issuers, roots)?;
     Ok(())
 }
@@ -205,6 +196,7 @@ fn tell_certificate<V: Vouch>(
     text: &mut String,
     alloc: Global,
     found: &Found<'_, '_>,
+    sought: &Sought<'_, '_>,
     target: usize,
     place: usize,
     certificate: &CertificateItem<'_>,
@@ -212,10 +204,12 @@ fn tell_certificate<V: Vouch>(
     policy: &Policy,
 ) -> Result<(), OutOfMemory>
     requires known { IsFound found.now }
-    ensures { OnOk result (Appends (TellsCertificate (rules_by policy.now.moment policy.now.demand_lists (V.vouches_for vouch.now)) (map item_of found.now.items.now) (map item_of found.now.anchors.now) target place (certificate_item certificate.now) (certificate_of certificate.now)) (string_bytes text.old) (string_bytes text.new)) }
+    requires target { sought.now.target.now ≡ octets_at (map item_of found.now.items.now) target }
+    ensures { OnOk result (Appends (TellsCertificate sought.now.demand.now (rules_by policy.now.moment policy.now.demand_lists (V.vouches_for vouch.now)) (map item_of found.now.items.now) (map item_of found.now.anchors.now) target place (certificate_item certificate.now) (certificate_of certificate.now)) (string_bytes text.old) (string_bytes text.new)) }
 {
     push_subject(text, alloc, &found.labels, place, certificate.subject)?;
     tell_unusable(text, alloc, place, certificate, vouch, policy)?;
+    push_unmet(text, alloc, sought, place, certificate)?;
     tell_no_issuer(text, alloc, target, place, certificate)?;
     tell_all_links(text, alloc, found, place, certificate, vouch, policy)?;
     Ok(())
@@ -226,14 +220,16 @@ pub(crate) fn tell_at<V: Vouch>(
     text: &mut String,
     alloc: Global,
     found: &Found<'_, '_>,
+    sought: &Sought<'_, '_>,
     target: usize,
     place: usize,
     vouch: &V,
     policy: &Policy,
 ) -> Result<(), OutOfMemory>
     requires known { IsFound found.now }
+    requires target { sought.now.target.now ≡ octets_at (map item_of found.now.items.now) target }
     requires certificate { IsCertificateAt (map item_of found.now.items.now) place }
-    ensures { OnOk result (Appends (TellsAt (rules_by policy.now.moment policy.now.demand_lists (V.vouches_for vouch.now)) (map item_of found.now.items.now) (map item_of found.now.anchors.now) target place) (string_bytes text.old) (string_bytes text.new)) }
+    ensures { OnOk result (Appends (TellsAt sought.now.demand.now (rules_by policy.now.moment policy.now.demand_lists (V.vouches_for vouch.now)) (map item_of found.now.items.now) (map item_of found.now.anchors.now) target place) (string_bytes text.old) (string_bytes text.new)) }
 {
     let Some(certificate) = certificate_at(found.items, place) else {
         return Ok(());
@@ -242,6 +238,7 @@ pub(crate) fn tell_at<V: Vouch>(
         text,
         alloc,
         found,
+        sought,
         target,
         place,
         certificate,

@@ -2,9 +2,11 @@
 
 ghost use Rattle.std.specs.Prelude.{◌≡◌, ◌↔◌, map, IfOk, IfSome, IsNone, IsTrue};
 ghost use Rattle.cert_graph.specs.Entries.{IsAt};
-ghost use Rattle.cert_judge.specs.Items.{item_of};
+ghost use Rattle.cert_judge.specs.Items.{item_of, IsListWith};
 ghost use Rattle.cert_judge.specs.declared.items.ReadItem.TheVariants.{Certificate as certificate_read};
-ghost use Rattle.certpath_why.specs.Found.{IsFound, IsCertificateRead, subject_place};
+ghost use Rattle.cert_reasons.specs.Listed.{IsOf};
+ghost use Rattle.cert_reasons.specs.Linking.{HasItsLists};
+ghost use Rattle.certpath_why.specs.Found.{IsFound, IsCertificateRead, subject_place, list_place};
 ghost use Rattle.certpath_why.specs.Directories.{IsDirectory};
 ghost use Rattle.certpath_why.specs.Reached.{ArePositions, HasSubject, IsCertificateAt};
 
@@ -12,16 +14,18 @@ use crate::directory::Directory;
 use crate::names::Labels;
 use asn1_core::OutOfMemory;
 use cert_groups::Place;
-use cert_judge::{CertificateItem, ReadItem};
+use cert_judge::{CertificateItem, Policy, ReadItem};
+use cert_reasons::Linking;
 use std::alloc::{AllocError, Global};
 
-/// Items and anchors, and the positions of each subject among them.
+/// Items and anchors, and the positions of each subject and of the lists of each issuer among them.
 #[derive(Drop)]
 pub(crate) struct Found<'b, 'a> {
     pub(crate) items: &'b [ReadItem<'a>],
     pub(crate) anchors: &'b [ReadItem<'a>],
     pub(crate) labels: Labels,
     subjects: Directory<'a>,
+    lists: Directory<'a>,
     roots: Directory<'a>,
 }
 
@@ -39,12 +43,41 @@ fn subject_place<'a>(item: &ReadItem<'a>) -> Place<'a>
     }
 }
 
+fn list_place<'a>(item: &ReadItem<'a>) -> Place<'a>
+    ensures { result ≡ list_place item.now }
+{
+    let name = match item {
+        ReadItem::List(list) => Some(list.issuer),
+        _ => None,
+    };
+    Place {
+        name,
+        key: None,
+        id: None,
+    }
+}
+
+/// The certificates by their subjects.
 fn directory_of<'a>(alloc: Global, items: &[ReadItem<'a>]) -> Result<Directory<'a>, AllocError>
     ensures { IfOk result (λ d. IsDirectory (map subject_place items.now) d.buckets.items) }
 {
     let mut places = Vec::with_capacity(alloc, items.len())?;
     for item in items {
         places.push(subject_place(item))?;
+    }
+    Directory::new(alloc, &places)
+}
+
+/// The lists by their issuers.
+fn directory_of_lists<'a>(
+    alloc: Global,
+    items: &[ReadItem<'a>],
+) -> Result<Directory<'a>, AllocError>
+    ensures { IfOk result (λ d. IsDirectory (map list_place items.now) d.buckets.items) }
+{
+    let mut places = Vec::with_capacity(alloc, items.len())?;
+    for item in items {
+        places.push(list_place(item))?;
     }
     Directory::new(alloc, &places)
 }
@@ -85,12 +118,14 @@ impl<'b, 'a> Found<'b, 'a> {
     {
         let labels = Labels::new(alloc)?;
         let subjects = directory_of(alloc, items)?;
+        let lists = directory_of_lists(alloc, items)?;
         let roots = directory_of(alloc, anchors)?;
         Ok(Found {
             items,
             anchors,
             labels,
             subjects,
+            lists,
             roots,
         })
     }
@@ -101,6 +136,32 @@ impl<'b, 'a> Found<'b, 'a> {
         ensures { ArePositions (HasSubject (map item_of self.now.items.now) name.now) result.now }
     {
         self.subjects.positions(name)
+    }
+
+    /// The positions of the lists of this issuer.
+    pub(crate) fn lists(&self, name: &[u8]) -> &[usize]
+        requires { IsFound self.now }
+        ensures { ArePositions (λ p. IsAt self.now.items.now p (IsListWith (IsOf name.now))) result.now }
+    {
+        self.lists.positions(name)
+    }
+
+    /// A certificate with the lists of its issuer, which tells of its links.
+    pub(crate) fn linking(
+        &self,
+        alloc: Global,
+        certificate: &'b CertificateItem<'a>,
+        policy: &Policy,
+    ) -> Result<Linking<'b, 'a>, AllocError>
+        requires { IsFound self.now }
+        ensures items { IfOk result (λ l. l.items.now ≡ self.now.items.now) }
+        ensures certificate { IfOk result (λ l. l.certificate.now ≡ certificate.now) }
+        ensures policy { IfOk result (λ l. l.policy ≡ policy.now) }
+        ensures lists { IfOk result HasItsLists }
+    {
+        let lists = self.lists(certificate.issuer);
+        let linking = Linking::new(alloc, self.items, lists, certificate, policy)?;
+        Ok(linking)
     }
 
     /// The positions of the anchors of this subject.

@@ -1,24 +1,29 @@
 //! What stands in the way of a certification path, as lines of text (RFC 5280, 6.1 and 6.3).
 //!
 //! The lines say, for each certificate that is reached from the target by the names of issuers, why it is
-//! not usable, why it may not issue others, and how it is linked. Then they name each revocation list that
-//! nobody uses. Each line is a reason of `cert_reasons`: none is missing, and none is there that does not
+//! not usable, which purpose it isn't for and which host it doesn't serve, where these are demanded, why
+//! it may not issue others, and how it is linked. Then they name each revocation list that nobody uses. Each line is a reason of `cert_reasons`: none is missing, and none is there that does not
 //! apply.
 #![tactic(auto)]
 
 mod bounds;
 mod certificates;
+mod demanded;
 mod directory;
 mod found;
+mod hosts;
 pub mod laws;
 pub mod laws_by;
 mod lines;
+mod listed;
 mod lists;
 mod marks;
 mod names;
+mod processing;
 mod reached;
+mod uses;
 mod why;
 mod words;
 
-pub use crate::why::push_why;
+pub use crate::why::{push_why, push_why_for};
 pub use cert_reading::read_items;

@@ -38,13 +38,13 @@ fn is_plain(octet: u8) -> bool
 }
 
 #[tactic(auto, using(std::proofs::lemmas::Fmt::hex_byte))]
-fn push_pair(text: &mut String, octet: u8) -> Result<(), AllocError>
+pub(crate) fn push_pair(text: &mut String, octet: u8) -> Result<(), AllocError>
     ensures { OnOk result (string_bytes text.new ≡ string_bytes text.old ++ upper_pair octet) }
 {
     write!(text, "{octet:02X}")
 }
 
-fn push_octet(text: &mut String, octet: u8) -> Result<(), AllocError>
+pub(crate) fn push_octet(text: &mut String, octet: u8) -> Result<(), AllocError>
     ensures { OnOk result (string_bytes text.new ≡ string_bytes text.old ++ escaped_octet octet) }
 {
     if is_plain(octet) {
@@ -64,7 +64,7 @@ fn push_escaped(text: &mut String, octets: &[u8]) -> Result<(), AllocError>
     Ok(())
 }
 
-fn push_hex(text: &mut String, octets: &[u8]) -> Result<(), AllocError>
+pub(crate) fn push_hex(text: &mut String, octets: &[u8]) -> Result<(), AllocError>
     ensures { OnOk result (string_bytes text.new ≡ string_bytes text.old ++ upper_hex octets.now) }
 {
     for octet in octets {

@@ -2,35 +2,43 @@
 
 ghost use Rattle.std.specs.Prelude.{◌≡◌, ◌⊎◌, OnOk, [], map, string_bytes};
 ghost use Rattle.cert_judge.specs.Items.{item_of, rules_by};
+ghost use Rattle.cert_judge.specs.Vouching.{processing_too};
+ghost use Rattle.cert_purpose.specs.Restricting.{restricted_by};
 ghost use Rattle.certpath_why.specs.Reached.{ArePositions, IsFurther, IsCertificateAt};
-ghost use Rattle.certpath_why.specs.Why.{AreTexts, TellsAt, TellsReached, AppendsWhy};
+ghost use Rattle.certpath_why.specs.Why.{AreTexts, TellsAt, TellsReached, AppendsWhy, AppendsWhyFor, octets_at};
 ghost use Rattle.certpath_why.specs.Found.{IsFound};
 ghost use Rattle.certpath_why.specs.Appended.{Appends};
 
 use crate::bounds::{bound_among, push_all_bounds};
 use crate::certificates::tell_at;
+use crate::demanded::{Sought, octets_at};
 use crate::found::{Found, is_certificate};
 use crate::lists::tell_lists;
+use crate::processing::Processing;
 use crate::reached::further_than;
 use asn1_core::OutOfMemory;
 use cert_graph::Answer;
 use cert_judge::{Policy, ReadItem, Vouch};
+use cert_purpose::{Permit, Restricted};
+use certpath_sources::Demand;
 use std::alloc::Global;
 
 fn tell_target<V: Vouch>(
     text: &mut String,
     alloc: Global,
     found: &Found<'_, '_>,
+    sought: &Sought<'_, '_>,
     target: usize,
     vouch: &V,
     policy: &Policy,
 ) -> Result<(), OutOfMemory>
     requires known { IsFound found.now }
-    ensures { OnOk result (Appends (λ own. TellsAt (rules_by policy.now.moment policy.now.demand_lists (V.vouches_for vouch.now)) (map item_of found.now.items.now) (map item_of found.now.anchors.now) target target own
+    requires target { sought.now.target.now ≡ octets_at (map item_of found.now.items.now) target }
+    ensures { OnOk result (Appends (λ own. TellsAt sought.now.demand.now (rules_by policy.now.moment policy.now.demand_lists (V.vouches_for vouch.now)) (map item_of found.now.items.now) (map item_of found.now.anchors.now) target target own
         ⊎ ((IsCertificateAt (map item_of found.now.items.now) target → ⊥) × (own ≡ []))) (string_bytes text.old) (string_bytes text.new)) }
 {
     if is_certificate(found.items, target) {
-        tell_at(text, alloc, found, target, target, vouch, policy)?;
+        tell_at(text, alloc, found, sought, target, target, vouch, policy)?;
         return Ok(());
     }
     Ok(())
@@ -40,38 +48,70 @@ fn tell_further<V: Vouch>(
     text: &mut String,
     alloc: Global,
     found: &Found<'_, '_>,
+    sought: &Sought<'_, '_>,
     target: usize,
     further: &[usize],
     vouch: &V,
     policy: &Policy,
 ) -> Result<(), OutOfMemory>
     requires known { IsFound found.now }
+    requires target { sought.now.target.now ≡ octets_at (map item_of found.now.items.now) target }
     requires further { ArePositions (IsFurther (map item_of found.now.items.now) target) further.now }
-    ensures { OnOk result (Appends (AreTexts (TellsAt (rules_by policy.now.moment policy.now.demand_lists (V.vouches_for vouch.now)) (map item_of found.now.items.now) (map item_of found.now.anchors.now) target) further.now) (string_bytes text.old) (string_bytes text.new)) }
+    ensures { OnOk result (Appends (AreTexts (TellsAt sought.now.demand.now (rules_by policy.now.moment policy.now.demand_lists (V.vouches_for vouch.now)) (map item_of found.now.items.now) (map item_of found.now.anchors.now) target) further.now) (string_bytes text.old) (string_bytes text.new)) }
 {
     for place in further {
-        tell_at(text, alloc, found, target, *place, vouch, policy)?;
+        tell_at(text, alloc, found, sought, target, *place, vouch, policy)?;
     }
     Ok(())
 }
 
-fn tell_reached<V: Vouch>(
+fn tell_reached<V: Vouch, S: Vouch>(
     text: &mut String,
     alloc: Global,
     found: &Found<'_, '_>,
+    sought: &Sought<'_, '_>,
     target: usize,
     answer: &Answer,
     vouch: &V,
+    search: &S,
     policy: &Policy,
 ) -> Result<(), OutOfMemory>
     requires known { IsFound found.now }
-    ensures { OnOk result (Appends (TellsReached (rules_by policy.now.moment policy.now.demand_lists (V.vouches_for vouch.now)) (map item_of found.now.items.now) (map item_of found.now.anchors.now) target answer.now) (string_bytes text.old) (string_bytes text.new)) }
+    requires target { sought.now.target.now ≡ octets_at (map item_of found.now.items.now) target }
+    ensures { OnOk result (Appends (TellsReached sought.now.demand.now (rules_by policy.now.moment policy.now.demand_lists (V.vouches_for vouch.now)) (rules_by policy.now.moment policy.now.demand_lists (S.vouches_for search.now)) (map item_of found.now.items.now) (map item_of found.now.anchors.now) target answer.now) (string_bytes text.old) (string_bytes text.new)) }
 {
     let further = further_than(alloc, found, target)?;
-    tell_target(text, alloc, found, target, vouch, policy)?;
-    tell_further(text, alloc, found, target, &further, vouch, policy)?;
-    let bound = bound_among(alloc, found, target, answer, &further, vouch, policy)?;
+    tell_target(text, alloc, found, sought, target, vouch, policy)?;
+    tell_further(text, alloc, found, sought, target, &further, vouch, policy)?;
+    let bound = bound_among(alloc, found, target, answer, &further, search, policy)?;
     push_all_bounds(text, answer, &bound)?;
+    Ok(())
+}
+
+/// What stands in the way, by who vouches for certificates and lists, and by the relation of the answer.
+fn push_why_by<V: Vouch, S: Vouch>(
+    text: &mut String,
+    alloc: Global,
+    items: &[ReadItem<'_>],
+    anchors: &[ReadItem<'_>],
+    target: usize,
+    answer: &Answer,
+    vouch: &V,
+    search: &S,
+    demand: &Demand<'_>,
+    policy: &Policy,
+) -> Result<(), OutOfMemory>
+    ensures { OnOk result (AppendsWhyFor demand.now (rules_by policy.now.moment policy.now.demand_lists (V.vouches_for vouch.now)) (rules_by policy.now.moment policy.now.demand_lists (S.vouches_for search.now)) (map item_of items.now) (map item_of anchors.now) target answer.now (string_bytes text.old) (string_bytes text.new)) }
+{
+    let found = Found::new(alloc, items, anchors)?;
+    let sought = Sought {
+        demand,
+        target: octets_at(items, target),
+    };
+    tell_reached(
+        text, alloc, &found, &sought, target, answer, vouch, search, policy,
+    )?;
+    tell_lists(text, alloc, &found, vouch, policy)?;
     Ok(())
 }
 
@@ -87,8 +127,9 @@ fn tell_reached<V: Vouch>(
 /// The bounds are those of the answer's row: of an answer of `find`, exactly how far each issuer leads.
 ///
 /// The only error is out of memory; the text then ends anywhere. Certificates and lists are found by sorted
-/// maps of names; each link costs what `why_unlinked` costs, and each list what `why_list_unused_by_any`
-/// costs for the keys of its issuer's name.
+/// maps of names. Each certificate that is told costs one pass over the entries of its issuer's lists, each
+/// link what `Linking::why_unlinked` costs, and each list what `why_list_unused_by_any` costs for the keys
+/// of its issuer's name.
 pub fn push_why<V: Vouch>(
     text: &mut String,
     alloc: Global,
@@ -101,8 +142,51 @@ pub fn push_why<V: Vouch>(
 ) -> Result<(), OutOfMemory>
     ensures { OnOk result (AppendsWhy (rules_by policy.now.moment policy.now.demand_lists (V.vouches_for vouch.now)) (map item_of items.now) (map item_of anchors.now) target answer.now (string_bytes text.old) (string_bytes text.new)) }
 {
-    let found = Found::new(alloc, items, anchors)?;
-    tell_reached(text, alloc, &found, target, answer, vouch, policy)?;
-    tell_lists(text, alloc, &found, vouch, policy)?;
-    Ok(())
+    let demand = Demand::none();
+    push_why_by(
+        text, alloc, items, anchors, target, answer, vouch, vouch, &demand, policy,
+    )
+}
+
+/// Likewise where a purpose may be demanded of each certificate of the path, and a host of the target (RFC
+/// 5280, 4.2.1.12; RFC 9525, 6), by a permit of the items that meet the demand. Each certificate that is
+/// reached and doesn't allow the purpose has a line that says what it is for; the target, if it doesn't serve
+/// the host, has one that says which hosts it names. Of 20 purposes or names at most, with 253 octets of each.
+///
+/// Links are those of whatever is permitted: `no voucher` is never said of a certificate that only lacks the
+/// purpose. What the permit processes may be critical. The answer has to be one of a search by
+/// `cert_purpose::Restricted` of both, and so are the bounds.
+///
+/// It costs what `push_why` does, and time and memory linear in the extensions of what is reached. Without a
+/// demand it appends what `push_why` does.
+pub fn push_why_for<V: Vouch, P: Permit>(
+    text: &mut String,
+    alloc: Global,
+    items: &[ReadItem<'_>],
+    anchors: &[ReadItem<'_>],
+    target: usize,
+    answer: &Answer,
+    vouch: &V,
+    permit: &P,
+    demand: &Demand<'_>,
+    policy: &Policy,
+) -> Result<(), OutOfMemory>
+    ensures { OnOk result (AppendsWhyFor demand.now (rules_by policy.now.moment policy.now.demand_lists (processing_too (P.processes permit.now) (V.vouches_for vouch.now)))
+        (rules_by policy.now.moment policy.now.demand_lists (restricted_by (P.permits permit.now) (P.processes permit.now) (V.vouches_for vouch.now)))
+        (map item_of items.now) (map item_of anchors.now) target answer.now (string_bytes text.old) (string_bytes text.new)) }
+{
+    let processing = Processing::new(vouch, permit);
+    let restricted = Restricted::new(vouch, permit);
+    push_why_by(
+        text,
+        alloc,
+        items,
+        anchors,
+        target,
+        answer,
+        &processing,
+        &restricted,
+        demand,
+        policy,
+    )
 }

@@ -11,7 +11,8 @@ pub returns : goal.returns
 returns g c =
     let long = length-map c.args.fields.now.extensions.items ext_view in
     let view = certificate_view c.args.fields.now in
-    let over = rw c.as_slice-extensions.ensures.value at c.loop-place-test.false in
+    let marked = rw c.deref.ensures.value at c.in_ok-repeats.ensures in
+    let count = marked.count in
     let end : length view.extensions ≤ c.loop-place.place = omega arith in
     up_next order_of (HasReason ((g.V.Vouch.vouches_for c.args.vouch.now).Processes c.args.item.now) (time_view c.args.moment.now) view) c.loop-place.found.items 2 c.loop-place.place c.loop-place.invariant
     (λ r s e. extension_place ((g.V.Vouch.vouches_for c.args.vouch.now).Processes c.args.item.now) (time_view c.args.moment.now) view r c.loop-place.place 2 s e (omega arith) end)

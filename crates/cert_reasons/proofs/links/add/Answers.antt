@@ -7,8 +7,8 @@ use Rattle.cert_reasons.proofs.links.add.Goals as goal
 
 pub returns-in_ok-push : goal.returns-in_ok-push
 returns-in_ok-push c =
-    rw c.in_ok-push.ensures.items (up_more link_order (HasFoundReason c.args.findings.now) c.args.found.now.items c.args.reason (λ r e. same_reason r c.args.reason e) c.requires (c.has_link_reason.ensures.0 c.if-has_link_reason.true))
+    rw c.in_ok-push.ensures.items (up_more link_order (HasFoundReason c.args.findings.now) c.args.found.now.items c.args.reason (λ r e. same_reason r c.args.reason e) c.requires.before (c.requires.applies.0 c.if-applies.true))
 
-pub returns-else-has_link_reason : goal.returns-else-has_link_reason
-returns-else-has_link_reason c =
-    up_same link_order (HasFoundReason c.args.findings.now) c.args.found.now.items c.args.reason (λ r e. same_reason r c.args.reason e) c.requires (λ s. not_both _ (c.has_link_reason.ensures.1 s) c.if-has_link_reason.false)
+pub returns-else-applies : goal.returns-else-applies
+returns-else-applies c =
+    up_same link_order (HasFoundReason c.args.findings.now) c.args.found.now.items c.args.reason (λ r e. same_reason r c.args.reason e) c.requires.before (λ s. not_both _ (c.requires.applies.1 s) c.if-applies.false)

@@ -1,11 +1,12 @@
-use Rattle.std.proofs.Common.{◌≤◌, length, arith}
-use Rattle.cert_reasons.specs.Found.{HasFoundReason}
-use Rattle.cert_reasons.specs.Links.{link_order}
-use Rattle.cert_reasons.proofs.Ordered.{up_next}
-use Rattle.cert_reasons.proofs.OfLinks.{item_place}
+use Rattle.std.proofs.Common.{get_or}
+use Rattle.cert_reasons.proofs.OfLinks.{revoked_none, revoked_more, revoked_all}
 use Rattle.cert_reasons.proofs.links.add_revoking.Goals as goal
 
+pub loop-place-init : goal.loop-place-init
+loop-place-init c = revoked_none c.args.findings.now c.args.found.now.items c.requires.before
+
+pub loop-place-preserved : goal.loop-place-preserved
+loop-place-preserved c = rw c.in_ok-push.ensures.items (revoked_more c.args.findings.now c.loop-place.place-index c.loop-place.found.items c.requires.ascends c.loop-place-test.true c.loop-place.invariant)
+
 pub returns : goal.returns
-returns c =
-    let end : length c.args.findings.now.items.now ≤ c.loop-place.place = omega arith in
-    up_next link_order (HasFoundReason c.args.findings.now) c.loop-place.found.items 2 c.loop-place.place c.loop-place.invariant (λ r s e. item_place c.args.findings.now r c.loop-place.place s e end)
+returns c = revoked_all c.args.findings.now c.loop-place.place-index c.loop-place.found.items c.loop-place-test.false c.loop-place.invariant

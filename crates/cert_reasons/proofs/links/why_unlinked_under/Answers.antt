@@ -1,12 +1,15 @@
-use Rattle.std.specs.Prelude.{IsTrue}
-use Rattle.std.proofs.Common.{map, refl, length}
+use Rattle.std.specs.Prelude.{◌≡◌, ◌↔◌, IsTrue}
+use Rattle.std.proofs.Common.{map, refl, List, ℕ, true, false}
+use Rattle.std.specs.List.{Any, Contains}
 use Rattle.cert_judge.specs.Items.{certificate_of, certificate_item, item_of, rules_by}
 use Rattle.cert_judge.specs.Revoking.{HasUsedList}
 use Rattle.cert_reasons.specs.declared.links.Findings.{Findings}
 use Rattle.cert_reasons.specs.declared.links.Unlinked.{Unlinked}
-use Rattle.cert_reasons.specs.Found.{AreMarked, HasFoundReason}
+use Rattle.cert_reasons.specs.Found.{HasFoundReason}
 use Rattle.cert_reasons.specs.Links.{HasLinkReason, link_order}
-use Rattle.cert_reasons.proofs.Marks.{listed_iff, found_iff, linked, lacking_iff}
+use Rattle.cert_reasons.specs.Listed.{ArePlaces, IsVouchedAt}
+use Rattle.cert_reasons.proofs.Listing.{used_iff, found_iff, lacking_iff, there_demanded}
+use Rattle.cert_reasons.proofs.Marks.{linked}
 use Rattle.cert_reasons.proofs.OfLinks.{no_reason}
 use Rattle.cert_reasons.proofs.Ordered.{all_as, empty_iff}
 use Rattle.cert_reasons.proofs.links.why_unlinked_under.Goals as goal
@@ -17,14 +20,17 @@ returns-clause-all g c =
     let p = c.args.policy.now in
     let signer = c.args.signer.now in
     let xs = c.args.items.now in
+    let l = c.args.listed.now in
     let x = c.args.certificate.now in
     let r = rules_by p.moment p.demand_lists V in
-    let marks = c.as_slice-marks.result in
-    let f : Findings = record { items = c.args.items; used = marks; serial = x.fields.serial; vouched = c.vouches-vouched.result; agree = signer.agree; lacking = c.is_lacking.result } in
-    let marked : AreMarked V p.moment signer.name.now signer.key.now xs marks.now (length xs) = rw c.as_slice-marks.ensures.value (rw c.moment-moment.ensures at c.in_ok-used.ensures) in
-    let listed = listed_iff V p.moment p.demand_lists signer.name.now signer.key.now xs marks.now c.has_mark-listed.result marked c.has_mark-listed.ensures in
-    let lacking = lacking_iff p.demand_lists p.demand_lists c.has_mark-listed.result c.is_lacking.result (HasUsedList r (map item_of xs) signer.name.now signer.key.now) refl listed c.is_lacking.ensures in
-    let same = found_iff V p.moment p.demand_lists signer.name.now signer.key.now f (certificate_item x) (certificate_of x) refl c.vouches-vouched.ensures marked lacking in
+    let against = c.as_slice-revoking.result in
+    let f : Findings = record { vouched = c.vouches-vouched.result; agree = signer.agree; revoking = against; lacking = c.is_lacking-lacking.result } in
+    let C = IsVouchedAt V xs signer.key.now in
+    let revoking : ArePlaces (λ q. Contains l.revoking.items q × C q) against.now = rw c.as_slice-revoking.ensures.value (rw c.deref.ensures.value at c.in_ok-against.ensures) in
+    let used = used_iff V p.moment p.demand_lists signer.name.now signer.key.now xs l.in_force.items c.requires.in_force in
+    let lacking = lacking_iff c.is_lacking-lacking.result (p.demand_lists ≡ true) (Any C l.in_force.items) (HasUsedList r (map item_of xs) signer.name.now signer.key.now) used
+        (rw c.deref-2.ensures.value at c.is_lacking-lacking.ensures.lacking) (rw c.deref-2.ensures.value at c.is_lacking-lacking.ensures.listed) in
+    let same = found_iff V p.moment p.demand_lists signer.name.now signer.key.now f xs l (certificate_item x) (certificate_of x) c.requires c.vouches-vouched.ensures revoking lacking in
     let Reason : Unlinked → Type 0 = HasLinkReason r (map item_of xs) (certificate_item x) (certificate_of x) signer.name.now signer.key.now (IsTrue signer.agree) in
     all_as link_order (HasFoundReason f) Reason c.in_ok-found.found.items c.in_ok-found.ensures same
 
@@ -34,17 +40,23 @@ returns-clause-none g c = λ named.
     let p = c.args.policy.now in
     let signer = c.args.signer.now in
     let xs = c.args.items.now in
+    let l = c.args.listed.now in
     let x = c.args.certificate.now in
     let r = rules_by p.moment p.demand_lists V in
-    let marks = c.as_slice-marks.result in
-    let f : Findings = record { items = c.args.items; used = marks; serial = x.fields.serial; vouched = c.vouches-vouched.result; agree = signer.agree; lacking = c.is_lacking.result } in
-    let marked : AreMarked V p.moment signer.name.now signer.key.now xs marks.now (length xs) = rw c.as_slice-marks.ensures.value (rw c.moment-moment.ensures at c.in_ok-used.ensures) in
-    let listed = listed_iff V p.moment p.demand_lists signer.name.now signer.key.now xs marks.now c.has_mark-listed.result marked c.has_mark-listed.ensures in
-    let lacking = lacking_iff p.demand_lists p.demand_lists c.has_mark-listed.result c.is_lacking.result (HasUsedList r (map item_of xs) signer.name.now signer.key.now) refl listed c.is_lacking.ensures in
-    let same = found_iff V p.moment p.demand_lists signer.name.now signer.key.now f (certificate_item x) (certificate_of x) refl c.vouches-vouched.ensures marked lacking in
+    let against = c.as_slice-revoking.result in
+    let f : Findings = record { vouched = c.vouches-vouched.result; agree = signer.agree; revoking = against; lacking = c.is_lacking-lacking.result } in
+    let C = IsVouchedAt V xs signer.key.now in
+    let revoking : ArePlaces (λ q. Contains l.revoking.items q × C q) against.now = rw c.as_slice-revoking.ensures.value (rw c.deref.ensures.value at c.in_ok-against.ensures) in
+    let used = used_iff V p.moment p.demand_lists signer.name.now signer.key.now xs l.in_force.items c.requires.in_force in
+    let yes = rw c.deref-2.ensures.value at c.is_lacking-lacking.ensures.lacking in
+    let no = rw c.deref-2.ensures.value at c.is_lacking-lacking.ensures.listed in
+    let Has = HasUsedList r (map item_of xs) signer.name.now signer.key.now in
+    let lacking = lacking_iff c.is_lacking-lacking.result (p.demand_lists ≡ true) (Any C l.in_force.items) Has used yes no in
+    let same = found_iff V p.moment p.demand_lists signer.name.now signer.key.now f xs l (certificate_item x) (certificate_of x) c.requires c.vouches-vouched.ensures revoking lacking in
     let Reason : Unlinked → Type 0 = HasLinkReason r (map item_of xs) (certificate_item x) (certificate_of x) signer.name.now signer.key.now (IsTrue signer.agree) in
     let all = all_as link_order (HasFoundReason f) Reason c.in_ok-found.found.items c.in_ok-found.ensures same in
     let empty = empty_iff link_order Reason c.in_ok-found.found.items all in (
-      λ e. linked V p.moment p.demand_lists (map item_of xs) (certificate_item x) (certificate_of x) signer.name.now signer.key.now c.vouches-vouched.result signer.agree c.has_mark-listed.result named c.vouches-vouched.ensures listed (empty.0 e),
+      λ e. linked V p.moment p.demand_lists (map item_of xs) (certificate_item x) (certificate_of x) signer.name.now signer.key.now c.vouches-vouched.result signer.agree named c.vouches-vouched.ensures
+          (there_demanded c.is_lacking-lacking.result (p.demand_lists ≡ true) (Any C l.in_force.items) Has used yes no) (empty.0 e),
       λ i. empty.1 (λ reason s. no_reason r (map item_of xs) (certificate_item x) (certificate_of x) signer.name.now signer.key.now (IsTrue signer.agree) reason i.0 i.1 s),
     )

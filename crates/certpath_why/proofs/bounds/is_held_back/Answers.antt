@@ -1,9 +1,14 @@
 use Rattle.std.proofs.Common.{◌≡◌, ◌∙◌, sym, [], map, refl}
 use Rattle.cert_judge.specs.Items.{item_of, rules_by}
 use Rattle.cert_judge.proofs.Mapped.{not_both}
-use Rattle.certpath_why.proofs.Items.{none_read, subject_certificate}
+use Rattle.certpath_why.proofs.Items.{none_read, read_subject, subject_certificate}
 use Rattle.certpath_why.proofs.Bounding.{link_there}
 use Rattle.certpath_why.proofs.bounds.is_held_back.Goals as goal
+
+pub why_unlinked-requires-clause-issuer : goal.why_unlinked-requires-clause-issuer
+why_unlinked-requires-clause-issuer g c =
+    let l = c.args.linking.now in
+    read_subject l.items.now c.args.issuer c.in-Some.item.now l.certificate.now.issuer.now (rw c.items.ensures at c.in-Some.ensures.found) c.requires.subject
 
 pub returns-then-not-takes_none_below : goal.returns-then-not-takes_none_below
 returns-then-not-takes_none_below g c =
@@ -11,11 +16,12 @@ returns-then-not-takes_none_below g c =
 
 pub returns-in_default : goal.returns-in_default
 returns-in_default g c =
-    let items = c.args.found.now.items.now in
-    absurd (none_read items c.args.issuer (c.in_default.ensures.only refl) (subject_certificate (map item_of items) c.args.certificate.now.issuer.now c.args.issuer c.requires))
+    let l = c.args.linking.now in
+    absurd (none_read l.items.now c.args.issuer (rw c.items.ensures at (c.in_default.ensures.only refl)) (subject_certificate (map item_of l.items.now) l.certificate.now.issuer.now c.args.issuer c.requires.subject))
 
 pub returns : goal.returns
 returns g c =
-    let there = link_there (rules_by c.args.policy.now.moment c.args.policy.now.demand_lists (g.V.Vouch.vouches_for c.args.vouch.now)) c.args.found.now.items.now c.args.certificate.now c.in-Some.item.now c.args.issuer (c.in_ok-reasons.reasons.items ≡ []) c.in-Some.ensures.found c.requires c.in_ok-reasons.ensures.none in
+    let l = c.args.linking.now in
+    let there = link_there (rules_by l.policy.moment l.policy.demand_lists (g.V.Vouch.vouches_for c.args.vouch.now)) l.items.now l.certificate.now c.in-Some.item.now c.args.issuer (c.in_ok-reasons.reasons.items ≡ []) (rw c.items.ensures at c.in-Some.ensures.found) c.requires.subject (λ same. c.in_ok-reasons.ensures.none) in
     let none = rw c.deref.ensures.value at c.is_none.ensures in
     (λ e. (sym c.reach_in.ensures ∙ c.takes_none_below.ensures.0 c.if-not-takes_none_below.false, there.0 (none.0 e)), λ h. none.1 (there.1 h.1))

@@ -10,4 +10,4 @@ use Rattle.certpath_why.proofs.bounds.mark_among.Given as goal
 
 abbrev pub invariant-loop-issuer : goal.invariant-loop-issuer
 invariant-loop-issuer g l = AreMarked (λ v. Contains (take l.issuer-index l.issuers) v × ((reach_by l.answer v ≡ UpTo 0)
-    × IsAt (map item_of l.found.items.now) v (IsLink (rules_by l.policy.moment l.policy.demand_lists (g.V.Vouch.vouches_for l.vouch)) (map item_of l.found.items.now) (certificate_item l.certificate)))) l.initial.marks.items l.marks.items
+    × IsAt (map item_of l.linking.items.now) v (IsLink (rules_by l.linking.policy.moment l.linking.policy.demand_lists (g.V.Vouch.vouches_for l.vouch)) (map item_of l.linking.items.now) (certificate_item l.linking.certificate.now)))) l.initial.marks.items l.marks.items

@@ -20,9 +20,15 @@ pub returns-then-not-is_counted : goal.returns-then-not-is_counted
 returns-then-not-is_counted g c =
     marks_none (IsHeldBack (rules_by c.args.policy.now.moment c.args.policy.now.demand_lists (g.V.Vouch.vouches_for c.args.vouch.now)) (map item_of c.args.found.now.items.now) (reach_by c.args.answer.now) c.args.place) c.args.marks.now.items (not_counted (rules_by c.args.policy.now.moment c.args.policy.now.demand_lists (g.V.Vouch.vouches_for c.args.vouch.now)) c.args.found.now.items.now (reach_by c.args.answer.now) c.args.place c.in-Some.certificate.now c.in-Some.ensures.found (λ n. not_both _ (c.is_counted.ensures.1 n) c.if-not-is_counted.true))
 
+pub mark_among-requires-clause-issuers : goal.mark_among-requires-clause-issuers
+mark_among-requires-clause-issuers g c = rw (c.in_ok-linking.ensures.items, c.in_ok-linking.ensures.certificate) c.issuers-issuers.ensures
+
+pub mark_among-requires-clause-count : goal.mark_among-requires-clause-count
+mark_among-requires-clause-count g c = rw c.in_ok-linking.ensures.items c.requires.count
+
 pub returns : goal.returns
 returns g c =
     marks_as (λ v. Contains c.issuers-issuers.result.now v × ((reach_by c.args.answer.now v ≡ UpTo 0) × IsAt (map item_of c.args.found.now.items.now) v (IsLink (rules_by c.args.policy.now.moment c.args.policy.now.demand_lists (g.V.Vouch.vouches_for c.args.vouch.now)) (map item_of c.args.found.now.items.now) (certificate_item c.in-Some.certificate.now))))
     (IsHeldBack (rules_by c.args.policy.now.moment c.args.policy.now.demand_lists (g.V.Vouch.vouches_for c.args.vouch.now)) (map item_of c.args.found.now.items.now) (reach_by c.args.answer.now) c.args.place) c.args.marks.now.items c.mark_among.new.marks.items
     (held_iff (rules_by c.args.policy.now.moment c.args.policy.now.demand_lists (g.V.Vouch.vouches_for c.args.vouch.now)) c.args.found.now.items.now (reach_by c.args.answer.now) c.args.place c.in-Some.certificate.now c.issuers-issuers.result.now c.in-Some.ensures.found (sym c.reach_in.ensures ∙ c.leads_nowhere.ensures.0 c.if-not-leads_nowhere.false)
-    (c.is_counted.ensures.0 c.if-not-is_counted.false) c.issuers-issuers.ensures) c.in_ok-mark_among.ensures
+    (c.is_counted.ensures.0 c.if-not-is_counted.false) c.issuers-issuers.ensures) (rw (c.in_ok-linking.ensures.items, c.in_ok-linking.ensures.certificate, c.in_ok-linking.ensures.policy) at c.in_ok-mark_among.ensures)

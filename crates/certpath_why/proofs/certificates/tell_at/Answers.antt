@@ -8,4 +8,4 @@ pub returns-in_default : goal.returns-in_default
 returns-in_default g c = absurd (none_read c.args.found.now.items.now c.args.place (c.in_default.ensures.only refl) c.requires.certificate)
 
 pub returns : goal.returns
-returns g c = tells_at (rules_by c.args.policy.now.moment c.args.policy.now.demand_lists (g.V.Vouch.vouches_for c.args.vouch.now)) c.args.found.now.items.now (map item_of c.args.found.now.anchors.now) c.args.target c.args.place c.in-Some.certificate.now _ _ c.in-Some.ensures.found c.in_ok-tell_certificate.ensures
+returns g c = tells_at c.args.sought.now.demand.now (rules_by c.args.policy.now.moment c.args.policy.now.demand_lists (g.V.Vouch.vouches_for c.args.vouch.now)) c.args.found.now.items.now (map item_of c.args.found.now.anchors.now) c.args.target c.args.place c.in-Some.certificate.now _ _ c.in-Some.ensures.found c.in_ok-tell_certificate.ensures

@@ -12,10 +12,10 @@ tell_at-requires-clause-certificate g c =
     further_certificate (map item_of c.args.found.now.items.now) c.args.target v ((c.requires.further.exact v).0 (Contains-get_or c.args.further.now c.loop-place.place-index 0 c.loop-place-test.true))
 
 pub loop-place-init : goal.loop-place-init
-loop-place-init g c = texts_none (TellsAt (rules_by c.args.policy.now.moment c.args.policy.now.demand_lists (g.V.Vouch.vouches_for c.args.vouch.now)) (map item_of c.args.found.now.items.now) (map item_of c.args.found.now.anchors.now) c.args.target) c.args.further.now _
+loop-place-init g c = texts_none (TellsAt c.args.sought.now.demand.now (rules_by c.args.policy.now.moment c.args.policy.now.demand_lists (g.V.Vouch.vouches_for c.args.vouch.now)) (map item_of c.args.found.now.items.now) (map item_of c.args.found.now.anchors.now) c.args.target) c.args.further.now _
 
 pub loop-place-preserved : goal.loop-place-preserved
-loop-place-preserved g c = texts_more (TellsAt (rules_by c.args.policy.now.moment c.args.policy.now.demand_lists (g.V.Vouch.vouches_for c.args.vouch.now)) (map item_of c.args.found.now.items.now) (map item_of c.args.found.now.anchors.now) c.args.target) c.args.further.now c.loop-place.place-index 0 _ _ _ c.loop-place-test.true c.loop-place.invariant c.in_ok-tell_at.ensures
+loop-place-preserved g c = texts_more (TellsAt c.args.sought.now.demand.now (rules_by c.args.policy.now.moment c.args.policy.now.demand_lists (g.V.Vouch.vouches_for c.args.vouch.now)) (map item_of c.args.found.now.items.now) (map item_of c.args.found.now.anchors.now) c.args.target) c.args.further.now c.loop-place.place-index 0 _ _ _ c.loop-place-test.true c.loop-place.invariant c.in_ok-tell_at.ensures
 
 pub returns : goal.returns
-returns g c = texts_all (TellsAt (rules_by c.args.policy.now.moment c.args.policy.now.demand_lists (g.V.Vouch.vouches_for c.args.vouch.now)) (map item_of c.args.found.now.items.now) (map item_of c.args.found.now.anchors.now) c.args.target) c.args.further.now c.loop-place.place-index _ _ c.loop-place-test.false c.loop-place.invariant
+returns g c = texts_all (TellsAt c.args.sought.now.demand.now (rules_by c.args.policy.now.moment c.args.policy.now.demand_lists (g.V.Vouch.vouches_for c.args.vouch.now)) (map item_of c.args.found.now.items.now) (map item_of c.args.found.now.anchors.now) c.args.target) c.args.further.now c.loop-place.place-index _ _ c.loop-place-test.false c.loop-place.invariant

@@ -1,0 +1,35 @@
+use Rattle.std.specs.Prelude.{IsTrue}
+use Rattle.std.proofs.Common.{map, sym, subst, ◌∙◌, refl, true}
+use Rattle.cert_judge.specs.Items.{certificate_of, certificate_item, item_of, rules_by}
+use Rattle.cert_reasons.specs.Links.{HasLinkReason, link_order}
+use Rattle.cert_reasons.specs.Listed.{AreListed}
+use Rattle.cert_reasons.proofs.Marks.{agreed, anchor_iff}
+use Rattle.cert_reasons.proofs.Ordered.{all_as}
+use Rattle.cert_reasons.proofs.linking.Linking.why_unlinked_to_anchor.Goals as goal
+
+pub why_unlinked_under-requires : goal.why_unlinked_under-requires
+why_unlinked_under-requires g c =
+    let s = c.args.self.now in
+    subst (λ n. AreListed s.items.now s.policy.moment n s.certificate.now.fields.serial.now s.listed) c.requires.issuer c.requires.lists
+
+pub returns-clause-all : goal.returns-clause-all
+returns-clause-all g c =
+    let s = c.args.self.now in
+    let r = rules_by s.policy.moment s.policy.demand_lists (g.V.Vouch.vouches_for c.args.vouch.now) in
+    let x = s.certificate.now in
+    let y = c.args.anchor.now in
+    let items = map item_of s.items.now in
+    let A = IsTrue true in
+    let B = (Unit {0}) in
+    all_as link_order (HasLinkReason r items (certificate_item x) (certificate_of x) y.subject.now y.key.now A) (HasLinkReason r items (certificate_item x) (certificate_of x) y.subject.now y.key.now B) c.in_ok-found.found.items c.in_ok-found.ensures.all
+    (agreed r items (certificate_item x) (certificate_of x) y.subject.now y.key.now A B (λ t. tt, λ t. refl))
+
+pub returns-clause-none : goal.returns-clause-none
+returns-clause-none g c =
+    let s = c.args.self.now in
+    let r = rules_by s.policy.moment s.policy.demand_lists (g.V.Vouch.vouches_for c.args.vouch.now) in
+    let x = s.certificate.now in
+    let y = c.args.anchor.now in
+    let under = c.in_ok-found.ensures.none (sym x.issuer_is ∙ c.requires.issuer) in
+    let link = anchor_iff r (map item_of s.items.now) (certificate_item x) (certificate_item y) (certificate_of x) (certificate_of y) y.subject.now y.key.now (IsTrue true) refl refl y.subject_is y.key_is refl in
+    (λ e. link.0 (under.0 e), λ l. under.1 (link.1 l))

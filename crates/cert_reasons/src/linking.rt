@@ -1,0 +1,132 @@
+//! Links of one certificate to one issuer or anchor after the other (RFC 5280, 6.1.3).
+
+ghost use Rattle.std.specs.Prelude.{◌≡◌, ◌↔◌, [], ℕ, map, Contains, IfOk};
+ghost use Rattle.std.specs.List.Sorted.{IsStrictlyIncreasing};
+ghost use Rattle.cert_graph.specs.Entries.{IsAt};
+ghost use Rattle.cert_judge.specs.ItemGraph.{HaveSameKeyId, IsLink, IsAnchorLink};
+ghost use Rattle.cert_judge.specs.Items.{certificate_of, certificate_item, item_of, rules_by, IsListWith};
+ghost use Rattle.cert_reasons.specs.Order.{AreAll};
+ghost use Rattle.cert_reasons.specs.Links.{HasLinkReason, link_order};
+ghost use Rattle.cert_reasons.specs.Listed.{IsOf};
+ghost use Rattle.cert_reasons.specs.Linking.{HasItsLists};
+
+use crate::links::{Signer, Unlinked, agree_on_key_id, why_unlinked_under};
+use crate::listed::{Listed, listed_among};
+use cert_judge::{CertificateItem, Policy, ReadItem, Vouch};
+use std::alloc::{AllocError, Global};
+
+/// A certificate, with the lists of its issuer among some items that are in force, and those of them
+/// that have an entry of its serial number.
+///
+/// Made once, it tells of each issuer and anchor of its issuer's name why the certificate is not linked
+/// to it, at the cost of a look-up of vouchers for it, and one for each list that has such an entry;
+/// where lists are demanded, also for lists that are in force, up to the first with a voucher.
+#[derive(Drop)]
+pub struct Linking<'b, 'a> {
+    items: &'b [ReadItem<'a>],
+    certificate: &'b CertificateItem<'a>,
+    policy: Policy,
+    listed: Listed,
+}
+
+impl<'b, 'a> Linking<'b, 'a> {
+    /// The links of a certificate, by the lists at some places of the items. Those of its issuer are
+    /// looked for there alone: all places of the items will do.
+    ///
+    /// The only error is out of memory. It costs one pass over the entries of each list of its issuer.
+    pub fn new(
+        alloc: Global,
+        items: &'b [ReadItem<'a>],
+        places: &[usize],
+        certificate: &'b CertificateItem<'a>,
+        policy: &Policy,
+    ) -> Result<Linking<'b, 'a>, AllocError>
+        requires ascends { IsStrictlyIncreasing places.now }
+        requires complete { (p : ℕ) → IsAt items.now p (IsListWith (IsOf certificate.now.issuer.now)) → Contains places.now p }
+        ensures items { IfOk result (λ l. l.items.now ≡ items.now) }
+        ensures certificate { IfOk result (λ l. l.certificate.now ≡ certificate.now) }
+        ensures policy { IfOk result (λ l. l.policy ≡ policy.now) }
+        ensures lists { IfOk result HasItsLists }
+    {
+        let moment = policy.moment();
+        let serial = certificate.fields.serial;
+        let listed = listed_among(alloc, items, places, &moment, certificate.issuer, serial)?;
+        Ok(Linking {
+            items,
+            certificate,
+            policy: *policy,
+            listed,
+        })
+    }
+
+    /// The items that it was made from.
+    pub fn items(&self) -> &'b [ReadItem<'a>]
+        ensures { result.now ≡ self.now.items.now }
+    {
+        self.items
+    }
+
+    /// What `why_unlinked` returns for an issuer of the certificate's issuer's name.
+    ///
+    /// The only error is out of memory.
+    pub fn why_unlinked<V: Vouch>(
+        &self,
+        alloc: Global,
+        issuer: &CertificateItem<'_>,
+        vouch: &V,
+    ) -> Result<Vec<Unlinked>, AllocError>
+        requires lists { HasItsLists self.now }
+        requires issuer { self.now.certificate.now.issuer.now ≡ issuer.now.subject.now }
+        ensures all { IfOk result (λ found. AreAll link_order (HasLinkReason (rules_by self.now.policy.moment self.now.policy.demand_lists (V.vouches_for vouch.now)) (map item_of self.now.items.now) (certificate_item self.now.certificate.now) (certificate_of self.now.certificate.now) issuer.now.subject.now issuer.now.key.now (HaveSameKeyId (certificate_of self.now.certificate.now) (certificate_of issuer.now))) found.items) }
+        ensures none { IfOk result (λ found. (found.items ≡ [])
+            ↔ IsLink (rules_by self.now.policy.moment self.now.policy.demand_lists (V.vouches_for vouch.now)) (map item_of self.now.items.now) (certificate_item self.now.certificate.now) (certificate_item issuer.now)) }
+    {
+        let signer = Signer {
+            name: issuer.subject,
+            key: issuer.key,
+            agree: agree_on_key_id(self.certificate, issuer),
+        };
+        let found = why_unlinked_under(
+            alloc,
+            self.items,
+            self.certificate,
+            &self.listed,
+            &signer,
+            vouch,
+            &self.policy,
+        )?;
+        Ok(found)
+    }
+
+    /// What `why_unlinked_to_anchor` returns for an anchor of the certificate's issuer's name.
+    ///
+    /// The only error is out of memory.
+    pub fn why_unlinked_to_anchor<V: Vouch>(
+        &self,
+        alloc: Global,
+        anchor: &CertificateItem<'_>,
+        vouch: &V,
+    ) -> Result<Vec<Unlinked>, AllocError>
+        requires lists { HasItsLists self.now }
+        requires issuer { self.now.certificate.now.issuer.now ≡ anchor.now.subject.now }
+        ensures all { IfOk result (λ found. AreAll link_order (HasLinkReason (rules_by self.now.policy.moment self.now.policy.demand_lists (V.vouches_for vouch.now)) (map item_of self.now.items.now) (certificate_item self.now.certificate.now) (certificate_of self.now.certificate.now) anchor.now.subject.now anchor.now.key.now (Unit {0})) found.items) }
+        ensures none { IfOk result (λ found. (found.items ≡ [])
+            ↔ IsAnchorLink (rules_by self.now.policy.moment self.now.policy.demand_lists (V.vouches_for vouch.now)) (map item_of self.now.items.now) (certificate_item self.now.certificate.now) (certificate_item anchor.now)) }
+    {
+        let signer = Signer {
+            name: anchor.subject,
+            key: anchor.key,
+            agree: true,
+        };
+        let found = why_unlinked_under(
+            alloc,
+            self.items,
+            self.certificate,
+            &self.listed,
+            &signer,
+            vouch,
+            &self.policy,
+        )?;
+        Ok(found)
+    }
+}

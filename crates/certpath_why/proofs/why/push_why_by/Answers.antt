@@ -1,0 +1,9 @@
+use Rattle.std.proofs.Common.{refl}
+use Rattle.certpath_why.proofs.Joined.{then_appended}
+use Rattle.certpath_why.proofs.why.push_why_by.Goals as goal
+
+pub returns : goal.returns
+returns g c =
+    let a = c.in_ok-tell_reached.ensures in
+    let b = c.in_ok-tell_lists.ensures in
+    (_, then_appended _ a.0 b.0 _ _ b.1 a.1, record { reached = a.0; reached_is = rw (c.in_ok-found.ensures.items, c.in_ok-found.ensures.anchors) at a.2; lists = b.0; lists_are = rw (c.in_ok-found.ensures.items, c.in_ok-found.ensures.anchors) at b.2; text_is = refl })
