@@ -281,10 +281,11 @@ def printed(call):
 
 HEADER = """# What a promise rests on: the pages to believe
 
-For who reviews a contract: how much has to be read to believe it. A contract is proved, so its code
-and proofs needn't be read; its clauses have to be, and the definitions in `specs/` that their words
-name, on to the standard library and the crates of the kit. The table counts these for the calls
-that judge, for the main readers, and for each call of `include/certpath.h`. Which these are:
+For anyone who reviews a contract: how much has to be read to believe it. A contract is proved, so
+its code and proofs needn't be read; its clauses have to be, and the definitions in `specs/` that
+their words name, on to the standard library and the crates of the kit. The table counts these for
+the calls that judge, for the main readers, and for each call of `include/certpath.h`. Which these
+are:
 
     $ python3 tools/dev/believe.py certcheck::check | tail -n 1
     {LAST_LINE}

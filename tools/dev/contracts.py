@@ -18,8 +18,8 @@ PAGE = "docs/CONTRACTS.md"
 ONE, PREMISE = "one clause", "*a premise*"
 HEADER = """# Contracts by name
 
-For who looks for the clause that says something: the public calls whose clauses have names, with
-these names, and the laws of each crate. `python3 tools/dev/contracts.py` makes the page of the
+For anyone who looks for the clause that says something: the public calls whose clauses have names,
+with these names, and the laws of each crate. `python3 tools/dev/contracts.py` makes the page of the
 sources. A clause is in the source, after `ensures` or `requires`; a premise is what a caller has to
 show. A law is a public function that does nothing: its clauses are what it says. Not listed are
 calls with one clause without a name, and those that have the clauses of their trait.

@@ -192,10 +192,10 @@ def runs(crate):
 
 INDEX_HEAD = """# From a section of a standard to its code
 
-For who wants to see a rule in the code: each section that definitions of public contracts cite,
-with these pages of `specs/`, and in brackets the first source in `src/` whose contracts name it.
-`python3 tools/dev/pages.py` makes this page of the sources; `tools/dev/pages.py index CRATE` prints
-all pages of a crate, and what each defines. [RULES.md](RULES.md) and
+For anyone who wants to see a rule in the code: each section that definitions of public contracts
+cite, with these pages of `specs/`, and in brackets the first source in `src/` whose contracts name
+it. `python3 tools/dev/pages.py` makes this page of the sources; `tools/dev/pages.py index CRATE`
+prints all pages of a crate, and what each defines. [RULES.md](RULES.md) and
 [RULES_PORTS.md](RULES_PORTS.md) have the rules in words.
 
 """
