@@ -15,7 +15,7 @@ COMMAND, OPTION = re.compile(r"(?m)^  ([a-z]+)  +(\S.*)$"), re.compile(r"--[a-z]
 ROW = re.compile(r"(?m)^\| `(--[a-z-]+)(?: ([A-Z]+)(?:\\\|[A-Z]+)?)?`[^|]*\| ([^|]*) \|")
 HELP = ("--help", None, "print the help")
 # So many characters say what an option does.
-MOST_SAID = 70
+MOST_SAID = 82
 FURTHER, OF_CHECKOUT = ("help", "--version"), ("--build",)
 
 
