@@ -128,8 +128,8 @@ LAYERS = (
     ("Certificates: extension values", "x509_flags x509_policies x509_general x509_points x509_leaves x509_values x509_timestamps x509_deep"),
     ("Certificates: whole", "x509_ext x509_certs x509_lists x509_requests x509_algorithms x509_loggers x509_validate x509_parser"),
     ("Items, classes, names of hosts and purposes", "cert_framing cert_model host_names purpose_names"),
-    ("Graphs and judging", "cert_graph cert_groups cert_judge cert_reasons cert_purpose"),
-    ("The check", "certcheck cert_reading cert_questions cert_serving"),
+    ("Graphs and judging", "cert_graph cert_groups cert_judge cert_purpose"),
+    ("The check", "certcheck cert_reading cert_questions cert_serving cert_reasons"),
     ("The search", "x509_links certpath_rebuild certpath_typed cert_search certpath_find"),
     ("The program", "certpath_pem certpath_files certpath_bundle certpath_why certpath_input certpath_vouchers certpath_evidence "
                     "certpath_moment certpath_sources certpath_recheck certpath_run certpath_engine certpath_cli"),
