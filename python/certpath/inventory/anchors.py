@@ -2,9 +2,8 @@
 from typing import NamedTuple, Tuple
 
 from ..items import Kind, frame
+from ..loading import load
 from .files import digest, opened
-
-PEM = b"-----BEGIN "
 
 
 class BadAnchors(ValueError):
@@ -55,6 +54,6 @@ def why_none(octets: bytes) -> str:
     """Why no anchor can be used, and what helps."""
     if not octets:
         return "the file is empty"
-    if PEM in octets:
+    if load(octets).form == "PEM":
         return "it is PEM, and DER is taken: ./bundle FILE > anchors.der makes it of PEM"
     return "none of its items is a certificate (DER, one after another)"
