@@ -137,10 +137,14 @@ enum {
     CERTPATH_LEFT_LONG_FORM = 20      /* its length isn't in the shortest form (BER) */
 };
 
-/* Something that is left out of a file. No octet of it is here, nor a label that isn't known. */
+/*
+ * Something that is left out of a file. No octet of it is here, nor a label that isn't known. The
+ * field `before` came with version 4.
+ */
 typedef struct {
     size_t line;     /* of PEM: of the line, or of the block's BEGIN, from 1; else 0 */
     size_t position; /* of DER: of the octet at which it begins, from 0; else 0 */
+    size_t before;   /* how many items of the file come before it */
     uint32_t label;  /* of a block: CERTPATH_LABEL_CERTIFICATE or one after it, where it is known */
     uint32_t set;    /* within SignedData: CERTPATH_CERTIFICATE or CERTPATH_LIST; else 0 */
     size_t number;   /* within SignedData: the place in that set, from 0; else 0 */
@@ -161,8 +165,9 @@ typedef struct {
  * Reads a file of any form. Writes its certificates and revocation lists into `items`, DER items
  * one after another in the order of the file, as certpath_frame cuts them; and into `left` what is
  * left out, in the same order. Of PEM the blocks of labels 1 to 8 are read, of SignedData its
- * certificates and lists. An item has the shape of a certificate or of a list; nothing else of it
- * is tested. What isn't taken by its label isn't decoded. docs/RULES.md has the rules.
+ * certificates and lists. An item has the shape of a certificate or of a list, and certpath_shape
+ * says which; nothing else of it is tested. What isn't taken by its label isn't decoded.
+ * docs/RULES.md has the rules.
  *
  * `loaded` is set with CERTPATH_DONE and CERTPATH_TOO_SMALL: the room that is needed is
  * `loaded->length` octets and `loaded->left` structures. The items of a file of n octets have at
@@ -188,6 +193,24 @@ int32_t certpath_class(const uint8_t *item, size_t item_length, uint32_t *item_c
  */
 int32_t certpath_classes(const uint8_t *octets, size_t octets_length, uint32_t limit,
                          uint32_t *classes, size_t room, size_t *count);
+
+/*
+ * What an item is by its shape, which is all that certpath_load goes by: `shape` is set to
+ * CERTPATH_CERTIFICATE or CERTPATH_LIST where its parts begin as those of a certificate or a list
+ * do, and else to CERTPATH_OTHER. That is also said of octets that aren't one item: a DER SEQUENCE
+ * of at most CERTPATH_LIMIT content octets, and nothing after it. Each item that certpath_load
+ * writes has a shape; by certpath_class it may still be CERTPATH_OTHER. The call is always done,
+ * and asks for no memory. It came with version 4.
+ */
+int32_t certpath_shape(const uint8_t *item, size_t item_length, uint32_t *shape);
+
+/*
+ * Cuts octets into items, as certpath_frame does, and writes what each is by its shape into
+ * `shapes`, in their order. `count` is set with CERTPATH_DONE and CERTPATH_TOO_SMALL. It came with
+ * version 4.
+ */
+int32_t certpath_shapes(const uint8_t *octets, size_t octets_length, uint32_t limit,
+                        uint32_t *shapes, size_t room, size_t *count);
 
 /* Fields of an item, as the octets that it has there. */
 enum {
@@ -438,7 +461,7 @@ int32_t certpath_paths(const uint8_t *bundle, size_t bundle_length, const uint8_
 /* ---- the library */
 
 /* The version of these calls: it grows where one of them changes. */
-#define CERTPATH_VERSION 3
+#define CERTPATH_VERSION 4
 
 uint32_t certpath_version(void);
 

@@ -96,7 +96,7 @@ def iterations(_):
 
 
 @of_verify("seven", "a PKCS #7 file of n certificates, a key each on a curve of its own", *SECONDS,
-           statuses=(1, 9), sizes=(5, 10, 20, 40), small=(2, 8), known=GIVEN_UP)
+           sizes=(5, 10, 20, 40), small=(2, 8))
 def seven(count):
     items = (signed_by_none(X, X, slow_keys.compressed(it), it) for it in range(count))
     signed = element(0x30, integer(1), element(0x31, b""), element(0x30, DATA),

@@ -21,7 +21,7 @@ from .items import (LIMIT, Certificate, Contents, Item, Items, Kind, Other, Revo
                     class_of, frame, item_of)
 from .library import (BadAnswer, BadHost, BadItem, BadLine, BadMoment, BadName, Error,
                       LibraryMissing, NoField, OutOfMemory, version)
-from .loading import LeftOut, Loaded, load
+from .loading import LeftOut, Loaded, load, shape_of
 from .names import Name
 from .paths import Answer, Asked, Outcome, check, find
 from .questions import Holder, Question, holders_by_issuer, questions
@@ -35,6 +35,6 @@ __all__ = [
     "Certificate", "Contents", "End", "Error", "Holder", "Item", "Items", "Kind", "LIMIT", "LeftOut",
     "LibraryMissing", "Loaded", "Name", "NoField", "Other", "OutOfMemory", "Outcome", "Question",
     "RevocationList", "Verified", "Vouchers", "allows", "check", "class_of", "find", "frame",
-    "holders_by_issuer", "item_of", "load", "path", "paths", "questions", "serves", "verify",
-    "version", "why",
+    "holders_by_issuer", "item_of", "load", "path", "paths", "questions", "serves", "shape_of",
+    "verify", "version", "why",
 ]

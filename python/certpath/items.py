@@ -140,7 +140,7 @@ class Item(Fixed):
         found = getattr(self._contents, library.FIELDS[number]) if number in FIELDS else None
         if found is None:
             raise library.NoField(library.NO_FIELD)
-        return found
+        return bytes(found)
 
     def __eq__(self, other: object) -> bool:
         return isinstance(other, Item) and self._octets == other._octets

@@ -6,7 +6,7 @@ import ssl
 from collections import OrderedDict
 from contextlib import contextmanager
 from ctypes import POINTER, c_char_p, c_int, c_long, c_size_t, c_ulong, c_void_p
-from typing import NamedTuple
+from typing import Any, Dict, Iterator, List, NamedTuple, Optional, Sequence, Tuple
 
 from .algorithms import DIGESTS, LARGE, MOST_DSA, PSS, PSS_DIGESTS, why_refused
 from .library import OutOfMemory
@@ -14,7 +14,7 @@ from .library import OutOfMemory
 CERTIFICATE, LIST = "certificate", "list"
 POINTED = POINTER(c_void_p)
 # Each function that is called: what it answers, and what it takes.
-FUNCTIONS = {
+FUNCTIONS: Dict[str, Tuple[Any, List[Any]]] = {
     "d2i_X509": (c_void_p, [c_void_p, POINTED, c_long]),
     "d2i_X509_CRL": (c_void_p, [c_void_p, POINTED, c_long]),
     "d2i_PUBKEY": (c_void_p, [c_void_p, POINTED, c_long]),
@@ -85,7 +85,7 @@ class Missing(ImportError):
     """There is no libcrypto of OpenSSL 3."""
 
 
-def candidates():
+def candidates() -> List[str]:
     """The library that Python itself uses, whatever its name, then the one of OpenSSL 3."""
     try:
         with open("/proc/self/maps", encoding="utf-8", errors="surrogateescape") as maps:
@@ -95,7 +95,7 @@ def candidates():
     return [*found[:1], "libcrypto.so.3"]
 
 
-def loaded():
+def loaded() -> Any:
     """The library with all functions typed, so that no pointer is cut to an int."""
     for name in candidates():
         try:
@@ -113,34 +113,35 @@ class Key(NamedTuple):
     """A key: its element's octets, the pointer to what OpenSSL made of them, none if it isn't used, in which words it is weak, none
     if it isn't, and why it isn't used, none if it is."""
     octets: bytes
-    handle: int
-    weak: str
-    why: str = None
+    handle: Optional[int]
+    weak: Optional[str]
+    why: Optional[str] = None
 
 
 class Verifier:
     """Asks OpenSSL. The keys that were asked for last are kept, at most so many, until `close` or
     the end of the `with` block frees them."""
 
-    def __init__(self, most=MOST_KEYS):
-        self.keys, self.most = OrderedDict(), most
+    def __init__(self, most: int = MOST_KEYS) -> None:
+        self.keys: "OrderedDict[bytes, Key]" = OrderedDict()
+        self.most = most
         self.library = loaded()
 
-    def __enter__(self):
+    def __enter__(self) -> "Verifier":
         return self
 
-    def __exit__(self, *_):
+    def __exit__(self, *_: object) -> None:
         self.close()
 
-    def __del__(self):
+    def __del__(self) -> None:
         self.close()
 
-    def close(self):
+    def close(self) -> None:
         """Frees all keys that are kept. Whoever asks for a key again has it read anew."""
         while self.keys:
             self.drop_oldest()
 
-    def read(self, function, octets):
+    def read(self, function: str, octets: bytes) -> Tuple[Any, bool]:
         """What a d2i function makes of the octets, if it takes all of them; OutOfMemory if that is why
         it makes nothing, so that nothing is taken for unreadable that could be read."""
         held = ctypes.create_string_buffer(octets, len(octets))
@@ -150,7 +151,7 @@ class Verifier:
             self.reason()
         return made, made is not None and at.value == ctypes.addressof(held) + len(octets)
 
-    def key(self, octets):
+    def key(self, octets: bytes) -> Key:
         """The key of an element's octets, whose handle is there until further keys are asked for."""
         if octets not in self.keys:
             self.make_room()
@@ -159,18 +160,18 @@ class Verifier:
         self.keys.move_to_end(octets)
         return self.keys[octets]
 
-    def make_room(self):
+    def make_room(self) -> None:
         """Frees the key that was asked for the longest time ago, if there is no room for another."""
         if len(self.keys) >= self.most:
             self.drop_oldest()
 
-    def drop_oldest(self):
+    def drop_oldest(self) -> None:
         """Frees the key that was asked for the longest time ago."""
         _, oldest = self.keys.popitem(last=False)
         if oldest.handle is not None:
             self.library.EVP_PKEY_free(oldest.handle)
 
-    def read_key(self, octets):
+    def read_key(self, octets: bytes) -> Key:
         """What OpenSSL makes of a key element, if it is shown that."""
         why = why_refused(octets)
         if why:
@@ -184,42 +185,42 @@ class Verifier:
         self.library.EVP_PKEY_free(handle)
         return Key(octets, None, None, why)
 
-    def why_unused(self, handle):
+    def why_unused(self, handle: int) -> Optional[str]:
         """Why a key isn't used that OpenSSL would take long to verify by; none if it is."""
         if self.exponent_bits(handle) > MOST_EXPONENT_BITS:
             return LONG_EXPONENT
         is_large = self.type_name(handle) == DSA and self.library.EVP_PKEY_get_bits(handle) > MOST_DSA
         return LARGE.format(MOST_DSA) if is_large else None
 
-    def type_name(self, handle):
-        return (self.library.EVP_PKEY_get0_type_name(handle) or b"unnamed").decode()
+    def type_name(self, handle: int) -> str:
+        return bytes(self.library.EVP_PKEY_get0_type_name(handle) or b"unnamed").decode()
 
-    def exponent_bits(self, handle):
+    def exponent_bits(self, handle: int) -> int:
         """How many bits the public exponent of an RSA key has; 0 of another key."""
         number = c_void_p()
         if self.library.EVP_PKEY_get_bn_param(handle, b"e", ctypes.byref(number)) != 1:
             return 0
-        bits = self.library.BN_num_bits(number)
+        bits = int(self.library.BN_num_bits(number))
         self.library.BN_free(number)
         return bits
 
-    def weakness(self, handle):
+    def weakness(self, handle: int) -> Optional[str]:
         """In which words a key is weak, none if it isn't."""
         if self.library.EVP_PKEY_get_security_bits(handle) >= FEWEST_BITS:
             return None
         return f"{self.library.EVP_PKEY_get_bits(handle)}-bit {self.type_name(handle)} key"
 
-    def reason(self):
+    def reason(self) -> str:
         """The first reason that OpenSSL has noted, and forgets then; OutOfMemory if it got no memory."""
         noted = self.library.ERR_reason_error_string(self.library.ERR_get_error())
         self.library.ERR_clear_error()
-        text = noted.decode(errors="replace") if noted else WRONG
+        text = bytes(noted).decode(errors="replace") if noted else WRONG
         if text == NO_MEMORY:
             raise OutOfMemory("out of memory: OpenSSL got none")
         return WRONG if text in NO_REASONS else text
 
     @contextmanager
-    def reading(self, kind, octets):
+    def reading(self, kind: str, octets: bytes) -> Iterator[Optional["Read"]]:
         """An item as OpenSSL reads it, as long as the context lasts; none if OpenSSL cannot read it."""
         handle, is_whole = self.read(f"d2i_{NAMES[kind]}", octets)
         self.library.ERR_clear_error()
@@ -229,18 +230,18 @@ class Verifier:
             if handle is not None:
                 getattr(self.library, f"{NAMES[kind]}_free")(handle)
 
-    def subject_key_id(self, octets):
+    def subject_key_id(self, octets: bytes) -> Optional[bytes]:
         """The identifier that a certificate gives its key, none if it has none that can be read."""
         with self.reading(CERTIFICATE, octets) as read:
             return read.subject_key_id() if read else None
 
-    def parts_of(self, algorithm):
+    def parts_of(self, algorithm: Any) -> Tuple[str, Optional[c_void_p]]:
         """An algorithm's identifier as text, and its parameters if they are a SEQUENCE."""
         identifier, kind, parameters = c_void_p(), c_int(), c_void_p()
         self.library.X509_ALGOR_get0(ctypes.byref(identifier), ctypes.byref(kind), ctypes.byref(parameters), algorithm)
         return self.identifier_of(identifier), parameters if kind.value == SEQUENCE else None
 
-    def identifier_of(self, identifier):
+    def identifier_of(self, identifier: c_void_p) -> str:
         """An object identifier as text (X.690, 8.19), by its octets if it is long."""
         length = self.library.OBJ_length(identifier)
         if length > MOST_SHOWN:
@@ -249,12 +250,12 @@ class Verifier:
         self.library.OBJ_obj2txt(text, TEXT_ROOM, identifier, 1)
         return text.value.decode()
 
-    def algorithm_of(self, algorithm):
+    def algorithm_of(self, algorithm: Any) -> Tuple[str, Optional[str]]:
         """An algorithm's identifier as text, and the digest that it takes: none of one that isn't known."""
         identifier, parameters = self.parts_of(algorithm)
         return identifier, self.pss_digest(parameters) if identifier == PSS else DIGESTS.get(identifier)
 
-    def pss_digest(self, parameters):
+    def pss_digest(self, parameters: Optional[c_void_p]) -> Optional[str]:
         """The digest that parameters of RSA-PSS name (RFC 4055, 3.1), none if it isn't known."""
         if parameters is None:
             return None
@@ -270,16 +271,17 @@ class Verifier:
         finally:
             self.library.RSA_PSS_PARAMS_free(read)
 
-    def sequences_in(self, octets):
+    def sequences_in(self, octets: bytes) -> List[bytes]:
         """The parts of a SEQUENCE that are SEQUENCEs, each with all of its octets."""
         parts, _ = self.read("d2i_ASN1_SEQUENCE_ANY", octets)
         try:
             found = [AnyType.from_address(self.library.OPENSSL_sk_value(parts, number)) for number in range(self.library.OPENSSL_sk_num(parts))]
-            return [self.string_of(entry.value) for entry in found if entry.type == SEQUENCE]
+            strings = (self.string_of(it.value) for it in found if it.type == SEQUENCE)
+            return [it for it in strings if it is not None]
         finally:
             self.library.OPENSSL_sk_pop_free(parts, ctypes.cast(self.library.ASN1_TYPE_free, c_void_p))
 
-    def string_of(self, pointer):
+    def string_of(self, pointer: Optional[int]) -> Optional[bytes]:
         """The octets of an ASN1_STRING, none if there is none."""
         if not pointer:
             return None
@@ -289,15 +291,15 @@ class Verifier:
 class Read:
     """An item that OpenSSL has read."""
 
-    def __init__(self, verifier, kind, octets, handle):
+    def __init__(self, verifier: Verifier, kind: str, octets: bytes, handle: int) -> None:
         self.verifier, self.library = verifier, verifier.library
         self.kind, self.octets, self.handle = kind, octets, handle
 
-    def call(self, name, *further):
+    def call(self, name: str, *further: Any) -> Any:
         """Calls a function that there is for both kinds of items."""
         return getattr(self.library, f"{NAMES[self.kind]}_{name}")(self.handle, *further)
 
-    def signed_by(self):
+    def signed_by(self) -> c_void_p:
         """The X509_ALGOR beside the signature."""
         found = c_void_p()
         if self.kind == CERTIFICATE:
@@ -306,23 +308,24 @@ class Read:
             self.library.X509_CRL_get0_signature(self.handle, None, ctypes.byref(found))
         return found
 
-    def has_one_algorithm(self):
+    def has_one_algorithm(self) -> bool:
         """Whether the algorithm within what is signed is the one beside the signature (RFC 5280, 4.1.1.2 and 5.1.1.2)."""
         if self.kind == CERTIFICATE:
-            return self.library.X509_ALGOR_cmp(self.signed_by(), self.library.X509_get0_tbs_sigalg(self.handle)) == 0
+            within = self.library.X509_get0_tbs_sigalg(self.handle)
+            return bool(self.library.X509_ALGOR_cmp(self.signed_by(), within) == 0)
         # (of a list OpenSSL 3.0 shows the one beside the signature alone)
         signed, beside = self.verifier.sequences_in(self.octets)
         return self.verifier.sequences_in(signed)[0] == beside
 
-    def algorithm(self):
+    def algorithm(self) -> Tuple[str, Optional[str]]:
         """The identifier of the signature's algorithm as text, and the digest that it takes: none of one that isn't known."""
         return self.verifier.algorithm_of(self.signed_by())
 
-    def refusals(self, keys):
+    def refusals(self, keys: Sequence[bytes]) -> List[Optional[str]]:
         """Why each key, by its element's octets, doesn't verify the signature; none if it does."""
         return [self.refusal(self.verifier.key(one_key)) for one_key in keys]
 
-    def refusal(self, key):
+    def refusal(self, key: Key) -> Optional[str]:
         if key.why:
             return key.why.replace("its key", "the key")
         # 1 alone is yes: 0 is a wrong signature, -1 a key of another type, unused bits, or a signature in another spelling
@@ -330,13 +333,13 @@ class Read:
         reason = self.verifier.reason()
         return None if is_verified else reason
 
-    def extension(self, number):
+    def extension(self, number: int) -> Any:
         """The value of an extension that is there once, as OpenSSL reads it; none if there is none."""
         found = self.call("get_ext_d2i", number, None, None)
         self.library.ERR_clear_error()
         return found
 
-    def subject_key_id(self):
+    def subject_key_id(self) -> Optional[bytes]:
         """The identifier of a certificate's own key (RFC 5280, 4.2.1.2), none if it has none."""
         found = self.extension(SUBJECT_KEY_ID)
         try:
@@ -344,7 +347,7 @@ class Read:
         finally:
             self.library.ASN1_OCTET_STRING_free(found)
 
-    def authority_key_id(self):
+    def authority_key_id(self) -> Optional[bytes]:
         """The identifier of the key that signed the item (RFC 5280, 4.2.1.1 and 5.2.1), none if it has none."""
         found = self.extension(AUTHORITY_KEY_ID)
         try:

@@ -7,7 +7,7 @@ from ctypes import (POINTER, byref, c_char_p, c_int8, c_int16, c_int32, c_size_t
 from typing import Any, Callable, Dict, List, Tuple, Type
 
 # The version of the calls that this package makes (CERTPATH_VERSION in certpath.h).
-VERSION = 3
+VERSION = 4
 NAME = "libcertpath.so"
 # The library is in the package, or in dist/ if this is a checkout of the repository.
 FOLDERS = (os.path.dirname(os.path.abspath(__file__)),
@@ -117,9 +117,9 @@ class Contents(ctypes.Structure):
 
 
 class LeftOut(ctypes.Structure):
-    _fields_ = [("line", c_size_t), ("position", c_size_t), ("label", c_uint32), ("set", c_uint32),
-                ("number", c_size_t), ("reason", c_uint32), ("count", c_size_t),
-                ("to_end", c_size_t)]
+    _fields_ = [("line", c_size_t), ("position", c_size_t), ("before", c_size_t),
+                ("label", c_uint32), ("set", c_uint32), ("number", c_size_t), ("reason", c_uint32),
+                ("count", c_size_t), ("to_end", c_size_t)]
 
 
 class Loaded(ctypes.Structure):
@@ -159,6 +159,8 @@ FUNCTIONS: Dict[str, List[Any]] = {
     "certpath_item": [*INPUT, OCTETS, SIZE, POINTER(Contents)],
     "certpath_class": [*INPUT, POINTER(c_uint32)],
     "certpath_classes": [*INPUT, c_uint32, POINTER(c_uint32), SIZE, SIZES],
+    "certpath_shape": [*INPUT, POINTER(c_uint32)],
+    "certpath_shapes": [*INPUT, c_uint32, POINTER(c_uint32), SIZE, SIZES],
     "certpath_name": [*INPUT, *TEXT],
     "certpath_allows": [*INPUT, *INPUT, POINTER(c_uint32)],
     "certpath_serves": [*INPUT, *INPUT, POINTER(c_uint32)],
@@ -216,7 +218,7 @@ def octets_of(octets: bytes) -> Tuple[bytes, int]:
 def part_of(octets: bytes, offset: int, length: int) -> Tuple[Any, int]:
     """A part of a `bytes` as a call takes it, which isn't copied. It is there as long as somebody
     holds the `bytes`."""
-    begin = ctypes.cast(octets, ctypes.c_void_p).value or 0
+    begin = ctypes.cast(OCTETS(octets), ctypes.c_void_p).value or 0
     return OCTETS(begin + offset), length
 
 
@@ -236,7 +238,7 @@ def text_of(call: Call, guess: int) -> str:
     `call` takes a buffer, its room and a place for a Report, and gives the status.
     """
     report = Report()
-    buffer, status = filled(call, guess, report, lambda: report.length)
+    buffer, status = filled(call, guess, report, lambda: int(report.length))
     if status == BAD_LINE:
         raise BadLine(report.bad_line)
     refuse(status)

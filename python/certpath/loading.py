@@ -1,6 +1,6 @@
 """Files of any form: PEM, DER and PKCS #7, and what is left out of them."""
 import os
-from ctypes import byref
+from ctypes import byref, c_size_t, c_uint32
 from typing import List, NamedTuple, Optional, Union
 
 from . import arguments, library
@@ -26,8 +26,9 @@ REASONS = ("the file is empty", "the file is neither PEM nor DER", "the file is 
            "neither certificate nor revocation list", "its length is indefinite (BER) or cut",
            "its length is above 16777216", "{} of it missing",
            "its length is not in the shortest form (BER)")
-# The elements of SignedData, by the numbers of their sets.
-MEMBERS = {1: "certificate", 2: "revocation list"}
+# What an item is by its shape, and an element of SignedData by its set; by the numbers of
+# certpath.h.
+SHAPES = {1: "certificate", 2: "revocation list"}
 # How many things that are left out there is room for at first.
 ROOM = 16
 
@@ -42,6 +43,8 @@ class LeftOut(NamedTuple):
     """The block's label, if that is a known one: another one may be part of a key."""
     reason: str
     """Why it is left out, in words."""
+    before: int
+    """How many items of the file come before it."""
 
     @property
     def place(self) -> str:
@@ -65,6 +68,9 @@ class Loaded(NamedTuple):
     """Its certificates and revocation lists, in its order, with what else has the shape of one."""
     left: List[LeftOut]
     """What is left out, in its order."""
+    shapes: List[str]
+    """What each item is by its shape, "certificate" or "revocation list". By its `kind`, which
+    goes by all of its octets, it may be neither."""
 
 
 def octet_count(number: int) -> str:
@@ -78,7 +84,7 @@ def reason_of(row: library.LeftOut) -> str:
         end = "set" if row.set else "file"
         said = f"{said}, {octet_count(row.to_end)} to the {end}'s end"
     if row.set:
-        said = f"{MEMBERS[row.set]} {row.number} of the SignedData: {said}"
+        said = f"{SHAPES[row.set]} {row.number} of the SignedData: {said}"
     return said
 
 
@@ -86,7 +92,33 @@ def left_out(row: library.LeftOut, form: str) -> LeftOut:
     """What is left out, of a file of this form."""
     has_position = form in ("DER", "PKCS #7")
     label = LABELS[row.label - 1] if row.label else None
-    return LeftOut(row.line or None, row.position if has_position else None, label, reason_of(row))
+    position = row.position if has_position else None
+    return LeftOut(row.line or None, position, label, reason_of(row), row.before)
+
+
+def shape_of(data: Octets) -> Optional[str]:
+    """What octets are by their shape, which is all that `load` goes by: "certificate",
+    "revocation list", or None where their parts begin otherwise, or they aren't one DER item.
+
+    >>> import certpath
+    >>> certpath.shape_of(open("samples/list.der", "rb").read())
+    'revocation list'
+    >>> print(certpath.shape_of(b"0\\0"))
+    None
+
+    TypeError of what is no octets. What an item is by all of its octets, `class_of` says.
+    """
+    octets, found = arguments.octets(data, "an item"), c_uint32()
+    library.refuse(library.loaded().certpath_shape(*library.octets_of(octets), byref(found)))
+    return SHAPES.get(found.value)
+
+
+def shapes_of(items: Items) -> List[str]:
+    """What each item of a file is by its shape."""
+    found, count = (c_uint32 * len(items))(), c_size_t()
+    library.refuse(library.loaded().certpath_shapes(*library.octets_of(items.data), items.limit,
+                                                    found, len(items), byref(count)))
+    return [*map(SHAPES.__getitem__, found)]
 
 
 def octets_in(source: Union[str, "os.PathLike[str]", Octets]) -> bytes:
@@ -132,7 +164,6 @@ def load(source: Union[str, "os.PathLike[str]", Octets], name: Optional[str] = N
             break
         room, left_room = found.length, found.left
     library.refuse(status)
-    form = FORMS[found.form]
-    return Loaded(name_of(source) if name is None else name, form,
-                  Items(bytes(memoryview(items)[:found.length])),
-                  [left_out(it, form) for it in left[:found.left]])
+    form, its = FORMS[found.form], Items(bytes(memoryview(items)[:found.length]))
+    return Loaded(name_of(source) if name is None else name, form, its,
+                  [left_out(it, form) for it in left[:found.left]], shapes_of(its))

@@ -93,6 +93,7 @@ def escaped_attribute(attribute: str) -> str:
 
 class Name(Fixed):
     """A name (RFC 5280, 4.1.2.4). Names are equal if their octets are."""
+    _octets: bytes
 
     def __init__(self, octets: bytes) -> None:
         self._set(_octets=arguments.octets(octets, "a name"))

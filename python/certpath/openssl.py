@@ -7,7 +7,7 @@ Of this nothing is proved: what is vouched for is what OpenSSL says.
 """
 from contextlib import contextmanager
 from itertools import chain, groupby
-from typing import Callable, Iterable, Iterator, List, NamedTuple, Optional, Tuple
+from typing import Callable, Dict, Iterable, Iterator, List, NamedTuple, Optional, Tuple
 
 from . import algorithms, arguments, libcrypto
 from .fixed import kept
@@ -92,24 +92,28 @@ def unknown(identifier: str) -> str:
     return f"algorithm {identifier} not known{of_parameters}"
 
 
+# What gives the identifier that a certificate gives its key.
+KeyId = Callable[[Certificate], Optional[bytes]]
+
+
 class KeyHolders:
     """The certificates whose keys may have signed an item, and which of them are tried first."""
 
-    def __init__(self, certificates: List[Certificate], key_id: Callable):
+    def __init__(self, certificates: List[Certificate], key_id: KeyId):
         self.certificates, self.key_id = certificates, key_id
 
     @kept
-    def _by_id(self):
-        found = {}
+    def _by_id(self) -> Dict[Optional[bytes], List[int]]:
+        found: Dict[Optional[bytes], List[int]] = {}
         for place, it in enumerate(self.certificates):
             found.setdefault(self.key_id(it), []).append(place)
         return found
 
     @kept
-    def _by_key(self):
+    def _by_key(self) -> Dict[bytes, int]:
         return {it.public_key_bytes: place for place, it in enumerate(self.certificates)}
 
-    def chosen(self, item: Item, named: Callable, most: int) -> List[int]:
+    def chosen(self, item: Item, named: Callable[[], Optional[bytes]], most: int) -> List[int]:
         """Which are tried, at most so many: first those of the key identifier that the item names,
         then its own key if it is self-issued, then the others in their order."""
         every = range(len(self.certificates))
@@ -119,7 +123,7 @@ class KeyHolders:
         if isinstance(item, Certificate) and item.subject == item.issuer:
             own = self._by_key.get(item.public_key_bytes)
         first = self._by_id.get(named_id, ()) if named_id is not None else ()
-        found = {}
+        found: Dict[int, None] = {}
         for place in chain(first, () if own is None else (own,), every):
             if len(found) == most:
                 break
@@ -133,7 +137,7 @@ class Judge:
     def __init__(self, openssl: Optional[libcrypto.Verifier] = None, tries: int = MOST_TRIES):
         self.tries = arguments.number(tries, "tries", None)
         self.openssl = openssl or verifier()
-        self._ids = {}
+        self._ids: Dict[Certificate, Optional[bytes]] = {}
 
     def holders(self, certificates: List[Certificate]) -> KeyHolders:
         """Certificates whose keys are tried; made once for all items that they may have issued."""

@@ -4,7 +4,7 @@ import mmap
 from array import array
 from ctypes import Array, byref, c_size_t, c_uint32, c_uint64, sizeof
 from datetime import datetime
-from typing import NamedTuple, Optional, Sequence, Tuple, Union, overload
+from typing import Any, NamedTuple, Optional, Sequence, Tuple, Union, overload
 
 from . import arguments, library
 from .items import Given, Items, both
@@ -73,7 +73,7 @@ class Answer(Numbers):
     def __bool__(self) -> bool:
         return self.found
 
-    def _replace(self, **changed) -> "Answer":
+    def _replace(self, **changed: Any) -> "Answer":
         made = super()._replace(**changed)
         made.asked = self.asked
         return made
@@ -82,7 +82,8 @@ class Answer(Numbers):
 
 
 # What a call takes as a host and as a purpose.
-HostGiven, PurposeGiven = Optional[Union[str, bytes]], Optional[Union[str, bytes]]
+HostGiven = Optional[Union[str, bytes]]
+PurposeGiven = Optional[Union[str, bytes]]
 
 
 def host_asked(host: HostGiven) -> Optional[bytes]:
@@ -113,7 +114,7 @@ def settings_of(bundle: Items, target: int, at: datetime, demand_lists: bool,
                             *library.octets_of(host or b""))
 
 
-def given(asked: Asked) -> tuple:
+def given(asked: Asked) -> Tuple[Any, ...]:
     """The arguments that the calls to find and to check share."""
     settings = settings_of(asked.bundle, asked.target, asked.at, asked.demand_lists, asked.host,
                            asked.purpose)
@@ -179,7 +180,7 @@ def find(bundle: Given, anchors: Given, vouchers: VouchersGiven, target: int, at
     return answer
 
 
-def numbers_of(values: Sequence[int], what: str) -> array:
+def numbers_of(values: Sequence[int], what: str) -> "array[int]":
     """Numbers of an answer; BadAnswer if one is no uint64_t, TypeError if it is no int."""
     if isinstance(values, (str, bytes, bytearray)) or not isinstance(values, Sequence):
         raise TypeError(f"the answer's {what}: a tuple of ints is needed, not "
@@ -224,8 +225,10 @@ def check(bundle: Given, anchors: Given, vouchers: VouchersGiven, target: int, a
           purpose: PurposeGiven = None) -> bool: ...
 
 
-def check(bundle, anchors=NOT_GIVEN, vouchers=NOT_GIVEN, target=NOT_GIVEN, at=NOT_GIVEN,
-          answer=NOT_GIVEN, demand_lists=NOT_GIVEN, *, host=None, purpose=None) -> bool:
+def check(bundle: Any, anchors: Any = NOT_GIVEN, vouchers: Any = NOT_GIVEN,
+          target: Any = NOT_GIVEN, at: Any = NOT_GIVEN, answer: Any = NOT_GIVEN,
+          demand_lists: Any = NOT_GIVEN, *, host: HostGiven = None,
+          purpose: PurposeGiven = None) -> bool:
     """Whether an answer of `find`, or of anybody, is right, as its table shows.
 
     It reads the items by another reader than `find`, and searches for nothing. `check(answer)`

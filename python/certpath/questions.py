@@ -1,9 +1,10 @@
 """Questions: which keys may have signed which items."""
 from ctypes import byref, c_size_t
-from typing import Container, Dict, List, NamedTuple
+from typing import Container, Dict, List, NamedTuple, cast
 
 from . import arguments, library
-from .items import Certificate, Given, Item, Items, Kind, both, frame, under_one_limit
+from .items import (Certificate, Given, Item, Items, Kind, Signed, both, frame,
+                    under_one_limit)
 from .names import Name
 
 
@@ -25,7 +26,7 @@ class Holder(NamedTuple):
     def certificate(self, bundle: Items, anchors: Items) -> Certificate:
         """The certificate; IndexError if there is no such item, ValueError if it is none."""
         found = item_at(anchors if self.is_anchor else bundle, self.position)
-        if found.kind is not Kind.CERTIFICATE:
+        if not isinstance(found, Certificate):
             raise ValueError(f"{self} is no certificate, but Kind.{found.kind.name}")
         return found
 
@@ -65,19 +66,29 @@ def questions(bundle: Given, anchors: Given) -> List[Question]:
     return [Question(it.item, it.holder, bool(it.is_anchor)) for it in rows[:count.value]]
 
 
+def signed_at(items: Items, position: int) -> Signed:
+    """The certificate or the list at a position."""
+    return cast(Signed, items[position])
+
+
+def certificate_at(items: Items, position: int) -> Certificate:
+    """The certificate at a position."""
+    return cast(Certificate, items[position])
+
+
 def first_issued(bundle: Items) -> Dict[Name, int]:
     """The names under which items were issued, and for each the first of its items."""
-    found = {}
+    found: Dict[Name, int] = {}
     for position, kind in enumerate(bundle.kinds()):
         if kind is not Kind.OTHER:
-            found.setdefault(bundle[position].issuer, position)
+            found.setdefault(signed_at(bundle, position).issuer, position)
     return found
 
 
-def certificates_under(names: Container, items: Items, is_anchor: bool) -> List[Holder]:
+def certificates_under(names: Container[Name], items: Items, is_anchor: bool) -> List[Holder]:
     """The certificates whose subject is one of the names."""
     return [Holder(is_anchor, it) for it, kind in enumerate(items.kinds())
-            if kind is Kind.CERTIFICATE and items[it].subject in names]
+            if kind is Kind.CERTIFICATE and certificate_at(items, it).subject in names]
 
 
 def holders_by_issuer(bundle: Given, anchors: Given) -> Dict[Name, List[Holder]]:
@@ -91,7 +102,7 @@ def holders_by_issuer(bundle: Given, anchors: Given) -> Dict[Name, List[Holder]]
     first = first_issued(bundle)
     names, asking = [*first], [Holder(False, it) for it in first.values()]
     holding = certificates_under(first, bundle, False) + certificates_under(first, anchors, True)
-    found = {it: [] for it in names}
+    found: Dict[Name, List[Holder]] = {it: [] for it in names}
     for question in questions(joined(asking, bundle, anchors), joined(holding, bundle, anchors)):
         side = holding if question.is_anchor else asking
         found[names[question.item]].append(side[question.holder])

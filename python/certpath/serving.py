@@ -28,7 +28,7 @@ def octets_of_host(host: Union[str, bytes]) -> bytes:
     return arguments.octets(host, "the host")
 
 
-def answer(call: Callable, item: bytes, asked: bytes) -> bool:
+def answer(call: Callable[..., int], item: bytes, asked: bytes) -> bool:
     """What a call says of an item and of what is asked of it."""
     says = c_uint32()
     status = call(*library.octets_of(item), *library.octets_of(asked), byref(says))

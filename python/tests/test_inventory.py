@@ -297,18 +297,34 @@ class Trees(unittest.TestCase):
 
 class Anchors(Room):
     def test_amiss(self):
-        for octets, amiss in ((ROOT, ""), (ROOT + b"\x30\0", "1 of 2 items are certificates"),
-                              (ROOT + LEAF[:-1], f"the file ends with a cut at {len(ROOT)}"),
-                              (ROOT + b"x", f"the file ends with a fault at {len(ROOT)}")):
+        neither = "neither certificate nor revocation list"
+        missing = f"1 octet of it missing, {len(LEAF) - 1} octets to the file's end"
+        for octets, amiss in ((ROOT, ""), (sample("root.pem"), ""),
+                              (ROOT + sample("list.der"), "1 of 2 items are certificates"),
+                              (ROOT + b"\x30\0", f"octet {len(ROOT)}: {neither}; left out"),
+                              (ROOT + b"\x30\0" * 3, f"octet {len(ROOT)}: {neither}; left out, and 2 more"),
+                              (ROOT + LEAF[:-1], f"octet {len(ROOT)}: {missing}; left out"),
+                              (sample("keys/root.pem") + sample("root.pem"),
+                               f"line 1 PRIVATE KEY: the block holds {neither}; left out")):
             path = self.put("anchors", octets)
-            found = anchors.read(path, LIMIT).amiss(path)
-            self.assertEqual(found, amiss and f"anchors {path}: {amiss}")
+            found = anchors.read(path, LIMIT)
+            self.assertEqual(found.amiss(path), amiss and f"anchors {path}: {amiss}")
+            self.assertEqual((found.octets[:len(ROOT)], found.usable), (ROOT, 1))
+        found = anchors.read(self.put("anchors", ROOT + sample("intermediate.der")), len(ROOT))
+        self.assertEqual((found.items, found.is_whole), (1, False))
+        self.assertIn("; an item is above the limit", f"; {found.amiss('').partition(': ')[2]}")
 
     def test_none_usable(self):
-        for octets, cause in ((b"", "empty"), (b"-----BEGIN CERTIFICATE-----\n", "PEM"),
-                              (b"\x30\0", "none of its items"), (sample("list.der"), "none of its")):
-            with self.assertRaisesRegex(anchors.BadAnchors, cause):
-                anchors.read(self.put("anchors", octets), LIMIT)
+        for octets, cause in ((b"", "the file is empty"), (b"-----BEGIN CERTIFICATE-----\n",
+                                                           "line 1 CERTIFICATE: its END is missing"),
+                              (b"\x30\0", "octet 0: neither certificate nor revocation list"),
+                              (sample("list.der"), "none of its items is a certificate")):
+            path = self.put("anchors", octets)
+            with self.assertRaises(anchors.BadAnchors) as caught:
+                anchors.read(path, LIMIT)
+            self.assertEqual(str(caught.exception), f"anchors {path}: {cause}")
+        with self.assertRaisesRegex(anchors.BadAnchors, "an item is above the limit"):
+            anchors.read(self.put("anchors", ROOT), 9)
 
 
 class Rows(unittest.TestCase):

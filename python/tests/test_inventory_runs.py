@@ -334,7 +334,7 @@ class Runs(Room):
 
     def test_refusals(self):
         for more, error in (({"anchors": os.path.join(self.folder, "none")}, OSError),
-                            ({"anchors": os.path.join(TOP, "samples", "fullchain.pem")}, anchors.BadAnchors),
+                            ({"anchors": os.path.join(TOP, "samples", "list.pem")}, anchors.BadAnchors),
                             ({"names": [os.path.join(self.folder, "none")]}, OSError),
                             ({"vouchers": ROOT_FILE}, signatures.BadLine),
                             ({"vouchers": os.path.join(self.folder, "none")}, FileNotFoundError),
@@ -418,6 +418,14 @@ class Runs(Room):
             self.run_with(Here(), why=False)
             with self.assertRaises(tables.NoParquet):
                 parquet.write(self.out, os.path.join(self.folder, "table.parquet"))
+
+    def test_anchors_of_any_form(self):
+        found = []
+        for name in ("root.der", "root.pem"):
+            self.run_with(Here(), anchors=os.path.join(TOP, "samples", name))
+            found.append((self.table(), self.record()["anchors"]["sha256"]))
+            shutil.rmtree(self.out)
+        self.assertEqual(found[0], found[1])
 
     def test_anchors_that_change(self):
         path = self.put("anchors.der", ROOT)

@@ -63,11 +63,11 @@ class Loading(unittest.TestCase):
         lines = text.split(b"\n")
         stray = [it for it, line in enumerate(lines, 1) if line == b"-----END CERTIFICATE-----"][1]
         self.assertEqual(shown(loaded), [
-            (1, None, "PRIVATE KEY", "the block holds neither certificate nor revocation list"),
-            (4, None, None, "the label isn't known"),
-            (stray, None, None, "an END that ends no block"),
-            (stray + 1, None, "CERTIFICATE", "2 octets after the item"),
-            (len(lines) - 1, None, "CMS", "its END is missing")])
+            (1, None, "PRIVATE KEY", "the block holds neither certificate nor revocation list", 0),
+            (4, None, None, "the label isn't known", 0),
+            (stray, None, None, "an END that ends no block", 1),
+            (stray + 1, None, "CERTIFICATE", "2 octets after the item", 2),
+            (len(lines) - 1, None, "CMS", "its END is missing", 2)])
         self.assertNotIn("MIGHTBEAKEY", str(loaded.left))
 
     def test_left_out_of_der(self):
@@ -75,8 +75,9 @@ class Loading(unittest.TestCase):
         loaded = certpath.load(leaf + b"\x30\x01\x00" + leaf + b"\x30\x05\x00")
         self.assertEqual(loaded.items.data, leaf + leaf)
         self.assertEqual(shown(loaded), [
-            (None, len(leaf), None, "neither certificate nor revocation list"),
-            (None, 2 * len(leaf) + 3, None, "4 octets of it missing, 3 octets to the file's end")])
+            (None, len(leaf), None, "neither certificate nor revocation list", 1),
+            (None, 2 * len(leaf) + 3, None, "4 octets of it missing, 3 octets to the file's end",
+             2)])
         self.assertEqual(str(loaded.left[0]),
                          f"octet {len(leaf)}: neither certificate nor revocation list")
 
@@ -85,7 +86,7 @@ class Loading(unittest.TestCase):
                                (b"text", "the file is neither PEM nor DER"),
                                ("x".encode("utf-16"), "the file is a text in UTF-16")):
             left = certpath.load(source).left
-            self.assertEqual([*map(tuple, left)], [(None, None, None, reason)])
+            self.assertEqual([*map(tuple, left)], [(None, None, None, reason, 0)])
             self.assertEqual(str(left[0]), reason)
 
     def test_signed_data(self):
@@ -96,7 +97,7 @@ class Loading(unittest.TestCase):
         loaded = certpath.load(file)
         self.assertEqual((loaded.form, loaded.items.data), ("PKCS #7", CHAIN))
         self.assertEqual(shown(loaded), [(None, 0, None, "certificate 1 of the SignedData: neither "
-                                                         "certificate nor revocation list")])
+                                                         "certificate nor revocation list", 1)])
         in_pem = certpath.load(block("PKCS7", file))
         self.assertEqual((in_pem.form, in_pem.items.data), ("PEM", CHAIN))
 
@@ -113,6 +114,41 @@ class Loading(unittest.TestCase):
         # (OpenSSL writes the set in an order of its own)
         self.assertEqual({it.public_bytes() for it in loaded.items},
                          {sample("leaf.der"), sample("intermediate.der")})
+
+    def test_before(self):
+        key, leaf = block("PRIVATE KEY", b"x"), block("CERTIFICATE", sample("leaf.der"))
+        for text, wanted in ((key, [0]), (leaf, []), (leaf + key, [1]), (key + leaf, [0]),
+                             (key + leaf + key + key + leaf + leaf + key, [0, 1, 1, 3])):
+            self.assertEqual([it.before for it in certpath.load(text).left], wanted)
+
+    def test_shapes(self):
+        leaf, crl = sample("leaf.der"), sample("list.der")
+        self.assertEqual(certpath.load(leaf + crl + b"\x30\x00" + leaf).shapes,
+                         ["certificate", "revocation list", "certificate"])
+        pem = block("X509 CRL", crl) + block("PKCS7", b"\x30\x00") + block("CERTIFICATE", leaf)
+        self.assertEqual(certpath.load(pem).shapes, ["revocation list", "certificate"])
+        self.assertEqual(certpath.load(b"").shapes, [])
+        many = certpath.load(3000 * leaf)
+        self.assertEqual((len(many.items), set(many.shapes), len(many.shapes)),
+                         (3000, {"certificate"}, 3000))
+
+    def test_shape_of(self):
+        leaf, crl = sample("leaf.der"), sample("list.der")
+        self.assertEqual([*map(certpath.shape_of, (leaf, bytearray(leaf), memoryview(crl)))],
+                         ["certificate", "certificate", "revocation list"])
+        for octets in (b"", b"\x30", b"\x30\x00", leaf + b"\x00", leaf[:-1], leaf + leaf, b"\x00" + leaf,
+                       element(0x31, leaf), block("CERTIFICATE", leaf)):
+            with self.subTest(octets=octets[:8]):
+                self.assertIsNone(certpath.shape_of(octets))
+        # (a shape isn't a class)
+        empty = element(0x30, element(0x30, b"\x02\x00", 5 * b"\x30\x00"), b"\x30\x00", b"\x03\x00")
+        self.assertEqual(certpath.shape_of(empty), "certificate")
+        self.assertIs(certpath.class_of(empty), certpath.Kind.OTHER)
+        self.assertEqual(certpath.load(empty).shapes, ["certificate"])
+        # (X.690, 10.1: the length of the whole is in its shortest form)
+        self.assertIsNone(certpath.shape_of(b"\x30\x81" + empty[1:]))
+        with self.assertRaises(TypeError):
+            certpath.shape_of("leaf.der")
 
     def test_rooms(self):
         text = 40 * block("PRIVATE KEY", b"x") + block("CERTIFICATE", sample("leaf.der"))

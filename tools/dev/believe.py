@@ -292,6 +292,10 @@ are:
     $ python3 tools/dev/believe.py cert_questions
     {OF_CRATE}
 
+What isn't proved is on no such page: that the scripts and the Python package carry what they are
+given. Octets of files are read by proved code alone, but for what [PROMISES.md
+names](PROMISES.md#what-is-run-and-said-by-no-clause).
+
 The first prints each page of one call, with the definitions on it; `CRATE::Type::function` names a
 function of a type, and a law can be named too. The second prints, for each public call of a crate,
 its own pages and those of others. Types of the sources count beside them: their fields, their

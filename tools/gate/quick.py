@@ -8,7 +8,8 @@ import sys
 
 sys.path.insert(0, os.path.dirname(os.path.dirname(os.path.abspath(__file__))))
 from dev import items, manual
-from gate import dist, edits, formatting, laws, library, listed, page_checks, source_checks, words
+from gate import (dist, edits, formatting, laws, library, listed, page_checks, readers, source_checks,
+                  words)
 from program import repo
 
 # The gate tries the named wrong bodies alone: so many edits, in so many crates.
@@ -254,7 +255,7 @@ def libraries_are_built():
 def checks():
     """All looks."""
     found = (layout, edits_apply, few_edits, all_read, no_labels, no_machine, docs_name_files, crates_listed, few_ways, judge_alone, roads_apart, headers_counted, no_handles, short_files, items_spelled, worked_causes, manual_is_made, dist_is_built, libraries_are_built, plain_words)
-    return found + source_checks.CHECKS + page_checks.CHECKS
+    return found + source_checks.CHECKS + readers.CHECKS + page_checks.CHECKS
 
 
 def looked():

@@ -1,1 +1,1 @@
-"""What ./verify and ./vouch share: shapes of items, keys and signatures."""
+"""What ./verify and ./vouch share: how files are read whole, and what is reported of items."""

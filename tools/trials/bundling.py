@@ -2,6 +2,7 @@
 is said of what is left out, and the status; and of files that are made to be slow, or to leak."""
 import base64
 import os
+import re
 import subprocess
 import sys
 import tempfile
@@ -148,6 +149,18 @@ CASES = (
 )
 
 
+def as_bundled(left):
+    """What ./verify leaves out, as `certpath bundle` says it: a label in brackets, and of SignedData a
+    place."""
+    where, why = left.where, left.why
+    if left.label:
+        where = f"{where.removesuffix(left.label)}({left.label})"
+    member, of, rest = why.partition(" of the SignedData: ")
+    if of:
+        where, why = f"{where} {member.replace('revocation list', 'list')}", rest
+    return f"{where}: {re.sub('the (file|set).s end', 'the end', why)}; left out"
+
+
 def kept(room, files):
     """Keeps files in a folder, the samples beside them."""
     for name, held in {"leaf": LEAF, "intermediate": INTERMEDIATE, "root": ROOT, "list": LIST, **files}.items():
@@ -179,6 +192,22 @@ class Bundling(Trial):
                 self.same("a full disk", self.ran(["leaf"], room, output=full), (None, ["cannot write"], 7))
             many = [it for number in range(1500) for it in ("leaf", "list")]
             self.same("3000 files", self.ran(many, room), ((LEAF + LIST) * 1500, [summary(1500, 1500, 0)], 0))
+
+    def test_as_by_verify(self):
+        """./verify takes the same items by the library, and says the same of what is left out."""
+        from trials import pem_peers
+        from verify import files
+        odd = [it for held, *_ in CASES for it in held.values()]
+        with tempfile.TemporaryDirectory(prefix="bundling-") as room:
+            for octets in (*odd, *pem_peers.FILES.values()):
+                kept(room, {"file": octets})
+                bundle, said, status = self.ran(["file"], room)
+                found = files.read("file", octets)
+                its = b"".join(it.octets for it in found.items), [*map(as_bundled, found.left_out)]
+                self.same(f"{octets[:80]}", its, (bundle, said[:-1]))
+                lists = sum(it.is_list for it in found.items)
+                last = summary(len(found.items) - lists, lists, len(found.left_out))
+                self.same(f"lists of {octets[:80]}", (last, bool(found.left_out)), (said[-1], status == 1))
 
     def test_large(self):
         """Files of strangers: what is said of them, and that it takes seconds."""

@@ -187,11 +187,11 @@ class Limits(Trial):
         """A signal ends a script and its programs at once: while it waits for one, and within a
         call of a library."""
         self.need("openssl")
-        tools, seven = os.path.join(self.room, "tools"), os.path.join(self.room, "all.p7b")
-        words = ["openssl", "crl2pkcs7", "-nocrl", "-certfile", FULL, "-out", seven]
-        subprocess.run(words, check=True)
+        tools, twelve = os.path.join(self.room, "tools"), os.path.join(self.room, "all.p12")
+        words = ["openssl", "pkcs12", "-export", "-nokeys", "-in", FULL, "-passout", "pass:"]
+        subprocess.run([*words, "-out", twelve], check=True)
         sources.put(os.path.join(tools, "openssl"), WAITING.encode(), 0o755)
-        path, words = f"{tools}{os.pathsep}{os.environ['PATH']}", [*script("verify"), seven]
+        path, words = f"{tools}{os.pathsep}{os.environ['PATH']}", [*script("verify"), twelve]
         for number in (signal.SIGTERM, signal.SIGINT, signal.SIGHUP, signal.SIGKILL):
             count = len(self.processes())
             title = f"{number.name} while openssl unpacks"

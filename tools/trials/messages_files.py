@@ -5,6 +5,7 @@ import os
 from dev.items import element, octets
 from trials import refusals
 from trials.chains import AUTHORITY, ISSUER_ID, OF_AUTHORITY, OF_LEAF, OF_ROOT, OWN_ID, SIGNER, Chain
+from trials.elements import parts_of
 from trials.verifying_faults import damaged
 from trials.verifying_large import pem
 from trials.vouching_pki import DATES, ECDSA_SHA256, assembled, name
@@ -105,10 +106,16 @@ def containers(files, issuer, leaf):
     shop.openssl("crl2pkcs7", "-nocrl", "-certfile", "all.pem", "-out", "all.p7b")
     files.keep("cut.p7c", files.octets("all.p7c")[:-5])
     files.keep("two.p7b", files.octets("all.p7b") * 2)
+    files.keep("ber.p7c", in_ber(files.octets("all.p7c")))
+    files.keep("ber.p7b", block(with_inner_ber(files.octets("all.p7c")), "PKCS7"))
+    files.keep("cut.p7b", files.octets("all.p7b").partition(b"-----END")[0])
     key = shop.key("p521")
     for file, password in (("open.p12", ""), ("closed.p12", "secret")):
         words = ("pkcs12", "-export", "-in", leaf.file, "-inkey", key, "-certfile", issuer.file, "-passout", f"pass:{password}")
         shop.openssl(*words, "-out", file)
+    shop.openssl("pkcs12", "-export", "-nocerts", "-inkey", key, "-passout", "pass:", "-out", "keys.p12")
+    files.keep("cut.p12", files.octets("open.p12")[:-5])
+    files.keep("rubbish.p12", files.octets("open.p12") + b"\n")
     files.keep("key.pem", files.octets(key))
     files.keep("damaged.pem", damaged(files.octets(leaf.file)), issuer)
     files.keep("damaged-list.pem", damaged(files.octets("int-list.pem")))
@@ -120,6 +127,18 @@ def containers(files, issuer, leaf):
     files.keep("notes", b"Remember the milk.\n")
     files.keep("dirt.pem", leaf, files.octets(key) * 3)
     files.keep("rubbish.der", leaf.octets, b"rubbish")
+
+
+def in_ber(octets):
+    """An element of DER with the indefinite length (X.690, 8.1.3.6)."""
+    part, = parts_of(octets)
+    return octets[:1] + b"\x80" + part.content + bytes(2)
+
+
+def with_inner_ber(octets):
+    """A ContentInfo in DER whose content has the indefinite length."""
+    identifier, content = parts_of(parts_of(octets)[0].content)
+    return element(b"\x30", identifier.octets + element(b"\xa0", in_ber(content.content)))
 
 
 def block(octets, begin="CERTIFICATE", end=None, headers=""):

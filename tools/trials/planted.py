@@ -1,11 +1,12 @@
-"""Plants what the gate has to refuse: scripts that reach around the toolchain's commands, a crates.txt
-in which a crate has no line, two lines, or none of its own, and programs that dist/certpath isn't."""
+"""Plants what the gate has to refuse: scripts that reach around the toolchain's commands, or read PEM
+or DER themselves, a crates.txt in which a crate has no line, two lines, or none of its own, and
+programs that dist/certpath isn't."""
 import contextlib
 import io
 import os
 import tempfile
 
-from gate import dist, listed, source_checks
+from gate import dist, listed, readers, source_checks
 from program import repo, sources
 from trials.count import Trial
 
@@ -53,6 +54,22 @@ class Planted(Trial):
                 found = [*source_checks.toolchain_by_commands(self.room)]
                 self.same(f"{name} with {line}", [it.startswith(place) for it in found], [True])
             os.remove(os.path.join(self.room, "tools", name))
+
+    def test_readers(self):
+        """No script reads PEM, base64 or DER, but those that make input for trials."""
+        self.same("scripts as they are", [*readers.files_by_library(repo.TOP)], [])
+        for path in ("verify", "tools/verify/files.py", "python/certpath/loading.py", "planted"):
+            for line in readers.PLANTED:
+                text = f"#!/usr/bin/env python3\n\"\"\"Reads -----BEGIN blocks.\"\"\"\n{line}\n"
+                sources.put(os.path.join(self.room, path), text.encode(), 0o755)
+                found = [*readers.files_by_library(self.room)]
+                self.same(f"{path} with {line}", [it.startswith(f"{path}:3: it ") for it in found], [True])
+            os.remove(os.path.join(self.room, path))
+        for path in ("tools/trials/planted.py", "python/tests/planted.py", "bench/planted.py"):
+            sources.put(os.path.join(self.room, path), readers.PLANTED[0].encode())
+        self.same("in trials", [*readers.files_by_library(self.room)], [])
+        sources.put(os.path.join(self.room, "planted.sh"), b"#!/bin/sh\nbase64 -d key.pem\n")
+        self.same("a script of the shell", len([*readers.files_by_library(self.room)]), 1)
 
     def test_programs(self):
         """dist/certpath is compared with another program by octets, or by what both do."""

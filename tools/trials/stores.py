@@ -226,12 +226,30 @@ class Stores(OfStores):
             self.same(f"a list of {serials}: {text[:500]}", ("one" in openssl, status == 0), (wanted, wanted))
 
     def test_plain_folder(self):
-        """Of a folder without hashed names each file is taken."""
+        """Of a folder without hashed names each file is taken; texts without certificates are passed over."""
         folder = self.folder("plain", one_pem=self.octets(self.chains["one"][2].file), notes_txt=b"none\n",
-                             two_der=self.chains["two"][2].octets)
+                             two_der=self.chains["two"][2].octets, key_pem=self.octets(self.shop.key("p256")))
         for name, wanted in (("one", 0), ("two", 0), ("three", 1)):
             leaf, between, _ = self.chains[name]
-            self.same(f"a plain folder: {name}", self.verify(leaf.file, between.file, "--anchors", folder, "--quiet")[0], wanted)
+            status, text, _ = self.verify(leaf.file, between.file, "--anchors", folder)
+            self.same(f"a plain folder: {name}: {text}", (status, "left out" in text), (wanted, False))
+        leaf, between, root = self.chains["three"]
+        self.shop.openssl("crl2pkcs7", "-nocrl", "-certfile", root.file, "-outform", "DER", "-out", os.path.join(folder, "three.p7b"))
+        self.shop.openssl("pkey", "-in", self.shop.key("p256"), "-outform", "DER", "-out", os.path.join(folder, "key.der"))
+        status, text, _ = self.verify(leaf.file, between.file, "--anchors", folder)
+        self.same(text, (status, "key.der octet 0: neither certificate nor revocation list; left out" in text), (0, True))
+
+    def test_labels(self):
+        """Of a store OpenSSL takes neither PKCS #7 nor the label X.509 CERTIFICATE, which count in any file here."""
+        leaf, between, root = self.chains["one"]
+        text, nothing = self.octets(root.file), self.folder("none")
+        self.shop.openssl("crl2pkcs7", "-nocrl", "-certfile", root.file, "-out", "root.p7b")
+        for title, octets, by_openssl in (("X509", text.replace(b" CERTIFICATE-", b" X509 CERTIFICATE-"), {"one"}),
+                                          ("X.509", text.replace(b" CERTIFICATE-", b" X.509 CERTIFICATE-"), set()),
+                                          ("PKCS #7", self.octets("root.p7b"), set())):
+            variables = {"SSL_CERT_FILE": self.at(self.shop.keep("labelled.pem", octets)), "SSL_CERT_DIR": nothing}
+            found = self.openssl(**variables), self.verify(leaf.file, between.file, "--quiet", **variables)
+            self.same(f"a store of {title}", found, (by_openssl, (0, "", "")))
 
 
 class Several(OfStores):

@@ -232,7 +232,7 @@ def forms(v, chain):
         path = found and shown(found[0]["path"])
         yield f"the form {file}", (status, path, told), (0, shown(wanted)[-len(path or [0]):], [])
     status, text, told = v.run("keys.pem", "--anchors", root.file)
-    is_told = "keys.pem block 1 (PRIVATE KEY): left out" in text
+    is_told = "keys.pem line 1 PRIVATE KEY: the block holds neither certificate nor revocation list; left out" in text
     yield "private keys", (status, key.split(b"\n")[1].decode() in text, is_told, told), (0, False, True, [])
     status, text, told = v.run("-", "--anchors", root.file, octets=v.octets("all.pem"))
     yield "standard input", (status, text.split(" at ")[0], told), (0, "valid path", [])

@@ -49,10 +49,11 @@ def targets(v, root):
     v.shop.keep("no-month.pem", pem(wrong_month(leaf.octets)) + v.octets(issuer.file))
     v.shop.keep("behind-list.pem", v.octets(listed.file) + damaged(v.octets(leaf.file)) + v.octets(issuer.file))
     v.shop.keep("behind.pem", v.octets(leaf.file) + damaged(v.octets(issuer.file)))
-    told = "no-base64.pem block 1 (CERTIFICATE): not base64"
+    told = "no-base64.pem line 1 CERTIFICATE: not base64"
     remedy = "it would be the target: mend it, or name another one with --target"
     yield "a damaged target", v.run("no-base64.pem", *anchors), (4, "", [f"verify: {told}; {remedy}"])
-    told_behind = "behind-list.pem block 2 (CERTIFICATE): not base64"
+    at = 1 + v.octets(listed.file).count(b"\n")
+    told_behind = f"behind-list.pem line {at} CERTIFICATE: not base64"
     yield "a damaged target behind a list", v.run("behind-list.pem", *anchors), (4, "", [f"verify: {told_behind}; {remedy}"])
     status, text, _ = v.run("no-base64.pem", *anchors, "--all")
     yield "a damaged target among all", (status, f"\nno target: {told}\n" in text), (3, True)
@@ -61,13 +62,14 @@ def targets(v, root):
     yield "an other target", (status, text.startswith("no target: item 0 (no-month.pem): neither a certificate nor a list"), told), (3, True, [])
     yield "an other target among all", v.run("no-month.pem", *anchors, "--all", "--quiet"), (3, "", [])
     status, text, told = v.run("behind.pem", issuer.file, *anchors)
-    yield "a damaged block behind", (status, "behind.pem block 2 (CERTIFICATE): not base64; left out" in text, told), (0, True, [])
+    at = 1 + v.octets(leaf.file).count(b"\n")
+    yield "a damaged block behind", (status, f"behind.pem line {at} CERTIFICATE: not base64; left out" in text, told), (0, True, [])
     yield "above the limit", v.run(leaf.file, issuer.file, *anchors, "--limit", "9")[0], 4
 
 
 def lists(v, root):
     """A list that can't be read, or isn't used, and may revoke, is in the first line."""
-    for title, change, said in (("no base64", damaged, "a list can't be read: faulty-list.pem block 1 (X509 CRL): not base64"),
+    for title, change, said in (("no base64", damaged, "a list can't be read: faulty-list.pem line 1 X509 CRL: not base64"),
                                 ("no month", lambda it: it, "a list can't be read: item 2 (faulty-list.pem): neither a certificate")):
         case = case_of(v, f"list with {title}", root)
         leaf, issuer, it = case.bundle
@@ -88,6 +90,30 @@ def lists(v, root):
     told = "since whether item 0 CN=leaf is revoked isn't known from list 2"
     how = "reads like the certificate's issuer, but its CN is a PrintableString in the list and a UTF8String in the certificate"
     yield "a list whose issuer is spelled otherwise", (told in text, how in text), (True, True)
+
+
+def signed_data(v, root):
+    """A list of PKCS #7 that can't be read is in the first line, and a certificate is a warning."""
+    leaf, issuer, it = case_of(v, "signed data", root).bundle
+    v.shop.openssl("crl2pkcs7", "-in", it.file, "-certfile", issuer.file, "-outform", "DER", "-out", "seven.p7c")
+    whole, words = v.octets("seven.p7c"), [leaf.file, "seven.p7c", issuer.file, "--anchors", root.file, "--at", AT]
+    # (what is signed is a SET, so that neither has its shape)
+    no_list, no_certificate = (whole.replace(one.octets, one.octets[:4] + b"\x31" + one.octets[5:]) for one in (it, issuer))
+    said = "of the SignedData: neither certificate nor revocation list"
+    v.shop.keep("seven.p7c", no_list)
+    status, found, errors = v.json(*words)
+    known = f"since whether a certificate of the path is revoked isn't known, as a list can't be read: seven.p7c octet 0: revocation list 0 {said}"
+    yield "a list of SignedData that can't be read", (status, known in found[0]["headline"], len(found[0]["doubts"]), errors), (1, True, 1, [])
+    v.shop.keep("seven.p7c", no_certificate)
+    status, found, errors = v.json(*words, "--ignore-unused-lists")
+    lines = [one for one in found[0]["warnings"] if one == f"seven.p7c octet 0: certificate 0 {said}; left out"]
+    yield "a certificate of SignedData that can't be read", (status, len(lines), found[0]["doubts"], errors), (1, 1, [], [])
+    remedy = "it would be the target: mend it, or name another one with --target"
+    yield "a target of SignedData that can't be read", v.run("seven.p7c", issuer.file, *words[3:]), (
+        3, "", ["verify: seven.p7c: it holds revocation lists and no certificate, so no target"])
+    v.shop.keep("seven.p7c", no_certificate + leaf.octets)
+    yield "a target after SignedData that can't be read", v.run("seven.p7c", issuer.file, *words[3:]), (
+        4, "", [f"verify: seven.p7c octet 0: certificate 0 {said}; {remedy}"])
 
 
 def names(v, root):
@@ -149,7 +175,7 @@ def containers(v, root):
     yield "the anchor itself", ([one["place"] for one in found[0]["path"]], found[0]["status"]), (["item 0"], 0)
     _, found, _ = v.json("rubbish.der", issuer.file, *anchors)
     yield "rubbish behind", (found[0]["status"], ["7 octets to the file's end" in one for one in found[0]["warnings"]]), (0, [True])
-    yield "a PKCS #7 file that is cut", v.run("cut.p7b", *anchors), (4, "", ["verify: cut.p7b block 1 (PKCS7): its END is missing; mend the file, or leave it out"])
+    yield "a PKCS #7 file that is cut", v.run("cut.p7b", *anchors), (4, "", ["verify: cut.p7b line 1 PKCS7: its END is missing; mend the file, or leave it out"])
 
 
 def words_of(v, root):
@@ -164,9 +190,9 @@ def words_of(v, root):
             ([leaf.file, "--anchor", root.file], 2, "there is no option --anchor, the most similar one is --anchors"),
             ([leaf.file, *anchors, "--at", "2026-02-30"], 2, "--at 2026-02-30: no moment; write now"),
             ([leaf.file, *anchors, "--html", leaf.file], 2, f"--html {leaf.file}: this file is read"),
-            (["nothing", *anchors], 4, "nothing: empty"), ([leaf.file, "notes", *anchors], 4, "notes: neither PEM nor DER"),
+            (["nothing", *anchors], 4, "nothing: the file is empty"), ([leaf.file, "notes", *anchors], 4, "notes: the file is neither PEM nor DER"),
             (["a folder", *anchors], 4, "cannot read a folder: it is a folder"), (["", *anchors], 4, "cannot read '': no such file"),
-            ([leaf.file, "--anchors", "notes"], 4, "notes: neither PEM nor DER"),
+            ([leaf.file, "--anchors", "notes"], 4, "notes: the file is neither PEM nor DER"),
             ([leaf.file, "--anchors", it.file], 4, f"{it.file}: holds no certificate, so no anchor"),
             ([leaf.file, "--anchors", "a folder"], 4, "a folder: its files hold no certificate"),
             (["/dev/zero", *anchors], 4, "/dev/zero: it has more than 268435456 octets"),
@@ -200,4 +226,4 @@ def remains(v, root):
 
 def jobs(v, root):
     """All of these, to be run side by side."""
-    return [lambda it=it: [*it(v, root)] for it in (targets, lists, names, forgeries, containers, words_of, remains)]
+    return [lambda it=it: [*it(v, root)] for it in (targets, lists, signed_data, names, forgeries, containers, words_of, remains)]

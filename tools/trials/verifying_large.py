@@ -16,9 +16,9 @@ from ctypes import byref, c_char_p, c_int, c_size_t, c_void_p
 sys.dont_write_bytecode = True
 sys.path.insert(0, os.path.dirname(os.path.dirname(os.path.abspath(__file__))))
 from pki import package
-from pki.shapes import parts_of
 from program import repo
 from trials.chains import AUTHORITY, OWN_ID, SIGNER, Chain
+from trials.elements import parts_of
 from trials.vouching_pki import Workshop
 from certpath import libcrypto
 
@@ -72,7 +72,7 @@ def pem(octets):
 def certificates(template, signer, count):
     """Certificates that differ in their serial numbers, each signed; of some the signature is the one of the certificate before."""
     octets = template.octets
-    signed = parts_of(parts_of(octets)[0].content, 1)[0].octets
+    signed = parts_of(parts_of(octets)[0].content)[0].octets
     begin, serial = octets.index(signed), signed.index(FIRST.to_bytes(8, "big"))
     head, tail = octets[:begin], octets[begin + len(signed):-SIGNATURE]
     before = None

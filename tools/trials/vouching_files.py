@@ -6,10 +6,10 @@ import sys
 
 from dev.items import octets
 from pki import package
-from pki.shapes import header_at
 from program import repo
 from trials import bundling
 from trials.bundling import CERTIFICATE, pem
+from trials.elements import parts_of
 from trials.vouching_algorithms import Row
 from trials.vouching_pki import line, name, octets_of_pem
 from certpath import Certificate
@@ -85,8 +85,7 @@ def ends(t):
         t.same(f"a {word} in the bundle", t.lines(word, [root, end], []), (1, root_line, [f"bundle: {word} at {number}: {what}", summary]))
         t.same(f"a {word} in the anchors", t.lines(word, [root], [root, end]), (1, root_line, [f"anchors: {word} at {number}: {what}", summary]))
         t.same(f"a {word} alone", t.lines(word, [end], []), (1, "", alone))
-    _, begin, end, _ = header_at(root, 0)
-    limit = end - begin
+    limit = len(parts_of(root)[0].content)
     for words in (["--limit", str(limit)], [f"--limit=00{limit}"], ["--weak", "--limit", "4294967295"]):
         t.same(f"the words {words}", t.lines("a limit", [root], [], *words), (0, root_line, ["vouch: 1 item, 1 vouched for, 1 line, 0 reported"]))
     t.same("a limit that is too small", t.lines("a limit", [root], [root], "--limit", str(limit - 1)),

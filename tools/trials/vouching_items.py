@@ -1,6 +1,6 @@
 """Trials of ./vouch: signatures that are not quite ones, algorithms that differ, keys and names by their octets, and several keys under one name."""
 from dev.items import element, octets
-from pki.shapes import parts_of
+from trials.elements import parts_of
 from trials.vouching_pki import INTEGER, PRINTABLE, assembled, name, spelled
 
 NO_KEY, NEITHER = "no key under its issuer's name", "neither certificate nor list"

@@ -7,7 +7,7 @@ import threading
 from typing import NamedTuple
 
 from dev.items import element, octets
-from pki.shapes import SEQUENCE, parts_of
+from trials.elements import SEQUENCE, parts_of
 
 CONFIG = """[req]
 distinguished_name = name

@@ -1,96 +1,79 @@
-"""The items of the caller's files: of PEM and DER by blocks.py, and `openssl` unpacks the containers."""
-import os
+"""The items of the caller's files: of PEM, DER and PKCS #7 by the proved library; `openssl` unpacks
+PKCS #12."""
 import re
 import shlex
 from typing import NamedTuple
 
-from pki import labels, reading
-from program import repo, streams
-from verify import blocks, children, waiting
+from pki import reading
+from program import streams
+from verify import children, waiting
+from verify.core import certpath
 from verify.faults import NO_PROGRAM, UNREAD, Fault
 
-# What a PKCS #7 file of certificates and a PKCS #12 file begin with: headers of SEQUENCEs and an identifier (RFC 5652, 5.1; RFC 7292, 4).
-HEADER = rb"\x30(?:[\x00-\x80]|\x81.|\x82..|\x83.{3}|\x84.{4})"
-SIGNED_DATA, PLAIN_DATA = (re.escape(bytes.fromhex(it)) for it in ("06092a864886f70d010702", "06092a864886f70d010701"))
-DER_OF_SEVEN = re.compile(HEADER + SIGNED_DATA, re.S)
-DER_OF_TWELVE = re.compile(HEADER + rb"\x02\x01\x03" + HEADER + rb"(?:" + SIGNED_DATA + rb"|" + PLAIN_DATA + rb")", re.S)
-# So many PKCS #7 blocks of a PEM file are unpacked, each by a run of `openssl`.
-MOST_BLOCKS = 100
 # No file has more octets, so that an endless one ends.
 MOST_OCTETS = 1 << 28
-# Labels of blocks that may hold certificates, and of those that may hold lists.
-OF_CERTIFICATES, OF_LISTS = {*labels.CERTIFICATES, *labels.SEVEN}, {labels.LIST, *labels.SEVEN}
+# The library's words: forms, shapes, labels of blocks that may hold certificates or lists, members
+# of SignedData, what isn't read as it isn't DER, and what isn't whole.
+PEM, DER, DER_OF_SEVEN, LIST = "PEM", "DER", "PKCS #7", "revocation list"
+SEVEN = ("PKCS7", "CMS", "PKCS #7 SIGNED DATA")
+OF_CERTIFICATES = {"CERTIFICATE", "X509 CERTIFICATE", "X.509 CERTIFICATE", "TRUSTED CERTIFICATE",
+                   *SEVEN}
+OF_LISTS = {"X509 CRL", *SEVEN}
+MEMBER = re.compile(r"(certificate|revocation list) \d+ of the SignedData: ", re.ASCII)
+NOT_IN_DER, NOT_WHOLE = ("(BER)", "no SignedData in DER"), " of it missing"
+# What `openssl pkcs12` says of a file that is PKCS #12, and that it can't unpack.
+NOT_UNPACKED = (b"Mac verify error", b"Error outputting keys and certificates")
 REMEDY = "mend the file, or leave it out"
 
 
 class Item(NamedTuple):
-    """An item: its octets, and the file that it comes from."""
+    """An item: its octets, the file that it comes from, and whether it has a list's shape."""
     octets: bytes
     file: str
+    is_list: bool
 
 
 class LeftOut(NamedTuple):
-    """What was left out of a file: where it was, why, nothing if ./verify has no use for such a thing; the label of the PEM
-    block that it was, none if it was none or isn't known; and how many items were taken before it."""
+    """What was left out of a file: where it was, why, the label of the PEM block that it was, none
+    if it was none or isn't known, and how many items are before it."""
     where: str
     why: str
-    label: str
-    before: int
+    label: str = None
+    before: int = 0
 
     def __str__(self):
-        return f"{self.where}: {self.why}; left out" if self.why else f"{self.where}: left out"
+        return f"{self.where}: {self.why}; left out"
+
+    def member(self):
+        """As which member of SignedData it was there, none if it wasn't."""
+        found = MEMBER.match(self.why)
+        return found and found[1]
 
     def is_list(self):
         """Whether it was to be a revocation list."""
-        return self.why is not None and self.label in OF_LISTS
+        return self.member() == LIST if self.member() else self.label in OF_LISTS
 
     def is_certificate(self):
         """Whether it may have been a certificate."""
-        return self.why is not None and (self.label is None or self.label in OF_CERTIFICATES)
+        if self.member():
+            return self.member() != LIST
+        return self.label is None or self.label in OF_CERTIFICATES
+
+    def remedy(self, file):
+        """What to do if nothing else is in its file."""
+        may_be_seven = self.label is None or self.label in SEVEN
+        if not may_be_seven or not any(it in self.why for it in NOT_IN_DER):
+            return REMEDY
+        words = f"{'' if self.label else '-inform DER '}-in {in_shell(file)} -print_certs"
+        command = f"openssl pkcs7 {words} -out {in_shell(file, '.pem')}"
+        return f"{REMEDY}; if it is PKCS #7, this makes PEM of it: {command}"
 
 
 class FileContents(NamedTuple):
-    """What a file holds, and what was left out of it."""
+    """What a file holds, what was left out of it, and its form in the library's words."""
     items: list
     left_out: list
-
-
-class Collector(blocks.Taken):
-    """Items of a file, and those of PKCS #7 blocks; what is left out is kept."""
-
-    def __init__(self, file):
-        super().__init__()
-        self.file, self.kept, self.unpacked = file, [], 0
-
-    def report(self, where, why=None, label=None):
-        self.kept.append(LeftOut(where, why, label, len(self.items)))
-
-    def take(self, octets, where, label=None):
-        waiting.LINE.say(f"reading {streams.shown(where)}")
-        super().take(octets, where, label)
-
-    def take_other(self, where, label, lines):
-        if label not in labels.SEVEN:
-            self.report(where, None, label)
-            return
-        self.unpacked += 1
-        if self.unpacked > MOST_BLOCKS:
-            raise Fault(UNREAD, f"{self.file}: more than {MOST_BLOCKS} PKCS #7 blocks; split it")
-        block = b"-----BEGIN PKCS7-----\n%s\n-----END PKCS7-----\n" % b"\n".join(lines.split())
-        self.add(Collector.of(where, of_seven(self.file, block, "PEM")))
-
-    def add(self, other):
-        """Takes what another one took, after what this one has."""
-        self.kept += [it._replace(before=it.before + len(self.items)) for it in other.kept]
-        self.items += other.items
-        self.lists += other.lists
-
-    @classmethod
-    def of(cls, name, octets):
-        """What octets hold."""
-        taken = cls(name)
-        blocks.take_file(taken, name, octets)
-        return taken
+    form: str = None
 
 
 def octets_of(file):
@@ -105,60 +88,73 @@ def octets_of(file):
     return found
 
 
+def read(file, octets):
+    """What the octets of a file hold, by the library."""
+    title = f"reading {streams.shown(file)}"
+    waiting.LINE.begin(title)
+    found = certpath.load(octets, file)
+    waiting.BUDGET.check(title)
+    items = [Item(found.items.octets(number), file, shape == LIST)
+             for number, shape in enumerate(found.shapes)]
+    left_out = [LeftOut(" ".join(filter(None, (file, it.place, it.label))), it.reason, it.label,
+                        it.before) for it in found.left]
+    return FileContents(items, left_out, found.form)
+
+
 def in_shell(file, tail=""):
     """A file's name as a word of the shell."""
     return shlex.quote(f"{file}{tail}")
 
 
-def unpacked(file, words, octets):
-    """What `openssl` makes of octets, none if it fails."""
+def unpacked(file, octets, said, *words):
+    """How a run of `openssl pkcs12` ended that takes the certificates out of a file without a
+    password."""
+    words = ["openssl", "pkcs12", "-nokeys", "-passin", "pass:", *words]
     try:
-        ran = children.ran(["openssl", *words], f"openssl {words[0]} unpacks {streams.shown(file)}", octets)
+        return children.ran(words, f"openssl pkcs12 unpacks {streams.shown(file)}", octets)
     except OSError as error:
-        what = "PKCS #7" if words[0] == "pkcs7" else "PKCS #12"
-        raise Fault(NO_PROGRAM, f"{file}: {what} is unpacked by the command openssl, which isn't there; install it, or give PEM or DER") from error
-    return ran.output if ran.status == 0 else None
+        raise Fault(NO_PROGRAM, f"{said}; the command openssl, which unpacks PKCS #12, isn't "
+                    "there: install it, or give PEM or DER") from error
 
 
-def of_seven(file, octets, form="DER"):
-    """The PEM blocks of a PKCS #7 file."""
-    found = unpacked(file, ["pkcs7", "-inform", form, "-print_certs"], octets)
-    if found is None:
-        raise Fault(UNREAD, f"{file}: PKCS #7 that openssl can't unpack, as it is damaged or isn't SignedData; {REMEDY}")
-    return found
-
-
-def of_twelve(file, octets):
-    """The PEM blocks of a PKCS #12 file without a password, the certificate of its key first."""
-    empty = ["-nokeys", "-passin", "pass:"]
-    for further in ([], ["-legacy"]):
-        own = unpacked(file, ["pkcs12", *empty, "-clcerts", *further], octets)
-        others = None if own is None else unpacked(file, ["pkcs12", *empty, "-cacerts", *further], octets)
-        if others is not None:
-            return own + others
-    command = f"openssl pkcs12 -in {in_shell(file)} -nokeys -out {in_shell(file, '.pem')}"
-    raise Fault(UNREAD, f"{file}: PKCS #12 with a password, or damaged; unpack it: {command}")
-
-
-def plain(file, octets):
-    """The octets as PEM or DER."""
-    if DER_OF_SEVEN.match(octets):
-        return of_seven(file, octets)
-    return of_twelve(file, octets) if DER_OF_TWELVE.match(octets) else octets
+def of_twelve(file, octets, said):
+    """The PEM text of a PKCS #12 file without a password, the certificate of its key first; none if
+    openssl says that it is no such file. `said` is what the library says of it."""
+    further = []
+    own = unpacked(file, octets, said, "-clcerts")
+    if own.status:
+        if not any(it in own.errors for it in NOT_UNPACKED):
+            return None
+        further = ["-legacy"]
+        own = unpacked(file, octets, said, "-clcerts", *further)
+    others = own if own.status else unpacked(file, octets, said, "-cacerts", *further)
+    if others.status:
+        command = f"openssl pkcs12 -in {in_shell(file)} -nokeys -out {in_shell(file, '.pem')}"
+        raise Fault(UNREAD, f"{file}: PKCS #12 with a password, or damaged; unpack it: {command}")
+    return own.output + others.output
 
 
 def taken_from(file):
-    """What a file holds, if anything."""
-    taken = Collector.of(file, plain(file, octets_of(file)))
-    return FileContents([Item(it, file) for it in taken.items], taken.kept)
+    """What a file holds, if anything. A whole element of DER that is no item may be PKCS #12."""
+    octets = octets_of(file)
+    found = read(file, octets)
+    if found.items or found.form != DER or NOT_WHOLE in found.left_out[0].why:
+        return found
+    first, *after = found.left_out
+    text = of_twelve(file, octets, f"{first.where}: {first.why}")
+    if text is None:
+        return found
+    held = read(file, text) if text else FileContents([], [])
+    after = [it._replace(before=len(held.items)) for it in after]
+    return held._replace(left_out=[*held.left_out, *after])
 
 
 def contents_of(file):
     """What a file holds; the run ends if that is nothing that can be read."""
     found = taken_from(file)
-    faults = [it for it in found.left_out if it.why]
-    if faults and not found.items:
-        raise Fault(UNREAD, f"{faults[0].where}: {faults[0].why}; {REMEDY}")
+    fault = next((it for it in found.left_out if it.is_certificate() or it.is_list()), None)
+    if fault and not found.items:
+        raise Fault(UNREAD, f"{fault.where}: {fault.why}; {fault.remedy(file)}")
     return found
 
 

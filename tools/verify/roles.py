@@ -1,7 +1,6 @@
 """What was taken as a target, and what as a helper: further certificates and revocation lists that a path may need."""
 from typing import NamedTuple
 
-from pki.shapes import LIST, kind_of
 from program.streams import counted, shown
 
 # So many files have a line.
@@ -31,7 +30,7 @@ class Count(NamedTuple):
 
 def count(file, contents):
     """What is counted of a file."""
-    lists = sum(kind_of(it.octets) == LIST for it in contents.items)
+    lists = sum(it.is_list for it in contents.items)
     return Count(file, len(contents.items) - lists, lists)
 
 

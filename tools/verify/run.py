@@ -3,7 +3,6 @@ import os
 from itertools import islice
 
 from pki import reading
-from pki.shapes import LIST, kind_of
 from program import programs, repo, streams
 from program.streams import counted
 from verify import (answers, asking, core, demands, faults, files, graph, machine, page, people, roles, signing, spelling, stores, waiting,
@@ -39,9 +38,9 @@ class Inputs:
         self.further = [*map(roles.count, asked.lists, lists), *([roles.count(asked.target, self.named)] if self.named else [])]
         found = stores.anchors_of(asked.anchors)
         # (revocation lists in files of anchors are lists like others)
-        items = [it for part in parts for it in part.items] + [it for it in found.items if self.is_list(it.octets)]
+        items = [it for part in parts for it in part.items] + [it for it in found.items if it.is_list]
         self.bundle = core.Side(files.once(items), False, asked.limit)
-        self.anchors = core.Side([it for it in found.items if not self.is_list(it.octets)], True, asked.limit)
+        self.anchors = core.Side([it for it in found.items if not it.is_list], True, asked.limit)
         self.sources, self.store = found.sources, found.store
         self.left_out, self.left_out_of_anchors = [it for part in parts for it in part.left_out], found.left_out
         if not self.anchors.of_kind[Kind.CERTIFICATE]:
@@ -72,20 +71,16 @@ class Inputs:
         lost = [it for one in parts for it in one.left_out if it.is_certificate()]
         positions = {self.bundle.items.octets(it): it for it in range(len(self.bundle.items))}
         found = dict.fromkeys(self.target(positions[it.octets]) if it.octets in positions else f"{it.file}: an item above the limit"
-                              for one in parts for it in one.items if not self.is_list(it.octets))
+                              for one in parts for it in one.items if not it.is_list)
         if not found:
             raise Fault(faults.NO_TARGET, f"{name}: it holds {self.what_is_there(part)}no certificate, so no target")
         if self.asked.is_all:
             return [*found, *(f"{it.where}: {it.why}" for it in lost)]
-        at = next(number for number, it in enumerate(part.items) if not self.is_list(it.octets))
-        if lost and lost[0].before <= at:
-            raise Fault(faults.UNREAD, f"{lost[0].where}: {lost[0].why}; it would be the target: mend it, or name another one with --target")
+        at = next(number for number, it in enumerate(part.items) if not it.is_list)
+        first = next((it for it in lost if it.before <= at), None)
+        if first:
+            raise Fault(faults.UNREAD, f"{first.where}: {first.why}; it would be the target: mend it, or name another one with --target")
         return [*found][:1]
-
-    @staticmethod
-    def is_list(octets):
-        """Whether an item has a list's shape."""
-        return kind_of(octets) == LIST
 
     @staticmethod
     def what_is_there(part):
@@ -121,10 +116,10 @@ class Inputs:
             if it.is_list():
                 yield f"{it.where}: {it.why}"
         for position in self.bundle.of_kind[Kind.OTHER]:
-            if self.is_list(self.bundle.items.octets(position)):
+            if self.bundle.given[position].is_list:
                 yield f"item {position} ({self.bundle.file(position)}): {OTHER}"
         for it in self.bundle.too_large:
-            if self.is_list(it.octets):
+            if it.is_list:
                 yield f"{it.file}: a list above the limit"
 
     def notes(self):

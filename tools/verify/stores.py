@@ -4,13 +4,11 @@ import re
 from ctypes import c_char_p, c_ulong, c_void_p
 from typing import NamedTuple
 
-from pki import labels
-from pki.shapes import LIST, kind_of
 from program.streams import shown
 from verify import files
 from verify.core import certpath
 from verify.faults import NO_PROGRAM, UNREAD, Fault
-from verify.files import FileContents, Item, LeftOut
+from verify.files import FileContents, LeftOut
 
 # The word for the system's store; ./system is a file of that name.
 SYSTEM = "system"
@@ -83,10 +81,12 @@ def names_in(folder):
 
 
 def plain_folder(folder, names):
-    """What the files of a folder hold. Files without certificates, as notes, are passed over."""
+    """What the files of a folder hold. Texts without certificates, as notes and keys, are passed over."""
     paths = [os.path.join(folder, it) for it in names if not it.startswith(".")]
     parts = [files.taken_from(it) for it in paths if os.path.isfile(it)]
-    left_out = [it for part in parts for it in part.left_out if part.items or it.label in files.OF_CERTIFICATES]
+    is_der = (files.DER, files.DER_OF_SEVEN)
+    left_out = [it for part in parts for it in part.left_out
+                if part.items or part.form in is_der or it.label in files.OF_CERTIFICATES]
     return FileContents([it for part in parts for it in part.items], left_out)
 
 
@@ -108,17 +108,16 @@ def hashed_folder(folder, names, openssl, is_wide=False):
     for name in filter(None, map(WIDE.fullmatch, names)) if is_wide else hashed_names(names):
         path = os.path.join(folder, name[0])
         if not os.path.isfile(path):
-            left_out.append(LeftOut(path, "no file is there", None, len(items)))
+            left_out.append(LeftOut(path, "no file is there"))
             continue
         part = files.taken_from(path) if is_wide else of_pem(path)
         left_out += part.left_out
         for it in part.items:
-            is_list = kind_of(it.octets) == LIST
-            own = None if is_list else openssl.hash(it.octets)
-            if is_list == bool(name[2]) and (is_list or own == name[1].lower()):
+            own = None if it.is_list else openssl.hash(it.octets)
+            if it.is_list == bool(name[2]) and (it.is_list or own == name[1].lower()):
                 items.append(it)
             else:
-                left_out.append(LeftOut(path, why_not(is_list, own), None, len(items)))
+                left_out.append(LeftOut(path, why_not(it.is_list, own)))
     return FileContents(items, left_out)
 
 
@@ -131,11 +130,10 @@ def why_not(is_list, own):
 
 def of_pem(path):
     """What a PEM file holds, which is all that OpenSSL reads in a store."""
-    octets = files.octets_of(path)
-    if labels.BEGIN not in octets:
-        return FileContents([], [LeftOut(path, "no PEM, which is all that OpenSSL reads there", None, 0)])
-    taken = files.Collector.of(path, octets)
-    return FileContents([Item(it, path) for it in taken.items], taken.kept)
+    found = files.read(path, files.octets_of(path))
+    if found.form != files.PEM:
+        return FileContents([], [LeftOut(path, "no PEM, which is all that OpenSSL reads there")])
+    return found
 
 
 def folder_of(folder, openssl=None):
@@ -159,7 +157,7 @@ def given(word):
 
 def unread(name, why):
     """A source that can't be read, as OpenSSL passes it over; it is a warning."""
-    return Source(None, FileContents([], [LeftOut(name, why, None, 0)]))
+    return Source(None, FileContents([], [LeftOut(name, why)]))
 
 
 def store_file(path, variable):

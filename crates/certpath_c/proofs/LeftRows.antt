@@ -1,5 +1,5 @@
 -- The rows of what is left out so far, and rows seen through what they tell.
-use Rattle.std.proofs.Common.{◌≡◌, ◌∙◌, refl, sym, ap, ℕ, ◌+◌, ◌<◌, ◌≤◌, Bool, cond, List, [], ◌∷◌, ◌++◌, length, map, drop, get_or, append_assoc}
+use Rattle.std.proofs.Common.{◌≡◌, ◌∙◌, refl, sym, ap, ℕ, ◌+◌, ◌<◌, ◌≤◌, Bool, cond, add-zero, List, [], ◌∷◌, ◌++◌, length, map, drop, get_or, append_assoc}
 use Rattle.std.specs.Prelude.{◌||◌}
 use Rattle.std.specs.List.{list_any, count_by, fold}
 use Rattle.std.proofs.lemmas.List.{append-nil, drop_all, drop_more}
@@ -7,22 +7,34 @@ use Rattle.certpath_files.specs.Rows.{Shown, shown_item, shown_left_out}
 use Rattle.certpath_files.specs.RowViews.{row_view}
 use Rattle.certpath_files.specs.declared.rows.Row.{Row}
 use Rattle.certpath_c.specs.declared.loading.LeftOut.{LeftOut}
-use Rattle.certpath_c.specs.Loading.{left_rows}
+use Rattle.certpath_c.specs.Loading.{is_item, left_row, left_rows}
 
-left_cons : (s : Shown) (rest : List Shown) → left_rows (s ∷ rest) ≡ left_rows (s ∷ []) ++ left_rows rest
-left_cons (shown_item place kind size) rest = refl
-left_cons (shown_left_out place reason) rest = refl
+-- the items up to a row, of so many before it
+abbrev pub with_it : ℕ → Shown → ℕ
+with_it before row = before + cond (is_item row) 1 0
 
-pub left_more : (rows : List Row) (old new : List LeftOut) (i : ℕ) (d : Row) → i < length rows → new ≡ old ++ left_rows (row_view (get_or rows i d) ∷ [])
-    → old ++ left_rows (map row_view (drop i rows)) ≡ left_rows (map row_view rows) → new ++ left_rows (map row_view (drop (i + 1) rows)) ≡ left_rows (map row_view rows)
-left_more rows old new i d lt is so_far =
-    let one = left_rows (row_view (get_or rows i d) ∷ []) in
-    let rest = left_rows (map row_view (drop (i + 1) rows)) in
-    let here : left_rows (map row_view (drop i rows)) ≡ one ++ rest = ap (λ l. left_rows (map row_view l)) (drop_more rows i d lt) ∙ left_cons (row_view (get_or rows i d)) (map row_view (drop (i + 1) rows)) in
-    ap (λ l. l ++ rest) is ∙ append_assoc old one rest ∙ ap (λ l. old ++ l) (sym here) ∙ so_far
+left_cons : (before : ℕ) (s : Shown) (rest : List Shown) → left_rows before (s ∷ rest) ≡ left_rows before (s ∷ []) ++ left_rows (with_it before s) rest
+left_cons before (shown_item place kind size) rest = refl
+left_cons before (shown_left_out place reason) rest = ap (λ n. left_row before place reason ∷ left_rows n rest) (sym (add-zero before))
 
-pub left_all : (rows : List Row) (left : List LeftOut) (i : ℕ) → length rows ≤ i → left ++ left_rows (map row_view (drop i rows)) ≡ left_rows (map row_view rows) → left ≡ left_rows (map row_view rows)
-left_all rows left i le so_far = sym (append-nil left) ∙ ap (λ l. left ++ left_rows (map row_view l)) (sym (drop_all i rows le)) ∙ so_far
+-- the rows of what is left out so far and those that are left are all rows, and no more items were counted than rows were seen
+pub record LeftSoFar (rows : List Row) (left : List LeftOut) (before i : ℕ) : Type 0 where
+  pub all : left ++ left_rows before (map row_view (drop i rows)) ≡ left_rows 0 (map row_view rows)
+  pub few : before ≤ i
+
+pub left_more : (rows : List Row) (old new : List LeftOut) (before after i : ℕ) (d : Row) → i < length rows → new ≡ old ++ left_rows before (row_view (get_or rows i d) ∷ [])
+    → after ≡ with_it before (row_view (get_or rows i d)) → after ≤ i + 1 → LeftSoFar rows old before i → LeftSoFar rows new after (i + 1)
+left_more rows old new before after i d lt is counted few so_far =
+    let row = row_view (get_or rows i d) in
+    let others = map row_view (drop (i + 1) rows) in
+    let one = left_rows before (row ∷ []) in
+    let rest = left_rows after others in
+    let here : left_rows before (map row_view (drop i rows)) ≡ one ++ rest =
+    ap (λ l. left_rows before (map row_view l)) (drop_more rows i d lt) ∙ left_cons before row others ∙ ap (λ n. one ++ left_rows n others) (sym counted) in
+    record { all = ap (λ l. l ++ rest) is ∙ append_assoc old one rest ∙ ap (λ l. old ++ l) (sym here) ∙ so_far.all; few = few }
+
+pub left_all : (rows : List Row) (left : List LeftOut) (before i : ℕ) → length rows ≤ i → LeftSoFar rows left before i → left ≡ left_rows 0 (map row_view rows)
+left_all rows left before i le so_far = sym (append-nil left) ∙ ap (λ l. left ++ left_rows before (map row_view l)) (sym (drop_all i rows le)) ∙ so_far.all
 
 fold_map : {A B : Type 0} (g : ℕ → B → ℕ) (f : A → B) (so_far : ℕ) (xs : List A) → fold g so_far (map f xs) ≡ fold (λ n x. g n (f x)) so_far xs
 fold_map g f so_far [] = refl

@@ -7,6 +7,8 @@ pub mod KeyIds
 pub mod ClassNumbers
 pub mod ReportFacts
 pub mod LeftRows
+pub mod Shapes
+pub mod ShapesTaken
 pub mod Hosts
 pub mod Moved
 pub mod Answering

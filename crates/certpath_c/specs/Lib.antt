@@ -3,6 +3,7 @@ pub mod Writing
 pub mod Framing
 pub mod Labels
 pub mod Loading
+pub mod Shaping
 pub mod Classing
 pub mod Classes
 pub mod Fields

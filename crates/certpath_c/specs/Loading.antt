@@ -1,5 +1,5 @@
 -- What `certpath_load` answers.
-use Rattle.std.specs.Prelude.{◌≡◌, ◌⊎◌, ℕ, ℤ, Bool, true, false, ◌||◌, if◌then◌else◌, List, [], ◌∷◌, length, count_by, Option, Some, None, is_some}
+use Rattle.std.specs.Prelude.{◌≡◌, ◌⊎◌, ◌+◌, ℕ, ℤ, Bool, true, false, ◌||◌, if◌then◌else◌, List, [], ◌∷◌, length, count_by, Option, Some, None, is_some}
 use Rattle.std.specs.List.{list_any}
 use Rattle.certpath_pem.specs.Sources as sources
 use Rattle.certpath_pem.specs.Sources.{Source, source_of}
@@ -99,11 +99,12 @@ abbrev pub to_end_in : Reason → ℕ
 to_end_in (rows.to_end fault count) = count
 to_end_in _ = 0
 
--- what is left out, as the header has it
-abbrev pub left_row : Place → Reason → LeftOut
-left_row place reason = record {
+-- what is left out, as the header has it, after so many items
+abbrev pub left_row : ℕ → Place → Reason → LeftOut
+left_row before place reason = record {
   line = spot_line place.spot;
   position = spot_position place.spot;
+  before = before;
   label = spot_label place.spot;
   set = member_set place.member;
   number = member_number place.member;
@@ -112,10 +113,11 @@ left_row place reason = record {
   to_end = to_end_in reason;
 }
 
-abbrev pub left_rows : List Shown → List LeftOut
-left_rows [] = []
-left_rows (shown_item place kind size ∷ more) = left_rows more
-left_rows (shown_left_out place reason ∷ more) = left_row place reason ∷ left_rows more
+-- what rows leave out, where so many items are before them
+abbrev pub left_rows : ℕ → List Shown → List LeftOut
+left_rows before [] = []
+left_rows before (shown_item place kind size ∷ more) = left_rows (before + 1) more
+left_rows before (shown_left_out place reason ∷ more) = left_row before place reason ∷ left_rows before more
 
 abbrev pub is_item : Shown → Bool
 is_item (shown_item place kind size) = true
@@ -146,8 +148,8 @@ pub record AreLoaded (octets : List ℕ) (items items' : List ℕ) (left left' :
   pub form : loaded'.form ≡ form_number (source_of octets) (list_any is_signed report.rows)
   pub length_is : loaded'.length ≡ length report.octets
   pub count : loaded'.count ≡ count_by is_item report.rows
-  pub left_is : loaded'.left ≡ length (left_rows report.rows)
-  pub written : PutsBoth items items' report.octets left left' (left_rows report.rows) fits
+  pub left_is : loaded'.left ≡ length (left_rows 0 report.rows)
+  pub written : PutsBoth items items' report.octets left left' (left_rows 0 report.rows) fits
 
 abbrev pub LoadAnswer : List ℕ → List ℕ → List ℕ → List LeftOut → List LeftOut → Loaded → Loaded → ℤ → Type 0
 LoadAnswer octets items items' left left' loaded loaded' status =

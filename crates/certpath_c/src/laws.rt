@@ -1,11 +1,16 @@
 //! Laws of the calls. Each is a function that does nothing: its contract is the law.
 
-ghost use Rattle.std.specs.Prelude.{◌≡◌, ◌⊎◌, ℕ, ℤ, List, take};
+ghost use Rattle.std.specs.Prelude.{◌≡◌, ◌⊎◌, ℕ, ℤ, List, [], ◌∷◌, take};
+ghost use Rattle.certpath_files.specs.Rows.{item, at, octet};
+ghost use Rattle.certpath_files.specs.Sequences.{stream_rows};
+ghost use Rattle.certpath_files.specs.Shapes.{Kind};
 ghost use Rattle.certpath_c.specs.declared.answers.AnswerRow.{AnswerRow};
 ghost use Rattle.certpath_c.specs.declared.asked.Settings.{Settings};
 ghost use Rattle.certpath_c.specs.declared.asked.Voucher.{Voucher};
 ghost use Rattle.certpath_c.specs.Checking.{CheckAnswer};
 ghost use Rattle.certpath_c.specs.Finding.{FindAnswer};
+ghost use Rattle.certpath_c.specs.Loading.{kind_number};
+ghost use Rattle.certpath_c.specs.Shaping.{shape_number};
 ghost use Rattle.certpath_c.specs.Status.{done, out_of_memory};
 
 use cert_framing::one_framing;
@@ -20,3 +25,12 @@ pub fn found_is_right()
     // a law: a stream has one framing
     one_framing();
 }
+
+/// Octets to which `certpath_shape` gives a kind are one item of it for `certpath_load`, where a file
+/// in DER holds nothing else. The example is SEQUENCE { SEQUENCE { two SEQUENCEs, UTCTime },
+/// SEQUENCE, BIT STRING }.
+pub fn shapes_are_taken()
+    ensures taken { (octets : List ℕ) (kind : Kind) → shape_number octets ≡ kind_number kind → stream_rows octets ≡ item (at (octet 0)) kind octets ∷ [] }
+    ensures example { shape_number (48 ∷ 13 ∷ 48 ∷ 6 ∷ 48 ∷ 0 ∷ 48 ∷ 0 ∷ 23 ∷ 0 ∷ 48 ∷ 0 ∷ 3 ∷ 1 ∷ 0 ∷ []) ≡ 2 }
+    ensures longer { shape_number (48 ∷ 13 ∷ 48 ∷ 6 ∷ 48 ∷ 0 ∷ 48 ∷ 0 ∷ 23 ∷ 0 ∷ 48 ∷ 0 ∷ 3 ∷ 1 ∷ 0 ∷ 0 ∷ []) ≡ 0 }
+{}

@@ -18,6 +18,7 @@ mod loading;
 mod naming;
 mod reports;
 mod serving;
+mod shaping;
 mod status;
 mod tables;
 mod times;

@@ -20,6 +20,7 @@ use std::alloc::{AllocError, Global};
 pub struct LeftOut {
     pub line: usize,
     pub position: usize,
+    pub before: usize,
     pub label: u32,
     pub set: u32,
     pub number: usize,
@@ -162,13 +163,14 @@ fn to_end_in(reason: Reason) -> usize
     }
 }
 
-/// What is left out, as the header has it.
-fn left_row(place: Place<'_>, reason: Reason) -> LeftOut
-    ensures { result ≡ left_row (place_view place.entry) (reason_view reason) }
+/// What is left out, as the header has it, after so many items.
+fn left_row(before: usize, place: Place<'_>, reason: Reason) -> LeftOut
+    ensures { result ≡ left_row before (place_view place.entry) (reason_view reason) }
 {
     LeftOut {
         line: spot_line(place.spot),
         position: spot_position(place.spot),
+        before,
         label: spot_label(place.spot),
         set: member_set(place.member),
         number: member_number(place.member),
@@ -178,14 +180,14 @@ fn left_row(place: Place<'_>, reason: Reason) -> LeftOut
     }
 }
 
-/// Adds what a row leaves out.
-fn push_left(left: &mut Vec<LeftOut>, row: &Row<'_>) -> Result<(), AllocError>
-    ensures { OnOk result (left.new.items ≡ left.old.items ++ left_rows (row_view row.now ∷ [])) }
+/// Adds what a row leaves out, where so many items are before it.
+fn push_left(left: &mut Vec<LeftOut>, before: usize, row: &Row<'_>) -> Result<(), AllocError>
+    ensures { OnOk result (left.new.items ≡ left.old.items ++ left_rows before (row_view row.now ∷ [])) }
 {
     match row {
         Row::Item(_, _, _) => Ok(()),
         Row::LeftOut(place, reason) => {
-            left.push(left_row(*place, *reason))?;
+            left.push(left_row(before, *place, *reason))?;
             Ok(())
         }
     }
@@ -193,11 +195,15 @@ fn push_left(left: &mut Vec<LeftOut>, row: &Row<'_>) -> Result<(), AllocError>
 
 /// What is left out, in the order of the file.
 fn left_rows(alloc: Global, rows: &[Row<'_>]) -> Result<Vec<LeftOut>, AllocError>
-    ensures { IfOk result (λ left. left.items ≡ left_rows (map row_view rows.now)) }
+    ensures { IfOk result (λ left. left.items ≡ left_rows 0 (map row_view rows.now)) }
 {
     let mut left = Vec::new(alloc);
+    let mut before = 0;
     for row in rows {
-        push_left(&mut left, row)?;
+        push_left(&mut left, before, row)?;
+        if is_item(row) {
+            before += 1;
+        }
     }
     Ok(left)
 }

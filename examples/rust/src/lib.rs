@@ -17,7 +17,7 @@ pub const BAD_HOST: i32 = 9;
 pub const LIMIT: u32 = 16_777_216;
 
 /// The version of the calls that are declared here.
-pub const VERSION: u32 = 3;
+pub const VERSION: u32 = 4;
 
 #[repr(C)]
 #[derive(Clone, Copy, Debug, Default, PartialEq, Eq)]
@@ -39,6 +39,7 @@ pub struct Framed {
 pub struct LeftOut {
     pub line: usize,
     pub position: usize,
+    pub before: usize,
     pub label: u32,
     pub set: u32,
     pub number: usize,
@@ -149,6 +150,9 @@ extern "C" {
         left: *mut LeftOut, left_room: usize, loaded: *mut Loaded) -> i32;
     pub fn certpath_class(item: *const u8, length: usize, found: *mut u32) -> i32;
     pub fn certpath_classes(octets: *const u8, length: usize, limit: u32, classes: *mut u32,
+        room: usize, count: *mut usize) -> i32;
+    pub fn certpath_shape(item: *const u8, length: usize, shape: *mut u32) -> i32;
+    pub fn certpath_shapes(octets: *const u8, length: usize, limit: u32, shapes: *mut u32,
         room: usize, count: *mut usize) -> i32;
     pub fn certpath_field(item: *const u8, length: usize, field: u32, octets: *mut u8,
         room: usize, size: *mut usize) -> i32;

@@ -1,10 +1,11 @@
 """The trust anchors of a run."""
-from typing import NamedTuple, Tuple
+from typing import NamedTuple, Optional, Tuple
 
 from ..items import Kind, frame
+from ..loading import LeftOut, load
 from .files import digest, opened
 
-PEM = b"-----BEGIN "
+ABOVE = "an item is above the limit, and none after it is read"
 
 
 class BadAnchors(ValueError):
@@ -12,14 +13,19 @@ class BadAnchors(ValueError):
 
 
 class Anchors(NamedTuple):
-    """A file of anchors, as it was read once for the whole run."""
+    """The anchors of a file of PEM, DER or PKCS #7, as it was read once for the whole run."""
     octets: bytes
+    """The items, in DER one after another."""
     items: int
-    """How many items it has."""
+    """How many items there are, up to one that is above the limit."""
     usable: int
     """How many of them are certificates: no other one can end a path."""
-    end: str
-    """How the file ends after its items, as `certpath frame` says it; empty where it is clean."""
+    left: int
+    """How many things of the file are left out."""
+    first_left: Optional[LeftOut]
+    """The first of these."""
+    is_whole: bool
+    """Whether no item is above the limit."""
 
     @property
     def sha256(self) -> str:
@@ -29,8 +35,16 @@ class Anchors(NamedTuple):
         """What is wrong with them, as a line; empty where nothing is."""
         causes = [f"{self.usable} of {self.items} items are certificates"] \
             if self.usable < self.items else []
-        causes += [f"the file ends with a {self.end}"] if self.end else []
+        further = f", and {self.left - 1} more" if self.left > 1 else ""
+        causes += [f"{self.first_left}; left out{further}"] if self.first_left else []
+        causes += [] if self.is_whole else [ABOVE]
         return f"anchors {path}: {'; '.join(causes)}" if causes else ""
+
+    def why_none(self) -> str:
+        """Why no anchor can be used."""
+        if self.first_left and not self.items:
+            return str(self.first_left)
+        return "none of its items is a certificate" if self.is_whole else ABOVE
 
 
 def digests_of(octets: bytes, limit: int) -> Tuple[str, ...]:
@@ -42,19 +56,11 @@ def digests_of(octets: bytes, limit: int) -> Tuple[str, ...]:
 def read(path: str, limit: int) -> Anchors:
     """The anchors of a file. BadAnchors where none of them can be used, OSError."""
     with opened(path) as file:
-        octets = file.read()
+        loaded = load(file.read(), path)
+    octets, first_left = loaded.items.data, next(iter(loaded.left), None)
     items = frame(octets, limit)
     usable = sum(it is Kind.CERTIFICATE for it in items.kinds())
+    found = Anchors(octets, len(items), usable, len(loaded.left), first_left, items.end.is_clean)
     if not usable:
-        raise BadAnchors(f"anchors {path}: {why_none(octets)}")
-    end = "" if items.end.is_clean else f"{items.end.word} at {items.end.at}"
-    return Anchors(octets, len(items), usable, end)
-
-
-def why_none(octets: bytes) -> str:
-    """Why no anchor can be used, and what helps."""
-    if not octets:
-        return "the file is empty"
-    if PEM in octets:
-        return "it is PEM, and DER is taken: ./bundle FILE > anchors.der makes it of PEM"
-    return "none of its items is a certificate (DER, one after another)"
+        raise BadAnchors(f"anchors {path}: {found.why_none()}")
+    return found

@@ -32,7 +32,8 @@ def moment(text: str) -> datetime:
 
 def add_judging(made: argparse.ArgumentParser):
     """Words on what is asked of the items."""
-    made.add_argument("--anchors", required=True, metavar="FILE", help="trust anchors, in DER")
+    made.add_argument("--anchors", required=True, metavar="FILE",
+                      help="trust anchors, a file of PEM, DER or PKCS #7")
     made.add_argument("--at", type=moment, metavar="YYYY-MM-DDTHH:MM:SS", help="in UTC; now")
     made.add_argument("--vouchers", metavar="FILE", help="is believed; else OpenSSL verifies")
     made.add_argument("--weak", action="store_true", help="accept MD5, SHA-1 and short keys")

@@ -64,6 +64,11 @@ static void of_nothing(void)
     tell(certpath_classes(NULL, 0, CERTPATH_LIMIT, NULL, 0, &number) == CERTPATH_DONE
              && number == 0,
          "classes of nothing");
+    tell(certpath_shape(NULL, 0, &found) == CERTPATH_DONE && found == CERTPATH_OTHER,
+         "shape of nothing");
+    tell(certpath_shapes(NULL, 0, CERTPATH_LIMIT, NULL, 0, &number) == CERTPATH_DONE
+             && number == 0,
+         "shapes of nothing");
     tell(certpath_field(NULL, 0, CERTPATH_ISSUER, NULL, 0, &number) == CERTPATH_NO_FIELD,
          "field of nothing");
     tell(certpath_times(NULL, 0, &validity) == CERTPATH_NO_FIELD, "times of nothing");
@@ -123,6 +128,26 @@ static void of_classes(void)
              && count == 4 && memcmp(found, WANTED, sizeof WANTED) == 0
              && is_kept(found + 4, sizeof found - sizeof WANTED),
          "classes");
+}
+
+static void of_shapes(void)
+{
+    static const uint32_t WANTED[] = {CERTPATH_CERTIFICATE, CERTPATH_CERTIFICATE,
+                                      CERTPATH_CERTIFICATE, CERTPATH_LIST};
+    uint32_t found[MOST];
+    size_t count = 0;
+    memset(found, KEPT, sizeof found);
+    tell(certpath_shapes(bundle, bundle_length, CERTPATH_LIMIT, found, 3, &count)
+                 == CERTPATH_TOO_SMALL
+             && count == 4 && is_kept(found, sizeof found),
+         "room for fewer shapes");
+    tell(certpath_shapes(bundle, bundle_length, CERTPATH_LIMIT, found, 4, &count) == CERTPATH_DONE
+             && count == 4 && memcmp(found, WANTED, sizeof WANTED) == 0
+             && is_kept(found + 4, sizeof found - sizeof WANTED),
+         "shapes");
+    tell(certpath_shape(bundle, bundle_length, found) == CERTPATH_DONE
+             && found[0] == CERTPATH_OTHER,
+         "the shape of several items");
 }
 
 static void of_small_rooms(const unsigned char *item, size_t length)
@@ -229,8 +254,16 @@ static void of_files(void)
              && left[0].reason == CERTPATH_LEFT_OTHER_LABEL && left[1].line == 4
              && left[1].label == 0 && left[1].reason == CERTPATH_LEFT_STRAY_END
              && left[2].line == 5 && left[2].label == CERTPATH_LABEL_X509_CRL
-             && left[2].reason == CERTPATH_LEFT_NO_END,
+             && left[2].reason == CERTPATH_LEFT_NO_END && left[2].before == 0,
          "what is left out of a text");
+    memcpy(items, bundle, bundle_length);
+    items[bundle_length] = 0x30;
+    tell(certpath_load(items, bundle_length + 1, changed, ROOM, left, MOST, &loaded)
+                 == CERTPATH_DONE
+             && loaded.count == 4 && loaded.left == 1 && left[0].before == 4
+             && left[0].position == bundle_length && left[0].reason == CERTPATH_LEFT_NO_LENGTH,
+         "what is left out behind items");
+    memset(items, KEPT, sizeof items);
     tell(certpath_load(bundle, bundle_length, items, bundle_length - 1, left, MOST, &loaded)
                  == CERTPATH_TOO_SMALL
              && loaded.length == bundle_length && is_kept(items, sizeof items),
@@ -598,7 +631,7 @@ static void of_changed(size_t length)
     certpath_left_out left[2];
     certpath_loaded loaded;
     size_t count;
-    uint32_t found, number;
+    uint32_t found, shape, number;
     int is_right = item != NULL;
     if (!is_right)
         exit(6);
@@ -618,6 +651,11 @@ static void of_changed(size_t length)
                && is_status(certpath_load(item, length, text, sizeof text, left, 2, &loaded),
                             CERTPATH_DONE)
                && loaded.length <= length;
+    is_right = is_right && certpath_shape(item, length, &shape) == CERTPATH_DONE
+               && (found == CERTPATH_OTHER || shape == found)
+               && (shape != CERTPATH_OTHER)
+                      == (loaded.form == CERTPATH_FORM_DER && loaded.count == 1
+                          && loaded.length == length);
     is_right = is_right
                && is_status(certpath_name(item, length, text, sizeof text, &count),
                             CERTPATH_BAD_NAME);
@@ -663,6 +701,7 @@ int main(int count, char **words)
     of_no_files();
     of_limits();
     of_classes();
+    of_shapes();
     if (certpath_frame(bundle, bundle_length, CERTPATH_LIMIT, spans, MOST, &framed)
         != CERTPATH_DONE)
         return 1;

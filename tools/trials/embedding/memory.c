@@ -84,6 +84,12 @@ static int32_t classes(written *to)
                             ROOM / sizeof(uint32_t), (size_t *)to->result);
 }
 
+static int32_t shapes(written *to)
+{
+    return certpath_shapes(bundle, bundle_length, CERTPATH_LIMIT, (uint32_t *)to->buffer,
+                           ROOM / sizeof(uint32_t), (size_t *)to->result);
+}
+
 static int32_t field(uint32_t number, written *to)
 {
     return certpath_field(bundle + one.offset, one.length, number, to->buffer, ROOM,
@@ -227,9 +233,9 @@ static const named OF_AN_ITEM[] = {
     {"item", contents}};
 
 static const named OF_FILES[] = {
-    {"frame", frame}, {"load", load},       {"classes", classes}, {"questions", questions},
-    {"find", find},   {"serving", serving}, {"check", check},     {"path", path},
-    {"why", why},     {"paths", paths}};
+    {"frame", frame}, {"load", load},           {"classes", classes}, {"shapes", shapes},
+    {"find", find},   {"questions", questions}, {"serving", serving}, {"check", check},
+    {"path", path},   {"why", why},             {"paths", paths}};
 
 /* The vouchers as a file: two digests in hex a line. */
 static void write_lines(void)

@@ -13,7 +13,7 @@ pub returns-then-put_both : goal.returns-then-put_both
 returns-then-put_both c =
     let rows = c.in-Ok.report.rows.items in
     let source = source_of c.args.octets.now in
-    let left = c.in-Ok-left_rows.ensures ∙ ap (λ l. left_rows (map row_view l)) c.deref.ensures.value in
+    let left = c.in-Ok-left_rows.ensures ∙ ap (λ l. left_rows 0 (map row_view l)) c.deref.ensures.value in
     let size : c.len.result ≡ length c.in-Ok.report.octets.items = search rules in
     let count : c.len-2.result ≡ length c.in-Ok-left_rows.rows.items = search rules in
     let puts : List ℕ → List LeftOut → Type 0 = λ octets out. PutsBoth c.args.items.now c.put_both.new.buffer octets c.args.left.now c.put_both.new.other out true in
@@ -36,7 +36,7 @@ pub returns : goal.returns
 returns c =
     let rows = c.in-Ok.report.rows.items in
     let source = source_of c.args.octets.now in
-    let left = c.in-Ok-left_rows.ensures ∙ ap (λ l. left_rows (map row_view l)) c.deref.ensures.value in
+    let left = c.in-Ok-left_rows.ensures ∙ ap (λ l. left_rows 0 (map row_view l)) c.deref.ensures.value in
     let size : c.len.result ≡ length c.in-Ok.report.octets.items = search rules in
     let count : c.len-2.result ≡ length c.in-Ok-left_rows.rows.items = search rules in
     let puts : List ℕ → List LeftOut → Type 0 = λ octets out. PutsBoth c.args.items.now c.put_both.new.buffer octets c.args.left.now c.put_both.new.other out false in
