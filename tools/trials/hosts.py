@@ -23,7 +23,7 @@ from trials import hosts_model as model, paths
 from trials.count import Trial, size
 from trials.synthetic import (CONSTRAINTS, USAGE, Authority, Made, certificate, element, extension,
                               name, sequence)
-from verify import core, demands, waiting
+from verify import core, waiting
 from verify.faults import NONE, PATH, WORDS
 
 certpath, purposes = core.certpath, core.certpath.purposes
@@ -315,6 +315,10 @@ def is_sound(held_by):
     return all(len(it.alternatives) < 2 and len(it.usages) < 2 for it in held_by)
 
 
+# What a certificate of the next trial is for.
+OTHERS = "it is for clientAuth, emailProtection"
+
+
 def try_forms(count):
     """What the other forms of output say of a certificate that isn't for a purpose and a host."""
     maker = Maker()
@@ -328,10 +332,11 @@ def try_forms(count):
         found = json.loads(beside.run("--json", *asked).stdout)
         reasons = [(it["of"], it["reason"], it["to"]) for it in found["reasons"]]
         count.same("the reasons", reasons, [
-            ("item 0", "not for serverAuth", None), ("item 0", "doesn't serve a.test", None),
-            ("item 1", "not for serverAuth", None)])
+            ("item 0", f"isn't for serverAuth: {OTHERS}", None),
+            ("item 0", "doesn't serve a.test: it names b.test", None),
+            ("item 1", f"isn't for serverAuth: {OTHERS}", None)])
         count.same("the text", found["reasons"][0]["text"],
-                   "it isn't for serverAuth: it is for clientAuth, emailProtection")
+                   f"it isn't for serverAuth: {OTHERS}")
         count.same("what is asked", (found["host"], found["purpose"]), ("a.test", "serverAuth"))
         left = {"host names", "extended key usage"} & {*found["not_judged"]}
         count.same("what isn't judged", left, set())
@@ -365,8 +370,8 @@ def try_chains(count, chains):
         vouchers = certpath.Vouchers()
         vouchers.add(maker.middle.public, target.octets)
         vouchers.add(maker.root.public, between.octets)
-        left = demands.Demands(host, purpose, side, [0]).restricted(vouchers)
-        found = certpath.find(side.items, certpath.frame(anchor.octets), left, 0, AT)
+        found = certpath.find(side.items, certpath.frame(anchor.octets), vouchers, 0, AT,
+                              host=host, purpose=purpose)
         chain = [(it.alternatives, it.usages) for it in held_by[:2]]
         path = is_sound(held_by[:2]) and model.has_path(chain, asked, wanted)
         count.same(f"a path for {host} and {purpose}: {held_by[:2]}", bool(found), path)

@@ -230,20 +230,17 @@ class Judge:
     def edges(self, report):
         for node in report.nodes.values():
             for link, words in node.links.items():
-                said = (note for it in words for note in self.notes(node.position, link, it))
-                notes = [*dict.fromkeys(said)]
+                notes = [self.of_link(node.position, link, it).note or it for it in words]
                 yield Edge(self.bundle.certificate(node.position), self.end(link), notes)
 
     def obstacles(self, report):
         """All that `why` reports against the certificates and links that the target leads to."""
         for node in report.nodes.values():
             here = self.bundle.certificate(node.position)
-            for words, found in self.demands.against(node.position):
-                yield Obstacle(here, None, words, found)
-            for words in [*node.not_usable, *node.no_issuer]:
+            for words in node.against():
                 yield Obstacle(here, None, words, reasons.sentence(words))
             for link, whys in node.links.items():
-                for words in (it for it in whys if not self.is_demanded(node.position, link, it)):
+                for words in whys:
                     yield Obstacle(here, self.end(link), words, self.of_link(node.position, link, words))
             if node.most is not None and report.is_too_long():
                 words = f"leads to an anchor with at most {node.most} below"
@@ -258,16 +255,6 @@ class Judge:
     def key(self, link):
         """The key of the certificate that a link leads to."""
         return (self.anchors if link.is_anchor else self.bundle).items[link.to].public_key_bytes
-
-    def is_demanded(self, position, link, words):
-        """Whether what is asked for alone is why a link has no voucher."""
-        return words == NO_VOUCHER and self.demands.drops(position, self.key(link))
-
-    def notes(self, position, link, words):
-        """In few words what is against a link."""
-        if self.is_demanded(position, link, words):
-            return [words for words, _ in self.demands.against(position)]
-        return [self.of_link(position, link, words).note or words]
 
     def of_link(self, position, link, words):
         """A reason against a link; if the signature isn't verified, OpenSSL's own words are beside it, and beside a list its file."""

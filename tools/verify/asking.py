@@ -31,6 +31,12 @@ class Workspace:
     def limits(self):
         return ["--limit", self.words.limit] if self.words.limit else []
 
+    def demanded(self, has_host=True):
+        """The words of what is asked for: a purpose of all certificates, and a host of one target."""
+        purpose = [] if self.words.purpose is None else ["--purpose", self.words.purpose]
+        host = self.words.host if has_host else None
+        return purpose if host is None else [*purpose, "--host", host]
+
     def ran(self, command, words):
         """What the program ends with, and what it wrote."""
         files = [self.files[it] for it in FILES]
@@ -52,8 +58,12 @@ class Workspace:
         return lines
 
     def why(self, target, **further):
-        return self.ask("why", "--target", str(target), **further)
+        return self.ask("why", "--target", str(target), *self.demanded(), **further)
+
+    def path(self, target):
+        return self.ask("path", "--target", str(target), *self.demanded())
 
     def paths(self):
         """The report on all items at once, none if this certpath has no such command."""
-        return self.ask("paths") if "paths" in usage.COMMANDS else None
+        words = self.demanded(has_host=False)
+        return self.ask("paths", *words) if "paths" in usage.COMMANDS else None

@@ -8,6 +8,8 @@ LINK = re.compile(r"to (anchor )?(\d+) (?:(linked)|not linked: (.*))")
 BOUND = re.compile(r"leads to an anchor with at most (\d+) below")
 REVOKED = re.compile(r"revoked by list (\d+)")
 NOT_USABLE, NO_ISSUER, MISSING, NOT_USED = "not usable: ", "no issuer: ", "no issuer here: ", "not used: "
+# What is said of a certificate that isn't for the purpose, and of a target that doesn't serve the host.
+UNMET = ("isn't for ", "doesn't serve ")
 
 
 class Link(NamedTuple):
@@ -20,7 +22,7 @@ class Node:
     """A certificate that the target leads to by names, and what is in its way."""
 
     def __init__(self, position):
-        self.position, self.not_usable, self.no_issuer = position, [], []
+        self.position, self.not_usable, self.unmet, self.no_issuer = position, [], [], []
         self.links, self.most, self.is_missing = {}, None, False
 
     def take(self, fact):
@@ -33,10 +35,16 @@ class Node:
             self.most = int(bound[1])
         elif fact.startswith(NOT_USABLE):
             self.not_usable.append(fact[len(NOT_USABLE):])
+        elif fact.startswith(UNMET):
+            self.unmet.append(fact)
         elif fact.startswith(MISSING):
             self.is_missing = True
         elif fact.startswith(NO_ISSUER):
             self.no_issuer.append(fact[len(NO_ISSUER):])
+
+    def against(self):
+        """What is against the certificate itself."""
+        return [*self.not_usable, *self.unmet, *self.no_issuer]
 
 
 def answers_of(lines):
@@ -51,7 +59,7 @@ class Report:
 
     def __init__(self, lines):
         self.outcome, self.path, self.anchor, self.nodes, self.unused = "no target", None, None, {}, {}
-        self.is_checked = "check yes" in lines[:2]
+        self.is_checked = "check yes" in lines
         for line in lines:
             self.take(line)
 
@@ -74,6 +82,12 @@ class Report:
         else:
             self.nodes[position] = Node(position)
 
+    def without_path(self):
+        """The answer that there is no path, checked as this one is."""
+        found = Report(["none"])
+        found.is_checked = self.is_checked
+        return found
+
     def revokers(self):
         """Which lists revoke which certificates: pairs of positions, the certificate's first."""
         found = {(node.position, REVOKED.fullmatch(why)) for node in self.nodes.values() for whys in node.links.values() for why in whys}
@@ -84,14 +98,14 @@ class Report:
         way."""
         if self.outcome != "none":
             return False
-        waiting = [node for node in [*self.nodes.values()][:1] if not node.not_usable]
+        waiting = [node for node in [*self.nodes.values()][:1] if not node.not_usable and not node.unmet]
         seen = {entry.position for entry in waiting}
         while waiting:
             for link in (link for link, whys in waiting.pop().links.items() if not whys):
                 node = None if link.is_anchor else self.nodes.get(link.to)
                 if link.is_anchor:
                     return True
-                if node and node.position not in seen and not node.not_usable and not node.no_issuer:
+                if node and node.position not in seen and not node.against():
                     seen.add(node.position)
                     waiting.append(node)
         return False

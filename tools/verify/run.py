@@ -47,8 +47,7 @@ class Inputs:
             within = f" within --limit {asked.limit}" if self.anchors.too_large else ""
             raise Fault(faults.UNREAD, f"{', '.join(self.sources)}: holds no certificate{within}, so no anchor; name a file with --anchors FILE")
         self.targets = [*self.all_targets()]
-        certificates = [it for it in self.targets if not isinstance(it, str)]
-        self.demands = demands.Demands(asked.host, asked.purpose, self.bundle, certificates)
+        self.demands = demands.Demands(asked.host, asked.purpose)
         waiting.LINE.begin("looking for the keys of issuers")
         self.holders = signing.Holders(self.bundle, self.anchors)
 
@@ -180,12 +179,23 @@ def asked_of_openssl(inputs, workspace):
     return [it for it in signed if it in reached or inputs.bundle.items[it].kind is Kind.LIST]
 
 
+def of_host(known, inputs, workspace):
+    """The reports of all targets with the host that is asked for, by those without it: a target that doesn't serve it has no path, and
+    one that does has the same, unless a critical subjectAltName is in its way, which is processed for a host (RFC 5280, 6.1.5, f)."""
+    for target in [it for it in inputs.targets if it in known]:
+        if not inputs.demands.is_served(inputs.bundle.items[target]):
+            known[target] = known[target].without_path()
+        elif inputs.demands.host is not None and not known[target].path:
+            known[target] = Report(workspace.path(target))
+    return known
+
+
 def all_answers(inputs, judge, workspace):
     """The answer for each target, in their order. For several `certpath paths` says which of them have a path, and lists that aren't
     used are the same for all; why there is none is asked of the first ones alone."""
     certificates = [it for it in inputs.targets if not isinstance(it, str)]
     lines = workspace.paths() if len(certificates) > 1 else None
-    known, asked = answers_of(lines) if lines else {}, 0
+    known, asked = of_host(answers_of(lines), inputs, workspace) if lines else {}, 0
     unused = Report(workspace.why(certificates[0])).unused if lines else None
     most = max(1, min(MOST_WHYS, MOST_WHY_OCTETS // max(len(inputs.bundle.items.data), 1)))
     for target in waiting.counted("answering", inputs.targets, len(inputs.targets)):
@@ -210,7 +220,6 @@ def answered(asked):
         return written(asked, inputs, map(answers.no_target, inputs.targets))
     workspace = asking.Workspace(inputs.bundle, inputs.anchors, asked)
     found = signing.signatures(inputs.holders, asked_of_openssl(inputs, workspace), asked.takes_weak)
-    found = found._replace(vouchers=inputs.demands.restricted(found.vouchers))
     workspace.vouch(found.vouchers)
     return written(asked, inputs, all_answers(inputs, answers.Judge(inputs, workspace, found), workspace))
 
