@@ -29,7 +29,7 @@ returns-clause-all g c =
     let revoking : ArePlaces (λ q. Contains l.revoking.items q × C q) against.now = rw c.as_slice-revoking.ensures.value (rw c.deref.ensures.value at c.in_ok-against.ensures) in
     let used = used_iff V p.moment p.demand_lists signer.name.now signer.key.now xs l.in_force.items c.requires.in_force in
     let lacking = lacking_iff c.is_lacking-lacking.result (p.demand_lists ≡ true) (Any C l.in_force.items) (HasUsedList r (map item_of xs) signer.name.now signer.key.now) used
-        (rw c.deref-2.ensures.value at c.is_lacking-lacking.ensures.lacking) (rw c.deref-2.ensures.value at c.is_lacking-lacking.ensures.listed) in
+    (rw c.deref-2.ensures.value at c.is_lacking-lacking.ensures.lacking) (rw c.deref-2.ensures.value at c.is_lacking-lacking.ensures.listed) in
     let same = found_iff V p.moment p.demand_lists signer.name.now signer.key.now f xs l (certificate_item x) (certificate_of x) c.requires c.vouches-vouched.ensures revoking lacking in
     let Reason : Unlinked → Type 0 = HasLinkReason r (map item_of xs) (certificate_item x) (certificate_of x) signer.name.now signer.key.now (IsTrue signer.agree) in
     all_as link_order (HasFoundReason f) Reason c.in_ok-found.found.items c.in_ok-found.ensures same
