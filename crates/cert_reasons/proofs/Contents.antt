@@ -1,7 +1,6 @@
 -- Values of extKeyUsage and subjectAltName, by their contents.
 use Rattle.std.proofs.Common.{◌≡◌, ◌≢◌, ◌∙◌, ap, sym, ℕ, List, []}
 use Rattle.std.specs.List.{flat_map}
-use Rattle.asn1_oid.specs.Identifier.{IsOidContent}
 use Rattle.cert_model.specs.Fields.{Identifier}
 use Rattle.cert_model.specs.Octets.{sequence_octets, identifier_octets}
 use Rattle.cert_purpose.specs.Purposes.{ArePurposes}

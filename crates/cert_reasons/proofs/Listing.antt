@@ -133,10 +133,10 @@ module _ (V : Vouching) (moment : DateTime) (demand : Bool) (name key : List ℕ
 -- ---- what is lacking
 
 pub lacking_iff : (b : Bool) (D A B : Type 0) → (A ↔ B) → (IsTrue b → D × (A → ⊥)) → (b ≡ false → D → A) → IsTrue b ↔ (D × (B → ⊥))
-lacking_iff true D A B i yes no = (λ t. let h = yes t in (h.0, λ x. h.1 (i.1 x)), λ h. refl)
-lacking_iff false D A B i yes no = (λ t. let h = yes t in (h.0, λ x. h.1 (i.1 x)), λ h. absurd (h.1 (i.0 (no refl h.0))))
+lacking_iff true D A B i lacks has = (λ t. let h = lacks t in (h.0, λ x. h.1 (i.1 x)), λ h. refl)
+lacking_iff false D A B i lacks has = (λ t. let h = lacks t in (h.0, λ x. h.1 (i.1 x)), λ h. absurd (h.1 (i.0 (has refl h.0))))
 
 -- what is demanded and isn't lacking is there
 pub there_demanded : (b : Bool) (D A B : Type 0) → (A ↔ B) → (IsTrue b → D × (A → ⊥)) → (b ≡ false → D → A) → ((D × (B → ⊥)) → ⊥) → D → B
-there_demanded true D A B i yes no none d = let h = yes refl in absurd (none (d, λ x. h.1 (i.1 x)))
-there_demanded false D A B i yes no none d = i.0 (no refl d)
+there_demanded true D A B i lacks has none d = let h = lacks refl in absurd (none (d, λ x. h.1 (i.1 x)))
+there_demanded false D A B i lacks has none d = i.0 (has refl d)

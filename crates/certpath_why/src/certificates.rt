@@ -179,15 +179,7 @@ fn tell_all_links<V: Vouch>(
     let roots = found.roots(certificate.issuer);
     let linking = found.linking(alloc, certificate, policy)?;
     tell_links(text, alloc, place, &linking, issuers, vouch)?;
-    tell_anchors(
-        text,
-        alloc,
-        found.anchors,
-        place,
-        &linking,
-        roots,
-        vouch,
-    )?;
+    tell_anchors(text, alloc, found.anchors, place, &linking, roots, vouch)?;
     tell_missing(text, alloc, found, place, certificate, issuers, roots)?;
     Ok(())
 }

@@ -1,4 +1,3 @@
-use Rattle.std.proofs.Common.{get_or}
 use Rattle.cert_reasons.proofs.OfLinks.{revoked_none, revoked_more, revoked_all}
 use Rattle.cert_reasons.proofs.links.add_revoking.Goals as goal
 

@@ -1,5 +1,5 @@
-use Rattle.std.specs.Prelude.{◌≡◌, ◌↔◌, IsTrue}
-use Rattle.std.proofs.Common.{map, refl, List, ℕ, true, false}
+use Rattle.std.specs.Prelude.{◌≡◌, IsTrue}
+use Rattle.std.proofs.Common.{map, true}
 use Rattle.std.specs.List.{Any, Contains}
 use Rattle.cert_judge.specs.Items.{certificate_of, certificate_item, item_of, rules_by}
 use Rattle.cert_judge.specs.Revoking.{HasUsedList}
@@ -29,7 +29,7 @@ returns-clause-all g c =
     let revoking : ArePlaces (λ q. Contains l.revoking.items q × C q) against.now = rw c.as_slice-revoking.ensures.value (rw c.deref.ensures.value at c.in_ok-against.ensures) in
     let used = used_iff V p.moment p.demand_lists signer.name.now signer.key.now xs l.in_force.items c.requires.in_force in
     let lacking = lacking_iff c.is_lacking-lacking.result (p.demand_lists ≡ true) (Any C l.in_force.items) (HasUsedList r (map item_of xs) signer.name.now signer.key.now) used
-        (rw c.deref-2.ensures.value at c.is_lacking-lacking.ensures.lacking) (rw c.deref-2.ensures.value at c.is_lacking-lacking.ensures.listed) in
+    (rw c.deref-2.ensures.value at c.is_lacking-lacking.ensures.lacking) (rw c.deref-2.ensures.value at c.is_lacking-lacking.ensures.listed) in
     let same = found_iff V p.moment p.demand_lists signer.name.now signer.key.now f xs l (certificate_item x) (certificate_of x) c.requires c.vouches-vouched.ensures revoking lacking in
     let Reason : Unlinked → Type 0 = HasLinkReason r (map item_of xs) (certificate_item x) (certificate_of x) signer.name.now signer.key.now (IsTrue signer.agree) in
     all_as link_order (HasFoundReason f) Reason c.in_ok-found.found.items c.in_ok-found.ensures same
@@ -48,15 +48,15 @@ returns-clause-none g c = λ named.
     let C = IsVouchedAt V xs signer.key.now in
     let revoking : ArePlaces (λ q. Contains l.revoking.items q × C q) against.now = rw c.as_slice-revoking.ensures.value (rw c.deref.ensures.value at c.in_ok-against.ensures) in
     let used = used_iff V p.moment p.demand_lists signer.name.now signer.key.now xs l.in_force.items c.requires.in_force in
-    let yes = rw c.deref-2.ensures.value at c.is_lacking-lacking.ensures.lacking in
-    let no = rw c.deref-2.ensures.value at c.is_lacking-lacking.ensures.listed in
+    let lacks = rw c.deref-2.ensures.value at c.is_lacking-lacking.ensures.lacking in
+    let has = rw c.deref-2.ensures.value at c.is_lacking-lacking.ensures.listed in
     let Has = HasUsedList r (map item_of xs) signer.name.now signer.key.now in
-    let lacking = lacking_iff c.is_lacking-lacking.result (p.demand_lists ≡ true) (Any C l.in_force.items) Has used yes no in
+    let lacking = lacking_iff c.is_lacking-lacking.result (p.demand_lists ≡ true) (Any C l.in_force.items) Has used lacks has in
     let same = found_iff V p.moment p.demand_lists signer.name.now signer.key.now f xs l (certificate_item x) (certificate_of x) c.requires c.vouches-vouched.ensures revoking lacking in
     let Reason : Unlinked → Type 0 = HasLinkReason r (map item_of xs) (certificate_item x) (certificate_of x) signer.name.now signer.key.now (IsTrue signer.agree) in
     let all = all_as link_order (HasFoundReason f) Reason c.in_ok-found.found.items c.in_ok-found.ensures same in
     let empty = empty_iff link_order Reason c.in_ok-found.found.items all in (
       λ e. linked V p.moment p.demand_lists (map item_of xs) (certificate_item x) (certificate_of x) signer.name.now signer.key.now c.vouches-vouched.result signer.agree named c.vouches-vouched.ensures
-          (there_demanded c.is_lacking-lacking.result (p.demand_lists ≡ true) (Any C l.in_force.items) Has used yes no) (empty.0 e),
+          (there_demanded c.is_lacking-lacking.result (p.demand_lists ≡ true) (Any C l.in_force.items) Has used lacks has) (empty.0 e),
       λ i. empty.1 (λ reason s. no_reason r (map item_of xs) (certificate_item x) (certificate_of x) signer.name.now signer.key.now (IsTrue signer.agree) reason i.0 i.1 s),
     )

@@ -1,4 +1,4 @@
-use Rattle.std.proofs.Common.{◌≡◌, refl, sym, get_or, arith}
+use Rattle.std.proofs.Common.{refl, sym, get_or}
 use Rattle.std.proofs.lemmas.List.{get_or_default}
 use Rattle.cert_judge.proofs.Mapped.{none_any, none_step, not_both}
 use Rattle.cert_reasons.specs.Listed.{IsVouchedAt}

@@ -1,4 +1,3 @@
-use Rattle.std.proofs.Common.{map}
 use Rattle.std.specs.List.{flat_map}
 use Rattle.cert_serving.specs.GeneralNames.{general_name_octets}
 use Rattle.cert_reasons.proofs.Reading.{told_less, some_left, none_left}

@@ -3,7 +3,7 @@ use Rattle.std.proofs.lemmas.List.{map-append}
 use Rattle.asn1_oid.specs.Identifier.{IsOidContent}
 use Rattle.cert_model.specs.Octets.{identifier_octets}
 use Rattle.cert_reasons.specs.declared.values.Purpose.{Purpose}
-use Rattle.cert_reasons.proofs.Reading.{IsRead, read_none, read_more, read_end, read_stuck, some_left, none_left}
+use Rattle.cert_reasons.proofs.Reading.{IsRead, read_more, read_stuck, some_left}
 use Rattle.cert_reasons.proofs.Contents.{purposes_long}
 use Rattle.cert_reasons.proofs.values.purposes_in.Goals as goal
 
