@@ -19,11 +19,11 @@ NO_ITEM = "neither certificate nor revocation list"
 SECONDS = 60
 # A file of 10^6 lines takes so long at most, on a machine that does other things too.
 SECONDS_OF_LINES = 20
-# What a run takes beside the file and what it writes: of the longest block three octets for four and at most so many, so many for each
-# row, and so many for the program itself.
+# What a run takes beside the file and what it writes: of the longest block three octets for four and
+# at most so many, so many for each row, and so many for the program itself.
 KEPT, ROW, ITSELF = (1 << 24) + 128, 180, 6_000_000
-# Runs a program, whose output goes to a file, and prints its peak memory in KiB (of a process of its own, since that of a large one that
-# starts the program would count).
+# Runs a program, whose output goes to a file, and prints its peak memory in KiB. (A process of its
+# own: what a large one that starts the program has would count.)
 PEAK = """import resource, subprocess, sys
 ran = subprocess.run(sys.argv[2:], stdout=open(sys.argv[1], "wb"), stderr=subprocess.DEVNULL)
 print(resource.getrusage(resource.RUSAGE_CHILDREN).ru_maxrss)
@@ -232,25 +232,34 @@ class Bundling(Trial):
                     count, first = 1, left("file", "the file is neither PEM nor DER")
                 self.same(title, (status, len(said) - 1, said[0]), (1, count, first))
 
+    def beside(self, room, octets):
+        """What a run on a file takes in memory beside it and what is written, and its status."""
+        kept(room, {"file": octets})
+        words = [sys.executable, "-ISc", PEAK, "out", self.program(), "bundle", "file"]
+        ran = subprocess.run(words, cwd=room, stdin=subprocess.DEVNULL, stdout=subprocess.PIPE,
+                             timeout=SECONDS)
+        written = os.path.getsize(os.path.join(room, "out"))
+        return int(ran.stdout) * 1024 - len(octets) - written, ran.returncode
+
     def test_memory(self):
-        """What a run takes in memory beside the file and what it writes. Of a file of 100 MB that is a third at most."""
+        """Beside a file of 100 MB and what is written a run takes a third of the file at most."""
         width = size(100_000_000, 8_000_000)
-        whole, half = element(0x30, bytes(width * 3 // 4 - 5)), LEAF + ROOT
+        long, two, line = element(0x30, bytes(width * 3 // 4 - 5)), LEAF + ROOT, b"a line\n"
+        blocks, items, lines = (width // len(it) for it in (pem(LEAF), two, line))
+        files = (("a block that is no item", pem(long), len(long), 1, 1),
+                 ("octets after an item", pem(LEAF + long), len(long), 2, 1),
+                 ("no base64", pem(long)[:-40] + b"=" + pem(long)[-40:], len(long), 1, 1),
+                 ("blocks", pem(LEAF) * blocks, len(LEAF), blocks, 0),
+                 ("text", line * lines + pem(LEAF), len(LEAF), 1, 0),
+                 ("DER", two * items, 0, 2 * items, 0))
         with tempfile.TemporaryDirectory(prefix="bundling-") as room:
-            for title, octets, longest, rows, status in (
-                    ("a block that is no item", pem(whole), len(whole), 1, 1), ("a block with octets after the item", pem(LEAF + whole), len(whole), 2, 1),
-                    ("a block of no base64", pem(whole)[:-40] + b"=" + pem(whole)[-40:], len(whole), 1, 1),
-                    ("blocks", pem(LEAF) * (width // len(pem(LEAF))), len(LEAF), width // len(pem(LEAF)), 0),
-                    ("text", b"a line of text, as other tools write it before a certificate\n" * (width // 62) + pem(LEAF), len(LEAF), 1, 0),
-                    ("DER", half * (width // len(half)), 0, 2 * (width // len(half)), 0)):
-                kept(room, {"file": octets})
-                words = [sys.executable, "-ISc", PEAK, "out", self.program(), "bundle", "file"]
-                ran = subprocess.run(words, cwd=room, stdin=subprocess.DEVNULL, stdout=subprocess.PIPE, timeout=SECONDS)
-                written = os.path.getsize(os.path.join(room, "out"))
-                beside, most = int(ran.stdout) * 1024 - len(octets) - written, min(longest, KEPT) + rows * ROW + ITSELF
-                self.row(beside <= most, f"{title}, {len(octets)} octets: {beside} beside the file and what is written, {most} are the most")
-                self.row(width < 100_000_000 or beside * 3 <= len(octets), f"{title}: {beside} of {len(octets)} octets")
-                self.same(f"{title}, the status", ran.returncode, status)
+            for title, octets, longest, rows, status in files:
+                taken, ended = self.beside(room, octets)
+                most = min(longest, KEPT) + rows * ROW + ITSELF
+                self.row(taken <= most, f"{title}: {taken} beside, {most} are the most")
+                is_small = width < 100_000_000
+                self.row(is_small or taken * 3 <= len(octets), f"{title}: {taken} of {len(octets)}")
+                self.same(f"{title}, the status", ended, status)
 
     def test_growing(self):
         """A file that changes while it is read: what was read is taken, and the run ends."""
