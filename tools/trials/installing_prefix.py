@@ -74,7 +74,8 @@ class Prefix(places.InRoom):
         self.row(self.prefix in text and text.startswith(f"certpath {usage.VERSION}\n"), f"certpath --version: {text}")
         self.same("certpath --build", places.ran(["certpath", "--build"], self.room, env)[0], 2)
         status, text = places.ran(["certpath-inventory", "--help"], self.room, env)
-        self.row(status == 0 and "--anchors" in text, f"certpath-inventory --help: {text[-1000:]}")
+        self.row(status == 0 and text.startswith("usage: certpath-inventory ") and "--anchors" in text,
+                 f"certpath-inventory --help: {text[-1000:]}")
         texts = [places.ran([it, "--help"], self.room, env)[1] for it in installed.COMMANDS.values()]
         self.same("names of scripts in the helps", [it for text in texts for it in re.findall(r"\./\w+|--build|dist/", text)], [])
         status, text = install("--prefix", self.prefix, "--uninstall")

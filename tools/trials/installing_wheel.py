@@ -128,7 +128,8 @@ def use(trial, there):
     status, text = places.ran(["certpath", "--version"], room, env)
     trial.row(status == 0 and there in text and text.startswith(f"certpath {usage.VERSION}\n"), f"certpath --version: {text}")
     status, text = places.ran(["certpath-inventory", "--help"], room, env)
-    trial.row(status == 0 and "--anchors" in text, f"certpath-inventory --help: {text[-1000:]}")
+    trial.row(status == 0 and text.startswith("usage: certpath-inventory ") and "--anchors" in text,
+              f"certpath-inventory --help: {text[-1000:]}")
     folder = os.path.join(room, "tests-elsewhere")
     shutil.copytree(os.path.join(repo.TOP, "python", "tests"), os.path.join(folder, "python", "tests"),
                     ignore=shutil.ignore_patterns("__pycache__"))

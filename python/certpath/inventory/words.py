@@ -1,5 +1,7 @@
 """The words of the command line. Nothing here needs Dask."""
 import argparse
+import os
+import sys
 from datetime import datetime
 
 from ..items import LIMIT
@@ -8,6 +10,7 @@ from .blocks import BLOCKSIZE
 from .tables import WRITERS
 
 LARGEST = 4294967295
+MODULE = "python3 -m certpath.inventory"
 
 
 def number(text: str) -> int:
@@ -65,9 +68,12 @@ def add_running(made: argparse.ArgumentParser):
 
 
 def parser() -> argparse.ArgumentParser:
-    made = argparse.ArgumentParser(prog="python3 -m certpath.inventory", allow_abbrev=False,
-                                   description="Makes a table of certificates and of entries of "
-                                   "transparency logs, on many processes (docs/SCALE.md).")
+    # (an installation has a command for it)
+    name = os.path.basename(sys.argv[0])
+    made = argparse.ArgumentParser(prog=name if name.startswith("certpath") else MODULE,
+                                   allow_abbrev=False, description="Makes a table of certificates "
+                                   "and of entries of transparency logs, on many processes "
+                                   "(docs/SCALE.md).")
     made.add_argument("files", nargs="*", metavar="FILE",
                       help="items in DER, an answer of a log to get-entries, either of them "
                       "compressed by gzip, or a folder of such files")
