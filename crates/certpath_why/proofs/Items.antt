@@ -1,9 +1,9 @@
 -- Items as they were read are the items of the definitions.
 use Rattle.std.specs.Prelude.{◌↔◌, slice_get}
-use Rattle.std.proofs.Common.{◌≡◌, ◌∙◌, ap, sym, subst, refl, ℕ, ◌<◌, List, [], map, length, arith, Some, None, option_map, inl, inr}
+use Rattle.std.proofs.Common.{◌≡◌, ◌∙◌, ap, sym, subst, refl, ℕ, ◌<◌, List, [], map, length, get_or, arith, Some, None, option_map, inl, inr}
 use Rattle.std.specs.List.{Contains}
 use Rattle.std.proofs.lemmas.Bool.{cases_lt}
-use Rattle.std.proofs.lemmas.List.{length-map, get_or_default}
+use Rattle.std.proofs.lemmas.List.{length-map, get_or_default, get_or-map}
 use Rattle.std.proofs.lemmas.Option.{slice_get-map, slice_get-get_or, slice_get_past}
 use Rattle.cert_graph.specs.Entries.{IsAt}
 use Rattle.cert_groups.specs.declared.places.Part.TheVariants.{Name}
@@ -23,6 +23,7 @@ use Rattle.cert_reasons.specs.Listed.{IsOf}
 use Rattle.cert_reasons.proofs.Certain.{viewed_by}
 use Rattle.cert_reasons.proofs.Marks.{there_at}
 use Rattle.certpath_why.specs.Found.{subject_place, list_place, IsCertificateRead}
+use Rattle.certpath_why.specs.Why.{octets_at}
 use Rattle.certpath_why.specs.Reached.{HasSubject, IsCertificateAt, IsIssuerByName, ArePositions}
 
 -- what is so of a certificate that was read is so of the item at its position
@@ -140,3 +141,9 @@ issuer_iff read v x ws at h w =
       λ c. with.0 (subst (λ n. HasSubject items n w) x.issuer_is ((h.exact w).0 c)),
       λ i. (h.exact w).1 (subst (λ n. HasSubject items n w) (sym x.issuer_is) (with.1 i)),
     )
+
+-- the octets of the item at a position
+pub octets_read : (items : List ReadItem) (k : ℕ) (x : ReadItem) → k < length items → x ≡ get_or items k x → (item_of x).octets ≡ octets_at (map item_of items) k
+octets_read items k x lt at =
+    let long : k < length (map item_of items) = let same = length-map items item_of in omega arith in
+    sym (get_or-map (λ (y : Item). y.octets) (map item_of items) k (item_of x) [] long ∙ ap (λ (y : Item). y.octets) (get_or-map item_of items k x (item_of x) lt ∙ ap item_of (sym at)))

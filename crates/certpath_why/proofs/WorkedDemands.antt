@@ -96,7 +96,7 @@ empty_told = inl (sequence_octets [], single_usage (sequence_octets []), inr (no
 -- ---- hosts
 
 a_b_is : IsGeneralName (dns a_b)
-a_b_is = ?
+a_b_is = IsAscii-push (97 ∷ 46 ∷ []) 98 (IsAscii-push (97 ∷ []) 46 (IsAscii-push [] 97 IsAscii-nil (lit< tt)) (lit< tt)) (lit< tt)
 
 no_match : Matches a_b w_a_b → ⊥
 no_match h = elim h [ inl s ↦ let e = s.same in cc | inr s ↦ let e = s.star in cc ]

@@ -1,12 +1,16 @@
 //! The lines of a certificate that doesn't meet what is demanded.
 
-ghost use Rattle.std.specs.Prelude.{◌≡◌, ◌++◌, OnOk, map, string_bytes};
+ghost use Rattle.std.specs.Prelude.{◌≡◌, ◌↔◌, ◌<◌, ◌++◌, Some, IsTrue, OnOk, length, map, codes, string_bytes};
 ghost use Rattle.cert_judge.specs.Items.{item_of, certificate_of, certificate_item};
+ghost use Rattle.cert_purpose.specs.Purposes.{Allows};
 ghost use Rattle.cert_serving.specs.Demanding.{AllowsIt, ServesIt};
+ghost use Rattle.cert_serving.specs.Serving.{Serves};
 ghost use Rattle.certpath_sources.specs.Demands.{demanded};
 ghost use Rattle.certpath_why.specs.Appended.{Appends};
 ghost use Rattle.certpath_why.specs.Demanded.{IsPurposeLine, IsHostLine, IsLineUnless, AreDemandLines};
+ghost use Rattle.certpath_why.specs.Lines.{at_words};
 ghost use Rattle.certpath_why.specs.Why.{octets_at};
+ghost use Rattle.host_names.specs.Asked.{host_view};
 
 use crate::hosts::push_hosts;
 use crate::uses::push_uses;
@@ -14,8 +18,8 @@ use asn1_core::OutOfMemory;
 use cert_judge::{CertificateItem, ReadItem};
 use cert_purpose::allows;
 use cert_serving::serves;
-use certpath_sources::Demand;
-use std::alloc::Global;
+use certpath_sources::{AskedHost, AskedPurpose, Demand};
+use std::alloc::{AllocError, Global};
 
 /// What is demanded of the paths from a target.
 #[derive(Clone, Copy)]
@@ -25,19 +29,87 @@ pub(crate) struct Sought<'b, 'a> {
     pub(crate) target: &'b [u8],
 }
 
+fn octets_of<'a>(item: &ReadItem<'a>) -> &'a [u8]
+    ensures { result.now ≡ (item_of item.now).octets }
+{
+    match item {
+        ReadItem::Certificate(certificate) => certificate.octets,
+        ReadItem::List(list) => list.octets,
+        ReadItem::Other(octets) => octets,
+    }
+}
+
+fn octets_there<'a>(items: &[ReadItem<'a>], place: usize) -> &'a [u8]
+    requires { place < length items.now }
+    ensures { result.now ≡ octets_at (map item_of items.now) place }
+{
+    octets_of(&items[place])
+}
+
 /// The octets of the item at a position; none where there is none.
 pub(crate) fn octets_at<'a>(items: &[ReadItem<'a>], place: usize) -> &'a [u8]
     ensures { result.now ≡ octets_at (map item_of items.now) place }
 {
-    match items.get(place) {
-        Some(ReadItem::Certificate(certificate)) => certificate.octets,
-        Some(ReadItem::List(list)) => list.octets,
-        Some(ReadItem::Other(octets)) => octets,
-        None => &[],
+    if place < items.len() {
+        octets_there(items, place)
+    } else {
+        &[]
     }
 }
 
+fn push_not_for(text: &mut String, place: usize, shown: &str) -> Result<(), AllocError>
+    ensures { OnOk result (string_bytes text.new ≡ string_bytes text.old ++ (at_words place ++ (codes " isn't for " ++ (shown.now ++ codes ": ")))) }
+{
+    write!(text, "at {place} isn't for {shown}: ")
+}
+
+fn push_not_serving(text: &mut String, place: usize, shown: &str) -> Result<(), AllocError>
+    ensures { OnOk result (string_bytes text.new ≡ string_bytes text.old ++ (at_words place ++ (codes " doesn't serve " ++ (shown.now ++ codes ": ")))) }
+{
+    write!(text, "at {place} doesn't serve {shown}: ")
+}
+
 /// The line of a purpose that a certificate doesn't allow.
+fn push_unallowed(
+    text: &mut String,
+    alloc: Global,
+    purpose: &AskedPurpose<'_>,
+    place: usize,
+    certificate: &CertificateItem<'_>,
+) -> Result<(), OutOfMemory>
+    ensures { OnOk result (Appends (IsLineUnless (Allows purpose.now.identifier.now (certificate_of certificate.now).extensions)
+        (IsPurposeLine place (Some purpose.now) (certificate_of certificate.now).extensions)) (string_bytes text.old) (string_bytes text.new)) }
+{
+    if allows(&certificate.fields.extensions, purpose.identifier) {
+        return Ok(());
+    }
+    push_not_for(text, place, purpose.shown)?;
+    push_uses(text, alloc, &certificate.fields.extensions)?;
+    text.push('\n')?;
+    Ok(())
+}
+
+/// The line of a host that a certificate doesn't serve.
+fn push_unserved(
+    text: &mut String,
+    alloc: Global,
+    host: &AskedHost<'_>,
+    place: usize,
+    certificate: &CertificateItem<'_>,
+) -> Result<(), OutOfMemory>
+    ensures { OnOk result (Appends (IsLineUnless (Serves (host_view host.now.host) (certificate_of certificate.now).extensions)
+        (IsHostLine place (Some host.now) (certificate_of certificate.now).extensions)) (string_bytes text.old) (string_bytes text.new)) }
+{
+    if serves(&certificate.fields.extensions, &host.host) {
+        return Ok(());
+    }
+    push_not_serving(text, place, host.shown)?;
+    push_hosts(text, alloc, &certificate.fields.extensions)?;
+    text.push('\n')?;
+    Ok(())
+}
+
+/// The line of the purpose, where one is demanded.
 fn push_unmet_purpose(
     text: &mut String,
     alloc: Global,
@@ -51,17 +123,17 @@ fn push_unmet_purpose(
     let Some(purpose) = &sought.demand.purpose else {
         return Ok(());
     };
-    if allows(&certificate.fields.extensions, purpose.identifier) {
-        return Ok(());
-    }
-    let shown = purpose.shown;
-    write!(text, "at {place} isn't for {shown}: ")?;
-    push_uses(text, alloc, &certificate.fields.extensions)?;
-    text.push('\n')?;
+    push_unallowed(text, alloc, purpose, place, certificate)?;
     Ok(())
 }
 
-/// The line of a host that the target doesn't serve.
+fn is_target(octets: &[u8], target: &[u8]) -> bool
+    ensures { IsTrue result ↔ (octets.now ≡ target.now) }
+{
+    octets == target
+}
+
+/// The line of the host, where one is demanded of the certificate.
 fn push_unmet_host(
     text: &mut String,
     alloc: Global,
@@ -75,16 +147,10 @@ fn push_unmet_host(
     let Some(host) = &sought.demand.host else {
         return Ok(());
     };
-    if certificate.octets != sought.target {
+    if is_target(certificate.octets, sought.target) {
+        push_unserved(text, alloc, host, place, certificate)?;
         return Ok(());
     }
-    if serves(&certificate.fields.extensions, &host.host) {
-        return Ok(());
-    }
-    let shown = host.shown;
-    write!(text, "at {place} doesn't serve {shown}: ")?;
-    push_hosts(text, alloc, &certificate.fields.extensions)?;
-    text.push('\n')?;
     Ok(())
 }
 
