@@ -163,12 +163,12 @@ fn tell_missing(
     Ok(())
 }
 
-fn tell_all_links<V: Vouch>(
+fn tell_all_links<'b, 'a, V: Vouch>(
     text: &mut String,
     alloc: Global,
-    found: &Found<'_, '_>,
+    found: &Found<'b, 'a>,
     place: usize,
-    certificate: &CertificateItem<'_>,
+    certificate: &'b CertificateItem<'a>,
     vouch: &V,
     policy: &Policy,
 ) -> Result<(), OutOfMemory>
@@ -184,14 +184,14 @@ fn tell_all_links<V: Vouch>(
     Ok(())
 }
 
-fn tell_certificate<V: Vouch>(
+fn tell_certificate<'b, 'a, V: Vouch>(
     text: &mut String,
     alloc: Global,
-    found: &Found<'_, '_>,
+    found: &Found<'b, 'a>,
     sought: &Sought<'_, '_>,
     target: usize,
     place: usize,
-    certificate: &CertificateItem<'_>,
+    certificate: &'b CertificateItem<'a>,
     vouch: &V,
     policy: &Policy,
 ) -> Result<(), OutOfMemory>
