@@ -16,6 +16,7 @@ returns-then-allows c =
     (subst (λ es. Allows c.args.purpose.now.identifier.now (map ext_view es)) c.deref.ensures.value (c.allows.ensures.0 c.if-allows.true))
 
 pub returns : goal.returns
+unfolding lib.Utf8.encode
 returns c =
     let told = c.in_ok-push_uses.ensures in
     let shown = c.args.purpose.now.shown.now in

@@ -17,6 +17,7 @@ returns-then-serves c =
     (subst (λ es. Serves (host_view c.args.host.now.host) (map ext_view es)) c.deref.ensures.value (c.serves.ensures.0 c.if-serves.true))
 
 pub returns : goal.returns
+unfolding lib.Utf8.encode
 returns c =
     let told = c.in_ok-push_hosts.ensures in
     let shown = c.args.host.now.shown.now in
