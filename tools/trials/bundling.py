@@ -4,7 +4,6 @@ import base64
 import os
 import re
 import subprocess
-import sys
 import tempfile
 import threading
 import time
@@ -17,6 +16,8 @@ NO_LINE = "that is no line of its own (are newlines missing?)"
 BOUNDARY = f"a BEGIN or an END {NO_LINE}"
 NO_ITEM = "neither certificate nor revocation list"
 SECONDS = 60
+# The seconds of ./verify count for all of the process in which its modules run.
+MANY_SECONDS = 1 << 30
 # A file of 10^6 lines takes so long at most, on a machine that does other things too.
 SECONDS_OF_LINES = 20
 
@@ -187,8 +188,7 @@ class Bundling(Trial):
         """./verify takes the same items by the library, and says the same of what is left out."""
         from trials import pem_peers
         from verify import files, waiting
-        # (the seconds of ./verify count for all of this process)
-        waiting.BUDGET.given = sys.maxsize
+        waiting.BUDGET.given = MANY_SECONDS
         odd = [it for held, *_ in CASES for it in held.values()]
         with tempfile.TemporaryDirectory(prefix="bundling-") as room:
             for octets in (*odd, *pem_peers.FILES.values()):

@@ -5,12 +5,11 @@ import base64
 import os
 import re
 import struct
-import sys
 import tempfile
 from concurrent.futures import ThreadPoolExecutor
 
 from trials import refusals
-from trials.bundling import pem
+from trials.bundling import MANY_SECONDS, pem
 from trials.chains import OF_AUTHORITY, OF_LEAF, OF_ROOT, Chain
 from trials.count import Trial, size
 from trials.vouching_pki import Workshop
@@ -163,14 +162,14 @@ def messages(file):
 
 def in_process(t, keys, secrets, room):
     """Each key in each form, alone: what is said of the file."""
-    # (the seconds of ./verify count for all of this process)
-    waiting.BUDGET.given = sys.maxsize
+    waiting.BUDGET.given = MANY_SECONDS
     for title, form in FORMS.items():
         for kind, text in keys.items():
             file = os.path.join(room, "alone")
             t.shop.keep("alone", form(text))
             said = messages(file)
-            t.same(f"{kind}, {title}", secrets.found(said.encode())[:1], [])
+            is_of_file = not said or said.startswith(file)
+            t.same(f"{kind}, {title}", (secrets.found(said.encode())[:1], is_of_file), ([], True))
 
 
 def runs_of(name, chain):
