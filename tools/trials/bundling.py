@@ -17,6 +17,8 @@ NO_LINE = "that is no line of its own (are newlines missing?)"
 BOUNDARY = f"a BEGIN or an END {NO_LINE}"
 NO_ITEM = "neither certificate nor revocation list"
 SECONDS = 60
+# The seconds of ./verify count for all of the process in which its modules run.
+MANY_SECONDS = 1 << 30
 # A file of 10^6 lines takes so long at most, on a machine that does other things too.
 SECONDS_OF_LINES = 20
 # What a run takes beside the file and what it writes: of the longest block three octets for four and
@@ -196,7 +198,8 @@ class Bundling(Trial):
     def test_as_by_verify(self):
         """./verify takes the same items by the library, and says the same of what is left out."""
         from trials import pem_peers
-        from verify import files
+        from verify import files, waiting
+        waiting.BUDGET.given = MANY_SECONDS
         odd = [it for held, *_ in CASES for it in held.values()]
         with tempfile.TemporaryDirectory(prefix="bundling-") as room:
             for octets in (*odd, *pem_peers.FILES.values()):

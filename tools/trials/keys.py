@@ -9,12 +9,12 @@ import tempfile
 from concurrent.futures import ThreadPoolExecutor
 
 from trials import refusals
-from trials.bundling import pem
+from trials.bundling import MANY_SECONDS, pem
 from trials.chains import OF_AUTHORITY, OF_LEAF, OF_ROOT, Chain
 from trials.count import Trial, size
 from trials.vouching_pki import Workshop
 from trials.vouching_trials import Trials
-from verify import files
+from verify import files, waiting
 from verify.faults import Fault
 
 LENGTH, RUNS = 8, 3
@@ -162,12 +162,14 @@ def messages(file):
 
 def in_process(t, keys, secrets, room):
     """Each key in each form, alone: what is said of the file."""
+    waiting.BUDGET.given = MANY_SECONDS
     for title, form in FORMS.items():
         for kind, text in keys.items():
             file = os.path.join(room, "alone")
             t.shop.keep("alone", form(text))
             said = messages(file)
-            t.same(f"{kind}, {title}", secrets.found(said.encode())[:1], [])
+            is_of_file = not said or said.startswith(file)
+            t.same(f"{kind}, {title}", (secrets.found(said.encode())[:1], is_of_file), ([], True))
 
 
 def runs_of(name, chain):
