@@ -1,4 +1,4 @@
-use Rattle.std.proofs.Common.{◌≡◌, ◌∙◌, ◌×◌, ◌++◌, subst, map, true}
+use Rattle.std.proofs.Common.{◌≡◌, ◌∙◌, ◌++◌, subst, map, true}
 use Rattle.cert_graph.specs.Adequate.{IsTrueAnswer}
 use Rattle.cert_judge.specs.ItemGraph.{graph_of_items}
 use Rattle.cert_judge.specs.Items.{rules_by, item_of}
