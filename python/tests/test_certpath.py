@@ -389,6 +389,8 @@ class Library(unittest.TestCase):
         calls = {
             "certpath_frame": [lambda: certpath.frame(root)],
             "certpath_load": [lambda: certpath.load(root)],
+            "certpath_shape": [lambda: certpath.shape_of(root)],
+            "certpath_shapes": [lambda: certpath.load(root)],
             "certpath_item": [lambda: certpath.item_of(root), lambda: certpath.Item(root).kind],
             "certpath_class": [lambda: certpath.class_of(root), lambda: items.kind(0)],
             "certpath_allows": [lambda: certpath.allows(root, "serverAuth")],
