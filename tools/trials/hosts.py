@@ -54,13 +54,6 @@ class Row(NamedTuple):
     openssl: str
     common_name: str = "leaf"
     go: str = ""
-    program: str = ""
-
-
-def both(said):
-    """What ./verify and certpath path answer: one word, or two with a slash between."""
-    ours, _, program = said.partition("/")
-    return ours, program or ours
 
 
 class Holds(NamedTuple):
@@ -128,7 +121,7 @@ def host_rows():
         common = next((text for kind, text in kinds if kind == "cn"), "leaf")
         given = [(kind, octets_of(kind, text)) for kind, text in kinds if kind != "cn"]
         held_by = [holds(given, (), words), holds(), holds()]
-        yield Row(f"{names} | {host}: {why}", held_by, host, None, ours, openssl, common, go, ours)
+        yield Row(f"{names} | {host}: {why}", held_by, host, None, ours, openssl, common, go)
 
 
 def purpose_rows():
@@ -141,9 +134,7 @@ def purpose_rows():
             if not usages and {"twice", "malformed"} & {*words}:
                 usages = ["serverAuth"]
             made.append(holds((), usages, (), words))
-        ours, program = both(ours)
-        yield Row(f"{' | '.join(chain)} | {purpose}: {why}", made, None, purpose, ours, openssl,
-                  program=program)
+        yield Row(f"{' | '.join(chain)} | {purpose}: {why}", made, None, purpose, ours, openssl)
 
 
 class Maker:
@@ -248,7 +239,7 @@ def try_rows(count):
             count.same(f"{row.line}, openssl", beside.openssl(row), row.openssl)
             named = f"purpose {row.purpose}" if row.host is None else f"host {row.host}"
             count.same(f"{row.line}, ./certpath path", beside.path(row, maker.files(chain)),
-                       (row.program, [] if row.program == "refused" else [named]))
+                       (row.ours, [] if row.ours == "refused" else [named]))
             reason = reason_of(row)
             if reason:
                 count.same(f"{row.line}, its reason", reason in out, True)
