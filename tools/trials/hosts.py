@@ -333,7 +333,8 @@ def try_forms(count):
         count.same("what isn't judged", left, set())
         count.same("the first line", found["headline"].split(": ")[0],
                    "no valid path at 2026-12-01T00:00:00Z for host a.test and purpose serverAuth")
-        count.same("the graph", "not for serverAuth" in beside.run("--dot", *asked).stdout, True)
+        graph = beside.run("--dot", *asked).stdout
+        count.same("the graph", f"it isn't for serverAuth: {OTHERS}" in graph, True)
         run = beside.run("--purpose", "nothing")
         count.same("no purpose", (run.returncode, run.stderr.split(": ")[1]),
                    (WORDS, "--purpose nothing"))

@@ -279,8 +279,8 @@ ELSEWHERE = {
         ("the hash of its subject is {}, so OpenSSL doesn't find it", "the hash of its subject is "), ("OpenSSL can't read it", "OpenSSL can't read it"),
         ("no PEM, which is all that OpenSSL reads there", "no PEM, which is all"), ("and {} further files", "and 10 further files"), ("further certificate", "1 further certificate"))},
     **{it: ("tools/trials/hosts.py", words) for it, words in (
-        ("not for {}", "not for serverAuth"), ("doesn't serve {}", "doesn't serve a.test"), ("it isn't for {}: {}", "it isn't for serverAuth"),
-        ("it doesn't serve {}: {}", "it doesn't serve"), ("--host {}: {}", "--host"),
+        ("it isn't for {0}: {1}", "it isn't for serverAuth"),
+        ("it doesn't serve {0}: {1}", "it doesn't serve"), ("--host {}: {}", "--host"),
         ("--purpose {}: {}", "--purpose nothing"), (" for {}", "for host a.test"), ("host {}", "host a.test"), ("purpose {}", "purpose serverAuth"))},
 }
 ON_A_TERMINAL = "progress, which a terminal sees in runs of more than a second"

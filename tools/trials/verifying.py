@@ -170,8 +170,9 @@ def refused(v, title, root):
     anchors = [word for it in case.anchors for word in ("--anchors", it.file)]
     words = [*named(case.bundle), *anchors, "--at", AT, *case.words]
     status, found, told = v.json(*words)
-    wanted = v.wanted[title]
-    is_path, is_accepted = wanted.why[0].startswith("path "), wanted.why[0].startswith("path ") and title not in DOUBTS
+    wanted, is_demanded = v.wanted[title], bool({"--host", "--purpose"} & {*case.words})
+    is_path = wanted.why[refusals.head(wanted.why) - 2].startswith("path ")
+    is_accepted = is_path and title not in DOUBTS
     answer, ends, outcome = found[0], 0 if is_accepted else 1, "path" if is_accepted else "refused" if is_path else "none"
     yield title, (status, answer["status"], answer["outcome"], len(answer["path"]) > 0, told), (ends, ends, outcome, is_path, [])
     reasons = {it["reason"] for it in answer["reasons"]}
@@ -179,12 +180,16 @@ def refused(v, title, root):
     true = {"no issuer here" if it.startswith("no issuer here: ") else it for it in true} or CONCLUDED.get(title, set())
     yield f"{title}: its reasons", reasons, true
     rules = {it["rule"] for it in answer["reasons"]}
-    yield f"{title}: openssl", v.openssl(case.bundle[0], case.bundle[1:], case.anchors), is_path or title in RULES
+    # (what others say of hosts and purposes, tools/trials/hosts.py compares)
+    if not is_demanded:
+        yield f"{title}: openssl", v.openssl(case.bundle[0], case.bundle[1:], case.anchors), is_path or title in RULES
     yield f"{title}: its rule", title in RULES and RULES[title] not in rules and f"({RULES[title]})" not in answer["headline"], False
-    if verifying_others.CERTTOOL and title not in OF_DATES:
+    if verifying_others.CERTTOOL and title not in OF_DATES and not is_demanded:
         certificates = [it for it in case.bundle if it.subject]
         yield f"{title}: certtool", v.certtool(certificates, case.anchors), (is_path or title in RULES) and title not in STRICTER
     verdict = VERDICTS[outcome].format(times.as_shown(times.moment_of(AT)))
+    # (what is demanded stands before the name)
+    verdict = verdict.partition(": CN=")[0] if is_demanded else verdict
     yield f"{title}: the first line", (answer["headline"].startswith(verdict), DOUBTS.get(title, "") in answer["headline"]), (True, True)
     yield f"{title}: --quiet", v.run(*words, "--quiet"), (ends, "", [])
     yield f"{title}: --ignore-unused-lists", v.run(*words, "--quiet", "--ignore-unused-lists"), (0 if is_path else 1, "", [])
@@ -194,7 +199,7 @@ def refused(v, title, root):
 
 
 def obstacle(line):
-    return re.match(r"at \d+ (?:not usable|no issuer|to .* not linked|leads to an anchor)", line)
+    return re.match(r"at \d+ (?:not usable|no issuer|isn't for|doesn't serve|to .* not linked|leads to an anchor)", line)
 
 
 def other_key(v, root):

@@ -47,8 +47,8 @@ FORMS = (
     form(r"extension (\d+) keyUsage without keyCertSign", "its keyUsage doesn't allow it to sign certificates", "RFC 5280, 6.1.4, n"),
     form(r"extension (\d+) (nameConstraints)", "it has name constraints", "RFC 5280, 6.1.4, g", NOT_JUDGED),
     form(r"extension (\d+) (policyConstraints)", "it has policy constraints", "RFC 5280, 6.1.4, i", NOT_JUDGED),
-    form(r"isn't for (\S+): (.*)", "it isn't for {0}: {1}", "RFC 5280, 4.2.1.12", note="not for {0}"),
-    form(r"doesn't serve (\S+): (.*)", "it doesn't serve {0}: {1}", "RFC 9525, 6", note="doesn't serve {0}"),
+    form(r"isn't for (\S+): (.*)", "it isn't for {0}: {1}", "RFC 5280, 4.2.1.12"),
+    form(r"doesn't serve (\S+): (.*)", "it doesn't serve {0}: {1}", "RFC 9525, 6"),
     form(r"no voucher", "its signature isn't verified by that key", "RFC 5280, 6.1.3, a, 1", note="signature not verified"),
     form(r"key identifiers differ", "its authority key identifier names another key", "RFC 5280, 4.2.1.1", note="names another key"),
     form(r"revoked by list (\d+)", "revoked by list {0}", "RFC 5280, 6.1.3, a, 3"),
@@ -81,6 +81,5 @@ def sentence(words):
     for form in FORMS:
         found = form.words.fullmatch(words)
         if found:
-            said, groups = form.sentence, [*map(named, found.groups())]
-            return said._replace(text=said.text.format(*groups), note=said.note.format(*groups))
+            return form.sentence._replace(text=form.sentence.text.format(*map(named, found.groups())))
     return Sentence(streams.shown(words), "")
