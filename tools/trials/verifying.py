@@ -188,7 +188,7 @@ def refused(v, title, root):
         certificates = [it for it in case.bundle if it.subject]
         yield f"{title}: certtool", v.certtool(certificates, case.anchors), (is_path or title in RULES) and title not in STRICTER
     verdict = VERDICTS[outcome].format(times.as_shown(times.moment_of(AT)))
-    # (what is demanded stands before the name)
+    # (what is demanded comes before the name)
     verdict = verdict.partition(": CN=")[0] if is_demanded else verdict
     yield f"{title}: the first line", (answer["headline"].startswith(verdict), DOUBTS.get(title, "") in answer["headline"]), (True, True)
     yield f"{title}: --quiet", v.run(*words, "--quiet"), (ends, "", [])
