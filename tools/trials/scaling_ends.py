@@ -80,10 +80,12 @@ def refused(count, interpreter, few, room):
     """Each refusal has a status and a word."""
     log, samples = few.log, os.path.join(repo.TOP, "samples")
     pem, listed, key = (os.path.join(samples, it) for it in ("fullchain.pem", "list.pem", "keys/leaf.pem"))
+    # (a text that begins with a letter: a digit 0 is the octet that a SEQUENCE begins with)
+    text = os.path.join(repo.TOP, "NOTICE")
     for status, words, said in (
             (3, ["--anchors", listed], "none of its items is a certificate"),
             (3, ["--anchors", key], "line 1 PRIVATE KEY: the block holds neither certificate nor"),
-            (3, ["--anchors", log.vouchers], "the file is neither PEM nor DER"),
+            (3, ["--anchors", text], "the file is neither PEM nor DER"),
             (2, ["--scheduler", "tcp://127.0.0.1:1"], "whoever reaches it runs code"),
             (2, ["--scheduler", "tls://127.0.0.1:1"], "--tls-ca-file"),
             (9, ["--scheduler", "tcp://127.0.0.1:1", "--insecure"], "no scheduler at tcp:"),
