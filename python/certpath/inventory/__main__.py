@@ -6,7 +6,8 @@ import signal
 import sys
 import traceback
 from contextlib import contextmanager
-from typing import Callable, List, NamedTuple, Set
+from types import FrameType
+from typing import Callable, List, NamedTuple, Optional, Set
 
 from ..library import LibraryMissing, loaded
 from . import databases, parquet, tables
@@ -27,6 +28,8 @@ from .writing import CannotWrite, tested
 # What a shell says of a process that a signal ended.
 SIGNALLED = 128
 ENDING = (signal.SIGINT, signal.SIGTERM)
+# After so many seconds a run is ended that can't be ended at once.
+SOON = 0.01
 NO_DASK = ("it comes with `apt-get install python3-distributed python3-cryptography`, or "
            "`pip install 'dask[distributed]' cryptography`")
 
@@ -75,8 +78,19 @@ def end_at_once(number: int, _):
     os._exit(SIGNALLED + number)
 
 
-def end(number: int, _):
+def is_dropping(frame: Optional[FrameType]) -> bool:
+    """Whether a value is being dropped: an exception that leaves its __del__ is ignored."""
+    while frame is not None and frame.f_code.co_name != "__del__":
+        frame = frame.f_back
+    return frame is not None
+
+
+def end(number: int, frame: Optional[FrameType]):
     """Ends the run; a second signal ends the process wherever it is."""
+    if is_dropping(frame):
+        signal.signal(signal.SIGALRM, lambda _, later: end(number, later))
+        signal.setitimer(signal.ITIMER_REAL, SOON)
+        return
     for it in ENDING:
         signal.signal(it, end_at_once)
     raise Ended(number)
