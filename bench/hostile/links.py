@@ -1,10 +1,11 @@
-"""Families of links with lists, path lengths and rings, for `why`, `paths`, `recheck` and `path`."""
+"""Families of links with lists, path lengths and rings, of several commands."""
 from math import isqrt
 
 from family import Files, also, family, of_octets, square
 from graphs import (ANCHOR, COMMON_KEY, LEAF, NOWHERE, ROOT, ROOT_KEY, ROWS, X, chain_path, lists,
                     own_keys, rising, vouched)
-from parts import certificate, element, entry, extension, integer, key, name, revocation_list, voucher
+from parts import (certificate, element, entry, extension, integer, key, name, revocation_list,
+                   voucher)
 from reports import PAIRS, PATHS, RISES, ROWS_READ, SQUARE
 
 # Sizes for reports that have a line for each two items and each list.
@@ -104,24 +105,27 @@ def copies_lists(count):
     return Files(bundle, [ANCHOR], lines, f"path 0 {half + 1} anchor 0")
 
 
+def copies_of_both(count):
+    """Copies of a leaf and of a list, so many of each, and lines of twice as many keys for both."""
+    found, leaf = lists(1)[0], certificate(LEAF, X, COMMON_KEY)
+    return [*[leaf] * count, *[found] * count], all_vouch(2 * count, found, leaf)
+
+
 @family("copies-leaves-lists", "n/4 copies of a leaf and of a list each, and n/2 keys of their issuer "
         "that all vouch for both", known=COPIES)
 def copies_leaves_lists(count):
-    quarter, half = count // 4, count // 2
-    found, leaf = lists(1)[0], certificate(LEAF, X, COMMON_KEY)
-    issuers = own_keys(half, X, ROOT)
-    lines = all_vouch(half, found, leaf) + [voucher(ROOT_KEY, it) for it in issuers]
-    bundle = [*[leaf] * quarter, *[found] * quarter, *issuers]
-    return Files(bundle, [ANCHOR], lines, f"path 0 {2 * quarter} anchor 0")
+    quarter = count // 4
+    bundle, lines = copies_of_both(quarter)
+    issuers = own_keys(2 * quarter, X, ROOT)
+    lines += [voucher(ROOT_KEY, it) for it in issuers]
+    return Files([*bundle, *issuers], [ANCHOR], lines, f"path 0 {2 * quarter} anchor 0")
 
 
 @family("copies-anchors", "n/4 copies of a leaf and of a list each, and n/2 anchors whose keys all "
         "vouch for both", known=COPIES)
 def copies_anchors(count):
-    quarter, half = count // 4, count // 2
-    found, leaf = lists(1)[0], certificate(LEAF, X, COMMON_KEY)
-    bundle, lines = [*[leaf] * quarter, *[found] * quarter], all_vouch(half, found, leaf)
-    return Files(bundle, own_keys(half), lines, "path 0 anchor 0")
+    bundle, lines = copies_of_both(count // 4)
+    return Files(bundle, own_keys(2 * (count // 4)), lines, "path 0 anchor 0")
 
 
 @family("keys-lists", "keys of one name that all vouch for as many lists, n lines in all, and a leaf "
@@ -135,7 +139,8 @@ def keys_lists(count):
 
 
 def ring(count, step):
-    """Certificates in a ring, each issued by the one so many places on, and an anchor of the name of the first."""
+    """Certificates in a ring, each issued by the one so many places on, and an anchor of the
+    name of the first."""
     names = [name(f"c{it:07}") for it in range(count)]
     items = [certificate(names[it], names[(it + step) % count], COMMON_KEY) for it in range(count)]
     return items, certificate(names[0], names[0], ROOT_KEY)
@@ -187,7 +192,8 @@ def recheck_rows_small(octets):
 
 
 @family("recheck-rows-links", "certificates of one name, of which all keys vouch for all, and evidence "
-        "of as many rows as lines", "recheck", unit="lines", sizes=(1_000, 2_000, 4_000, 8_000), small=(500, 2_000), known=ROWS_READ)
+        "of as many rows as lines", "recheck", unit="lines",
+        sizes=(1_000, 2_000, 4_000, 8_000), small=(500, 2_000), known=ROWS_READ)
 def recheck_rows_links(count):
     items = own_keys(isqrt(count))
     evidence = [HEAD, b"none\n" * len(items), b"row\n" * count]

@@ -110,10 +110,12 @@ static void of_limits(void)
     tell(is_kept(spans + 4, sizeof spans - 4 * sizeof *spans), "spans past the last one");
 }
 
+/* What the items of the bundle are, by their classes and by their shapes. */
+static const uint32_t KINDS[] = {CERTPATH_CERTIFICATE, CERTPATH_CERTIFICATE,
+                                 CERTPATH_CERTIFICATE, CERTPATH_LIST};
+
 static void of_classes(void)
 {
-    static const uint32_t WANTED[] = {CERTPATH_CERTIFICATE, CERTPATH_CERTIFICATE,
-                                      CERTPATH_CERTIFICATE, CERTPATH_LIST};
     uint32_t found[MOST];
     size_t count = 0;
     memset(found, KEPT, sizeof found);
@@ -125,15 +127,13 @@ static void of_classes(void)
              && count == 0 && is_kept(found, sizeof found),
          "classes with limit 0");
     tell(certpath_classes(bundle, bundle_length, UINT32_MAX, found, 4, &count) == CERTPATH_DONE
-             && count == 4 && memcmp(found, WANTED, sizeof WANTED) == 0
-             && is_kept(found + 4, sizeof found - sizeof WANTED),
+             && count == 4 && memcmp(found, KINDS, sizeof KINDS) == 0
+             && is_kept(found + 4, sizeof found - sizeof KINDS),
          "classes");
 }
 
 static void of_shapes(void)
 {
-    static const uint32_t WANTED[] = {CERTPATH_CERTIFICATE, CERTPATH_CERTIFICATE,
-                                      CERTPATH_CERTIFICATE, CERTPATH_LIST};
     uint32_t found[MOST];
     size_t count = 0;
     memset(found, KEPT, sizeof found);
@@ -142,8 +142,8 @@ static void of_shapes(void)
              && count == 4 && is_kept(found, sizeof found),
          "room for fewer shapes");
     tell(certpath_shapes(bundle, bundle_length, CERTPATH_LIMIT, found, 4, &count) == CERTPATH_DONE
-             && count == 4 && memcmp(found, WANTED, sizeof WANTED) == 0
-             && is_kept(found + 4, sizeof found - sizeof WANTED),
+             && count == 4 && memcmp(found, KINDS, sizeof KINDS) == 0
+             && is_kept(found + 4, sizeof found - sizeof KINDS),
          "shapes");
     tell(certpath_shape(bundle, bundle_length, found) == CERTPATH_DONE
              && found[0] == CERTPATH_OTHER,
