@@ -10,8 +10,13 @@
  * Buffers. A buffer is a pointer, followed by its room (how many elements it has). The pointer may
  * be null where the room is 0. A call that needs more room returns CERTPATH_TOO_SMALL, writes
  * nothing into any buffer, and says in its result how much it needs: so a first call with room 0
- * asks for the size. All other pointers must point to a value. No two arguments may overlap, where
- * one of them is written.
+ * asks for the size.
+ *
+ * Pointers. Octets and other values that are read are a pointer, followed by their length. The
+ * pointer may be null where the length is 0. All other pointers, to settings and to results, must
+ * point to a value. Each pointer is aligned as its type is; octets and vouchers may lie anywhere.
+ * What is only read may overlap. Nothing that is written may overlap another argument, or octets
+ * that the settings point to.
  *
  * Status. Each call returns CERTPATH_DONE or one of the other statuses below. Unless it is
  * CERTPATH_DONE, no buffer was written, and results hold only what the call says of its status.
@@ -365,7 +370,8 @@ typedef struct {
 /*
  * What is asked: a path from an item of the bundle to an anchor. The last four fields came with
  * version 3: where they are 0, as where an initializer leaves them out, no purpose and no host is
- * demanded. certpath_find and certpath_check look at them, and the calls that write reports don't.
+ * demanded. certpath_find and certpath_check look at them, and since version 5 the calls that write
+ * reports do.
  */
 typedef struct {
     size_t target;          /* the position of the certificate in the bundle, from 0 */
@@ -437,11 +443,22 @@ typedef struct {
 /*
  * Write what `certpath path`, `certpath why` and `certpath paths` print of the files into `text`
  * (UTF-8, no 0 at the end): the answer for the target, found and checked; what stands in the way of
- * a path; and the answers for all items at once, for which `settings->target` isn't looked at.
+ * a path; and the answers for all items at once, for which the target and the host of the settings
+ * aren't looked at. docs/CLI.md has the lines of the reports.
+ *
+ * What is demanded has a line: the purpose by its name in RFC 5280, 4.2.1.12, or else by its
+ * numbers, or in hexadecimal where it spells no numbers of 64 bits (X.690, 8.19); the host as it is
+ * given. Each text is the one of `--purpose` and `--host`. (It came with version 5; before it these
+ * calls didn't look at a purpose or a host.)
  *
  * `vouchers` is a voucher file, as ./vouch writes it: lines of two SHA-256 digests in hex with a
- * space between them, of a key and of an item. CERTPATH_BAD_LINE where a line is neither that nor
- * empty. CERTPATH_BAD_MOMENT as above. docs/CLI.md has the lines of the reports.
+ * space between them, of a key and of an item.
+ *
+ * CERTPATH_BAD_MOMENT as above; else, but not from certpath_paths, CERTPATH_BAD_HOST where the
+ * host is none; else CERTPATH_BAD_LINE where a line of the vouchers is neither that nor empty. Any
+ * octets are a purpose. Pointers to octets, those of the settings too, may be null where the length
+ * is 0, and may overlap; `settings` and `report` aren't null, and are aligned. Neither `text` nor
+ * `report` overlaps anything else.
  */
 int32_t certpath_path(const uint8_t *bundle, size_t bundle_length, const uint8_t *anchors,
                       size_t anchors_length, const uint8_t *vouchers, size_t vouchers_length,
@@ -461,7 +478,7 @@ int32_t certpath_paths(const uint8_t *bundle, size_t bundle_length, const uint8_
 /* ---- the library */
 
 /* The version of these calls: it grows where one of them changes. */
-#define CERTPATH_VERSION 4
+#define CERTPATH_VERSION 5
 
 uint32_t certpath_version(void);
 

@@ -5,3 +5,4 @@ pub mod Ordered
 pub mod OrderLaws
 pub mod SetLaws
 pub mod Encoding
+pub mod Pairs

@@ -5,6 +5,7 @@
 mod encoding;
 mod iterator;
 mod laws;
+mod pair;
 mod parser;
 mod sequence;
 mod sequence_of;
@@ -13,6 +14,7 @@ mod set_of;
 
 pub use crate::iterator::SequenceIterator;
 pub use crate::laws::{ascending_order, ber_calls_to_the_end, calls_to_the_end, equal_sets};
+pub use crate::pair::Pair;
 pub use crate::parser::{BerParser, DerParser};
 pub use crate::sequence::Sequence;
 pub use crate::sequence_of::SequenceOf;

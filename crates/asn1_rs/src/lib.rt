@@ -68,7 +68,7 @@ pub use asn1_oid::Oid;
 pub use asn1_oid::SubIdentifierIterator;
 pub use asn1_oid::is_oid_content;
 pub use asn1_oid::laws as oid_laws;
-pub use asn1_pairs::Pair;
+pub use asn1_lists::Pair;
 pub use asn1_strings::BmpString;
 pub use asn1_strings::CharOctets;
 pub use asn1_strings::CharacterString;

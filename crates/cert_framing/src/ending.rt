@@ -1,3 +1,5 @@
+//! How a stream ends after its last item.
+
 /// How a stream ends behind its items. Positions count octets from 0.
 #[derive(Clone, Copy, Debug, PartialEq, Eq, Hash)]
 pub enum End {

@@ -13,7 +13,7 @@ use Rattle.cert_graph.specs.Laws.{Agrees}
 use Rattle.cert_graph.specs.Nodes.{IsNode, graph_of, Links, LinksToAnchor}
 use Rattle.cert_graph.specs.Lists.{AreFilled}
 use Rattle.cert_graph.specs.Entries.{IsAt, BelongsTo, LinkedTo, AnchorIn, graph_by}
-use Rattle.cert_graph.proofs.Places.{element_at}
+use Rattle.cert_graph.proofs.PlacesOfNodes.{element_at}
 
 -- a group's list is the list at its place
 pub list_at : (f : Group → List ℕ) (groups : List Group) (lists : List (List ℕ)) (k : ℕ) (g : Group) → map f groups ≡ lists → k < length groups → get_or groups k g ≡ g → get_or lists k [] ≡ f g

@@ -4,7 +4,7 @@ use Rattle.std.specs.Prelude.{◌↔◌, ◌⊎◌, All, Contains}
 use Rattle.std.proofs.lemmas.Bool.{cases_lt, cases_eq}
 use Rattle.std.proofs.lemmas.List.{get_or-map, length-map, map-set, length-set, get_or-set_same, get_or-set_other, get_or_push, get_or_append_left}
 use Rattle.std.proofs.lemmas.List.Elements.{All-nil, All-push, All-weaker, All-contains, Contains-get_or, Contains-append_left, Contains-push, Contains-push_cases}
-use Rattle.cert_graph.proofs.Places.{element_at}
+use Rattle.cert_graph.proofs.PlacesOfNodes.{element_at}
 use Rattle.cert_graph.specs.Lists.{HasLast, IsPut, IsFill, AreFilled}
 
 -- what `put` leaves, over the vectors that hold the lists

@@ -12,7 +12,7 @@ use Rattle.cert_graph.specs.Steps.{MayTake}
 use Rattle.cert_graph.specs.Nodes.{graph_of, HasLink, HasAnchorLink, Links, LinksToAnchor}
 use Rattle.cert_graph.specs.Groups.{HasSomeAnchor, HasAnchorBelow, HoldsLimit, HoldsLimits, HoldsEachLimit, IsOffered, HoldsPassed, HoldsAllPassed, FollowsRow, IsOpenBelow, HasOpenBelow}
 use Rattle.cert_graph.proofs.ReachFacts.{more_takes, lesser_takes, lesser_left, lesser_right, passed_takes, passed_back, at_most_from_takes}
-use Rattle.cert_graph.proofs.Places.{any_at, meet}
+use Rattle.cert_graph.proofs.PlacesOfNodes.{any_at, meet}
 
 -- anchors
 pub anchor_some : (nodes : Nodes) (v : ℕ) → Any (HasSomeAnchor v) nodes.groups.items ↔ ((a : ℕ) × LinksToAnchor nodes v a)

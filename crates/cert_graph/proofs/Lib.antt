@@ -7,7 +7,7 @@ pub mod Unique
 pub mod NodeLaws
 pub mod Checks
 pub mod NodeFacts
-pub mod Places
+pub mod PlacesOfNodes
 pub mod GroupFacts
 pub mod TableFacts
 pub mod Filled
@@ -26,3 +26,7 @@ pub mod Flights
 pub mod Looking
 pub mod Halving
 pub mod ExampleInventory
+pub mod Sifted
+pub mod Adding
+pub mod Gathering
+pub mod Placing

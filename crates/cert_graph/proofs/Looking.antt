@@ -22,7 +22,7 @@ use Rattle.cert_graph.specs.Tables.{IsShut}
 use Rattle.cert_graph.proofs.Anything.{any_more}
 use Rattle.cert_graph.proofs.Flights.{flights_in}
 use Rattle.cert_graph.proofs.Lowest.{LinksBy, least_same, least_lower, members_linked, anchors_linked}
-use Rattle.cert_graph.proofs.Places.{any_at, element_at}
+use Rattle.cert_graph.proofs.PlacesOfNodes.{any_at, element_at}
 use Rattle.cert_graph.proofs.ReachFacts.{none_taken, no_takes}
 
 -- one of the groups with some numbers has a position among its members, or its anchors

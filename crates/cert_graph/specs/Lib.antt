@@ -17,3 +17,6 @@ pub mod Least
 pub mod Stairs
 pub mod Lookup
 pub mod Examples
+pub mod Places
+pub mod Buckets
+pub mod Links

@@ -1,3 +1,5 @@
+//! The answer on one target, and the table of rows that shows it.
+
 use crate::Reach;
 
 /// Rows of reaches, each with one entry per item, by its position. The first row is for one issuer, each further

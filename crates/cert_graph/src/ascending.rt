@@ -1,3 +1,5 @@
+//! Binary search in a strictly ascending list of positions.
+
 ghost use Rattle.std.specs.Prelude.{◌↔◌, IsTrue, Contains};
 ghost use Rattle.std.specs.List.Sorted.{IsStrictlyIncreasing};
 

@@ -1,3 +1,6 @@
+//! Nodes built from entries: each entry names the groups that it is in and those that it is linked
+//! to.
+
 ghost use Rattle.std.specs.Prelude.{◌≡◌, ◌↔◌, ℕ, length, map, All, IfOk};
 ghost use Rattle.std.specs.List.Sorted.{IsStrictlyIncreasing};
 ghost use Rattle.cert_graph.specs.Laws.{Agrees};

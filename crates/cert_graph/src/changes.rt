@@ -1,3 +1,5 @@
+//! Rows kept as changes: a row holds its reaches, and the next one only where it differs.
+
 ghost use Rattle.std.specs.Prelude.{◌≡◌, length, map, replicate, IfOk};
 ghost use Rattle.cert_graph.specs.declared.reach.Reach.TheVariants.{No};
 ghost use Rattle.cert_graph.specs.Changes.{changed, rows_by};

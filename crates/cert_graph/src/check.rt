@@ -1,3 +1,8 @@
+//! The check of one answer: inequalities over its table, and no search.
+//!
+//! A path needs rows that no shorter path could have; that there is none needs a row that is closed
+//! under all links.
+
 ghost use Rattle.std.specs.Prelude.{◌↔◌, map, IsTrue};
 ghost use Rattle.cert_graph.specs.Adequate.{IsAdequatePath, IsAdequateNone, IsAdequate, IsTrueAnswer};
 ghost use Rattle.cert_graph.specs.Nodes.{graph_of};

@@ -1,3 +1,5 @@
+//! The check of an inventory: one table for all items, gone through two rows at a time.
+
 ghost use Rattle.std.specs.Prelude.{◌≡◌, ◌+◌, ◌<◌, ◌↔◌, List, length, IsTrue, IfOk};
 ghost use Rattle.cert_graph.specs.declared.reach.Reach.{Reach};
 ghost use Rattle.cert_graph.specs.declared.inventory.Verdict.TheVariants.{Pathless};

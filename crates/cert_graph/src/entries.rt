@@ -1,3 +1,5 @@
+//! An item as the builder of a graph enters it.
+
 use crate::Node;
 
 /// One item as its builder tells it, with the groups by their numbers from 0.

@@ -1,3 +1,5 @@
+//! The three lists of a group, gathered from the entries: members, anchors, and what was issued.
+
 ghost use Rattle.std.specs.Prelude.{length, map, IfOk};
 ghost use Rattle.cert_graph.specs.Lists.{AreFilled};
 ghost use Rattle.cert_graph.specs.Entries.{BelongsTo, LinkedTo, AnchorIn};

@@ -1,3 +1,5 @@
+//! An inventory: a verdict on each item, with one table of rows for all of them.
+
 use crate::Change;
 
 /// What an inventory says of one item as a target.

@@ -1,3 +1,5 @@
+//! The groups that issued each item: the links, seen from the item.
+
 ghost use Rattle.std.specs.Prelude.{length, map, IfOk};
 ghost use Rattle.cert_graph.specs.Issuing.{IssuedBy};
 ghost use Rattle.cert_graph.specs.Lists.{AreFilled};

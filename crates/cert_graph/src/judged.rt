@@ -1,3 +1,5 @@
+//! What is judged of the item at a position, and `false` or `No` for a position past the last.
+
 ghost use Rattle.std.specs.Prelude.{◌≡◌, ◌↔◌, length, IsTrue, List};
 ghost use Rattle.cert_graph.specs.Adequate.{at_row};
 ghost use Rattle.cert_graph.specs.Nodes.{graph_of};

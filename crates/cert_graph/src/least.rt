@@ -1,3 +1,6 @@
+//! The least positions that may come next in a path: RFC 5280 leaves the choice open, and the first
+//! path takes the least.
+
 ghost use Rattle.std.specs.Prelude.{◌≡◌, ◌↔◌, IsTrue, Contains};
 ghost use Rattle.cert_graph.specs.Steps.{MayTake};
 ghost use Rattle.cert_graph.specs.Nodes.{graph_of};

@@ -1,3 +1,5 @@
+//! Links by position: who issued whom, read off the groups' lists by binary search.
+
 ghost use Rattle.std.specs.Prelude.{ℕ, ◌↔◌, ◌<◌, IsTrue, Contains};
 ghost use Rattle.cert_graph.specs.Nodes.{HasLink, HasAnchorLink, graph_of};
 ghost use Rattle.cert_graph.specs.Groups.{HasSomeAnchor, HasAnchorBelow};

@@ -1,3 +1,6 @@
+//! Look-ups for a walk down the rows: by item the groups that issued it, by group its members that
+//! reach furthest.
+
 ghost use Rattle.std.specs.Prelude.{◌≡◌, ◌↔◌, ◌<◌, ℕ, List, [], length, map, replicate, slice_index_or, IsTrue, IfOk};
 ghost use Rattle.cert_graph.specs.declared.nodes.Group.{Group};
 ghost use Rattle.cert_graph.specs.declared.nodes.Nodes.{Nodes};

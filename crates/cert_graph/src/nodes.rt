@@ -1,3 +1,5 @@
+//! The graph: what is judged of each item, and the groups that link items and anchors.
+
 ghost use Rattle.std.specs.Prelude.{◌<◌, length, IsTrue, All};
 ghost use Rattle.std.specs.List.Sorted.{IsStrictlyIncreasing};
 

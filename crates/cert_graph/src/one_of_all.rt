@@ -1,3 +1,5 @@
+//! One item's answer out of an inventory, with a table of its own.
+
 ghost use Rattle.std.specs.Prelude.{IfOk};
 ghost use Rattle.cert_graph.specs.Adequate.{IsAdequate};
 ghost use Rattle.cert_graph.specs.Inventory.{IsAdequateInventory};

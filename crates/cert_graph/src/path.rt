@@ -1,3 +1,8 @@
+//! Valid paths over a graph, and whether a smaller position would do at some place of one.
+//!
+//! A path goes from the target to the anchor: each issuer is fit, and its path length constraint
+//! lets through the certificates below it that are not self-issued (RFC 5280, 6.1.4, l and m).
+
 ghost use Rattle.std.specs.Prelude.{◌≡◌, ◌+◌, ◌<◌, ◌↔◌, not, cond, length, map, IsTrue};
 ghost use Rattle.cert_graph.specs.Graph.{IsValidPath};
 ghost use Rattle.cert_graph.specs.Steps.{Next, MayFollow, Lowest};

@@ -1,3 +1,6 @@
+//! Reaches: at which counts of certificates below it an issuer leads to an anchor (RFC 5280,
+//! 4.2.1.9).
+
 ghost use Rattle.std.specs.Prelude.{◌≡◌, ℕ, ◌⊎◌, ◌↔◌, cond, IsTrue};
 ghost use Rattle.cert_graph.specs.Reach.{Takes, IsAtMost, lesser, less_one, reach_of};
 

@@ -1,3 +1,5 @@
+//! Inequalities of a row: against path length constraints, and against the row before it.
+
 ghost use Rattle.std.specs.Prelude.{ℕ, ◌↔◌, IsTrue, All, Any};
 ghost use Rattle.cert_graph.specs.Reach.{Takes};
 ghost use Rattle.cert_graph.specs.Groups.{HoldsLimit, HoldsLimits, HoldsEachLimit, IsOffered, HoldsPassed, HoldsAllPassed, FollowsRow, IsOpenBelow, HasOpenBelow};

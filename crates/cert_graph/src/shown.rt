@@ -1,3 +1,5 @@
+//! Valid paths and closed rows by a look-up, in place of going over all groups.
+
 ghost use Rattle.std.specs.Prelude.{◌≡◌, ◌<◌, ◌↔◌, List, length, IsTrue};
 ghost use Rattle.cert_graph.specs.declared.reach.Reach.{Reach};
 ghost use Rattle.cert_graph.specs.Adequate.{row_of};

@@ -1,3 +1,8 @@
+//! Stairs: of a group's members in a row, each that reaches further than all before it.
+//!
+//! The least member that takes a count is on a stair, so a look-up halves the stairs in place of
+//! going over the members. Rows in which a group's stairs are equal share one flight of them.
+
 ghost use Rattle.std.specs.Prelude.{◌≡◌, ◌↔◌, ◌<◌, ◌-◌, ℕ, List, [], ◌∷◌, ◌++◌, length, map, replicate, slice_index_or, All, IsTrue, IfOk, OnOk};
 ghost use Rattle.cert_graph.specs.declared.nodes.Nodes.{Nodes};
 ghost use Rattle.cert_graph.specs.declared.reach.Reach.{Reach};

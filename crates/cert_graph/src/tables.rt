@@ -1,3 +1,5 @@
+//! Tables: rows of which each follows from the next by the links, and what such rows show.
+
 ghost use Rattle.std.specs.Prelude.{◌≡◌, ◌↔◌, length, map, IsTrue, All};
 ghost use Rattle.cert_graph.specs.Groups.{HoldsEachLimit};
 ghost use Rattle.cert_graph.specs.Tables.{FollowOn, IsTable, IsShut, IsShortest, IsClosed};

@@ -14,7 +14,7 @@ use Rattle.cert_graph.specs.Reach.{reach_of}
 use Rattle.cert_graph.specs.Laws.{Agrees}
 use Rattle.cert_graph.specs.Nodes.{graph_of, Links, LinksToAnchor, HasLink, HasAnchorLink}
 use Rattle.cert_graph.specs.Entries.{IsAt}
-use Rattle.cert_groups.specs.Links.{IsWithin, Adds}
+use Rattle.cert_graph.specs.Links.{IsWithin, Adds}
 use Rattle.cert_model.specs.Fields.{CivilTime}
 use Rattle.cert_judge.specs.declared.judged.JudgedItem.{JudgedItem}
 use Rattle.cert_judge.specs.Vouching.{Vouching}

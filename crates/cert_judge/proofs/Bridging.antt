@@ -6,10 +6,10 @@ use Rattle.std.proofs.Math.Logic.{∥∥₁_elim}
 use Rattle.std.proofs.lemmas.Bool.{false≢true}
 use Rattle.cert_graph.specs.Entries.{IsAt}
 use Rattle.cert_graph.proofs.EntryFacts.{is_at, has_at}
-use Rattle.cert_groups.specs.declared.places.Place.{Place}
-use Rattle.cert_groups.specs.declared.places.Part.{Part}
-use Rattle.cert_groups.specs.declared.places.Part.TheVariants.{Name, Key, Id}
-use Rattle.cert_groups.specs.Places.{shown_at, text_at, Shows}
+use Rattle.cert_graph.specs.declared.places.Place.{Place}
+use Rattle.cert_graph.specs.declared.places.Part.{Part}
+use Rattle.cert_graph.specs.declared.places.Part.TheVariants.{Name, Key, Id}
+use Rattle.cert_graph.specs.Places.{shown_at, text_at, Shows}
 use Rattle.cert_model.specs.Fields.{CivilTime, Number, Entry, Certificate, RevocationList}
 use Rattle.cert_model.specs.Octets.{name_octets, key_octets}
 use Rattle.cert_model.specs.Class.{Class, certificate, list, other}

@@ -21,3 +21,4 @@ pub mod PlaceFacts
 pub mod Bridging
 pub mod FurtherFacts
 pub mod Agreement
+pub mod Classing

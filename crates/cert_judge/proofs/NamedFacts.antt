@@ -7,15 +7,15 @@ use Rattle.std.proofs.lemmas.Bool.{cases_lt}
 use Rattle.std.proofs.lemmas.List.Elements.{Contains-append_left, Contains-push, Contains-push_cases, Contains-get_or}
 use Rattle.std.proofs.lemmas.Option.{slice_get_past}
 use Rattle.cert_graph.specs.declared.nodes.Group.{Group}
-use Rattle.cert_groups.specs.declared.buckets.Bucket.{Bucket}
-use Rattle.cert_groups.specs.declared.places.Place.{Place}
-use Rattle.cert_groups.specs.declared.places.Part.TheVariants.{Name, Key}
-use Rattle.cert_groups.specs.declared.places.Part.{Part}
-use Rattle.cert_groups.specs.Places.{shown_at, Shows}
-use Rattle.cert_groups.specs.Buckets.{IsBucket, AreBuckets}
-use Rattle.cert_groups.specs.Links.{Adds, AgreeOnId, IsPlaceLink, IsPlaceAnchor}
-use Rattle.cert_groups.proofs.Sifted.{push_ascends}
-use Rattle.cert_groups.proofs.Adding.{UpTo, up_to_more, adds_then, adds_as}
+use Rattle.cert_graph.specs.declared.buckets.Bucket.{Bucket}
+use Rattle.cert_graph.specs.declared.places.Place.{Place}
+use Rattle.cert_graph.specs.declared.places.Part.TheVariants.{Name, Key}
+use Rattle.cert_graph.specs.declared.places.Part.{Part}
+use Rattle.cert_graph.specs.Places.{shown_at, Shows}
+use Rattle.cert_graph.specs.Buckets.{IsBucket, AreBuckets}
+use Rattle.cert_graph.specs.Links.{Adds, AgreeOnId, IsPlaceLink, IsPlaceAnchor}
+use Rattle.cert_graph.proofs.Sifted.{push_ascends}
+use Rattle.cert_graph.proofs.Adding.{UpTo, up_to_more, adds_then, adds_as}
 use Rattle.cert_judge.specs.declared.judged.JudgedItem.{JudgedItem}
 use Rattle.cert_judge.specs.Standing.{StandsBy, IsIssuedAt}
 use Rattle.cert_judge.specs.NamedLinks.{IsUnder, StandsUnder, IsIssuedFrom, Holds, IsNamedLink, IsNamedAnchor}

@@ -4,8 +4,8 @@ use Rattle.std.specs.List.{slice_get}
 use Rattle.std.proofs.Math.ListN.{get_or-append}
 use Rattle.std.proofs.lemmas.List.{get_or-map, length-map, get_or-append-add}
 use Rattle.std.proofs.lemmas.Option.{slice_get-get_or}
-use Rattle.cert_groups.specs.declared.places.Part.TheVariants.{Key}
-use Rattle.cert_groups.specs.Places.{shown_at, Shows}
+use Rattle.cert_graph.specs.declared.places.Part.TheVariants.{Key}
+use Rattle.cert_graph.specs.Places.{shown_at, Shows}
 use Rattle.cert_judge.specs.declared.judged.JudgedItem.{JudgedItem}
 use Rattle.cert_judge.specs.declared.judged.JudgedItem.TheVariants.{Certificate as certificate_judged, List as list_judged, Other as other_judged}
 use Rattle.cert_judge.specs.JudgedItems.{as_issued, as_member, as_anchor}

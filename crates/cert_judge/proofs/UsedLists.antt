@@ -1,9 +1,9 @@
 -- Used lists among the items.
 use Rattle.std.specs.Prelude.{◌↔◌}
-use Rattle.std.proofs.Common.{◌≡◌, ◌∙◌, ap, sym, subst, refl, ℕ, ◌<◌, Bool, true, List, [], ◌∷◌, map, length, arith, get_or}
+use Rattle.std.proofs.Common.{◌≡◌, ◌∙◌, ap, sym, subst, refl, ℕ, ◌<◌, Bool, List, [], ◌∷◌, map, length, arith, get_or}
 use Rattle.std.specs.List.{Any, Contains}
 use Rattle.std.proofs.lemmas.List.{get_or-map, length-map, get_or_default}
-use Rattle.cert_model.specs.Fields.{Number, Entry, RevocationList}
+use Rattle.cert_model.specs.Fields.{RevocationList}
 use Rattle.cert_model.specs.Octets.{name_octets}
 use Rattle.cert_model.specs.Class.{Class, certificate, list, other}
 use Rattle.jiff_core.specs.declared.civil.datetime.DateTime.{DateTime}
@@ -11,8 +11,8 @@ use Rattle.cert_judge.specs.declared.items.ListItem.{ListItem}
 use Rattle.cert_judge.specs.declared.items.ReadItem.{ReadItem}
 use Rattle.cert_judge.specs.declared.items.ReadItem.TheVariants.{Certificate as certificate_read, List as list_read, Other as other_read}
 use Rattle.cert_judge.specs.Vouching.{Vouching}
-use Rattle.cert_judge.specs.Revoking.{Item, IsCurrent, IsPlain, IsUsedList, HasUsedList, IsRevoked, IsSatisfied}
-use Rattle.cert_judge.specs.Items.{list_of, list_item, item_of, rules_by, IsUsed, IsUsedAgainst, IsListWith}
+use Rattle.cert_judge.specs.Revoking.{Item, IsCurrent, IsPlain, IsUsedList, HasUsedList}
+use Rattle.cert_judge.specs.Items.{list_of, list_item, item_of, rules_by, IsUsed, IsListWith}
 
 abbrev list_in : (l : RevocationList) → Class → RevocationList
 list_in l (certificate c) = l
@@ -70,30 +70,3 @@ has_iff V moment demand name key xs = (
       let f = item_from xs h.0 h.2 in
       (f.0, f.1, f.2, f.3, one_of (λ y. IsUsed V moment name key y × (h.1 ≡ list_of y)) (IsUsed V moment name key) f.1 (λ y u. u.0) (used_from V moment demand name key f.1 h.0 h.1 f.4 h.3)),
 )
-
-pub revoked_iff : (V : Vouching) (moment : DateTime) (demand : Bool) (name key : List ℕ) (serial : Number) (xs : List ReadItem)
-    → Any (IsListWith (IsUsedAgainst V moment name key serial)) xs ↔ IsRevoked (rules_by moment demand V) (map item_of xs) name key serial
-unfolding IsUsedAgainst
-revoked_iff V moment demand name key serial xs = (
-  λ h.
-      let y = listed (IsUsedAgainst V moment name key serial) h.1 h.4 in
-      (item_of h.1, list_of y.0, item_at xs h.0 h.1 h.2 h.3, subst (λ (x : ReadItem). IsUsedList (rules_by moment demand V) name key (item_of x) (list_of y.0)) (sym y.1) (used_to V moment demand name key y.0 y.2.0), y.2.1),
-  λ h.
-      let f = item_from xs h.0 h.2 in (
-        f.0,
-        f.1,
-        f.2,
-        f.3,
-        one_of (λ y. IsUsed V moment name key y × (h.1 ≡ list_of y)) (IsUsedAgainst V moment name key serial) f.1
-            (λ y u. (u.0, subst (λ (l : RevocationList). Any (λ (n : Entry). n.serial ≡ serial) l.entries) u.1 h.4)) (used_from V moment demand name key f.1 h.0 h.1 f.4 h.3),
-      ),
-)
-
-pub satisfied_iff : (V : Vouching) (moment : DateTime) (demand : Bool) (name key : List ℕ) (serial : Number) (xs : List ReadItem)
-    → ((Any (IsListWith (IsUsedAgainst V moment name key serial)) xs → ⊥) × (demand ≡ true → Any (IsListWith (IsUsed V moment name key)) xs)) ↔ IsSatisfied (rules_by moment demand V) (map item_of xs) name key serial
-satisfied_iff V moment demand name key serial xs =
-    let r = revoked_iff V moment demand name key serial xs in
-    let u = has_iff V moment demand name key xs in (
-      λ h. record { kept = λ x. h.0 (r.1 x); listed = λ d. u.0 (h.1 d) },
-      λ s. (λ x. s.kept (r.0 x), λ d. u.1 (s.listed d)),
-    )

@@ -9,7 +9,7 @@ use Rattle.cert_judge.specs.declared.judged.JudgedList.{JudgedList}
 use Rattle.cert_judge.specs.declared.judged.JudgedItem.{JudgedItem}
 use Rattle.cert_judge.specs.declared.judged.JudgedItem.TheVariants.{Certificate as certificate_judged, List as list_judged, Other as other_judged}
 use Rattle.cert_judge.specs.Standing.{octets_in, anything, WithCertificate, WithList, IsUsedBy, HasSerial, StandsBy, IsIssuedAt}
-use Rattle.cert_groups.specs.declared.buckets.Bucket.{Bucket}
+use Rattle.cert_graph.specs.declared.buckets.Bucket.{Bucket}
 use Rattle.cert_judge.specs.Rows.{VouchesAt, IsRow, AreRows}
 use Rattle.cert_judge.proofs.Grouping.{element}
 

@@ -1,6 +1,6 @@
 -- What the types of `items` are values of.
-use Rattle.std.specs.Prelude.{◌≡◌, ℕ, Bool, List, Any}
-use Rattle.cert_model.specs.Fields.{CivilTime, Number, Entry, Certificate, RevocationList}
+use Rattle.std.specs.Prelude.{◌≡◌, ℕ, Bool, List}
+use Rattle.cert_model.specs.Fields.{CivilTime, Certificate, RevocationList}
 use Rattle.cert_model.specs.Class.{certificate, list, other}
 use Rattle.cert_model.specs.View.{certificate_view, list_view, time_view}
 use Rattle.jiff_core.specs.declared.civil.datetime.DateTime.{DateTime}
@@ -40,10 +40,6 @@ pub record IsUsed (v : Vouching) (moment : DateTime) (name key : List ℕ) (x : 
   pub vouched : v.Vouches key x.octets.now
   pub current : IsCurrent (time_view moment) (list_of x)
   pub plain : IsPlain (list_of x)
-
--- it is used and has an entry of this serial number
-unfoldable pub IsUsedAgainst : Vouching → DateTime → List ℕ → List ℕ → Number → ListItem → Type 0
-IsUsedAgainst v moment name key serial x = IsUsed v moment name key x × Any (λ (n : Entry). n.serial ≡ serial) (list_of x).entries
 
 -- an item is a list with a property
 abbrev pub IsListWith : (ListItem → Type 0) → ReadItem → Type 0

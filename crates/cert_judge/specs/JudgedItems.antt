@@ -2,7 +2,7 @@
 use Rattle.std.specs.Prelude.{◌≡◌, ◌↔◌, ◌<◌, ℕ, true, if◌then◌else◌, List, length, map, Some, None, option_map, slice_index_or}
 use Rattle.cert_graph.specs.declared.nodes.Node.{Node}
 use Rattle.cert_graph.specs.Reach.{reach_of}
-use Rattle.cert_groups.specs.declared.places.Place.{Place}
+use Rattle.cert_graph.specs.declared.places.Place.{Place}
 use Rattle.cert_model.specs.Fields.{Identifier, CivilTime, Entry, Certificate, RevocationList}
 use Rattle.cert_model.specs.Octets.{name_octets, key_octets}
 use Rattle.cert_model.specs.Class.{certificate, list, other}

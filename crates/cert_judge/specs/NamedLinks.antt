@@ -1,10 +1,10 @@
 -- Links between places under a name and key.
 use Rattle.std.specs.Prelude.{◌≡◌, ◌+◌, ◌++◌, ◌<◌, ℕ, Bool, true, List, length, map}
 use Rattle.cert_graph.specs.Entries.{IsAt}
-use Rattle.cert_groups.specs.declared.places.Place.{Place}
-use Rattle.cert_groups.specs.declared.places.Part.TheVariants.{Name, Key}
-use Rattle.cert_groups.specs.Places.{Shows}
-use Rattle.cert_groups.specs.Links.{AgreeOnId}
+use Rattle.cert_graph.specs.declared.places.Place.{Place}
+use Rattle.cert_graph.specs.declared.places.Part.TheVariants.{Name, Key}
+use Rattle.cert_graph.specs.Places.{Shows}
+use Rattle.cert_graph.specs.Links.{AgreeOnId}
 use Rattle.cert_judge.specs.declared.judged.JudgedItem.{JudgedItem}
 use Rattle.cert_judge.specs.JudgedItems.{as_issued, as_member, as_anchor}
 use Rattle.cert_judge.specs.Standing.{WithCertificate, IsUsedAt, IsUsedAgainstAt}

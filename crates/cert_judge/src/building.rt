@@ -1,4 +1,4 @@
-//! From items and anchors to nodes.
+//! From items and anchors to the nodes of a graph, which a search and a check go over.
 
 ghost use Rattle.std.specs.Prelude.{List, length, map, IfOk};
 ghost use Rattle.cert_graph.specs.Laws.{Agrees};
@@ -33,7 +33,7 @@ fn judged_nodes<V: Vouch>(
 }
 
 /// The nodes of judged items and anchors, by what is vouched for. What they were judged from, and
-/// at which moment, is the caller's.
+/// at which moment, is the caller's. The only error is out of memory.
 ///
 /// `vouched_by_each` is called once for each name, with the keys of the anchors and fit issuers
 /// that have it as their subject and the certificates and lists that were issued under it. Where a
@@ -62,6 +62,7 @@ pub fn nodes_by<'a, V: Vouch>(
     })
 }
 
+/// Judges read items at a moment, in their order.
 fn judge_items<'a>(
     alloc: Global,
     items: &[ReadItem<'a>],
@@ -76,8 +77,9 @@ fn judge_items<'a>(
     Ok(judged)
 }
 
-/// The nodes of items and anchors under a policy, by what is vouched for, as `nodes_by` builds
-/// them.
+/// The nodes of items and anchors that were read, under a policy and by what is vouched for, as
+/// `nodes_by` builds them. The only error is out of memory. It costs judging each item and anchor
+/// once, and `nodes_by`.
 pub fn nodes_of<'a, V: Vouch>(
     alloc: Global,
     items: &[ReadItem<'a>],

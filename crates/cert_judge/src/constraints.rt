@@ -1,4 +1,5 @@
-//! basicConstraints (RFC 5280, 4.2.1.9).
+//! basicConstraints (RFC 5280, 4.2.1.9): a value in its one spelling, a default never written (X.690,
+//! 11.5), `TRUE` as 255 (11.1), and a path length that has 32 bits.
 
 ghost use Rattle.std.specs.Prelude.{◌≡◌, ◌≢◌, ◌↔◌, ℕ, List, [], ◌∷◌, ◌++◌, Option, option_map, slice_index, Bool, IsTrue, IfSome, IsSomeAnd, SomeIff};
 ghost use Rattle.cert_model.specs.Fields.{Number};
@@ -6,9 +7,12 @@ ghost use Rattle.cert_model.specs.Octets.{number_octets, optional_octets, flag_o
 ghost use Rattle.cert_model.specs.Range.{IfThere, IsNumber};
 ghost use Rattle.cert_judge.specs.Constraints.{BasicConstraints, IsPathLength, IsBasicConstraints, value_of};
 
-use asn1_core::Class;
+use asn1_core::{Class, Tag};
 use cert_model::parts::{part, whole};
 use der_tree::{is_negative_integer, is_shortest_integer, number_of};
+
+/// The content octet of a BOOLEAN that is true (X.690, 11.1).
+const TRUE: u8 = 0xff;
 
 /// What a value of basicConstraints says.
 #[derive(Clone, Copy, Debug)]
@@ -37,7 +41,7 @@ fn is_ff(content: &[u8]) -> bool
     ensures { IsTrue result ↔ (content.now ≡ 255 ∷ []) }
 {
     match content {
-        [octet] => *octet == 255,
+        [octet] => *octet == TRUE,
         _ => false,
     }
 }
@@ -48,7 +52,7 @@ fn flag_of(octets: &[u8]) -> (bool, &[u8])
     ensures only { (flag : Bool) (rest : List ℕ) → octets.now ≡ flag_octets flag ++ rest → slice_index rest 0 ≢ 1
         → (result.0 ≡ flag) × (result.1.now ≡ rest) }
 {
-    let Some((content, rest)) = part(Class::Universal, false, 1, octets) else {
+    let Some((content, rest)) = part(Class::Universal, false, Tag::Boolean.0, octets) else {
         return (false, octets);
     };
     if is_ff(content) {
@@ -67,7 +71,7 @@ fn path_len_of(octets: &[u8]) -> Option<Option<u32>>
     if octets.is_empty() {
         return Some(None);
     }
-    let digits = whole(Class::Universal, false, 2, octets)?;
+    let digits = whole(Class::Universal, false, Tag::Integer.0, octets)?;
     let number = path_length_of(digits)?;
     Some(Some(number))
 }
@@ -78,7 +82,7 @@ pub(crate) fn constraints_of(value: &[u8]) -> Option<Constraints>
     ensures only { (b : BasicConstraints) → IsBasicConstraints value.now b
         → IsSomeAnd result (λ r. (b.ca ≡ r.ca) × (option_map value_of b.path_len ≡ r.path_len)) }
 {
-    let content = whole(Class::Universal, true, 16, value)?;
+    let content = whole(Class::Universal, true, Tag::Sequence.0, value)?;
     let (ca, rest) = flag_of(content);
     let path_len = path_len_of(rest)?;
     Some(Constraints { ca, path_len })

@@ -1,4 +1,7 @@
-//! Items as they were read.
+//! Items as they were read: the class with its fields, and the octets by which items are linked.
+//!
+//! The types say by their ghost fields that the windows are those of the fields, so whoever holds one
+//! need not look again.
 
 ghost use Rattle.std.specs.Prelude.{◌≡◌, option_map};
 ghost use Rattle.cert_model.specs.Octets.{name_octets, key_octets, certificate_octets, list_octets};
@@ -8,7 +11,11 @@ ghost use Rattle.cert_judge.specs.Named.{NamesKeyId, HasKeyId};
 use crate::windows::{list_issuer_of, windows_of};
 use cert_model::fields::{CertFields, ListFields};
 
-/// An item that is a certificate, with the octets of its names and its key, which lie in it, and its key identifiers.
+/// An item that is a certificate (RFC 5280, 4.1), with the octets of its names and its key, which lie in
+/// it, and its key identifiers.
+///
+/// `issuer` and `subject` are whole Name elements, `key` is a whole SubjectPublicKeyInfo, the key
+/// identifiers are content octets, each `None` if the certificate names none (4.2.1.1 and 4.2.1.2).
 #[derive(Drop)]
 pub struct CertificateItem<'a> {
     pub octets: &'a [u8],
@@ -26,7 +33,8 @@ pub struct CertificateItem<'a> {
 }
 
 impl<'a> CertificateItem<'a> {
-    /// The item that these fields write, with the key identifiers that it names.
+    /// The item that these fields write, with the key identifiers that it names. It takes no memory, and
+    /// a step for each element before the key.
     pub fn new(
         octets: &'a [u8],
         fields: CertFields<'a>,
@@ -54,7 +62,8 @@ impl<'a> CertificateItem<'a> {
     }
 }
 
-/// An item that is a list, with the octets of its issuer, which lie in it.
+/// An item that is a revocation list (RFC 5280, 5.1), with the octets of its issuer, a whole Name
+/// element, which lie in it.
 #[derive(Drop)]
 pub struct ListItem<'a> {
     pub octets: &'a [u8],
@@ -64,7 +73,7 @@ pub struct ListItem<'a> {
 }
 
 impl<'a> ListItem<'a> {
-    /// The item that these fields write.
+    /// The item that these fields write. It takes no memory, and at most three steps.
     pub fn new(octets: &'a [u8], fields: ListFields<'a>) -> ListItem<'a>
         requires { octets.now ≡ list_octets (list_view fields) }
         ensures octets { result.octets.now ≡ octets.now }
@@ -81,10 +90,12 @@ impl<'a> ListItem<'a> {
     }
 }
 
-/// An item of any class.
+/// An item of any class, as a `ReadsItem` reads it.
 #[derive(Drop)]
 pub enum ReadItem<'a> {
+    /// A certificate in its one spelling.
     Certificate(CertificateItem<'a>),
+    /// A revocation list in its one spelling.
     List(ListItem<'a>),
     /// The octets of something else.
     Other(&'a [u8]),

@@ -14,13 +14,13 @@ use crate::Vouch;
 use crate::items::{CertificateItem, ListItem, ReadItem};
 use crate::judging::{further_of, judge_certificate};
 use crate::revoking::is_in_force;
-use cert_graph::Node;
-use cert_groups::Place;
+use cert_graph::{Node, Place};
 use cert_model::fields::EntryFields;
 use jiff::civil::DateTime;
 use std::alloc::{AllocError, Global};
 
 /// A certificate: its octets, the parts of it that links go by, and what is judged of it by itself.
+/// The parts are those of `CertificateItem`; `serial` is the content octets of the INTEGER.
 #[derive(Drop)]
 pub struct JudgedCertificate<'a> {
     pub octets: &'a [u8],
@@ -63,7 +63,8 @@ impl JudgedCertificate<'_> {
     }
 }
 
-/// A list: its octets, its issuer, and the serial numbers of its entries.
+/// A list: its octets, its issuer, a whole Name element, and the serial numbers of its entries, as
+/// content octets, in their order.
 #[derive(Drop)]
 pub struct JudgedList<'a> {
     pub octets: &'a [u8],
@@ -76,8 +77,11 @@ pub struct JudgedList<'a> {
 /// An item of any class, as it is judged at a moment.
 #[derive(Drop)]
 pub enum JudgedItem<'a> {
+    /// A certificate in its one spelling.
     Certificate(JudgedCertificate<'a>),
+    /// A revocation list in its one spelling.
     List(JudgedList<'a>),
+    /// Something else, of which nothing is kept.
     Other,
 }
 
@@ -242,8 +246,11 @@ fn judged_list<'a>(
     }))
 }
 
-/// Judges an item by itself at a moment. Which further extensions are processed is not asked here:
-/// `nodes_by` asks who vouches.
+/// Judges an item by itself at a moment in UTC (RFC 5280, 6.1.3, 6.1.4 and 6.3). Which further
+/// extensions are processed is not asked here: `nodes_by` asks who vouches.
+///
+/// The only error is out of memory. It costs a sorted set of a certificate's extensions, or a step for
+/// each entry of a list.
 pub fn judge_item<'a>(
     alloc: Global,
     item: &ReadItem<'a>,

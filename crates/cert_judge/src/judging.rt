@@ -1,4 +1,5 @@
-//! What may stand in a path, and what may issue (RFC 5280, 6.1.3 and 6.1.4).
+//! Which certificates may be in a path, and which may issue others (RFC 5280, 6.1.3 and 6.1.4): judged
+//! from the fields of each by itself.
 
 ghost use Rattle.std.specs.Prelude.{◌≡◌, ◌≢◌, ◌↔◌, ℕ, List, map, option_map, All, true, IsTrue, IfSome, IsNone, IfOk, length};
 ghost use Rattle.cert_model.specs.View.{ext_view, time_view, certificate_view};
@@ -161,7 +162,8 @@ fn authority_in(extension: &ExtField<'_>) -> Option<Option<u32>>
     }
 }
 
-/// The path length constraint of an authority, or none of it where there is no authority.
+/// The path length constraint in the first basicConstraints of an authority (RFC 5280, 4.2.1.9):
+/// `None` if there is no authority, `Some(None)` if it bounds nothing. A step for each extension.
 pub fn authority_of(extensions: &[ExtField<'_>]) -> Option<Option<u32>>
     ensures found { IfSome result (λ n. SomeUnder basic_constraints (HasPathLen n) (map ext_view extensions.now)) }
     ensures only { IsNone result → SomeUnder basic_constraints IsAuthority (map ext_view extensions.now) → ⊥ }
@@ -203,7 +205,9 @@ pub(crate) fn is_usable(
     Ok(usable)
 }
 
-/// The path length constraint of extensions that let a usable certificate issue others, or none of it where they don't.
+/// Whether extensions let a usable certificate issue others (RFC 5280, 6.1.4, k and n), and its path
+/// length constraint: `None` if they don't, `Some(None)` if they bound nothing. Extensions that restrict
+/// names or policies don't let it, since nothing here processes them. Some steps for each extension.
 pub fn issuing_of(extensions: &[ExtField<'_>]) -> Option<Option<u32>>
     ensures found { IfSome result (λ n. MayIssue (map ext_view extensions.now) × SomeUnder basic_constraints (HasPathLen n) (map ext_view extensions.now)) }
     ensures only { IsNone result → MayIssue (map ext_view extensions.now) → ⊥ }
@@ -225,14 +229,17 @@ pub fn issuing_of(extensions: &[ExtField<'_>]) -> Option<Option<u32>>
 /// beside those that are judged here. `are_processed` says whether the caller does.
 #[derive(Clone, Copy, Debug)]
 pub struct Judged {
+    /// It may be in a path.
     pub usable: bool,
+    /// It may issue others.
     pub fit: bool,
     /// The path length constraint of a fit certificate.
     pub limit: Option<u32>,
     ghost fit_is_usable: { IsTrue fit → IsTrue usable },
 }
 
-/// Judges a certificate by itself at a moment.
+/// Judges a certificate by itself at a moment in UTC (RFC 5280, 6.1.3, a 2, and 6.1.4, k to o). The only
+/// error is out of memory, for a sorted set of its extensions.
 pub fn judge_certificate(
     alloc: Global,
     fields: &CertFields<'_>,

@@ -1,5 +1,8 @@
-//! Judges classed items: who may stand in a path and who may issue, which revocation lists are used, who is linked to whom
-//! (RFC 5280, 5 and 6, as far as this profile goes).
+//! Judges classed items: who may stand in a path and who may issue, which revocation lists are used,
+//! who is linked to whom (RFC 5280, 5 and 6, as far as this profile goes).
+//!
+//! `reading` reads items by a reader that a caller names, `judged` judges each by itself, `building`
+//! makes the graph of all of them. Who vouches is asked through `Vouch`, and by `building` alone.
 #![tactic(auto)]
 
 mod building;
@@ -13,6 +16,7 @@ pub mod laws_by;
 mod moments;
 mod name_groups;
 mod policy;
+mod reading;
 mod revoking;
 mod serials;
 mod standing;
@@ -29,6 +33,7 @@ pub use crate::judging::{
 };
 pub use crate::moments::is_not_after;
 pub use crate::policy::Policy;
-pub use crate::revoking::{are_uncritical, has_entry, is_in_force, is_satisfied, is_used_item};
+pub use crate::reading::{ReadsItem, judged_items, read_items};
+pub use crate::revoking::{are_uncritical, has_entry, is_in_force, is_used_item};
 pub use crate::vouch::Vouch;
 pub use crate::windows::{Windows, list_issuer_of, windows_of};

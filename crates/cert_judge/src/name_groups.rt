@@ -2,9 +2,9 @@
 
 ghost use Rattle.std.specs.Prelude.{◌≡◌, ◌↔◌, ◌+◌, ◌++◌, ◌<◌, ℕ, List, [], length, map, Contains, IfOk, OnOk};
 ghost use Rattle.std.specs.List.Sorted.{IsStrictlyIncreasing};
-ghost use Rattle.cert_groups.specs.declared.places.Part.TheVariants.{Name, Key};
-ghost use Rattle.cert_groups.specs.Places.{Shows};
-ghost use Rattle.cert_groups.specs.Links.{Adds};
+ghost use Rattle.cert_graph.specs.declared.places.Part.TheVariants.{Name, Key};
+ghost use Rattle.cert_graph.specs.Places.{Shows};
+ghost use Rattle.cert_graph.specs.Links.{Adds};
 ghost use Rattle.cert_judge.specs.JudgedItems.{as_issued, as_member, as_anchor};
 ghost use Rattle.cert_judge.specs.Standing.{octets_in};
 ghost use Rattle.cert_judge.specs.NamedLinks.{IsNamedLink, IsNamedAnchor, IsSomeLink, IsSomeAnchor};
@@ -12,8 +12,7 @@ ghost use Rattle.cert_judge.specs.NamedLinks.{IsNamedLink, IsNamedAnchor, IsSome
 use crate::Vouch;
 use crate::judged::JudgedItem;
 use crate::standing::{issued_under, long_lists};
-use cert_graph::Group;
-use cert_groups::{Bucket, Part, Place, alike, between, link_places};
+use cert_graph::{Bucket, Group, Part, Place, alike, between, link_places};
 use std::alloc::{AllocError, Global};
 
 /// The places of items as what was issued, then as issuers, and then of anchors.

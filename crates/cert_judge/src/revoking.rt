@@ -1,18 +1,21 @@
-//! Revocation lists: which are used, and whom they revoke (RFC 5280, 5 and 6.3).
+//! Revocation lists: which are in force, which are used under an issuer's name and key, and which
+//! serial numbers they have (RFC 5280, 5 and 6.3). Reasons ask this list by list; an answer's lists
+//! are gone over by `standing`, which asks for whole groups at once.
 
-ghost use Rattle.std.specs.Prelude.{◌≡◌, ◌↔◌, ℕ, List, Bool, map, option_map, All, Any, true, false, Some, IsTrue};
+ghost use Rattle.std.specs.Prelude.{◌≡◌, ◌↔◌, map, All, Any, IsTrue};
 ghost use Rattle.cert_model.specs.Fields.{Entry};
 ghost use Rattle.cert_model.specs.View.{ext_view, entry_view, list_view, time_view};
-ghost use Rattle.cert_judge.specs.Revoking.{Item, Rules, AreUncritical, IsCurrent, IsPlain, IsUsedList, HasUsedList, IsRevoked, IsSatisfied};
-ghost use Rattle.cert_judge.specs.Items.{list_of, item_of, rules_by, IsUsed, IsUsedAgainst, IsListWith};
+ghost use Rattle.cert_judge.specs.Revoking.{AreUncritical, IsCurrent, IsPlain};
+ghost use Rattle.cert_judge.specs.Items.{IsUsed, IsListWith};
 
+use crate::Vouch;
 use crate::items::{ListItem, ReadItem};
 use crate::moments::is_between;
-use crate::{Policy, Vouch};
 use cert_model::fields::{EntryFields, ExtField, ListFields};
 use jiff::civil::DateTime;
 
-/// Whether no extension is critical.
+/// Whether no extension is critical: of those of a list or of an entry, none is judged here (RFC 5280,
+/// 5.2 and 5.3). A step for each.
 pub fn are_uncritical(extensions: &[ExtField<'_>]) -> bool
     ensures { IsTrue result ↔ AreUncritical (map ext_view extensions.now) }
 {
@@ -46,7 +49,10 @@ fn is_current(list: &ListFields<'_>, moment: &DateTime) -> bool
     }
 }
 
-/// Whether a list is current, and nothing in it says that it must not be read as it is.
+/// Whether a list is in force at a moment (RFC 5280, 5.1.2.4 and 5.1.2.5): the moment is from
+/// `this_update` to `next_update`, both included, and neither the list nor an entry of it has a
+/// critical extension. One without `next_update` never is. It takes no memory, and a step for each
+/// entry and extension.
 pub fn is_in_force(list: &ListFields<'_>, moment: &DateTime) -> bool
     ensures current { IsTrue result → IsCurrent (time_view moment.now) (list_view list.now) }
     ensures plain { IsTrue result → IsPlain (list_view list.now) }
@@ -64,7 +70,8 @@ fn is_of(entry: &EntryFields<'_>, serial: &[u8]) -> bool
     entry.serial == serial
 }
 
-/// Whether an entry has this serial number.
+/// Whether one of the entries has this serial number, by its content octets (RFC 5280, 5.1.2.6). A
+/// step for each entry.
 pub fn has_entry(entries: &[EntryFields<'_>], serial: &[u8]) -> bool
     ensures { IsTrue result ↔ Any (λ (n : Entry). n.serial ≡ serial.now) (map entry_view entries.now) }
 {
@@ -98,7 +105,9 @@ fn is_used<V: Vouch>(
     vouch.vouches(key, list.octets)
 }
 
-/// Whether an item is a list that is used under a name and key. Asks the voucher only of a list of this issuer that is in force.
+/// Whether an item is a list that is used under a name and key (RFC 5280, 6.3.3): it has that issuer,
+/// is in force at the moment, and the key vouches for it. `name` is a whole Name element, `key` a whole
+/// SubjectPublicKeyInfo. The voucher is asked only of a list of this issuer that is in force.
 pub fn is_used_item<V: Vouch>(
     item: &ReadItem<'_>,
     vouch: &V,
@@ -112,94 +121,4 @@ pub fn is_used_item<V: Vouch>(
         ReadItem::List(list) => is_used(list, vouch, moment, name, key),
         _ => false,
     }
-}
-
-/// Whether some list is used under a name and key.
-fn has_used<V: Vouch>(
-    items: &[ReadItem<'_>],
-    vouch: &V,
-    moment: &DateTime,
-    name: &[u8],
-    key: &[u8],
-) -> bool
-    ensures { IsTrue result ↔ Any (IsListWith (IsUsed (V.vouches_for vouch.now) moment.now name.now key.now)) items.now }
-{
-    for item in items {
-        if is_used_item(item, vouch, moment, name, key) {
-            return true;
-        }
-    }
-    false
-}
-
-#[tactic(auto, unfolding(crate::specs::Items::IsUsedAgainst))]
-fn is_used_against<V: Vouch>(
-    list: &ListItem<'_>,
-    vouch: &V,
-    moment: &DateTime,
-    name: &[u8],
-    key: &[u8],
-    serial: &[u8],
-) -> bool
-    ensures { IsTrue result ↔ IsUsedAgainst (V.vouches_for vouch.now) moment.now name.now key.now serial.now list.now }
-{
-    if !has_entry(&list.fields.entries, serial) {
-        return false;
-    }
-    is_used(list, vouch, moment, name, key)
-}
-
-fn is_item_against<V: Vouch>(
-    item: &ReadItem<'_>,
-    vouch: &V,
-    moment: &DateTime,
-    name: &[u8],
-    key: &[u8],
-    serial: &[u8],
-) -> bool
-    ensures { IsTrue result ↔ IsListWith (IsUsedAgainst (V.vouches_for vouch.now) moment.now name.now key.now serial.now) item.now }
-{
-    match item {
-        ReadItem::List(list) => is_used_against(list, vouch, moment, name, key, serial),
-        _ => false,
-    }
-}
-
-fn is_revoked<V: Vouch>(
-    items: &[ReadItem<'_>],
-    vouch: &V,
-    moment: &DateTime,
-    name: &[u8],
-    key: &[u8],
-    serial: &[u8],
-) -> bool
-    ensures { IsTrue result ↔ Any (IsListWith (IsUsedAgainst (V.vouches_for vouch.now) moment.now name.now key.now serial.now)) items.now }
-{
-    for item in items {
-        if is_item_against(item, vouch, moment, name, key, serial) {
-            return true;
-        }
-    }
-    false
-}
-
-/// Whether a certificate of this serial number stands under a name and key, by the lists among the items.
-pub fn is_satisfied<V: Vouch>(
-    items: &[ReadItem<'_>],
-    vouch: &V,
-    policy: &Policy,
-    name: &[u8],
-    key: &[u8],
-    serial: &[u8],
-) -> bool
-    ensures { IsTrue result ↔ IsSatisfied (rules_by policy.now.moment policy.now.demand_lists (V.vouches_for vouch.now)) (map item_of items.now) name.now key.now serial.now }
-{
-    let moment = policy.moment();
-    if is_revoked(items, vouch, &moment, name, key, serial) {
-        return false;
-    }
-    if !policy.demands_lists() {
-        return true;
-    }
-    has_used(items, vouch, &moment, name, key)
 }

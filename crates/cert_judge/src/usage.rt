@@ -1,13 +1,22 @@
-//! keyUsage (RFC 5280, 4.2.1.3).
+//! keyUsage (RFC 5280, 4.2.1.3): a named bit list without trailing zero bits (X.690, 11.2.2), of which
+//! keyCertSign is asked.
 
 ghost use Rattle.std.specs.Prelude.{◌≡◌, ◌↔◌, ◌<◌, ◌≤◌, ◌+◌, ◌*◌, ℕ, List, [], ◌∷◌, ◌++◌, length, IsTrue, IfSome, IsSomeAnd};
 ghost use Rattle.cert_model.specs.Fields.{Bits};
 ghost use Rattle.cert_model.specs.Range.{AreBits};
 ghost use Rattle.cert_judge.specs.Usage.{EndsInOne, IsUsage, IsKeyUsage, MaySignCertificates};
 
-use asn1_core::Class;
+use asn1_core::{Class, Tag};
 use cert_model::parts::whole;
 use der_tree::bits_of;
+
+/// How many bits KeyUsage names, and in how many octets they lie.
+const NAMED_BITS: usize = 9;
+
+const NAMED_OCTETS: usize = 2;
+
+/// keyCertSign (5) in the first octet, whose bits count from the most significant one.
+const KEY_CERT_SIGN: u8 = 0x04;
 
 fn ends_in_one(unused: u8, octets: &[u8]) -> bool
     requires { unused < 8 }
@@ -23,10 +32,10 @@ fn is_usage(unused: u8, octets: &[u8]) -> bool
     requires { AreBits (record { unused = unused; octets = octets.now }) }
     ensures { IsTrue result ↔ IsUsage (record { unused = unused; octets = octets.now }) }
 {
-    if unused >= 8 || octets.len() > 2 {
+    if unused >= 8 || octets.len() > NAMED_OCTETS {
         return false;
     }
-    if 8 * octets.len() > 9 + unused as usize {
+    if 8 * octets.len() > NAMED_BITS + unused as usize {
         return false;
     }
     ends_in_one(unused, octets)
@@ -37,7 +46,7 @@ fn may_sign(unused: u8, octets: &[u8]) -> bool
 {
     match octets {
         [] => false,
-        [first, ..] => *first / 4 % 2 == 1,
+        [first, ..] => *first / KEY_CERT_SIGN % 2 == 1,
     }
 }
 
@@ -46,7 +55,7 @@ pub(crate) fn signs_by(value: &[u8]) -> Option<bool>
     ensures found { IfSome result (λ sign. (b : Bits) × IsKeyUsage value.now b × (IsTrue sign ↔ MaySignCertificates b)) }
     ensures only { (b : Bits) → IsKeyUsage value.now b → IsSomeAnd result (λ sign. IsTrue sign ↔ MaySignCertificates b) }
 {
-    let content = whole(Class::Universal, false, 3, value)?;
+    let content = whole(Class::Universal, false, Tag::BitString.0, value)?;
     let (unused, octets) = bits_of(content)?;
     if is_usage(unused, octets) {
         Some(may_sign(unused, octets))

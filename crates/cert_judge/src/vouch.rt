@@ -1,3 +1,6 @@
+//! Who vouches: the one question to the world outside, which key signed which item. Nothing here
+//! verifies a signature.
+
 ghost use Rattle.std.specs.Prelude.{◌↔◌, IsTrue, IfOk};
 ghost use Rattle.std.specs.List.Sorted.{IsStrictlyIncreasing};
 ghost use Rattle.cert_judge.specs.Rows.{VouchesAt, IsRow, AreRows};

@@ -1,4 +1,7 @@
 //! Where the names and the key of a certificate, and the issuer of a list, lie in their items.
+//!
+//! Fields say what a name is, and not which octets of the item it lies in. Links go by these octets, so
+//! they are looked up here, element by element from the front (RFC 5280, 4.1 and 5.1).
 
 ghost use Rattle.std.specs.Prelude.{◌≡◌, ◌<◌, ◌++◌, ℕ, List, [], length, slice_index_or, nat_lt, if◌then◌else◌, IsSomeAnd};
 ghost use Rattle.std.specs.List.{concat, AllByRecursion};
@@ -7,9 +10,16 @@ ghost use Rattle.cert_model.specs.Parts.{IsPart};
 ghost use Rattle.cert_model.specs.View.{certificate_view, list_view};
 ghost use Rattle.cert_judge.specs.Windows.{issuer_place};
 
-use asn1_core::Class;
+use asn1_core::{Class, Tag};
 use cert_model::fields::{CertFields, ListFields};
 use cert_model::parts::{first_part, whole};
+
+/// The places of elements in TBSCertificate, counted from the serial number (RFC 5280, 4.1).
+const ISSUER: usize = 2;
+
+const SUBJECT: usize = 4;
+
+const KEY: usize = 5;
 
 /// One of the elements that octets begin with, by its place from 0.
 fn part_at(octets: &[u8], place: usize) -> Option<&[u8]>
@@ -28,12 +38,13 @@ fn part_at(octets: &[u8], place: usize) -> Option<&[u8]>
 fn tbs_of(item: &[u8]) -> Option<&[u8]>
     ensures { (content rest : List ℕ) → item.now ≡ sequence_octets (sequence_octets content ++ rest) → IsSomeAnd result (λ r. r.now ≡ content) }
 {
-    let content = whole(Class::Universal, true, 16, item)?;
+    let content = whole(Class::Universal, true, Tag::Sequence.0, item)?;
     let (tbs, _) = first_part(content)?;
-    whole(Class::Universal, true, 16, tbs)
+    whole(Class::Universal, true, Tag::Sequence.0, tbs)
 }
 
-/// The names and the key of a certificate, as they lie in its item.
+/// The names and the key of a certificate, as they lie in its item: whole elements, headers included
+/// (Name, Name and SubjectPublicKeyInfo: RFC 5280, 4.1.2.4, 4.1.2.6 and 4.1.2.7).
 #[derive(Clone, Copy, Debug)]
 pub struct Windows<'a> {
     pub issuer: &'a [u8],
@@ -48,16 +59,17 @@ fn first_of(version: u8) -> usize
     if version > 0 { 1 } else { 0 }
 }
 
-/// The windows of an item that the fields of a certificate write (RFC 5280, 4.1).
+/// The windows of an item that the fields of a certificate write (RFC 5280, 4.1). `Some` whenever they
+/// do; of other octets nothing is said. It takes no memory, and a step for each element before the key.
 pub fn windows_of<'a>(item: &'a [u8], fields: &CertFields<'_>) -> Option<Windows<'a>>
     ensures { item.now ≡ certificate_octets (certificate_view fields.now) → IsSomeAnd result (λ w. (w.issuer.now ≡ name_octets (certificate_view fields.now).issuer)
         × (w.subject.now ≡ name_octets (certificate_view fields.now).subject) × (w.key.now ≡ key_octets (certificate_view fields.now).key)) }
 {
     let tbs = tbs_of(item)?;
     let first = first_of(fields.version);
-    let issuer = part_at(tbs, first + 2)?;
-    let subject = part_at(tbs, first + 4)?;
-    let key = part_at(tbs, first + 5)?;
+    let issuer = part_at(tbs, first + ISSUER)?;
+    let subject = part_at(tbs, first + SUBJECT)?;
+    let key = part_at(tbs, first + KEY)?;
     Some(Windows {
         issuer,
         subject,
@@ -75,7 +87,8 @@ fn issuer_place(version: Option<u8>) -> usize
     }
 }
 
-/// The issuer in an item that the fields of a list write (RFC 5280, 5.1).
+/// The issuer in an item that the fields of a list write (RFC 5280, 5.1.2.3): the whole Name element.
+/// `Some` whenever they do; of other octets nothing is said. It takes no memory, and at most three steps.
 pub fn list_issuer_of<'a>(item: &'a [u8], fields: &ListFields<'_>) -> Option<&'a [u8]>
     ensures { item.now ≡ list_octets (list_view fields.now) → IsSomeAnd result (λ w. w.now ≡ name_octets (list_view fields.now).issuer) }
 {

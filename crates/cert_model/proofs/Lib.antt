@@ -18,3 +18,4 @@ pub mod Extensions
 pub mod Orders
 pub mod PartFacts
 pub mod FirstUnder
+pub mod StrictItems

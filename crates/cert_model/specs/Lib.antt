@@ -9,6 +9,7 @@ pub mod Pieces
 pub mod PieceOctets
 pub mod Assembly
 pub mod View
+pub mod ClassView
 pub mod Versions
 pub mod AttributePieces
 pub mod Extended

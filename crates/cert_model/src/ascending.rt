@@ -16,7 +16,20 @@ use asn1_core::{Class, Header, HeaderOctets, Length, Tag};
 use std::cmp::Ordering;
 use std::marker::Model;
 
-/// The octets of a sequence's header: at most 18, since a length of 128 bits has at most 16 digits of base 256.
+/// How many octets a sequence's header has at most: a length of 128 bits has at most 16 digits of base
+/// 256, and follows its number of digits and the identifier octet (X.690, 8.1).
+const MOST_OCTETS: usize = 18;
+
+/// The identifier octet of a SEQUENCE (X.690, 8.9).
+const SEQUENCE: u8 = 0x30;
+
+/// Lengths below this are written in one octet (X.690, 8.1.3.4).
+const SHORT_LENGTHS: u128 = 128;
+
+/// The bit by which the first of several length octets counts the others (X.690, 8.1.3.5).
+const LONG_FORM: u8 = 0x80;
+
+/// The octets of a sequence's header, at the end of the array.
 #[derive(Drop)]
 struct SequenceOctets {
     octets: [u8; 18],
@@ -44,7 +57,7 @@ impl SequenceOctets {
     {
         SequenceOctets {
             octets: [0; 18],
-            start: 18,
+            start: MOST_OCTETS,
         }
     }
 
@@ -75,12 +88,12 @@ impl SequenceOctets {
         ensures length { self.new ≡ strict_length size }
         ensures few { length self.new ≤ 17 }
     {
-        if size < 128 {
+        if size < SHORT_LENGTHS {
             self.put(size as u8);
         } else {
             self.put_number(size);
             let count = self.as_slice().len();
-            self.put(128 + count as u8);
+            self.put(LONG_FORM + count as u8);
         }
     }
 }
@@ -91,7 +104,7 @@ fn sequence_octets(size: u128) -> SequenceOctets
 {
     let mut octets = SequenceOctets::new();
     octets.put_length(size);
-    octets.put(48);
+    octets.put(SEQUENCE);
     octets
 }
 

@@ -10,6 +10,7 @@ use jiff::civil::DateTime;
 #[derive(Clone, Copy, Debug, PartialEq, Eq)]
 pub struct AnyField<'a> {
     pub class: Class,
+    /// The content octets are elements (X.690, 8.1.2.5).
     pub constructed: bool,
     pub tag: Tag,
     pub content: &'a [u8],
@@ -38,6 +39,7 @@ pub struct NameFields<'a> {
 /// A BIT STRING: how many bits of the last octet are unused, and the octets (X.690, 8.6).
 #[derive(Clone, Copy, Debug, PartialEq, Eq)]
 pub struct BitField<'a> {
+    /// From 0 to 7.
     pub unused: u8,
     pub octets: &'a [u8],
 }

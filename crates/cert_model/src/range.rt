@@ -15,6 +15,12 @@ use crate::fields::{
 use asn1_oid::is_oid_content;
 use jiff::civil::DateTime;
 
+/// The first year that a time of a certificate can be in, by UTCTime (RFC 5280, 4.1.2.5.1).
+const FIRST_YEAR: i16 = 1950;
+
+/// The bit of a first content octet by which an INTEGER is negative (X.690, 8.3.3).
+const SIGN: u8 = 0x80;
+
 /// Whether the octets are a number in the fewest octets that is not negative (RFC 5280, 4.1.2.2; X.690, 8.3.2).
 fn is_number(content: &[u8]) -> bool
     ensures { IsTrue result ↔ IsNumber content.now }
@@ -28,8 +34,8 @@ fn is_shortest_integer(content: &[u8]) -> bool
     match content {
         [] => false,
         [_] => true,
-        [first, second, ..] => !(*first == 0 && *second < 128)
-            && !(*first == 255 && *second >= 128),
+        [first, second, ..] => !(*first == 0 && *second < SIGN)
+            && !(*first == u8::MAX && *second >= SIGN),
     }
 }
 
@@ -38,7 +44,7 @@ fn is_negative_integer(content: &[u8]) -> bool
 {
     match content {
         [] => false,
-        [first, ..] => *first >= 128,
+        [first, ..] => *first >= SIGN,
     }
 }
 
@@ -72,7 +78,7 @@ fn are_bits_if_there(bits: &Option<BitField<'_>>) -> bool
 fn is_time(time: &DateTime) -> bool
     ensures { IsTrue result ↔ IsTimeField (time_view time.now) }
 {
-    time.year() >= 1950 && time.subsec_nanosecond() == 0
+    time.year() >= FIRST_YEAR && time.subsec_nanosecond() == 0
 }
 
 fn is_time_if_there(time: &Option<DateTime>) -> bool
@@ -195,7 +201,8 @@ fn is_signed(algorithm: &AlgField<'_>, value: &BitField<'_>) -> bool
 }
 
 impl CertFields<'_> {
-    /// Whether the fields have a spelling (RFC 5280, 4.1.2).
+    /// Whether the fields have a spelling (RFC 5280, 4.1.2): whether some strict certificate has them. It
+    /// takes no memory, and a step for each octet of identifiers and names.
     pub fn in_range(&self) -> bool
         ensures { IsTrue result ↔ AreCertificateFields (certificate_view self.now) }
     {
@@ -242,7 +249,8 @@ impl CertFields<'_> {
 }
 
 impl ListFields<'_> {
-    /// Whether the fields have a spelling (RFC 5280, 5.1.2).
+    /// Whether the fields have a spelling (RFC 5280, 5.1.2): whether some strict list has them. It takes
+    /// no memory, and a step for each octet of identifiers and names.
     pub fn in_range(&self) -> bool
         ensures { IsTrue result ↔ AreListFields (list_view self.now) }
     {

@@ -8,9 +8,9 @@ use Rattle.std.proofs.lemmas.List.{get_or-append_right, get_or-map, length-map}
 use Rattle.std.proofs.lemmas.List.Kept.{AllPairs-from_increasing}
 use Rattle.std.proofs.lemmas.Option.{slice_get_past}
 use Rattle.std.proofs.lemmas.List.Elements.{Contains-get_or, Contains-append_left, Contains-append_right, Contains-append_cases}
-use Rattle.cert_groups.specs.declared.places.Place.{Place}
-use Rattle.cert_groups.specs.declared.places.Part.TheVariants.{Name, Key}
-use Rattle.cert_groups.specs.Places.{text_at}
+use Rattle.cert_graph.specs.declared.places.Place.{Place}
+use Rattle.cert_graph.specs.declared.places.Part.TheVariants.{Name, Key}
+use Rattle.cert_graph.specs.Places.{text_at}
 use Rattle.cert_judge.specs.Revoking.{Item}
 use Rattle.cert_questions.specs.declared.names.Shown.{Shown}
 use Rattle.cert_questions.specs.declared.question.KeyHolder.TheVariants.{Item as item_holder, Anchor as anchor_holder}

@@ -8,12 +8,12 @@ use Rattle.std.specs.List.Sorted.{IsStrictlyIncreasing}
 use Rattle.std.proofs.Math.ListN.{get_or-append}
 use Rattle.std.proofs.Math.Seq.{get_or-append_seam}
 use Rattle.std.proofs.lemmas.Bool.{cases_lt}
-use Rattle.cert_groups.specs.declared.buckets.Bucket.{Bucket}
-use Rattle.cert_groups.specs.declared.places.Place.{Place}
-use Rattle.cert_groups.specs.declared.places.Part.TheVariants.{Name}
-use Rattle.cert_groups.specs.Places.{Shows}
-use Rattle.cert_groups.specs.Buckets.{IsBucket, AreBuckets}
-use Rattle.cert_groups.proofs.Gathering.{E, R, same}
+use Rattle.cert_graph.specs.declared.buckets.Bucket.{Bucket}
+use Rattle.cert_graph.specs.declared.places.Place.{Place}
+use Rattle.cert_graph.specs.declared.places.Part.TheVariants.{Name}
+use Rattle.cert_graph.specs.Places.{Shows}
+use Rattle.cert_graph.specs.Buckets.{IsBucket, AreBuckets}
+use Rattle.cert_graph.proofs.Gathering.{E, R, same}
 use Rattle.cert_judge.proofs.Grouping.{element}
 use Rattle.cert_judge.proofs.NamedFacts.{shows_within}
 use Rattle.cert_questions.specs.declared.firsts.KeyHolders.{KeyHolders}

@@ -2,7 +2,7 @@
 use Rattle.std.specs.Prelude.{IsTrue, ◌⊎◌}
 use Rattle.std.proofs.Common.{◌≡◌, ap, subst, refl, ℕ, zero, suc, ◌<◌, Bool, true, false, List, Option, Some, None, arith, inl, inr}
 use Rattle.std.proofs.lemmas.Bool.{cases_lt, false≢true}
-use Rattle.cert_groups.proofs.Gathering.{E, same}
+use Rattle.cert_graph.proofs.Gathering.{E, same}
 use Rattle.cert_judge.specs.Revoking.{Item}
 use Rattle.cert_questions.specs.Shown.{subject_at, key_at}
 use Rattle.cert_questions.specs.Questions.{Holds, HoldsFirst}

@@ -8,11 +8,11 @@ use Rattle.std.proofs.lemmas.Bool.{cases_lt, false≢true}
 use Rattle.std.proofs.lemmas.List.Kept.{AllPairs-from_increasing}
 use Rattle.std.proofs.lemmas.List.Elements.{Contains-get_or}
 use Rattle.std.proofs.lemmas.List.{get_or_default}
-use Rattle.cert_groups.specs.declared.places.Place.{Place}
-use Rattle.cert_groups.specs.declared.places.Part.TheVariants.{Key}
-use Rattle.cert_groups.specs.Places.{text_at, Shows}
-use Rattle.cert_groups.proofs.Gathering.{E, R, same}
-use Rattle.cert_groups.proofs.Sifted.{Sifted, sifted_more, sifted_same, nothing_added}
+use Rattle.cert_graph.specs.declared.places.Place.{Place}
+use Rattle.cert_graph.specs.declared.places.Part.TheVariants.{Key}
+use Rattle.cert_graph.specs.Places.{text_at, Shows}
+use Rattle.cert_graph.proofs.Gathering.{E, R, same}
+use Rattle.cert_graph.proofs.Sifted.{Sifted, sifted_more, sifted_same, nothing_added}
 use Rattle.cert_questions.specs.Firsts.{IsFirstAmong}
 
 -- among the first k of some places one shows a key

@@ -4,9 +4,9 @@ use Rattle.std.proofs.Math.ListN.{get_or-append}
 use Rattle.std.proofs.lemmas.Bool.{cases_lt}
 use Rattle.std.proofs.lemmas.List.{get_or-append_right}
 use Rattle.std.proofs.lemmas.Option.{slice_get-get_or, slice_get-map, slice_get_past}
-use Rattle.cert_groups.specs.declared.places.Part.{Part}
-use Rattle.cert_groups.specs.declared.places.Part.TheVariants.{Name, Key}
-use Rattle.cert_groups.specs.Places.{shown_at, text_at}
+use Rattle.cert_graph.specs.declared.places.Part.{Part}
+use Rattle.cert_graph.specs.declared.places.Part.TheVariants.{Name, Key}
+use Rattle.cert_graph.specs.Places.{shown_at, text_at}
 use Rattle.cert_model.specs.Class.{Class}
 use Rattle.cert_judge.specs.Revoking.{Item}
 use Rattle.cert_judge.proofs.Grouping.{element}

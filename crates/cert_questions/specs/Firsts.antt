@@ -7,9 +7,9 @@ use Rattle.std.specs.Ordering.{on, nat_cmp}
 use Rattle.std.specs.Cmp.Lexicographic.{slice_cmp}
 use Rattle.std.specs.BTreeMap as mapped
 use Rattle.std.specs.List.Sorted.{IsStrictlyIncreasing}
-use Rattle.cert_groups.specs.declared.places.Place.{Place}
-use Rattle.cert_groups.specs.declared.places.Part.TheVariants.{Name, Key}
-use Rattle.cert_groups.specs.Places.{Shows}
+use Rattle.cert_graph.specs.declared.places.Place.{Place}
+use Rattle.cert_graph.specs.declared.places.Part.TheVariants.{Name, Key}
+use Rattle.cert_graph.specs.Places.{Shows}
 use Rattle.cert_questions.specs.declared.firsts.KeyHolders.{KeyHolders}
 
 -- of some places, none before this one shows its key

@@ -1,6 +1,6 @@
 -- What the code keeps of items: the name of each one's issuer, and what it shows as a key holder.
 use Rattle.std.specs.Prelude.{◌≡◌, ◌<◌, ◌-◌, ℕ, List, length, map, option_map, slice_index_or, nat_lt, if◌then◌else◌}
-use Rattle.cert_groups.specs.declared.places.Place.{Place}
+use Rattle.cert_graph.specs.declared.places.Place.{Place}
 use Rattle.cert_model.specs.Class.{Class}
 use Rattle.cert_judge.specs.Revoking.{Item}
 use Rattle.cert_questions.specs.declared.names.Shown.{Shown}

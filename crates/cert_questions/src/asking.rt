@@ -11,7 +11,7 @@ use crate::names::{Shown, all_shown};
 use crate::question::{KeyHolder, Question};
 use asn1_core::OutOfMemory;
 use cert_framing::Items;
-use cert_groups::Place;
+use cert_graph::Place;
 use std::alloc::{AllocError, Global};
 
 /// The key holders among items, then those among anchors.

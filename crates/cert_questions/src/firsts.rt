@@ -2,12 +2,12 @@
 
 ghost use Rattle.std.specs.Prelude.{◌≡◌, ◌↔◌, ◌<◌, ℕ, List, length, option_map, IfOk, Contains};
 ghost use Rattle.std.specs.List.Sorted.{IsStrictlyIncreasing};
-ghost use Rattle.cert_groups.specs.declared.places.Place.{Place};
-ghost use Rattle.cert_groups.specs.declared.places.Part.TheVariants.{Key};
-ghost use Rattle.cert_groups.specs.Places.{text_at};
+ghost use Rattle.cert_graph.specs.declared.places.Place.{Place};
+ghost use Rattle.cert_graph.specs.declared.places.Part.TheVariants.{Key};
+ghost use Rattle.cert_graph.specs.Places.{text_at};
 ghost use Rattle.cert_questions.specs.Firsts.{IsFirstAmong, AreFirstsUnder, Knows};
 
-use cert_groups::{Part, Place, alike};
+use cert_graph::{Part, Place, alike};
 use std::alloc::{AllocError, Global};
 use std::collections::{BTreeMap, BTreeSet};
 

@@ -5,7 +5,7 @@ use Rattle.std.specs.List.{Any, Contains}
 use Rattle.std.proofs.lemmas.List.{length-map}
 use Rattle.jiff_core.specs.declared.civil.datetime.DateTime.{DateTime}
 use Rattle.cert_graph.specs.Entries.{IsAt}
-use Rattle.cert_groups.proofs.Sifted.{Sifted, sifted_whole}
+use Rattle.cert_graph.proofs.Sifted.{Sifted, sifted_whole}
 use Rattle.cert_model.specs.Fields.{Certificate, Entry, RevocationList}
 use Rattle.cert_judge.specs.declared.items.ListItem.{ListItem}
 use Rattle.cert_judge.specs.declared.items.ReadItem.{ReadItem}

@@ -97,11 +97,8 @@ fn add_keys(text: &mut String, class: &ItemClass<'_>) -> Added {
     let ItemClass::Certificate(fields) = class else {
         return text.push_str("no certificate");
     };
-    let Ok(authority) = fields.authority_key_id(*text.allocator()) else {
-        return Err(AllocError);
-    };
     text.push_str("authority ")?;
-    add_key(text, authority)?;
+    add_key(text, fields.authority_key_id())?;
     text.push_str(", subject ")?;
     add_key(text, fields.subject_key_id())
 }

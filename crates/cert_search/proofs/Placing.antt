@@ -8,7 +8,7 @@ use Rattle.smallvec.specs.SmallVec.{SmallVec}
 use Rattle.cert_graph.specs.declared.nodes.Group.{Group}
 use Rattle.cert_graph.specs.declared.nodes.Nodes.{Nodes}
 use Rattle.cert_graph.specs.Nodes.{graph_of}
-use Rattle.cert_graph.proofs.Places.{element_at}
+use Rattle.cert_graph.proofs.PlacesOfNodes.{element_at}
 use Rattle.cert_search.specs.Rising.{IsGroup, AreNoted, ArePlaces, AreAnchored}
 
 -- two numbers are one or not

@@ -17,7 +17,7 @@ use Rattle.cert_graph.specs.Steps.{one_of, Tail}
 use Rattle.cert_graph.specs.Nodes.{graph_of}
 use Rattle.cert_graph.proofs.ReachFacts.{at_most_self}
 use Rattle.cert_graph.proofs.Tails.{chain_of_tail, tail_from_chain}
-use Rattle.cert_graph.proofs.Places.{element_at}
+use Rattle.cert_graph.proofs.PlacesOfNodes.{element_at}
 use Rattle.cert_search.specs.Rows.{StandsUnder}
 use Rattle.cert_search.proofs.Exactness.{OffersExactly}
 

@@ -1,3 +1,5 @@
+//! All rows of a search, for every target at once.
+
 ghost use Rattle.std.specs.Prelude.{length, map, replicate, IfOk};
 ghost use Rattle.cert_graph.specs.declared.reach.Reach.TheVariants.{No};
 ghost use Rattle.cert_graph.specs.Changes.{rows_by};

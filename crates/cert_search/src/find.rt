@@ -1,3 +1,5 @@
+//! The search for the first valid path of one target.
+
 ghost use Rattle.std.specs.Prelude.{IfOk};
 ghost use Rattle.cert_graph.specs.Adequate.{IsAdequate, IsTrueAnswer};
 ghost use Rattle.cert_graph.specs.Nodes.{graph_of};

@@ -1,3 +1,5 @@
+//! The search for the first valid path of each item.
+
 ghost use Rattle.std.specs.Prelude.{All, IfOk};
 ghost use Rattle.cert_graph.specs.Inventory.{shared_rows, IsAdequateInventory, IsTrueInventory};
 ghost use Rattle.cert_graph.specs.Nodes.{graph_of};

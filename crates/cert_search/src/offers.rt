@@ -1,3 +1,5 @@
+//! What a group's members let an item issued by the group reach, and the reach that comes of it.
+
 ghost use Rattle.std.specs.Prelude.{ℕ, ◌+◌, ◌↔◌};
 ghost use Rattle.cert_graph.specs.Reach.{Takes};
 ghost use Rattle.cert_graph.specs.Steps.{one_of};

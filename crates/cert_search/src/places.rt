@@ -1,3 +1,5 @@
+//! The groups of each fit item, kept so that a round goes over what changed alone.
+
 ghost use Rattle.std.specs.Prelude.{◌≡◌, ◌<◌, ◌↔◌, [], length, map, All, IfOk, IfSome, OnOk, IsTrue};
 ghost use Rattle.cert_search.specs.Rising.{ArePlaces, AreAnchored, AreNoted};
 

@@ -1,3 +1,5 @@
+//! One round of the search: a row is raised from the one before it, where an offer rose.
+
 ghost use Rattle.std.specs.Prelude.{◌≡◌, ℕ, ◌<◌, ◌⊎◌, ◌↔◌, [], length, map, replicate, All, Contains, IfOk, IfSome, IsTrue, OnOk, List};
 ghost use Rattle.cert_graph.specs.declared.reach.Reach.TheVariants.{No};
 ghost use Rattle.cert_graph.specs.Reach.{Takes};

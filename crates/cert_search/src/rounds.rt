@@ -1,3 +1,5 @@
+//! Rounds until the target has a path, or the row is its own successor.
+
 ghost use Rattle.std.specs.Prelude.{◌↔◌, IsTrue, IfOk};
 ghost use Rattle.cert_graph.specs.Reach.{Takes};
 ghost use Rattle.cert_graph.specs.Adequate.{at_row};

@@ -1,3 +1,5 @@
+//! The verdict on one item by the rows of a search for all items.
+
 ghost use Rattle.std.specs.Prelude.{◌≡◌, ◌↔◌, ◌<◌, ℕ, ◌+◌, [], List, length, map, replicate, IsTrue, IfOk};
 ghost use Rattle.cert_graph.specs.declared.reach.Reach.{Reach};
 ghost use Rattle.cert_graph.specs.declared.reach.Reach.TheVariants.{No};

@@ -1,3 +1,6 @@
+//! The walk down the rows: at each step the least position that leads on, and then the least
+//! anchor.
+
 ghost use Rattle.std.specs.Prelude.{◌≡◌, ℕ, ◌+◌, length, map, IfOk};
 ghost use Rattle.cert_graph.specs.Adequate.{row_of, IsAdequate};
 ghost use Rattle.cert_graph.specs.Nodes.{graph_of};

@@ -6,9 +6,9 @@ use Rattle.cert_model.specs.Fields.{Extension, Certificate}
 use Rattle.cert_model.specs.Class.{IsCertificateItem, IsClassOf}
 use Rattle.cert_model.proofs.Classes.{certificate_once, not_both_lem}
 use Rattle.cert_model.specs.declared.fields.CertFields.{CertFields}
-use Rattle.certcheck.specs.ClassView.{class_view}
-use Rattle.certcheck.specs.declared.class.ItemClass.{ItemClass}
-use Rattle.certcheck.specs.declared.class.ItemClass.TheVariants.{Certificate as certificate_read, List as list_read, Other as other_read}
+use Rattle.cert_model.specs.ClassView.{class_view}
+use Rattle.cert_model.specs.declared.class.ItemClass.{ItemClass}
+use Rattle.cert_model.specs.declared.class.ItemClass.TheVariants.{Certificate as certificate_read, List as list_read, Other as other_read}
 use Rattle.cert_model.specs.View.{list_view}
 use Rattle.cert_serving.specs.declared.item.Answer.{Answer}
 use Rattle.cert_serving.specs.declared.item.Answer.TheVariants.{NotCertificate, No, Yes}

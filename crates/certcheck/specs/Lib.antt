@@ -1,4 +1,2 @@
-pub mod ClassView
 pub mod PieceView
 pub mod Stopping
-pub mod Vouching

@@ -1,4 +1,4 @@
-//! Certificates (RFC 5280, 4.1).
+//! Certificates (RFC 5280, 4.1), from the tree of an item to fields.
 
 ghost use Rattle.std.specs.Prelude.{◌≡◌, ℕ, Option, option_map, map};
 ghost use Rattle.der_tree.specs.Tree.{octets};
@@ -25,6 +25,25 @@ use cert_model::fields::{
 use der_tree::{BerObject, end_of, first_of};
 use jiff::civil::DateTime;
 use std::alloc::Global;
+
+/// The context-specific tags of TBSCertificate (RFC 5280, 4.1).
+const VERSION: u32 = 0;
+
+const ISSUER_ID: u32 = 1;
+
+const SUBJECT_ID: u32 = 2;
+
+const EXTENSIONS: u32 = 3;
+
+/// The versions as they are written (RFC 5280, 4.1.2.1); the first one never is.
+const VERSION_1: u8 = 0;
+
+const VERSION_2: u8 = 1;
+
+const VERSION_3: u8 = 2;
+
+/// The identifier octet of an INTEGER (X.690, 8.1.2).
+const INTEGER: u8 = 0x02;
 
 /// TBSCertificate, what has a context-specific tag being left as an element.
 #[derive(Drop)]
@@ -61,7 +80,7 @@ pub(crate) fn tbs_of<'a>(alloc: Global, object: &BerObject<'a>) -> Result<CertPi
     ensures { Finds cert_pieces_view result (tbs_at (view object.now)) }
 {
     let parts = sequence_of(object).ok_or(Stop::Other)?;
-    let (version, rest) = tagged_of(0, parts);
+    let (version, rest) = tagged_of(VERSION, parts);
     let (serial, rest) = next_number(rest).ok_or(Stop::Other)?;
     let (signature, rest) = next_algorithm(rest).ok_or(Stop::Other)?;
     let (first, rest) = first_of(rest).ok_or(Stop::Other)?;
@@ -71,9 +90,9 @@ pub(crate) fn tbs_of<'a>(alloc: Global, object: &BerObject<'a>) -> Result<CertPi
     let (first, rest) = first_of(rest).ok_or(Stop::Other)?;
     let subject = name_of(alloc, first)?;
     let (key, rest) = next_key(rest).ok_or(Stop::Other)?;
-    let (issuer_id, rest) = tagged_of(1, rest);
-    let (subject_id, rest) = tagged_of(2, rest);
-    let (extensions, rest) = tagged_of(3, rest);
+    let (issuer_id, rest) = tagged_of(ISSUER_ID, rest);
+    let (subject_id, rest) = tagged_of(SUBJECT_ID, rest);
+    let (extensions, rest) = tagged_of(EXTENSIONS, rest);
     end_of(rest).ok_or(Stop::Other)?;
     Ok(CertPieces {
         version,
@@ -123,7 +142,7 @@ fn version_number(content: &[u8]) -> Option<u8>
 {
     match content {
         [tag, length, version] => {
-            if *tag == 2 && *length == 1 && (*version == 1 || *version == 2) {
+            if *tag == INTEGER && *length == 1 && (*version == VERSION_2 || *version == VERSION_3) {
                 Some(*version)
             } else {
                 None
@@ -138,7 +157,7 @@ fn version_of(element: Option<AnyField<'_>>) -> Option<u8>
     ensures { result ≡ version_in (option_map any_view element.entry) }
 {
     match element {
-        None => Some(0),
+        None => Some(VERSION_1),
         Some(element) => {
             if element.constructed {
                 version_number(element.content)
@@ -183,9 +202,9 @@ fn fits_version(
 ) -> bool
     ensures { result ≡ fits_version version (option_map bit_view issuer_id.entry) (option_map bit_view subject_id.entry) (map ext_view extensions.now) }
 {
-    (issuer_id.is_none() || version > 0)
-        && (subject_id.is_none() || version > 0)
-        && (extensions.is_empty() || version == 2)
+    (issuer_id.is_none() || version > VERSION_1)
+        && (subject_id.is_none() || version > VERSION_1)
+        && (extensions.is_empty() || version == VERSION_3)
 }
 
 /// The fields of the certificate that the object is.

@@ -1,33 +1,25 @@
-//! What an item is.
+//! What an item is, read as a tree of DER objects (X.690, 8, 10 and 11).
 
 ghost use Rattle.std.specs.Prelude.{◌≡◌, ℕ, IfOk};
 ghost use Rattle.der_tree.specs.Tree.{octets};
 ghost use Rattle.der_tree.specs.Shape.{IsObject};
 ghost use Rattle.der_tree.specs.View.{view};
 ghost use Rattle.cert_model.specs.Class.{IsClassOf};
-ghost use Rattle.certcheck.specs.ClassView.{class_view};
+ghost use Rattle.cert_model.specs.ClassView.{class_view};
 
 use crate::certificate::certificate_of;
 use crate::list::list_of;
 use crate::stop::settled;
 use asn1_core::{Err as Refusal, OutOfMemory};
-use cert_model::fields::{CertFields, ListFields};
+use cert_model::ItemClass;
 use der_tree::{BerObject, MAX_RECURSION, parse_der_recursive};
 use std::alloc::Global;
 
-/// The class of an item, with the fields that write it. The octets of the fields are windows of the item.
-#[derive(Debug, PartialEq, Eq, Drop)]
-pub enum ItemClass<'a> {
-    /// A certificate in its one spelling (RFC 5280, 4.1).
-    Certificate(CertFields<'a>),
-    /// A revocation list in its one spelling (RFC 5280, 5.1).
-    List(ListFields<'a>),
-    /// Any other octets.
-    Other,
-}
-
-/// Reads an item as a tree, and answers its class: a certificate or a list where it is an item under the greatest limit, a
-/// DER object of at most 50 levels, and exactly the octets that fields in range write; other in every other case.
+/// Reads an item as a tree, and returns its class: a certificate or a revocation list if it is an item
+/// under the greatest limit, a DER object of at most `MAX_RECURSION` levels, and exactly the octets that
+/// fields in range write (RFC 5280, 4.1 and 5.1); other octets are `Other`, and no error.
+///
+/// The only error is out of memory. It costs time and memory linear in the item.
 pub fn read_tree<'a>(alloc: Global, item: &'a [u8]) -> Result<ItemClass<'a>, OutOfMemory>
     ensures class { IfOk result (λ class. IsClassOf item.now (class_view class)) }
 {

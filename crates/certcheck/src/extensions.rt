@@ -1,4 +1,4 @@
-//! Extensions (RFC 5280, 4.2).
+//! Extensions (RFC 5280, 4.2): identifiers, marks and values; no value is looked into.
 
 ghost use Rattle.std.specs.Prelude.{◌≡◌, ◌≤◌, ℕ, List, length, option_map, map};
 ghost use Rattle.der_tree.specs.View.{view, views};
@@ -14,7 +14,7 @@ use crate::parts::{identifier_of, octet_string_of, sequence_of};
 use crate::stop::Stop;
 use asn1_core::Err as Refusal;
 use cert_model::fields::{AnyField, ExtField};
-use der_tree::{BerObject, end_of, first_of, parse_der_recursive};
+use der_tree::{BerObject, MAX_RECURSION, end_of, first_of, parse_der_recursive};
 use std::alloc::Global;
 
 /// Whether an extension is critical, and the rest: true is written, false never is (X.690, 11.5).
@@ -82,7 +82,7 @@ fn extensions_within<'a>(alloc: Global, content: &'a [u8]) -> Result<Vec<ExtFiel
     ensures { Settles result (λ v. AreExtensionsOf content.now (map ext_view v.items))
         ((es : List Extension) → AreExtensionsOf content.now es → ⊥) }
 {
-    match parse_der_recursive(alloc, content, 50) {
+    match parse_der_recursive(alloc, content, MAX_RECURSION) {
         Ok((rest, object)) => {
             if rest.is_empty() {
                 extensions_of(alloc, &object)

@@ -1,4 +1,4 @@
-//! Revocation lists (RFC 5280, 5.1).
+//! Revocation lists (RFC 5280, 5.1), from the tree of an item to fields.
 
 ghost use Rattle.std.specs.Prelude.{◌≡◌, ◌&&◌, ℕ, Option, option_map, map};
 ghost use Rattle.der_tree.specs.Table.{integer};
@@ -27,6 +27,12 @@ use cert_model::fields::{
 use der_tree::{BerObject, end_of, first_of};
 use jiff::civil::DateTime;
 use std::alloc::Global;
+
+/// The context-specific tag of crlExtensions (RFC 5280, 5.1).
+const EXTENSIONS: u32 = 0;
+
+/// Version 2 as it is written (RFC 5280, 5.1.2.1).
+const VERSION_2: u8 = 1;
 
 /// TBSCertList, the tagged extensions being left as an element.
 #[derive(Drop)]
@@ -166,7 +172,7 @@ fn list_version<'b, 'a>(parts: &'b [BerObject<'a>]) -> Option<(Option<u8>, &'b [
         None => Some((None, parts)),
         Some(number) => match number {
             [version] => {
-                if *version == 1 {
+                if *version == VERSION_2 {
                     Some((Some(*version), rest))
                 } else {
                     None
@@ -192,7 +198,7 @@ fn tbs_list_of<'a>(alloc: Global, object: &BerObject<'a>) -> Result<ListPieces<'
     let next_update = time_in(rest);
     let rest = after_time(rest);
     let entries = entries_of(alloc, rest)?;
-    let (extensions, rest) = tagged_of(0, after_entries(rest));
+    let (extensions, rest) = tagged_of(EXTENSIONS, after_entries(rest));
     end_of(rest).ok_or(Stop::Other)?;
     Ok(ListPieces {
         version,
@@ -227,7 +233,7 @@ fn is_version_two(version: Option<u8>) -> bool
 {
     match version {
         None => false,
-        Some(version) => version == 1,
+        Some(version) => version == VERSION_2,
     }
 }
 

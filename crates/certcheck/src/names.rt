@@ -1,4 +1,4 @@
-//! Names (RFC 5280, 4.1.2.4).
+//! Names (RFC 5280, 4.1.2.4), each set in the order that DER asks for (X.690, 11.6).
 
 ghost use Rattle.std.specs.Prelude.{◌≡◌, ℕ, option_map, map};
 ghost use Rattle.der_tree.specs.View.{view, views};

@@ -1,4 +1,5 @@
-//! The parts of a tree that hold no list.
+//! The parts of certificates and lists that hold no list themselves, each from its place in the tree
+//! (RFC 5280, 4.1.1.2, 4.1.2.4 and 4.1.2.7).
 
 ghost use Rattle.std.specs.Prelude.{◌≡◌, ℕ, option_map};
 ghost use Rattle.asn1_core.specs.Views.{head_of, size_of};
@@ -11,6 +12,9 @@ ghost use Rattle.cert_model.specs.Reads.{identifier_at, number_at, bits_at, last
 use asn1_core::{Class, Length};
 use cert_model::fields::{AlgField, AnyField, AttrField, BitField, KeyField};
 use der_tree::{BerObject, BerObjectContent, end_of, first_of};
+
+/// The bit of a first content octet by which an INTEGER is negative (X.690, 8.3.3).
+const SIGN: u8 = 0x80;
 
 pub(crate) fn sequence_of<'b, 'a>(object: &'b BerObject<'a>) -> Option<&'b [BerObject<'a>]>
     ensures { option_map (λ parts. views parts.now) result ≡ sequence_at (view object.now) }
@@ -87,7 +91,7 @@ fn is_negative(number: &[u8]) -> bool
 {
     match number {
         [] => false,
-        [first, ..] => *first >= 128,
+        [first, ..] => *first >= SIGN,
     }
 }
 

@@ -1,83 +1,39 @@
-//! Items with their classes, read by trees and judged.
+//! The reader of the check: items read as trees.
 
-ghost use Rattle.std.specs.Prelude.{◌≡◌, List, IfOk};
-ghost use Rattle.cert_model.specs.Class.{IsCertificateItem, IsListItem, IsClassOf};
-ghost use Rattle.cert_model.specs.View.{certificate_view, list_view, time_view};
+ghost use Rattle.std.specs.Prelude.{◌≡◌};
+ghost use Rattle.cert_model.specs.Class.{IsCertificateItem, IsClassOf};
+ghost use Rattle.cert_model.specs.View.{certificate_view};
 ghost use Rattle.cert_judge.specs.Items.{item_of};
-ghost use Rattle.cert_judge.specs.Classed.{AreClassed};
-ghost use Rattle.cert_judge.specs.JudgedItems.{IsJudged, AreJudged};
-ghost use Rattle.cert_judge.specs.Revoking.{Item};
 
-use crate::class::{ItemClass, read_tree};
+use crate::class::read_tree;
 use asn1_core::OutOfMemory;
-use cert_framing::Items;
-use cert_judge::{CertificateItem, JudgedItem, ListItem, ReadItem, judge_item};
-use cert_model::fields::{CertFields, ListFields};
-use jiff::civil::DateTime;
+use cert_judge::{ReadItem, ReadsItem};
+use cert_model::ItemClass;
+use cert_model::fields::CertFields;
 use std::alloc::Global;
 
-fn certificate_item<'a>(
-    alloc: Global,
-    octets: &'a [u8],
-    fields: CertFields<'a>,
-) -> Result<ReadItem<'a>, OutOfMemory>
-    requires { IsCertificateItem octets.now (certificate_view fields) }
-    ensures { IfOk result (λ item. ((item_of item).octets ≡ octets.now) × IsClassOf octets.now (item_of item).class) }
-{
-    let authority_key_id = fields.authority_key_id(alloc)?;
-    let subject_key_id = fields.subject_key_id();
-    Ok(ReadItem::Certificate(CertificateItem::new(
-        octets,
-        fields,
-        authority_key_id,
-        subject_key_id,
-    )))
-}
+/// Reads items as trees, by `read_tree`: the reader of `check`, `check_all` and `check_read`. A
+/// search that is to be checked reads by another one.
+///
+/// It costs time and memory linear in the item.
+pub struct TreeReader;
 
-fn list_item<'a>(octets: &'a [u8], fields: ListFields<'a>) -> ReadItem<'a>
-    requires { IsListItem octets.now (list_view fields) }
+fn certificate_item<'a>(octets: &'a [u8], fields: CertFields<'a>) -> ReadItem<'a>
+    requires { IsCertificateItem octets.now (certificate_view fields) }
     ensures octets { (item_of result).octets ≡ octets.now }
     ensures class { IsClassOf octets.now (item_of result).class }
 {
-    ReadItem::List(ListItem::new(octets, fields))
+    let authority_key_id = fields.authority_key_id();
+    let subject_key_id = fields.subject_key_id();
+    ReadItem::of_certificate(octets, fields, authority_key_id, subject_key_id)
 }
 
-/// An item with its class.
-fn read_item<'a>(alloc: Global, octets: &'a [u8]) -> Result<ReadItem<'a>, OutOfMemory>
-    ensures { IfOk result (λ item. ((item_of item).octets ≡ octets.now) × IsClassOf octets.now (item_of item).class) }
-{
-    match read_tree(alloc, octets)? {
-        ItemClass::Certificate(fields) => certificate_item(alloc, octets, fields),
-        ItemClass::List(fields) => Ok(list_item(octets, fields)),
-        ItemClass::Other => Ok(ReadItem::Other(octets)),
+impl ReadsItem for TreeReader {
+    fn read_item<'a>(alloc: Global, octets: &'a [u8]) -> Result<ReadItem<'a>, OutOfMemory> {
+        match read_tree(alloc, octets)? {
+            ItemClass::Certificate(fields) => Ok(certificate_item(octets, fields)),
+            ItemClass::List(fields) => Ok(ReadItem::of_list(octets, fields)),
+            ItemClass::Other => Ok(ReadItem::Other(octets)),
+        }
     }
-}
-
-/// An item with its class, judged at a moment.
-fn judged_item<'a>(
-    alloc: Global,
-    octets: &'a [u8],
-    moment: &DateTime,
-) -> Result<JudgedItem<'a>, OutOfMemory>
-    ensures { IfOk result (λ judged. (x : Item) × (x.octets ≡ octets.now) × IsClassOf octets.now x.class × IsJudged (time_view moment.now) x judged) }
-{
-    let item = read_item(alloc, octets)?;
-    let judged = judge_item(alloc, &item, moment)?;
-    Ok(judged)
-}
-
-/// Items with their classes, judged at a moment, in their order. Of what was read no more is kept than is asked for.
-pub(crate) fn judged_items<'a>(
-    alloc: Global,
-    items: &'a Items,
-    moment: &DateTime,
-) -> Result<Vec<JudgedItem<'a>>, OutOfMemory>
-    ensures { IfOk result (λ judged. (classed : List Item) × AreClassed items.now.items classed × AreJudged (time_view moment.now) classed judged.items) }
-{
-    let mut judged = Vec::with_capacity(alloc, items.len())?;
-    for place in 0..items.len() {
-        let item = judged_item(alloc, items.get(place), moment)?;
-        judged.push(item)?;
-    }
-    Ok(judged)
 }

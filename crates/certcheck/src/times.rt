@@ -1,4 +1,5 @@
-//! Times (RFC 5280, 4.1.2.5).
+//! Times (RFC 5280, 4.1.2.5): UTCTime up to the year 2049, GeneralizedTime from then on, in whole
+//! seconds and in UTC.
 
 ghost use Rattle.std.specs.Prelude.{◌≡◌, ℕ, option_map, Some, None, if◌then◌else◌};
 ghost use Rattle.der_tree.specs.Table.{utc_time, generalized_time};
@@ -10,6 +11,9 @@ ghost use Rattle.cert_model.specs.Times.{is_real, civil_of, is_zulu, utc_time_at
 
 use der_tree::{BerObject, BerObjectContent, Clock, generalized_of, utc_of};
 use jiff::civil::DateTime;
+
+/// The first year that is written as GeneralizedTime (RFC 5280, 4.1.2.5).
+const FIRST_LATE_YEAR: u16 = 2050;
 
 fn utc_content<'a>(object: &BerObject<'a>) -> Option<&'a [u8]>
     ensures { option_map (λ octets. octets.now) result ≡ plain_at utc_time (view object.now) }
@@ -73,7 +77,7 @@ fn late_time_of(object: &BerObject<'_>) -> Option<DateTime>
     ensures { option_map time_view result ≡ late_time_at (view object.now) }
 {
     let (clock, rest) = generalized_of(generalized_content(object)?)?;
-    if clock.year >= 2050 && is_zulu(rest) {
+    if clock.year >= FIRST_LATE_YEAR && is_zulu(rest) {
         civil_of(clock)
     } else {
         None

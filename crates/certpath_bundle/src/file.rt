@@ -1,10 +1,10 @@
 //! Files that are read whole.
 
 ghost use Rattle.std.specs.Prelude.{◌≡◌, ◌+◌, ◌≤◌, max, IfOk, IsErrOf};
-ghost use Rattle.certpath_input.specs.Inputs.{ReadsAll, MeetsEnd, failed_reads};
+ghost use Rattle.certpath_inputs.specs.Reads.{ReadsAll, MeetsEnd, failed_reads};
 
 use asn1_device::Source;
-use certpath_input::{InputError, MAX_READS, READ_SIZE, read_text};
+use certpath_inputs::{InputError, MAX_READS, READ_SIZE, read_text};
 use std::alloc::Global;
 
 /// A file that was read.

@@ -1,5 +1,5 @@
 -- A reader that finds what is so and no other finds the one.
-use Rattle.std.proofs.Common.{ℕ, List, Option, Some, None, Result, Ok, Err, IfOk, option_copied}
+use Rattle.std.proofs.Common.{ℕ, List, Option, Some, None, option_copied}
 use Rattle.std.specs.Prelude.{◌≡◌, IfSome, IsSomeAnd}
 use Rattle.std.specs.Borrow.{Bor}
 use Rattle.certpath_c.specs.Contents.{IsTheOne}
@@ -7,8 +7,3 @@ use Rattle.certpath_c.specs.Contents.{IsTheOne}
 pub the_one : (P : List ℕ → Type 0) (r : Option (Bor (List ℕ))) → IfSome r (λ id. P id.now) → ((id : List ℕ) → P id → IsSomeAnd r (λ s. s.now ≡ id)) → IsTheOne P (option_copied r)
 the_one P None found only = λ id here. only id here
 the_one P (Some id) found only = found
-
-pub the_one_read : {E : Type 0} (P : List ℕ → Type 0) (r : Result (Option (Bor (List ℕ))) E) → IfOk r (λ o. IfSome o (λ id. P id.now)) → IfOk r (λ o. (id : List ℕ) → P id → IsSomeAnd o (λ s. s.now ≡ id))
-    → IfOk r (λ o. IsTheOne P (option_copied o))
-the_one_read P (Ok o) found only = the_one P o found only
-the_one_read P (Err e) found only = tt

@@ -10,6 +10,8 @@ pub mod LeftRows
 pub mod Shapes
 pub mod ShapesTaken
 pub mod Hosts
+pub mod HostTexts
+pub mod DemandLaws
 pub mod Moved
 pub mod Answering
 pub mod FoundIsRight

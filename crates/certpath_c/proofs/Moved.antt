@@ -3,7 +3,7 @@ use Rattle.std.proofs.Common.{◌≡◌, subst, ℕ, List}
 use Rattle.cert_graph.specs.Graph.{Graph}
 use Rattle.cert_judge.specs.declared.policy.Policy.{Policy}
 use Rattle.cert_serving.specs.declared.permits.Permits.{Permits}
-use Rattle.certcheck.specs.declared.vouchers.Vouchers.{Vouchers}
+use Rattle.cert_vouchers.specs.declared.vouchers.Vouchers.{Vouchers}
 use Rattle.certpath_find.specs.Answered.{HoldsOfItems}
 use Rattle.certpath_c.specs.Wanted.{rules_in}
 

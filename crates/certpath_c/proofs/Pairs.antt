@@ -2,8 +2,8 @@
 use Rattle.std.specs.Prelude.{◌↔◌, ◌⊎◌}
 use Rattle.std.proofs.Common.{ℕ, ◌+◌, ◌<◌, ◌≤◌, List, [], ◌∷◌, length, drop, get_or, subst, inl, inr}
 use Rattle.std.proofs.lemmas.List.{drop_all, drop_more}
-use Rattle.certcheck.specs.declared.vouchers.Vouchers.{Vouchers}
-use Rattle.certcheck.specs.Vouching.{HasPair}
+use Rattle.cert_vouchers.specs.declared.vouchers.Vouchers.{Vouchers}
+use Rattle.cert_vouchers.specs.Vouching.{HasPair}
 use Rattle.certpath_c.specs.declared.asked.Voucher.{Voucher}
 use Rattle.certpath_c.specs.Asked.{HoldPair, ArePairs, IsOnePairMore}
 

@@ -9,8 +9,8 @@ use Rattle.cert_framing.specs.Held.{Framed}
 use Rattle.cert_judge.specs.declared.policy.Policy.{Policy}
 use Rattle.cert_judge.specs.Vouching.{Vouching, vouching_alone}
 use Rattle.cert_model.specs.View.{time_view}
-use Rattle.certcheck.specs.declared.vouchers.Vouchers.{Vouchers}
-use Rattle.certcheck.specs.Vouching.{HasPair}
+use Rattle.cert_vouchers.specs.declared.vouchers.Vouchers.{Vouchers}
+use Rattle.cert_vouchers.specs.Vouching.{HasPair}
 use Rattle.certpath_c.specs.declared.asked.Settings.{Settings}
 use Rattle.certpath_c.specs.declared.asked.Voucher.{Voucher}
 use Rattle.certpath_c.specs.declared.times.Moment.{Moment}

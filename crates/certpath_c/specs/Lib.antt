@@ -14,6 +14,7 @@ pub mod Asking
 pub mod Answers
 pub mod Asked
 pub mod Wanted
+pub mod Demands
 pub mod Finding
 pub mod Checking
 pub mod Reports

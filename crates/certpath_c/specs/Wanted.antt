@@ -11,7 +11,7 @@ use Rattle.cert_serving.specs.declared.permits.Permits.{Permits}
 use Rattle.cert_purpose.specs.Restricting.{restricted_by}
 use Rattle.cert_serving.specs.Demanding.{Demanded, PermitsOf, ProcessesFor}
 use Rattle.cert_serving.specs.Refusing.{are_permitted, are_processed}
-use Rattle.certcheck.specs.declared.vouchers.Vouchers.{Vouchers}
+use Rattle.cert_vouchers.specs.declared.vouchers.Vouchers.{Vouchers}
 use Rattle.certpath_c.specs.declared.asked.Settings.{Settings}
 use Rattle.certpath_c.specs.declared.wanted.Wanted.{Wanted}
 use Rattle.certpath_c.specs.Asked.{VouchesBy}

@@ -9,7 +9,7 @@ use crate::times::Moment;
 use asn1_core::OutOfMemory;
 use cert_framing::Items;
 use cert_judge::Policy;
-use certcheck::Vouchers;
+use cert_vouchers::Vouchers;
 use jiff::civil::DateTime;
 use std::alloc::Global;
 

@@ -1,7 +1,7 @@
 //! What single items are.
 
 ghost use Rattle.std.specs.Prelude.{◌≡◌};
-ghost use Rattle.certcheck.specs.ClassView.{class_view};
+ghost use Rattle.cert_model.specs.ClassView.{class_view};
 ghost use Rattle.certpath_c.specs.Classing.{class_number, ClassAnswer};
 
 use crate::status::{DONE, OUT_OF_MEMORY};

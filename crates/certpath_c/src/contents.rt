@@ -67,34 +67,29 @@ fn subject_id<'a>(fields: &CertFields<'a>) -> Option<&'a [u8]>
 }
 
 /// The identifier that a certificate gives its issuer's key.
-fn authority_id<'a>(alloc: Global, fields: &CertFields<'a>) -> Result<Option<&'a [u8]>, OutOfMemory>
-    ensures { IfOk result (λ id. IsAuthorityIdIn (certificate (certificate_view fields.now)) (option_copied id)) }
+fn authority_id<'a>(fields: &CertFields<'a>) -> Option<&'a [u8]>
+    ensures { IsAuthorityIdIn (certificate (certificate_view fields.now)) (option_copied result) }
 {
-    fields.authority_key_id(alloc)
+    fields.authority_key_id()
 }
 
 /// The fields of a certificate.
-fn certificate_found<'a>(
-    alloc: Global,
-    item: &'a [u8],
-    fields: &CertFields<'a>,
-) -> Result<Found<'a>, OutOfMemory>
+fn certificate_found<'a>(item: &'a [u8], fields: &CertFields<'a>) -> Found<'a>
     requires { item.now ≡ certificate_octets (certificate_view fields.now) }
-    ensures { IfOk result (λ f. AreFieldsOf (certificate (certificate_view fields.now)) (found_view f)) }
+    ensures { AreFieldsOf (certificate (certificate_view fields.now)) (found_view result) }
 {
     let Some(windows) = windows_of(item, fields) else {
         unreachable!()
     };
-    let authority_key_id = authority_id(alloc, fields)?;
-    Ok(Found {
+    Found {
         issuer: Some(windows.issuer),
         subject: Some(windows.subject),
         key: Some(windows.key),
         serial: Some(fields.serial),
         algorithm: Some(fields.algorithm.identifier),
         subject_key_id: subject_id(fields),
-        authority_key_id,
-    })
+        authority_key_id: authority_id(fields),
+    }
 }
 
 /// The fields of a list.
@@ -148,20 +143,15 @@ fn other_read<'a>() -> ItemRead<'a>
 }
 
 /// What is read of a certificate.
-fn certificate_read<'a>(
-    alloc: Global,
-    item: &'a [u8],
-    fields: &CertFields<'a>,
-) -> Result<ItemRead<'a>, OutOfMemory>
+fn certificate_read<'a>(item: &'a [u8], fields: &CertFields<'a>) -> ItemRead<'a>
     requires { item.now ≡ certificate_octets (certificate_view fields.now) }
-    ensures { IfOk result (IsReadOf (certificate (certificate_view fields.now))) }
+    ensures { IsReadOf (certificate (certificate_view fields.now)) result }
 {
-    let found = certificate_found(alloc, item, fields)?;
-    Ok(ItemRead {
+    ItemRead {
         class: 1,
         validity: certificate_times(fields),
-        found,
-    })
+        found: certificate_found(item, fields),
+    }
 }
 
 /// What is read of a list.
@@ -181,7 +171,7 @@ fn item_read<'a>(alloc: Global, item: &'a [u8]) -> Result<ItemRead<'a>, OutOfMem
     ensures { IfOk result (IsReadFrom item.now) }
 {
     match read_tree(alloc, item)? {
-        ItemClass::Certificate(fields) => certificate_read(alloc, item, &fields),
+        ItemClass::Certificate(fields) => Ok(certificate_read(item, &fields)),
         ItemClass::List(fields) => Ok(list_read(item, &fields)),
         ItemClass::Other => Ok(other_read()),
     }

@@ -9,6 +9,7 @@ mod checking;
 mod classes;
 mod classing;
 mod contents;
+mod demands;
 mod fields;
 mod finding;
 mod framing;

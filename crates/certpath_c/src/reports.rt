@@ -1,15 +1,19 @@
 //! The reports of the commands, as text.
 
-ghost use Rattle.std.specs.Prelude.{◌≡◌, ℕ, IfOk, IsErrOf};
-ghost use Rattle.certpath_vouchers.specs.Answers.{HasFirstBad};
-ghost use Rattle.certpath_c.specs.Reports.{run_settings, IsPathReport, IsWhyReport, IsPathsReport, HasReport, PutsReport, PathAnswer, WhyAnswer, PathsAnswer};
+ghost use Rattle.std.specs.Prelude.{◌≡◌, ℕ, IfOk, IsErrOf, string_bytes};
+ghost use Rattle.cert_vouchers.specs.Answers.{HasFirstBad};
+ghost use Rattle.certpath_c.specs.Reports.{run_settings, HasReport, PutsReport, PathAnswer, WhyAnswer, PathsAnswer};
 
 use crate::asked::{Settings, policy_of};
-use crate::status::{BAD_LINE, BAD_MOMENT, DONE, OUT_OF_MEMORY, TOO_SMALL};
+use crate::demands::{asked_host, asked_purpose, shown_purpose};
+use crate::status::{BAD_HOST, BAD_LINE, BAD_MOMENT, DONE, OUT_OF_MEMORY, TOO_SMALL};
 use crate::writing::put;
-use asn1_device::{ReadSource, WriteSink};
+use asn1_device::ReadSource;
 use cert_judge::Policy;
-use certpath_run::{AllSettings, RunError, Settings as RunSettings, run, run_all, run_why};
+use certpath_run::{
+    AllSettings, Demand, PathReport, PathsReport, Reported, Reports, RunError,
+    Settings as RunSettings, WhyReport, read_report,
+};
 use std::alloc::Global;
 
 /// How long a report is, or which line of the vouchers is refused.
@@ -31,83 +35,36 @@ fn asked_of(settings: &Settings<'_>, policy: Policy) -> RunSettings
     }
 }
 
-/// The report on a path.
-fn path_report(
+/// The text of the report that is asked for.
+fn report_text<T: Reports>(
     alloc: Global,
     bundle: &[u8],
     anchors: &[u8],
     vouchers: &[u8],
-    settings: &RunSettings,
-) -> Result<Vec<u8>, RunError>
-    ensures ok { IfOk result (λ text. HasReport (IsPathReport settings.now) bundle.now anchors.now vouchers.now settings.now.limit text.items) }
+    asked: &T,
+) -> Result<String, RunError>
+    ensures ok { IfOk result (λ text. HasReport (λ items anchor_items pairs octets. (outcome : T.Outcome) × T.is_right asked.now outcome items anchor_items pairs octets) bundle.now anchors.now vouchers.now (T.limit_of asked.now) (string_bytes text)) }
     ensures bad_line { (n : ℕ) → IsErrOf result (RunError.BadLine n) → HasFirstBad vouchers.now n }
 {
-    let mut sink = WriteSink::new(Vec::new(alloc));
-    run(
+    let Reported { text, outcome: _ } = read_report(
         alloc,
         &mut ReadSource::new(bundle),
         &mut ReadSource::new(anchors),
         &mut ReadSource::new(vouchers),
-        settings,
-        &mut sink,
+        asked,
     )?;
-    Ok(sink.into_inner())
-}
-
-/// The report on what stands in the way of a path.
-fn why_report(
-    alloc: Global,
-    bundle: &[u8],
-    anchors: &[u8],
-    vouchers: &[u8],
-    settings: &RunSettings,
-) -> Result<Vec<u8>, RunError>
-    ensures ok { IfOk result (λ text. HasReport (IsWhyReport settings.now) bundle.now anchors.now vouchers.now settings.now.limit text.items) }
-    ensures bad_line { (n : ℕ) → IsErrOf result (RunError.BadLine n) → HasFirstBad vouchers.now n }
-{
-    let mut sink = WriteSink::new(Vec::new(alloc));
-    run_why(
-        alloc,
-        &mut ReadSource::new(bundle),
-        &mut ReadSource::new(anchors),
-        &mut ReadSource::new(vouchers),
-        settings,
-        &mut sink,
-    )?;
-    Ok(sink.into_inner())
-}
-
-/// The report on all items.
-fn paths_report(
-    alloc: Global,
-    bundle: &[u8],
-    anchors: &[u8],
-    vouchers: &[u8],
-    settings: &AllSettings,
-) -> Result<Vec<u8>, RunError>
-    ensures ok { IfOk result (λ text. HasReport (IsPathsReport settings.now) bundle.now anchors.now vouchers.now settings.now.limit text.items) }
-    ensures bad_line { (n : ℕ) → IsErrOf result (RunError.BadLine n) → HasFirstBad vouchers.now n }
-{
-    let mut sink = WriteSink::new(Vec::new(alloc));
-    run_all(
-        alloc,
-        &mut ReadSource::new(bundle),
-        &mut ReadSource::new(anchors),
-        &mut ReadSource::new(vouchers),
-        settings,
-        &mut sink,
-    )?;
-    Ok(sink.into_inner())
+    Ok(text)
 }
 
 /// Writes a report into the caller's buffer, or says why there is none.
-fn put_report(found: Result<Vec<u8>, RunError>, text: &mut [u8], report: &mut Report) -> i32
+fn put_report(found: Result<String, RunError>, text: &mut [u8], report: &mut Report) -> i32
     ensures { PutsReport found text.old text.new report.old report.new result }
 {
     match found {
-        Ok(octets) => {
+        Ok(said) => {
+            let octets = said.as_bytes();
             report.length = octets.len();
-            if put(text, &octets) { DONE } else { TOO_SMALL }
+            if put(text, octets) { DONE } else { TOO_SMALL }
         }
         Err(RunError::BadLine(number)) => {
             report.bad_line = number;
@@ -133,8 +90,22 @@ pub extern "C" fn certpath_path(
     let Some(policy) = policy_of(settings) else {
         return BAD_MOMENT;
     };
-    let asked = asked_of(settings, policy);
-    let found = path_report(alloc, bundle, anchors, vouchers, &asked);
+    let Ok(host) = asked_host(settings.host) else {
+        return BAD_HOST;
+    };
+    let Ok(shown) = shown_purpose(alloc, settings.purpose) else {
+        return OUT_OF_MEMORY;
+    };
+    let demand = Demand {
+        purpose: asked_purpose(settings.purpose, shown.as_str()),
+        host,
+    };
+    let judged = asked_of(settings, policy);
+    let asked = PathReport {
+        settings: &judged,
+        demand,
+    };
+    let found = report_text(alloc, bundle, anchors, vouchers, &asked);
     put_report(found, text, report)
 }
 
@@ -154,8 +125,22 @@ pub extern "C" fn certpath_why(
     let Some(policy) = policy_of(settings) else {
         return BAD_MOMENT;
     };
-    let asked = asked_of(settings, policy);
-    let found = why_report(alloc, bundle, anchors, vouchers, &asked);
+    let Ok(host) = asked_host(settings.host) else {
+        return BAD_HOST;
+    };
+    let Ok(shown) = shown_purpose(alloc, settings.purpose) else {
+        return OUT_OF_MEMORY;
+    };
+    let demand = Demand {
+        purpose: asked_purpose(settings.purpose, shown.as_str()),
+        host,
+    };
+    let judged = asked_of(settings, policy);
+    let asked = WhyReport {
+        settings: &judged,
+        demand,
+    };
+    let found = report_text(alloc, bundle, anchors, vouchers, &asked);
     put_report(found, text, report)
 }
 
@@ -175,10 +160,18 @@ pub extern "C" fn certpath_paths(
     let Some(policy) = policy_of(settings) else {
         return BAD_MOMENT;
     };
-    let asked = AllSettings {
+    let Ok(shown) = shown_purpose(alloc, settings.purpose) else {
+        return OUT_OF_MEMORY;
+    };
+    let purpose = asked_purpose(settings.purpose, shown.as_str());
+    let judged = AllSettings {
         policy,
         limit: settings.limit,
     };
-    let found = paths_report(alloc, bundle, anchors, vouchers, &asked);
+    let asked = PathsReport {
+        settings: &judged,
+        purpose,
+    };
+    let found = report_text(alloc, bundle, anchors, vouchers, &asked);
     put_report(found, text, report)
 }

@@ -3,7 +3,7 @@
 ghost use Rattle.std.specs.Prelude.{◌≡◌, IfSome, IsNone};
 ghost use Rattle.cert_model.specs.Class.{certificate, list, other};
 ghost use Rattle.cert_model.specs.View.{time_view, certificate_view, list_view};
-ghost use Rattle.certcheck.specs.ClassView.{class_view};
+ghost use Rattle.cert_model.specs.ClassView.{class_view};
 ghost use Rattle.certpath_c.specs.Times.{IsRow, IsValidityOf, TimesAnswer};
 
 use crate::status::{DONE, NO_FIELD, OUT_OF_MEMORY};

@@ -35,7 +35,7 @@ fn given(octets: &[u8]) -> Option<&[u8]>
 }
 
 /// The host that a text asks for; `Err` where it is no host. An empty text asks for none.
-fn host_in(text: &[u8]) -> Result<Option<Host<'_>>, NoHost>
+pub(crate) fn host_in(text: &[u8]) -> Result<Option<Host<'_>>, NoHost>
     ensures { MatchResult result (IsHostIn text.now) (λ _. IsNoHost text.now) }
 {
     if text.is_empty() {
@@ -49,7 +49,7 @@ fn host_in(text: &[u8]) -> Result<Option<Host<'_>>, NoHost>
 
 /// A text is no host.
 #[derive(Clone, Copy, Debug)]
-struct NoHost;
+pub(crate) struct NoHost;
 
 /// What settings demand; none where their host is no host.
 pub(crate) fn wanted_of<'a>(settings: &Settings<'a>) -> Option<Wanted<'a>>

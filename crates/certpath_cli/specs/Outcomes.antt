@@ -1,9 +1,10 @@
 -- What the program hands to the engine's table of statuses.
-use Rattle.std.specs.Prelude.{◌≡◌, ◌⊎◌, List, ℕ, Contains, Err}
+use Rattle.std.specs.Prelude.{◌≡◌, ◌⊎◌, List, ℕ, Contains, Err, Option, None, Some}
+use Rattle.std.specs.Borrow.{Bor}
 use Rattle.certpath_engine.specs.declared.bundle_exit.BundleOutcome.{BundleOutcome}
 use Rattle.certpath_engine.specs.declared.bundle_exit.BundleOutcome.TheVariants as bundled
-use Rattle.certpath_engine.specs.declared.exit.FrameOutcome.{FrameOutcome}
-use Rattle.certpath_engine.specs.declared.exit.FrameOutcome.TheVariants.{Unopened, Framed}
+use Rattle.certpath_engine.specs.declared.items_exit.FrameOutcome.{FrameOutcome}
+use Rattle.certpath_engine.specs.declared.items_exit.FrameOutcome.TheVariants.{Unopened, Framed}
 use Rattle.certpath_engine.specs.declared.path_exit.PathFiles.{PathFiles}
 use Rattle.certpath_engine.specs.declared.path_exit.PathOutcome.{PathOutcome}
 use Rattle.certpath_engine.specs.declared.path_exit.PathOutcome.TheVariants as paths
@@ -13,16 +14,16 @@ use Rattle.certpath_engine.specs.declared.recheck_exit.RecheckFiles.{RecheckFile
 use Rattle.certpath_engine.specs.declared.recheck_exit.RecheckOutcome.{RecheckOutcome}
 use Rattle.certpath_engine.specs.declared.recheck_exit.RecheckOutcome.TheVariants as rechecked
 use Rattle.certpath_engine.specs.PathExits.{word_of}
-use Rattle.certpath_engine.specs.declared.questions_exit.ItemFiles.{ItemFiles}
-use Rattle.certpath_engine.specs.declared.questions_exit.QuestionsOutcome.{QuestionsOutcome}
-use Rattle.certpath_engine.specs.declared.questions_exit.QuestionsOutcome.TheVariants as asked
-use Rattle.certpath_engine.specs.QuestionsExits.{item_word_of}
-use Rattle.certpath_run.specs.declared.asking.ItemInput.{ItemInput}
-use Rattle.certpath_run.specs.declared.asking.ItemInput.TheVariants as items
-use Rattle.certpath_run.specs.declared.asking.QuestionsError.TheVariants as questions
-use Rattle.certpath_sources.specs.declared.settings.Input.{Input}
-use Rattle.certpath_sources.specs.declared.settings.Input.TheVariants.{Bundle, Anchors, Vouchers}
-use Rattle.certpath_sources.specs.declared.settings.RunError.TheVariants.{OutOfMemory}
+use Rattle.certpath_engine.specs.declared.items_exit.ItemFiles.{ItemFiles}
+use Rattle.certpath_engine.specs.declared.items_exit.QuestionsOutcome.{QuestionsOutcome}
+use Rattle.certpath_engine.specs.declared.items_exit.QuestionsOutcome.TheVariants as asked
+use Rattle.certpath_engine.specs.ItemsExits.{item_word_of}
+use Rattle.certpath_run.specs.declared.items.ItemInput.{ItemInput}
+use Rattle.certpath_run.specs.declared.items.ItemInput.TheVariants as items
+use Rattle.certpath_run.specs.declared.items.ItemsError.TheVariants as failures
+use Rattle.certpath_inputs.specs.declared.settings.Input.{Input}
+use Rattle.certpath_inputs.specs.declared.settings.Input.TheVariants.{Bundle, Anchors, Vouchers}
+use Rattle.certpath_inputs.specs.declared.settings.RunError.TheVariants.{OutOfMemory}
 
 -- it tells of the file of this word
 abbrev pub IsOfFile : List ℕ → FrameOutcome → Type 0
@@ -61,6 +62,13 @@ IsOfSearch files evidence (searched.Found outcome) = IsOfFiles files outcome
 IsOfSearch files evidence (searched.Uncreated file) = file.now ≡ evidence
 IsOfSearch files evidence (searched.Unwritten file) = file.now ≡ evidence
 
+-- it is of these files, or of that of the evidence, where there is one
+abbrev pub IsOfPaths : PathFiles → Option (Bor (List ℕ)) → PathsOutcome → Type 0
+IsOfPaths files None (searched.Found outcome) = IsOfFiles files outcome
+IsOfPaths files None (searched.Uncreated file) = ⊥
+IsOfPaths files None (searched.Unwritten file) = ⊥
+IsOfPaths files (Some evidence) outcome = IsOfSearch files evidence.now outcome
+
 -- it tells of these four files: of one that could not be opened, or of a run over them
 abbrev pub IsOfRecheck : RecheckFiles → RecheckOutcome → Type 0
 IsOfRecheck files (rechecked.Unopened file) = NamesOneOf files.searched file.now ⊎ (file.now ≡ files.evidence.now)
@@ -69,7 +77,7 @@ IsOfRecheck files (rechecked.Ran of answer) = of ≡ files
 -- a file of items could not be opened, or memory was refused
 abbrev pub AreItemsUnopened : ItemFiles → ItemInput → QuestionsOutcome → Type 0
 AreItemsUnopened files input (asked.Unopened file) = file.now ≡ item_word_of files input
-AreItemsUnopened files input (asked.Asked of answer) = (of ≡ files) × (answer ≡ Err questions.OutOfMemory)
+AreItemsUnopened files input (asked.Asked of answer) = (of ≡ files) × (answer ≡ Err failures.OutOfMemory)
 
 -- it tells of these files of items
 abbrev pub IsOfItemFiles : ItemFiles → QuestionsOutcome → Type 0

@@ -1,24 +1,24 @@
-//! The program `certpath`: opens the files that its words name, and ends with the status that the engine gives.
+//! The program `certpath`: opens the files that its words name, and ends with the status that the
+//! engine gives.
 #![tactic(auto)]
 
 ghost use Rattle.std.specs.Prelude.{◌≡◌, IfOk, IfErr, map};
-ghost use Rattle.certpath_cli.specs.Outcomes.{IsOfFile, IsOfWord, IsOfWords, IsOfFiles, IsUnopened, IsOfSearch, IsOfItemFiles, AreItemsUnopened, IsOfRecheck};
+ghost use Rattle.certpath_cli.specs.Outcomes.{IsOfFile, IsOfWord, IsOfWords, IsOfFiles, IsUnopened, IsOfSearch, IsOfPaths, IsOfItemFiles, AreItemsUnopened, IsOfRecheck};
 
 use asn1_device::{ReadSource, WriteSink};
 use certpath_bundle::{BundleError, File, bundle, read_file};
 use certpath_engine::{
-    BundleOutcome, Command, Exit, FrameError, FrameOutcome, Input, ItemFiles, ItemInput, PathFiles,
+    BundleOutcome, Command, Exit, FrameOutcome, Input, ItemFiles, ItemInput, ItemsError, PathFiles,
     PathOutcome, PathsOutcome, Question, QuestionsOutcome, RecheckFiles, RecheckOutcome, WordFault,
     asked_of, bundle_status, frame, frame_status, path_status, paths_status, questions_status,
     read_words, recheck_status, words_status,
 };
-use certpath_input::InputError;
+use certpath_inputs::{InputError, write_text};
 use certpath_recheck::{RecheckError, run_recheck_for};
 use certpath_run::{
-    AllOutcome, AllSettings, AskedPurpose, Findings, Outcome, QuestionsError, RunError,
-    find_evidence_for, run_all_for, run_for, run_questions, run_why_for,
+    AllSettings, AskedPurpose, EvidenceReport, Findings, Outcome, PathReport, PathsReport,
+    Reported, Reports, RunError, WhyReport, read_report, run_questions, run_report,
 };
-use certpath_sources::write_text;
 use std::alloc::Global;
 use std::process::ExitCode;
 use std::rt::{Files, Runtime};
@@ -32,13 +32,13 @@ fn main(rt: HostRuntime) -> ExitCode {
 fn status_of<R: Runtime + AllocGlobal>(rt: &R) -> u8 {
     let words = match words_given(rt) {
         Ok(words) => words,
-        Err(fault) => return tell(rt, words_status(fault)),
+        Err(fault) => return say(rt, words_status(fault)),
     };
     match read_words(rt.alloc(), words.as_slice()) {
-        Ok(Command::Frame { file, limit }) => tell(rt, frame_status(frame_file(rt, file, limit))),
-        Ok(Command::Bundle { files }) => tell(rt, bundle_status(bundle_files(rt, &files))),
-        Ok(Command::Path(question)) => tell(rt, path_status(find_path(rt, &question))),
-        Ok(Command::Why(question)) => tell(rt, path_status(tell_why(rt, &question))),
+        Ok(Command::Frame { file, limit }) => say(rt, frame_status(frame_file(rt, file, limit))),
+        Ok(Command::Bundle { files }) => say(rt, bundle_status(bundle_files(rt, &files))),
+        Ok(Command::Path(question)) => say(rt, path_status(find_path(rt, &question))),
+        Ok(Command::Why(question)) => say(rt, path_status(explain(rt, &question))),
         Ok(
             Command::Paths {
                 files,
@@ -47,12 +47,8 @@ fn status_of<R: Runtime + AllocGlobal>(rt: &R) -> u8 {
                 purpose,
             },
         ) => {
-            let asked = asked_of(&purpose);
-            let outcome = match evidence {
-                Some(word) => show_paths(rt, files, word, &settings, asked),
-                None => PathsOutcome::Found(find_paths(rt, files, &settings, asked)),
-            };
-            tell(rt, paths_status(outcome))
+            let outcome = find_paths(rt, files, evidence, &settings, asked_of(&purpose));
+            say(rt, paths_status(outcome))
         }
         Ok(
             Command::Recheck {
@@ -62,12 +58,12 @@ fn status_of<R: Runtime + AllocGlobal>(rt: &R) -> u8 {
             },
         ) => {
             let outcome = recheck(rt, files, &settings, asked_of(&purpose));
-            tell(rt, recheck_status(outcome))
+            say(rt, recheck_status(outcome))
         }
         Ok(Command::Questions { files, limit }) => {
-            tell(rt, questions_status(ask_questions(rt, files, limit)))
+            say(rt, questions_status(ask_questions(rt, files, limit)))
         }
-        Err(fault) => tell(rt, words_status(fault)),
+        Err(fault) => say(rt, words_status(fault)),
     }
 }
 
@@ -103,7 +99,7 @@ fn frame_file<'a, R: Runtime + AllocGlobal>(rt: &R, file: &'a str, limit: u32) -
             FrameOutcome::Framed(file, frame(rt.alloc(), &mut reader, limit, &mut writer))
         }
         Err(error) if error.kind() == io::ErrorKind::OutOfMemory => {
-            FrameOutcome::Framed(file, Err(FrameError::OutOfMemory))
+            FrameOutcome::Framed(file, Err(ItemsError::OutOfMemory))
         }
         Err(_) => FrameOutcome::Unopened(file),
     }
@@ -121,8 +117,8 @@ fn bundle_files<'a, R: Runtime + AllocGlobal>(rt: &R, words: &[&'a str]) -> Bund
     BundleOutcome::Bundled(bundle(rt.alloc(), &files, &mut writer))
 }
 
-/// The files of these words, or how far the run came without one. Each is opened once those before it
-/// are read, so that there may be more of them than can be open at once.
+/// The files of these words, or how far the run came without one. Each is opened once those before
+/// it are read, so that there may be more of them than can be open at once.
 #[tactic(auto, using(crate::proofs::WordFacts::of_one))]
 fn files_read<'a, R: Runtime + AllocGlobal>(
     rt: &R,
@@ -172,63 +168,12 @@ fn path_of(word: &str) -> &str {
     if word == "-" { "/dev/stdin" } else { word }
 }
 
-/// Finds a path over three files, to standard output.
-fn find_path<'a, R: Runtime + AllocGlobal>(
-    rt: &R,
-    question: &Question<'a>,
-) -> PathOutcome<'a, Outcome>
-    ensures { IsOfFiles question.now.files result }
-{
-    let files = question.files;
-    let mut inputs = match opened_inputs(rt, files) {
-        Ok(inputs) => inputs,
-        Err(outcome) => return outcome,
-    };
-    let mut writer = WriteSink::new(io::writer(rt));
-    let answer = run_for(
-        rt.alloc(),
-        &mut inputs.bundle,
-        &mut inputs.anchors,
-        &mut inputs.vouchers,
-        &question.settings,
-        &question.demand(),
-        &mut writer,
-    );
-    PathOutcome::Ran(files, answer)
-}
-
-/// Writes what prevents a path, over three files, to standard output.
-fn tell_why<'a, R: Runtime + AllocGlobal>(
-    rt: &R,
-    question: &Question<'a>,
-) -> PathOutcome<'a, Outcome>
-    ensures { IsOfFiles question.now.files result }
-{
-    let files = question.files;
-    let mut inputs = match opened_inputs(rt, files) {
-        Ok(inputs) => inputs,
-        Err(outcome) => return outcome,
-    };
-    let mut writer = WriteSink::new(io::writer(rt));
-    let answer = run_why_for(
-        rt.alloc(),
-        &mut inputs.bundle,
-        &mut inputs.anchors,
-        &mut inputs.vouchers,
-        &question.settings,
-        &question.demand(),
-        &mut writer,
-    );
-    PathOutcome::Ran(files, answer)
-}
-
-/// Finds the paths of all items over three files, to standard output.
-fn find_paths<'a, R: Runtime + AllocGlobal>(
+/// Writes a report on three files to standard output. All are opened before one is read.
+fn report_on<'a, R: Runtime + AllocGlobal, T: Reports>(
     rt: &R,
     files: PathFiles<'a>,
-    settings: &AllSettings,
-    purpose: Option<AskedPurpose<'_>>,
-) -> PathOutcome<'a, AllOutcome>
+    asked: &T,
+) -> PathOutcome<'a, T::Outcome>
     ensures { IsOfFiles files.entry result }
 {
     let mut inputs = match opened_inputs(rt, files) {
@@ -236,25 +181,69 @@ fn find_paths<'a, R: Runtime + AllocGlobal>(
         Err(outcome) => return outcome,
     };
     let mut writer = WriteSink::new(io::writer(rt));
-    let answer = run_all_for(
+    let answer = run_report(
         rt.alloc(),
         &mut inputs.bundle,
         &mut inputs.anchors,
         &mut inputs.vouchers,
-        settings,
-        purpose,
+        asked,
         &mut writer,
     );
     PathOutcome::Ran(files, answer)
 }
 
-/// Finds the paths of all items over three files, writes the evidence to a file, and then the report to standard output.
+/// Finds a path, to standard output.
+fn find_path<'a, R: Runtime + AllocGlobal>(
+    rt: &R,
+    question: &Question<'a>,
+) -> PathOutcome<'a, Outcome>
+    ensures { IsOfFiles question.now.files result }
+{
+    let asked = PathReport {
+        settings: &question.settings,
+        demand: question.demand(),
+    };
+    report_on(rt, question.files, &asked)
+}
+
+/// Says what prevents a path, to standard output.
+fn explain<'a, R: Runtime + AllocGlobal>(
+    rt: &R,
+    question: &Question<'a>,
+) -> PathOutcome<'a, Outcome>
+    ensures { IsOfFiles question.now.files result }
+{
+    let asked = WhyReport {
+        settings: &question.settings,
+        demand: question.demand(),
+    };
+    report_on(rt, question.files, &asked)
+}
+
+/// Finds the paths of all items, to standard output, and writes the evidence to a file, where one
+/// is named.
+fn find_paths<'a, R: Runtime + AllocGlobal>(
+    rt: &R,
+    files: PathFiles<'a>,
+    evidence: Option<&'a str>,
+    settings: &AllSettings,
+    purpose: Option<AskedPurpose<'_>>,
+) -> PathsOutcome<'a>
+    ensures { IsOfPaths files.entry evidence.entry result }
+{
+    match evidence {
+        Some(word) => show_paths(rt, files, word, &EvidenceReport { settings, purpose }),
+        None => PathsOutcome::Found(report_on(rt, files, &PathsReport { settings, purpose })),
+    }
+}
+
+/// Finds the paths of all items over three files, writes the evidence to a file, and then the
+/// report to standard output.
 fn show_paths<'a, R: Runtime + AllocGlobal>(
     rt: &R,
     files: PathFiles<'a>,
     evidence: &'a str,
-    settings: &AllSettings,
-    purpose: Option<AskedPurpose<'_>>,
+    asked: &EvidenceReport<'_>,
 ) -> PathsOutcome<'a>
     ensures { IsOfSearch files.entry evidence.entry.now result }
 {
@@ -262,20 +251,19 @@ fn show_paths<'a, R: Runtime + AllocGlobal>(
         Ok(inputs) => inputs,
         Err(outcome) => return PathsOutcome::Found(outcome),
     };
-    let found = find_evidence_for(
+    let found = read_report(
         rt.alloc(),
         &mut inputs.bundle,
         &mut inputs.anchors,
         &mut inputs.vouchers,
-        settings,
-        purpose,
+        asked,
     );
-    let findings = match found {
-        Ok(findings) => findings,
+    let reported = match found {
+        Ok(reported) => reported,
         Err(error) => return PathsOutcome::Found(PathOutcome::Ran(files, Err(error))),
     };
     match create(rt, files, evidence) {
-        Ok(file) => write_findings(rt, files, evidence, file, &findings),
+        Ok(file) => write_findings(rt, files, evidence, file, &reported),
         Err(outcome) => outcome,
     }
 }
@@ -303,17 +291,17 @@ fn write_findings<'a, R: Runtime + AllocGlobal>(
     files: PathFiles<'a>,
     evidence: &'a str,
     file: R::File,
-    findings: &Findings,
+    reported: &Reported<Findings>,
 ) -> PathsOutcome<'a>
     ensures { IsOfSearch files.entry evidence.entry.now result }
 {
     let mut file = WriteSink::new(file);
-    if write_text(&mut file, findings.evidence.as_bytes()).is_err() {
+    if write_text(&mut file, reported.outcome.evidence.as_bytes()).is_err() {
         return PathsOutcome::Unwritten(evidence);
     }
     let mut writer = WriteSink::new(io::writer(rt));
-    match write_text(&mut writer, findings.report.as_bytes()) {
-        Ok(()) => PathsOutcome::Found(PathOutcome::Ran(files, Ok(findings.outcome))),
+    match write_text(&mut writer, reported.text.as_bytes()) {
+        Ok(()) => PathsOutcome::Found(PathOutcome::Ran(files, Ok(reported.outcome.outcome))),
         Err(error) => PathsOutcome::Found(PathOutcome::Ran(files, Err(error))),
     }
 }
@@ -358,7 +346,8 @@ fn out_of_memory<'a>(files: RecheckFiles<'a>) -> RecheckOutcome<'a>
     RecheckOutcome::Ran(files, Err(RecheckError::Run(RunError::OutOfMemory)))
 }
 
-/// Asks over two files which keys may have signed which items, to standard output. Both are opened before one is read.
+/// Asks over two files which keys may have signed which items, to standard output. Both are opened
+/// before one is read.
 fn ask_questions<'a, R: Runtime + AllocGlobal>(
     rt: &R,
     files: ItemFiles<'a>,
@@ -394,7 +383,7 @@ fn opened_items<'a, R: Runtime + AllocGlobal>(
         Ok(opened) => Ok(opened),
         Err(error) if error.kind() == io::ErrorKind::OutOfMemory => Err(QuestionsOutcome::Asked(
             files,
-            Err(QuestionsError::OutOfMemory),
+            Err(ItemsError::OutOfMemory),
         )),
         Err(_) => Err(QuestionsOutcome::Unopened(word)),
     }
@@ -408,7 +397,8 @@ struct Inputs<F> {
     vouchers: ReadSource<F>,
 }
 
-/// Opens the files of the three inputs, in order, or says how far the run came without one. All are opened before one is read.
+/// Opens the files of the three inputs, in order, or says how far the run came without one. All are
+/// opened before one is read.
 fn opened_inputs<'a, R: Runtime + AllocGlobal, T: Drop>(
     rt: &R,
     files: PathFiles<'a>,
@@ -444,7 +434,7 @@ fn opened<'a, R: Runtime + AllocGlobal, T: Drop>(
 }
 
 /// Says on standard error what there is to say, and answers the exit status.
-fn tell<R: Eprint>(rt: &R, exit: Exit<'_>) -> u8
+fn say<R: Eprint>(rt: &R, exit: Exit<'_>) -> u8
     ensures { result ≡ exit.entry.status }
 {
     if let Some(message) = &exit.message {

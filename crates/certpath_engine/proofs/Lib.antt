@@ -1,5 +1,5 @@
 mod BundleLemmas
 mod Examples
 mod NumberLemmas
-mod TextLemmas
 mod WordLemmas
+mod MomentLaws

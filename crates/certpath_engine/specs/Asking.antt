@@ -14,10 +14,10 @@ use Rattle.host_names.specs.Asked.{AsksFor}
 use Rattle.host_names.specs.Refusals.{IsRefusedFor}
 use Rattle.purpose_names.specs.Reading.{WritesPurpose, RefusesPurpose}
 use Rattle.purpose_names.specs.Showing.{IsShown}
-use Rattle.certpath_sources.specs.declared.demand.AskedHost.{AskedHost}
-use Rattle.certpath_sources.specs.declared.demand.AskedPurpose.{AskedPurpose}
-use Rattle.certpath_sources.specs.declared.demand.Demand.{Demand}
-use Rattle.certpath_moment.specs.Moments.{WritesMoment}
+use Rattle.certpath_inputs.specs.declared.demand.AskedHost.{AskedHost}
+use Rattle.certpath_inputs.specs.declared.demand.AskedPurpose.{AskedPurpose}
+use Rattle.certpath_inputs.specs.declared.demand.Demand.{Demand}
+use Rattle.certpath_engine.specs.Moments.{WritesMoment}
 use Rattle.certpath_engine.specs.Numbers.{WritesNumber}
 use Rattle.certpath_engine.specs.Words.{certpath_app}
 use Rattle.certpath_engine.specs.declared.texts.Asked.{Asked}
@@ -29,7 +29,7 @@ use Rattle.certpath_engine.specs.declared.questions_texts.QuestionsTexts.{Questi
 use Rattle.certpath_engine.specs.declared.texts.AllTexts.{AllTexts}
 use Rattle.certpath_engine.specs.declared.texts.PathsTexts.{PathsTexts}
 use Rattle.certpath_engine.specs.declared.texts.RecheckTexts.{RecheckTexts}
-use Rattle.certpath_sources.specs.declared.settings.AllSettings.{AllSettings}
+use Rattle.certpath_inputs.specs.declared.settings.AllSettings.{AllSettings}
 use Rattle.certpath_run.specs.declared.settings.Settings.{Settings}
 use Rattle.certpath_engine.specs.declared.path_exit.PathFiles.{PathFiles}
 use Rattle.certpath_engine.specs.declared.demands.Purpose.{Purpose}

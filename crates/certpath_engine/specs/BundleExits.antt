@@ -1,7 +1,7 @@
 -- What the program ends with after `bundle`: its exit status, and what it says on standard error.
 use Rattle.std.specs.Prelude.{ℕ, ◌==◌, if◌then◌else◌, List, Result, Ok, Err, codes, string_bytes}
-use Rattle.certpath_input.specs.declared.reading.InputError.{InputError}
-use Rattle.certpath_input.specs.declared.reading.InputError.TheVariants as inputs
+use Rattle.certpath_inputs.specs.declared.reading.InputError.{InputError}
+use Rattle.certpath_inputs.specs.declared.reading.InputError.TheVariants as inputs
 use Rattle.certpath_bundle.specs.declared.bundling.Said.{Said}
 use Rattle.certpath_bundle.specs.declared.bundling.BundleError.{BundleError}
 use Rattle.certpath_bundle.specs.declared.bundling.BundleError.TheVariants.{OutOfMemory, Write}

@@ -1,18 +1,12 @@
 -- What the program ends with: its exit status, and what it says on standard error.
-use Rattle.std.specs.Prelude.{ℕ, List, [], ◌∷◌, ◌++◌, Option, None, Some, Result, Ok, Err, codes, string_bytes}
+use Rattle.std.specs.Prelude.{ℕ, List, [], ◌∷◌, ◌++◌, Option, None, Some, codes, string_bytes}
 use Rattle.std.specs.Fmt.{decimal}
-use Rattle.cert_framing.specs.declared.ending.End.{End}
-use Rattle.cert_framing.specs.declared.ending.End.TheVariants.{Clean, Cut, Fault}
 use Rattle.host_names.specs.declared.refusal.Refusal.{Refusal}
 use Rattle.purpose_names.specs.declared.refusal.PurposeRefusal.{PurposeRefusal}
 use Rattle.purpose_names.specs.Reading.{reason_of}
 use Rattle.certpath_engine.specs.Refusals.{host_reason}
-use Rattle.certpath_engine.specs.declared.exit.FrameOutcome.{FrameOutcome}
-use Rattle.certpath_engine.specs.declared.exit.FrameOutcome.TheVariants.{Unopened, Framed}
 use Rattle.certpath_engine.specs.declared.exit.Message.{Message}
 use Rattle.certpath_engine.specs.declared.exit.Message.TheVariants.{Usage, LeftOut, BadNumber, BadMoment, BadHost, BadPurpose, OtherPurpose, CannotRead, CannotCreate, VouchersLine, EvidenceLine, OutOfMemory as NoMemory, CannotWrite, CannotWriteTo}
-use Rattle.certpath_engine.specs.declared.framing.FrameError.{FrameError}
-use Rattle.certpath_engine.specs.declared.framing.FrameError.TheVariants.{Read, TooLong, OutOfMemory, Write}
 use Rattle.certpath_engine.specs.declared.words.WordFault.{WordFault}
 use Rattle.certpath_engine.specs.declared.words.WordFault.TheVariants.{Refused, Number, Moment, Host, Purpose, OutOfMemory as NoWordMemory}
 
@@ -52,21 +46,6 @@ words_exit_of Moment = (2, line (codes "bad moment"))
 words_exit_of (Host reason) = (2, bad_host reason)
 words_exit_of (Purpose reason) = (2, bad_purpose reason)
 words_exit_of NoWordMemory = (6, line (codes "out of memory"))
-
--- status and text where the file of this word was opened
-abbrev pub framed_exit_of : List ℕ → Result End FrameError → ℕ × List ℕ
-framed_exit_of word (Ok Clean) = (0, [])
-framed_exit_of word (Ok (Cut at)) = (1, [])
-framed_exit_of word (Ok (Fault at)) = (1, [])
-framed_exit_of word (Err Read) = (4, cannot_read word)
-framed_exit_of word (Err TooLong) = (4, cannot_read word)
-framed_exit_of word (Err OutOfMemory) = (6, line (codes "out of memory"))
-framed_exit_of word (Err Write) = (7, line (codes "cannot write"))
-
--- status and text of the command `frame`
-abbrev pub frame_exit : FrameOutcome → ℕ × List ℕ
-frame_exit (Unopened word) = (4, cannot_read word.now)
-frame_exit (Framed word answer) = framed_exit_of word.now answer
 
 -- a message's text
 abbrev pub message_text : Message → List ℕ

@@ -2,10 +2,10 @@ pub mod Refusals
 pub mod Exits
 pub mod BundleExits
 pub mod PathExits
-pub mod QuestionsExits
+pub mod ItemsExits
 pub mod RecheckExits
 pub mod Numbers
-pub mod Runs
-pub mod Text
 pub mod Words
 pub mod Asking
+pub mod Moments
+pub mod MomentReading

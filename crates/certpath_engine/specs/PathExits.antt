@@ -1,13 +1,13 @@
 -- What the program ends with after `path`, `why` and `paths`: its exit status, and what it says on standard error.
 use Rattle.std.specs.Prelude.{ℕ, List, [], Result, Ok, Err, codes}
-use Rattle.certpath_sources.specs.declared.settings.Input.{Input}
-use Rattle.certpath_sources.specs.declared.settings.Input.TheVariants.{Bundle, Anchors, Vouchers}
+use Rattle.certpath_inputs.specs.declared.settings.Input.{Input}
+use Rattle.certpath_inputs.specs.declared.settings.Input.TheVariants.{Bundle, Anchors, Vouchers}
 use Rattle.certpath_run.specs.declared.settings.Outcome.{Outcome}
 use Rattle.certpath_run.specs.declared.settings.Outcome.TheVariants.{Path, NoPath, NoTarget}
 use Rattle.certpath_run.specs.declared.settings.AllOutcome.{AllOutcome}
 use Rattle.certpath_run.specs.declared.settings.AllOutcome.TheVariants.{Each, NotEach}
-use Rattle.certpath_sources.specs.declared.settings.RunError.{RunError}
-use Rattle.certpath_sources.specs.declared.settings.RunError.TheVariants.{Read, TooLong, BadLine, OutOfMemory, Write}
+use Rattle.certpath_inputs.specs.declared.settings.RunError.{RunError}
+use Rattle.certpath_inputs.specs.declared.settings.RunError.TheVariants.{Read, TooLong, BadLine, OutOfMemory, Write}
 use Rattle.certpath_engine.specs.declared.path_exit.PathFiles.{PathFiles}
 use Rattle.certpath_engine.specs.declared.path_exit.PathOutcome.{PathOutcome}
 use Rattle.certpath_engine.specs.declared.path_exit.PathOutcome.TheVariants.{Unopened, Ran}

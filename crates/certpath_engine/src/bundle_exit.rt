@@ -3,9 +3,9 @@ ghost use Rattle.std.specs.Prelude.{◌≡◌};
 ghost use Rattle.certpath_engine.specs.Exits.{words_of};
 ghost use Rattle.certpath_engine.specs.BundleExits.{bundle_exit, bundled_exit_of, unread_exit_of, said_exit_of, unwritten_exit_of, left_out_status_of};
 
-use crate::exit::{Exit, Message, ended};
+use crate::exit::{CANNOT_READ, CANNOT_WRITE, DONE, Exit, Message, NOT_ALL, OUT_OF_MEMORY, ended};
 use certpath_bundle::{BundleError, Said};
-use certpath_input::InputError;
+use certpath_inputs::InputError;
 
 /// How far the command `bundle` came.
 #[derive(Debug, Drop)]
@@ -18,13 +18,16 @@ pub enum BundleOutcome<'a> {
     Bundled(Result<Said, BundleError>),
 }
 
-/// The status that `bundle` ends with, and what it says on standard error.
+/// Returns the status of `bundle`, and what it says on standard error.
+///
+/// Status 0 if nothing was left out, 1 if something was; 4 with `cannot read FILE`, 6 with `out of
+/// memory`, 7 with `cannot write`.
 pub fn bundle_status<'a>(outcome: BundleOutcome<'a>) -> Exit<'a>
     ensures status { result.status ≡ (bundle_exit outcome.entry).0 }
     ensures words { words_of result.message ≡ (bundle_exit outcome.entry).1 }
 {
     match outcome {
-        BundleOutcome::Unopened(file) => ended(4, Message::CannotRead(file)),
+        BundleOutcome::Unopened(file) => ended(CANNOT_READ, Message::CannotRead(file)),
         BundleOutcome::Unread(file, error) => unread_exit(file, error),
         BundleOutcome::Bundled(answer) => bundled_exit(answer),
     }
@@ -47,8 +50,8 @@ fn unread_exit<'a>(file: &'a str, error: InputError) -> Exit<'a>
     ensures words { words_of result.message ≡ (unread_exit_of file.now error).1 }
 {
     match error {
-        InputError::Read | InputError::TooLong => ended(4, Message::CannotRead(file)),
-        InputError::OutOfMemory => ended(6, Message::OutOfMemory),
+        InputError::Read | InputError::TooLong => ended(CANNOT_READ, Message::CannotRead(file)),
+        InputError::OutOfMemory => ended(OUT_OF_MEMORY, Message::OutOfMemory),
     }
 }
 
@@ -56,7 +59,7 @@ fn unread_exit<'a>(file: &'a str, error: InputError) -> Exit<'a>
 fn left_out_status(count: usize) -> u8
     ensures { result ≡ left_out_status_of count }
 {
-    if count == 0 { 0 } else { 1 }
+    if count == 0 { DONE } else { NOT_ALL }
 }
 
 /// How the program ends where all was written.
@@ -74,7 +77,7 @@ fn unwritten_exit<'a>(error: BundleError) -> Exit<'a>
     ensures words { words_of result.message ≡ (unwritten_exit_of error).1 }
 {
     match error {
-        BundleError::OutOfMemory => ended(6, Message::OutOfMemory),
-        BundleError::Write => ended(7, Message::CannotWrite),
+        BundleError::OutOfMemory => ended(OUT_OF_MEMORY, Message::OutOfMemory),
+        BundleError::Write => ended(CANNOT_WRITE, Message::CannotWrite),
     }
 }

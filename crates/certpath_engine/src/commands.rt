@@ -127,7 +127,8 @@ fn recheck_command<'a>(alloc: Global) -> Result<Command<'a>, AllocError>
     with_purpose(alloc, recheck)
 }
 
-/// A command with the words of a question on one target: the files, the target, the moment, whether lists are demanded, the limit.
+/// A command with the words of a question on one target: the files, the target, the moment, whether
+/// lists are demanded, the limit.
 fn with_question<'a>(alloc: Global, command: Command<'a>) -> Result<Command<'a>, AllocError>
     requires { (out-Command command).has_globals ≡ false }
     ensures app { IfOk result (λ c. app_of c ≡ with_question (app_of command.entry)) }

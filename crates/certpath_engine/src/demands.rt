@@ -5,7 +5,7 @@ ghost use Rattle.certpath_engine.specs.Asking.{WritesHost, RefusesHost, WritesPu
 
 use crate::words::WordFault;
 use asn1_oid::Oid;
-use certpath_sources::{AskedHost, AskedPurpose};
+use certpath_inputs::{AskedHost, AskedPurpose};
 use host_names::Host;
 use purpose_names::{PurposeRefusal, push_purpose, read_purpose};
 use std::alloc::Global;

@@ -1,23 +1,40 @@
 //! What the program ends with: a status, and what it says on standard error.
-ghost use Rattle.std.specs.Prelude.{◌≡◌, [], Some, Ok, Err};
-ghost use Rattle.certpath_engine.specs.Exits.{frame_exit, framed_exit_of, message_text, words_exit_of, words_of};
 
-use crate::framing::FrameError;
+ghost use Rattle.std.specs.Prelude.{◌≡◌, [], Some};
+ghost use Rattle.certpath_engine.specs.Exits.{message_text, words_exit_of, words_of};
+
 use crate::refusals::host_reason;
 use crate::words::WordFault;
-use cert_framing::End;
 use host_names::Refusal;
 use purpose_names::PurposeRefusal;
 use std::fmt;
 
-/// How far the command `frame` came.
-#[derive(Debug, Drop)]
-pub enum FrameOutcome<'a> {
-    /// This file can't be opened.
-    Unopened(&'a str),
-    /// This file was opened, and framing it answered this.
-    Framed(&'a str, Result<End, FrameError>),
-}
+/// All was done; for `recheck`, the check said yes.
+pub(crate) const DONE: u8 = 0;
+
+/// All was written, and it says that something is missing or wrong.
+pub(crate) const NOT_ALL: u8 = 1;
+
+/// The words of the command line are refused, or ask for help.
+pub(crate) const BAD_WORDS: u8 = 2;
+
+/// The target is no certificate.
+pub(crate) const NO_TARGET: u8 = 3;
+
+/// A file can't be opened, created or read.
+pub(crate) const CANNOT_READ: u8 = 4;
+
+/// A line of the vouchers is bad.
+pub(crate) const BAD_VOUCHERS: u8 = 5;
+
+/// Memory was refused.
+pub(crate) const OUT_OF_MEMORY: u8 = 6;
+
+/// Standard output failed, or the file of the evidence.
+pub(crate) const CANNOT_WRITE: u8 = 7;
+
+/// A line of the evidence is bad.
+pub(crate) const BAD_EVIDENCE: u8 = 8;
 
 /// What is said on standard error: `clap`'s text, the lines of a bundle, or one line.
 #[derive(Debug, Drop)]
@@ -90,64 +107,21 @@ impl fmt::Display for Message<'_> {
     }
 }
 
-/// The status that `frame` ends with, and what it says on standard error.
-pub fn frame_status<'a>(outcome: FrameOutcome<'a>) -> Exit<'a>
-    ensures status { result.status ≡ (frame_exit outcome.entry).0 }
-    ensures words { words_of result.message ≡ (frame_exit outcome.entry).1 }
-{
-    match outcome {
-        FrameOutcome::Unopened(file) => ended(4, Message::CannotRead(file)),
-        FrameOutcome::Framed(file, answer) => framed_exit(file, answer),
-    }
-}
-
-/// How the program ends where the file was opened.
-fn framed_exit<'a>(file: &'a str, answer: Result<End, FrameError>) -> Exit<'a>
-    ensures status { result.status ≡ (framed_exit_of file.now answer).0 }
-    ensures words { words_of result.message ≡ (framed_exit_of file.now answer).1 }
-{
-    match answer {
-        Ok(end) => silent(end_status(end)),
-        Err(error) => failed_exit(file, error),
-    }
-}
-
-/// The status where the stream was framed.
-fn end_status(end: End) -> u8
-    ensures { result ≡ (framed_exit_of [] (Ok end)).0 }
-{
-    match end {
-        End::Clean => 0,
-        End::Cut(_) | End::Fault(_) => 1,
-    }
-}
-
-/// How the program ends where it was not.
-fn failed_exit<'a>(file: &'a str, error: FrameError) -> Exit<'a>
-    ensures status { result.status ≡ (framed_exit_of file.now (Err error)).0 }
-    ensures words { words_of result.message ≡ (framed_exit_of file.now (Err error)).1 }
-{
-    match error {
-        FrameError::Read | FrameError::TooLong => ended(4, Message::CannotRead(file)),
-        FrameError::OutOfMemory => ended(6, Message::OutOfMemory),
-        FrameError::Write => ended(7, Message::CannotWrite),
-    }
-}
-
 /// The status for a command line that names nothing to do, and what is printed on standard error.
 ///
-/// Status 2 with `clap`'s text, `bad number`, `bad moment`, `bad host` or `bad purpose`; status 6 if memory was refused.
+/// Status 2 with `clap`'s text, `bad number`, `bad moment`, `bad host` or `bad purpose`; status 6
+/// if memory was refused.
 pub fn words_status<'a>(fault: WordFault) -> Exit<'a>
     ensures status { result.status ≡ (words_exit_of fault).0 }
     ensures words { words_of result.message ≡ (words_exit_of fault).1 }
 {
     match fault {
-        WordFault::Refused(text) => ended(2, Message::Usage(text)),
-        WordFault::Number => ended(2, Message::BadNumber),
-        WordFault::Moment => ended(2, Message::BadMoment),
-        WordFault::Host(reason) => ended(2, Message::BadHost(reason)),
-        WordFault::Purpose(reason) => ended(2, Message::BadPurpose(reason)),
-        WordFault::OutOfMemory => ended(6, Message::OutOfMemory),
+        WordFault::Refused(text) => ended(BAD_WORDS, Message::Usage(text)),
+        WordFault::Number => ended(BAD_WORDS, Message::BadNumber),
+        WordFault::Moment => ended(BAD_WORDS, Message::BadMoment),
+        WordFault::Host(reason) => ended(BAD_WORDS, Message::BadHost(reason)),
+        WordFault::Purpose(reason) => ended(BAD_WORDS, Message::BadPurpose(reason)),
+        WordFault::OutOfMemory => ended(OUT_OF_MEMORY, Message::OutOfMemory),
     }
 }
 

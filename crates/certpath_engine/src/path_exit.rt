@@ -3,14 +3,20 @@ ghost use Rattle.std.specs.Prelude.{◌≡◌};
 ghost use Rattle.certpath_engine.specs.Exits.{words_of};
 ghost use Rattle.certpath_engine.specs.PathExits.{path_exit, paths_exit, found_exit, ran_exit_of, all_exit_of, refused_exit_of, status_of, all_status_of, word_of};
 
-use crate::exit::{Exit, Message, ended, silent};
+use crate::exit::{
+    BAD_VOUCHERS, CANNOT_READ, CANNOT_WRITE, DONE, Exit, Message, NO_TARGET, NOT_ALL,
+    OUT_OF_MEMORY, ended, silent,
+};
 use certpath_run::{AllOutcome, Input, Outcome, RunError};
 
-/// The files of `path`, by their words.
+/// The files of `path`, `why` and `paths`, by their words.
 #[derive(Clone, Copy, Debug, PartialEq, Eq)]
 pub struct PathFiles<'a> {
+    /// The bundle.
     pub bundle: &'a str,
+    /// The anchors.
     pub anchors: &'a str,
+    /// The vouchers.
     pub vouchers: &'a str,
 }
 
@@ -47,26 +53,32 @@ pub enum PathsOutcome<'a> {
     Unwritten(&'a str),
 }
 
-/// The status that `path` and `why` end with, and what they say on standard error.
+/// Returns the status of `path` and `why`, and what they say on standard error.
+///
+/// Status 0 if there is a path, 1 if there is none, 3 if the target is no certificate; 4 with
+/// `cannot read FILE`, 5 with `vouchers line N`, 6 with `out of memory`, 7 with `cannot write`.
 pub fn path_status<'a>(outcome: PathOutcome<'a, Outcome>) -> Exit<'a>
     ensures status { result.status ≡ (path_exit outcome.entry).0 }
     ensures words { words_of result.message ≡ (path_exit outcome.entry).1 }
 {
     match outcome {
-        PathOutcome::Unopened(file) => ended(4, Message::CannotRead(file)),
+        PathOutcome::Unopened(file) => ended(CANNOT_READ, Message::CannotRead(file)),
         PathOutcome::Ran(files, answer) => ran_exit(files, answer),
     }
 }
 
-/// The status that `paths` ends with, and what it says on standard error.
+/// Returns the status of `paths`, and what it says on standard error.
+///
+/// Status 0 if each certificate has a path, 1 if not; else as of [`path_status`], or 4 with `cannot
+/// create FILE` and 7 with `cannot write FILE`, of the file of the evidence.
 pub fn paths_status<'a>(outcome: PathsOutcome<'a>) -> Exit<'a>
     ensures status { result.status ≡ (paths_exit outcome.entry).0 }
     ensures words { words_of result.message ≡ (paths_exit outcome.entry).1 }
 {
     match outcome {
         PathsOutcome::Found(outcome) => found_exit(outcome),
-        PathsOutcome::Uncreated(file) => ended(4, Message::CannotCreate(file)),
-        PathsOutcome::Unwritten(file) => ended(7, Message::CannotWriteTo(file)),
+        PathsOutcome::Uncreated(file) => ended(CANNOT_READ, Message::CannotCreate(file)),
+        PathsOutcome::Unwritten(file) => ended(CANNOT_WRITE, Message::CannotWriteTo(file)),
     }
 }
 
@@ -76,7 +88,7 @@ fn found_exit<'a>(outcome: PathOutcome<'a, AllOutcome>) -> Exit<'a>
     ensures words { words_of result.message ≡ (found_exit outcome.entry).1 }
 {
     match outcome {
-        PathOutcome::Unopened(file) => ended(4, Message::CannotRead(file)),
+        PathOutcome::Unopened(file) => ended(CANNOT_READ, Message::CannotRead(file)),
         PathOutcome::Ran(files, answer) => all_exit(files, answer),
     }
 }
@@ -108,9 +120,9 @@ fn outcome_status(outcome: Outcome) -> u8
     ensures { result ≡ status_of outcome }
 {
     match outcome {
-        Outcome::Path => 0,
-        Outcome::NoPath => 1,
-        Outcome::NoTarget => 3,
+        Outcome::Path => DONE,
+        Outcome::NoPath => NOT_ALL,
+        Outcome::NoTarget => NO_TARGET,
     }
 }
 
@@ -119,8 +131,8 @@ fn all_status(outcome: AllOutcome) -> u8
     ensures { result ≡ all_status_of outcome }
 {
     match outcome {
-        AllOutcome::Each => 0,
-        AllOutcome::NotEach => 1,
+        AllOutcome::Each => DONE,
+        AllOutcome::NotEach => NOT_ALL,
     }
 }
 
@@ -131,10 +143,10 @@ pub(crate) fn refused_exit<'a>(files: PathFiles<'a>, error: RunError) -> Exit<'a
 {
     match error {
         RunError::Read(input) | RunError::TooLong(input) => {
-            ended(4, Message::CannotRead(files.word(input)))
+            ended(CANNOT_READ, Message::CannotRead(files.word(input)))
         }
-        RunError::BadLine(number) => ended(5, Message::VouchersLine(number)),
-        RunError::OutOfMemory => ended(6, Message::OutOfMemory),
-        RunError::Write => ended(7, Message::CannotWrite),
+        RunError::BadLine(number) => ended(BAD_VOUCHERS, Message::VouchersLine(number)),
+        RunError::OutOfMemory => ended(OUT_OF_MEMORY, Message::OutOfMemory),
+        RunError::Write => ended(CANNOT_WRITE, Message::CannotWrite),
     }
 }

@@ -3,7 +3,7 @@ ghost use Rattle.std.specs.Prelude.{◌≡◌};
 ghost use Rattle.certpath_engine.specs.Exits.{words_of};
 ghost use Rattle.certpath_engine.specs.RecheckExits.{recheck_exit, said_exit_of, said_status_of, unsaid_exit_of};
 
-use crate::exit::{Exit, Message, ended, silent};
+use crate::exit::{BAD_EVIDENCE, CANNOT_READ, DONE, Exit, Message, NOT_ALL, ended, silent};
 use crate::path_exit::{PathFiles, refused_exit};
 use certpath_recheck::RecheckError;
 
@@ -25,13 +25,16 @@ pub enum RecheckOutcome<'a> {
     Ran(RecheckFiles<'a>, Result<bool, RecheckError>),
 }
 
-/// The status that `recheck` ends with, and what it says on standard error.
+/// Returns the status of `recheck`, and what it says on standard error.
+///
+/// Status 0 if the check says yes, 1 if it says no or the evidence is for another purpose; 8 with
+/// `evidence line N`; else as of `path_status`, with the evidence among the files.
 pub fn recheck_status<'a>(outcome: RecheckOutcome<'a>) -> Exit<'a>
     ensures status { result.status ≡ (recheck_exit outcome.entry).0 }
     ensures words { words_of result.message ≡ (recheck_exit outcome.entry).1 }
 {
     match outcome {
-        RecheckOutcome::Unopened(file) => ended(4, Message::CannotRead(file)),
+        RecheckOutcome::Unopened(file) => ended(CANNOT_READ, Message::CannotRead(file)),
         RecheckOutcome::Ran(files, answer) => said_exit(files, answer),
     }
 }
@@ -51,7 +54,7 @@ fn said_exit<'a>(files: RecheckFiles<'a>, answer: Result<bool, RecheckError>) ->
 fn said_status(said: bool) -> u8
     ensures { result ≡ said_status_of said }
 {
-    if said { 0 } else { 1 }
+    if said { DONE } else { NOT_ALL }
 }
 
 /// How the program ends where nothing was said of the evidence.
@@ -62,9 +65,9 @@ fn unsaid_exit<'a>(files: RecheckFiles<'a>, error: RecheckError) -> Exit<'a>
     match error {
         RecheckError::Run(error) => refused_exit(files.searched, error),
         RecheckError::Read | RecheckError::TooLong => {
-            ended(4, Message::CannotRead(files.evidence))
+            ended(CANNOT_READ, Message::CannotRead(files.evidence))
         }
-        RecheckError::BadLine(number) => ended(8, Message::EvidenceLine(number)),
-        RecheckError::OtherPurpose => ended(1, Message::OtherPurpose),
+        RecheckError::BadLine(number) => ended(BAD_EVIDENCE, Message::EvidenceLine(number)),
+        RecheckError::OtherPurpose => ended(NOT_ALL, Message::OtherPurpose),
     }
 }

@@ -4,14 +4,14 @@ ghost use Rattle.certpath_engine.specs.Asking.{ReadsFrame, ReadsBundle, ReadsPat
 
 use crate::bundle_texts::BundleTexts;
 use crate::demands::{Purpose, host_of, purpose_of};
+use crate::items_exit::ItemFiles;
+use crate::moment::read_moment;
 use crate::number::read_number;
 use crate::path_exit::PathFiles;
-use crate::questions_exit::ItemFiles;
 use crate::questions_texts::QuestionsTexts;
 use crate::recheck_exit::RecheckFiles;
 use crate::texts::{AllTexts, Asked, FrameTexts, PathTexts, PathsTexts, RecheckTexts, read_texts};
 use cert_judge::Policy;
-use certpath_moment::read_moment;
 use certpath_run::{AllSettings, AskedHost, AskedPurpose, Demand, Settings};
 use host_names::Refusal;
 use purpose_names::PurposeRefusal;
@@ -70,7 +70,8 @@ pub enum Command<'a> {
 pub struct Question<'a> {
     /// The files' names.
     pub files: PathFiles<'a>,
-    /// The target, the moment, whether lists are demanded, and the most content octets that an item has.
+    /// The target, the moment, whether lists are demanded, and the most content octets that an item
+    /// has.
     pub settings: Settings,
     /// The host that is demanded.
     pub host: Option<AskedHost<'a>>,
@@ -117,10 +118,14 @@ pub enum WordFault {
     OutOfMemory,
 }
 
-/// Reads the words, the program's name first.
+/// Reads the words of the command line, the program's name first. Linear in their octets.
 ///
-/// `Refused` where `clap` does not take them, `Number` where an N is not one or more decimal digits, or above 4,294,967,295, `Moment`
-/// where the moment is not of its form, or no date and time; `Host` and `Purpose` where a text is none.
+/// # Errors
+///
+/// `Refused` where `clap` does not take them, with its text. `Number` where an N is not one or more
+/// decimal digits, or above 4,294,967,295. `Moment` where the moment is not of its form, or no date
+/// and time. `Host` and `Purpose` where a text is none, with the reason. `OutOfMemory`. Which of
+/// two bad words is named, is in no clause.
 pub fn read_words<'a>(alloc: Global, words: &'a [String]) -> Result<Command<'a>, WordFault>
     ensures { AnswersWords (map string_bytes words.entry.now) result }
 {

@@ -18,11 +18,13 @@ use cert_judge::{JudgedItem, Policy, Vouch, nodes_by};
 use cert_search::find_nodes;
 use std::alloc::{AllocError, Global};
 
-/// The first of the shortest valid paths from a target, told by its position among the items, to an anchor, or that there is none,
-/// with the table that shows it; `NoTarget` where the target is out of range or no certificate. Anchors are told by their positions, and
-/// those that are no certificates are none. Items and anchors are classed once; the only refusal is want of memory, and it changes nothing.
+/// Finds the first of the shortest valid paths from a target, a position among the items, to an anchor
+/// (RFC 5280, 6.1 and 6.3), or that there is none, with the table that shows it; `NoTarget` if the target
+/// is out of range or no certificate. Anchors are numbered by position; those that are no certificates
+/// are skipped.
 ///
-/// It costs the reading of the items, what `nodes_by` of `cert_judge` says, and the search over the nodes.
+/// The only error is out of memory. It costs reading each item and anchor once, what `nodes_by` of
+/// `cert_judge` says, and the search over the nodes.
 pub fn find<'a, V: Vouch>(
     alloc: Global,
     items: &'a Items,
@@ -53,7 +55,8 @@ pub fn find<'a, V: Vouch>(
     Ok(answer)
 }
 
-/// `find` over items and anchors that are judged, whatever they were judged from and at whatever moment.
+/// `find` over items and anchors that are judged, whatever they were judged from and at whatever
+/// moment, as `judged_items` judges them. The only error is out of memory.
 pub fn find_judged<'a, V: Vouch>(
     alloc: Global,
     items: &[JudgedItem<'a>],

@@ -19,12 +19,13 @@ use cert_judge::{JudgedItem, Policy, Vouch, nodes_by};
 use cert_search::find_all_nodes;
 use std::alloc::{AllocError, Global};
 
-/// For each item as a target, by its position: the first of the shortest valid paths to an anchor, or that there is none, or that the
-/// item is no certificate, with one table that shows it for all of them. It says of each item what `find` says.
+/// Finds for each item as a target, by its position: the first of the shortest valid paths to an anchor
+/// (RFC 5280, 6.1 and 6.3), or that there is none, or that the item is no certificate, with one table
+/// that shows it for all of them. It says of each item what `find` says.
 ///
-/// Items and anchors are classed once; anchors count by their positions, and those that are no certificates are none. The only error
-/// is out of memory. It costs the reading of the items, what `nodes_by` of `cert_judge` says, and the search over the nodes, whose
-/// rows are raised once, however many items there are.
+/// The only error is out of memory. It costs reading each item and anchor once, what `nodes_by` of
+/// `cert_judge` says, and the search over the nodes, whose rows are raised once, however many items
+/// there are.
 pub fn find_all<'a, V: Vouch>(
     alloc: Global,
     items: &'a Items,
@@ -47,7 +48,8 @@ pub fn find_all<'a, V: Vouch>(
     Ok(inventory)
 }
 
-/// `find_all` over items and anchors that are judged, whatever they were judged from and at whatever moment.
+/// `find_all` over items and anchors that are judged, whatever they were judged from and at whatever
+/// moment, as `judged_items` judges them. The only error is out of memory.
 pub fn find_all_judged<'a, V: Vouch>(
     alloc: Global,
     items: &[JudgedItem<'a>],

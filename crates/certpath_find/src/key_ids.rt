@@ -1,7 +1,6 @@
 //! Key identifiers (RFC 5280, 4.2.1.1 and 4.2.1.2): the elements of values that are DER objects, told by their first octets.
 
-ghost use Rattle.std.specs.Prelude.{◌≡◌, ◌↔◌, ◌≤◌, ℕ, List, All, length, map, IsTrue, IfSome, IsSomeAnd, IfOk};
-ghost use Rattle.der_tree.specs.Object.{IsDerObject};
+ghost use Rattle.std.specs.Prelude.{◌≡◌, ◌≤◌, ℕ, List, All, length, map, IfSome, IsSomeAnd};
 ghost use Rattle.cert_model.specs.Extended.{under_ce};
 ghost use Rattle.cert_model.specs.Fields.{Extension};
 ghost use Rattle.cert_model.specs.KeyIds.{IsFirstUnder, IsAuthorityKeyId, IsSubjectKeyId};
@@ -17,11 +16,13 @@ use der_tree::{MAX_RECURSION, is_der_object};
 use std::alloc::Global;
 use x509_flags::KeyIdentifier;
 
-/// The first octet of a SEQUENCE, of an OCTET STRING, and of what stands under [0] without parts (X.690, 8.1.2).
+/// The identifier octet of a SEQUENCE (X.690, 8.1.2).
 const SEQUENCE: u8 = 0x30;
 
+/// The identifier octet of a primitive OCTET STRING.
 const OCTET_STRING: u8 = 0x04;
 
+/// The identifier octet of keyIdentifier, a primitive \[0\] (RFC 5280, 4.2.1.1).
 const KEY_IDENTIFIER: u8 = 0x80;
 
 /// The value of the first extension whose identifier is 2.5.29.n.
@@ -35,13 +36,6 @@ fn first_value<'a>(extensions: &[ExtField<'a>], n: u8) -> Option<&'a [u8]>
         }
     }
     None
-}
-
-/// Whether the octets are one DER object of at most 50 levels.
-fn is_object(octets: &[u8]) -> bool
-    ensures { IsTrue result ↔ IsDerObject 50 octets.now }
-{
-    is_der_object(octets, MAX_RECURSION)
 }
 
 /// The content of the element that begins the octets, where its first octet is this.
@@ -81,7 +75,7 @@ pub(crate) fn named_key_id<'a>(fields: &CertFields<'a>) -> Option<&'a [u8]>
     let Some(value) = first_value(&fields.extensions, AUTHORITY_KEY_IDENTIFIER) else {
         return None;
     };
-    if !is_object(value) {
+    if !is_der_object(value, MAX_RECURSION) {
         return None;
     }
     let Some(parts) = content_under(SEQUENCE, value) else {
@@ -100,7 +94,7 @@ pub(crate) fn own_key_id<'a>(alloc: Global, fields: &CertFields<'a>) -> Option<&
     let Some(value) = first_value(&fields.extensions, SUBJECT_KEY_IDENTIFIER) else {
         return None;
     };
-    if !is_object(value) {
+    if !is_der_object(value, MAX_RECURSION) {
         return None;
     }
     octets_at(alloc, value)

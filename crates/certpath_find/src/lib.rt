@@ -1,9 +1,10 @@
 //! Finds the first of the shortest valid certification paths over items, with a table that shows it.
 //!
-//! The search stands on another reading of the items than `certcheck::check`, which judges its answers: `classing` says by which.
+//! Items are read by `TypedReader`, and not as `certcheck::check` reads them, which judges the answers:
+//! the search and the check share no code that reads an item, and this crate stands on nothing of
+//! `certcheck`.
 #![tactic(auto)]
 
-mod classing;
 mod finding;
 mod finding_all;
 mod key_ids;
@@ -12,4 +13,4 @@ mod reading;
 
 pub use crate::finding::{find, find_judged};
 pub use crate::finding_all::{find_all, find_all_judged};
-pub use crate::reading::judged_items;
+pub use crate::reading::{TypedReader, judged_items};

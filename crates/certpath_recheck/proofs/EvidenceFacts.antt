@@ -6,8 +6,8 @@ use Rattle.std.proofs.Common.{◌≡◌, ◌≢◌, ◌∙◌, ap, sym, ℕ, ◌
 use Rattle.std.proofs.Math.Seq.{take-append_seam}
 use Rattle.std.proofs.lemmas.List.{take-append-drop}
 use Rattle.certpath_evidence.specs.Answers.{HasFirstBad}
-use Rattle.certpath_sources.specs.Demands.{purpose_line}
-use Rattle.certpath_sources.specs.declared.demand.AskedPurpose.{AskedPurpose}
+use Rattle.certpath_inputs.specs.Demands.{purpose_line}
+use Rattle.certpath_inputs.specs.declared.demand.AskedPurpose.{AskedPurpose}
 use Rattle.certpath_recheck.specs.declared.rechecking.RecheckError.{RecheckError}
 use Rattle.certpath_recheck.specs.declared.rechecking.RecheckError.TheVariants.{Run, Read, TooLong, BadLine, OtherPurpose}
 use Rattle.certpath_recheck.specs.Uses.{MatchesAfter, RefusesEvidence}

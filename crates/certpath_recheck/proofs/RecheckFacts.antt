@@ -3,14 +3,14 @@ use Rattle.std.proofs.Common.{◌≡◌, ◌≢◌, ◌+◌, arith, refl, sym, s
 use Rattle.std.proofs.Math.Nat.{le-max_left}
 use Rattle.cert_framing.specs.Held.{Framed}
 use Rattle.cert_graph.specs.declared.inventory.Inventory.{Inventory}
-use Rattle.certcheck.specs.declared.vouchers.Vouchers.{Vouchers}
-use Rattle.certpath_input.specs.Inputs.{ReadsAll}
-use Rattle.certpath_sources.specs.declared.settings.AllSettings.{AllSettings}
-use Rattle.certpath_sources.specs.declared.demand.AskedPurpose.{AskedPurpose}
-use Rattle.certpath_sources.specs.declared.settings.RunError.{RunError}
-use Rattle.certpath_sources.specs.declared.settings.RunError.TheVariants as runs
-use Rattle.certpath_sources.specs.Inputs.{AreInputs, MeetsRefusal}
-use Rattle.certpath_sources.specs.Uses.{Use, unread, whole, Counts, Used, UseReaders, AreUses}
+use Rattle.cert_vouchers.specs.declared.vouchers.Vouchers.{Vouchers}
+use Rattle.certpath_inputs.specs.Reads.{ReadsAll}
+use Rattle.certpath_inputs.specs.declared.settings.AllSettings.{AllSettings}
+use Rattle.certpath_inputs.specs.declared.demand.AskedPurpose.{AskedPurpose}
+use Rattle.certpath_inputs.specs.declared.settings.RunError.{RunError}
+use Rattle.certpath_inputs.specs.declared.settings.RunError.TheVariants as runs
+use Rattle.certpath_inputs.specs.Inputs.{AreInputs, MeetsRefusal}
+use Rattle.certpath_inputs.specs.Uses.{Use, unread, whole, Counts, Used, UseReaders, AreUses}
 use Rattle.certpath_recheck.specs.declared.rechecking.RecheckError.{RecheckError}
 use Rattle.certpath_recheck.specs.declared.rechecking.RecheckError.TheVariants.{Run, Read, TooLong, BadLine, OtherPurpose}
 use Rattle.certpath_recheck.specs.Recheck.{HasSaidFor, IsEvidenceFor, IsSaidFor, MeetsRecheckRefusalFor}

@@ -9,14 +9,14 @@ use Rattle.cert_judge.specs.Classed.{AreClassed}
 use Rattle.cert_judge.specs.ItemGraph.{graph_of_items}
 use Rattle.cert_judge.specs.Items.{rules_by}
 use Rattle.cert_judge.specs.Revoking.{Item, Rules}
-use Rattle.certcheck.specs.declared.vouchers.Vouchers.{Vouchers}
+use Rattle.cert_vouchers.specs.declared.vouchers.Vouchers.{Vouchers}
 use Rattle.certpath_evidence.specs.Answers.{IsEvidenceOf, HasFirstBad}
-use Rattle.certpath_input.specs.Inputs.{ReadsAll}
-use Rattle.certpath_sources.specs.Check.{check_line}
-use Rattle.certpath_sources.specs.Inputs.{AreInputs, MeetsRefusal}
-use Rattle.certpath_sources.specs.Demands.{HoldsFor, of_purpose, purpose_line}
-use Rattle.certpath_sources.specs.declared.demand.AskedPurpose.{AskedPurpose}
-use Rattle.certpath_sources.specs.declared.settings.AllSettings.{AllSettings}
+use Rattle.certpath_inputs.specs.Reads.{ReadsAll}
+use Rattle.certpath_inputs.specs.Check.{check_line}
+use Rattle.certpath_inputs.specs.Inputs.{AreInputs, MeetsRefusal}
+use Rattle.certpath_inputs.specs.Demands.{HoldsFor, of_purpose, purpose_line}
+use Rattle.certpath_inputs.specs.declared.demand.AskedPurpose.{AskedPurpose}
+use Rattle.certpath_inputs.specs.declared.settings.AllSettings.{AllSettings}
 use Rattle.certpath_recheck.specs.declared.rechecking.RecheckError.{RecheckError}
 use Rattle.certpath_recheck.specs.declared.rechecking.RecheckError.TheVariants.{Run, Read, TooLong, BadLine, OtherPurpose}
 

@@ -1,10 +1,10 @@
 -- How far each reader of a run that checks evidence was read, and which error comes of it.
 use Rattle.std.specs.Prelude.{◌≡◌, ◌⊎◌, ℕ, ◌+◌, List, Option, Result, Ok, Err}
 use Rattle.certpath_recheck.specs.Recheck.{HasFirstBadFor, IsForOther}
-use Rattle.certpath_sources.specs.declared.demand.AskedPurpose.{AskedPurpose}
-use Rattle.certpath_sources.specs.Uses.{Use, unread, whole, failed, too_long, stopped, Counts, Used, AreUses}
-use Rattle.certpath_sources.specs.declared.settings.RunError.{RunError}
-use Rattle.certpath_sources.specs.declared.settings.RunError.TheVariants as runs
+use Rattle.certpath_inputs.specs.declared.demand.AskedPurpose.{AskedPurpose}
+use Rattle.certpath_inputs.specs.Uses.{Use, unread, whole, failed, too_long, stopped, Counts, Used, AreUses}
+use Rattle.certpath_inputs.specs.declared.settings.RunError.{RunError}
+use Rattle.certpath_inputs.specs.declared.settings.RunError.TheVariants as runs
 use Rattle.certpath_recheck.specs.declared.rechecking.RecheckError.{RecheckError}
 use Rattle.certpath_recheck.specs.declared.rechecking.RecheckError.TheVariants.{Run, Read, TooLong, BadLine, OtherPurpose}
 

@@ -1,25 +1,23 @@
 //! The inventory that a reader's evidence was written of.
 
 ghost use Rattle.std.specs.Prelude.{◌≡◌, ◌≢◌, ◌++◌, ℕ, List, None, Some, IfOk, IfErr, IfSome, IfNone, string_bytes};
-ghost use Rattle.certpath_sources.specs.Demands.{purpose_line};
+ghost use Rattle.certpath_inputs.specs.Demands.{purpose_line};
 ghost use Rattle.certpath_recheck.specs.Recheck.{IsEvidenceFor};
-ghost use Rattle.certpath_input.specs.Inputs.{ReadsAll};
-ghost use Rattle.certpath_sources.specs.Uses.{Used};
+ghost use Rattle.certpath_inputs.specs.Reads.{ReadsAll};
+ghost use Rattle.certpath_inputs.specs.Uses.{counts, Used};
 ghost use Rattle.certpath_recheck.specs.Uses.{IsOfEvidence, MatchesAfter, RefusesEvidence, evidence_use_of};
 
 use crate::rechecking::RecheckError;
 use asn1_device::Source;
 use cert_graph::Inventory;
 use certpath_evidence::{EvidenceError, read_evidence};
-use certpath_input::{InputError, read_text};
-use certpath_sources::{AskedPurpose, RunError, push_purpose};
+use certpath_inputs::{AskedPurpose, InputError, RunError, push_purpose, read_text};
 use std::alloc::{AllocError, Global};
 
 /// The text of the evidence.
 pub(crate) fn text_of<E: Source>(alloc: Global, evidence: &mut E) -> Result<Vec<u8>, RecheckError>
     ensures ok { IfOk result (λ text. ReadsAll (E.remaining evidence.old) (E.remaining evidence.new) text.items) }
-    ensures used { Used (evidence_use_of result) (record { reads = E.reads evidence.old; failures = E.failures evidence.old; ends = E.ends evidence.old; widest = E.widest evidence.old })
-        (record { reads = E.reads evidence.new; failures = E.failures evidence.new; ends = E.ends evidence.new; widest = E.widest evidence.new }) }
+    ensures used { Used (evidence_use_of result) (counts E.Source evidence.old) (counts E.Source evidence.new) }
     ensures only { IfErr result IsOfEvidence }
 {
     match read_text(alloc, evidence) {

@@ -7,4 +7,4 @@ mod rechecking;
 mod saying;
 
 pub use crate::rechecking::{RecheckError, run_recheck, run_recheck_for};
-pub use certpath_sources::{AllSettings, AskedPurpose, Input, RunError};
+pub use certpath_inputs::{AllSettings, AskedPurpose, Input, RunError};

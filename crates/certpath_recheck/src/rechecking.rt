@@ -2,12 +2,13 @@
 
 ghost use Rattle.std.specs.Prelude.{◌≡◌, ◌≢◌, ◌+◌, ◌≤◌, Bool, IfOk, IfErr, OnOk, IsErrOf};
 ghost use Rattle.certpath_recheck.specs.Recheck.{HasSaidFor, WritesRecheck, WritesRecheckFor, WritesRecheckInPart, WritesRecheckInPartFor, MeetsRecheckRefusal, MeetsRecheckRefusalFor};
+ghost use Rattle.certpath_inputs.specs.Uses.{counts};
 ghost use Rattle.certpath_recheck.specs.Uses.{UseRecheckReaders, failed_recheck_writes};
 
 use crate::evidence::{inventory_for, text_of};
 use crate::saying::{line_of, said_of};
 use asn1_device::{Sink, Source};
-use certpath_sources::{AllSettings, AskedPurpose, RunError, read_inputs, write_text};
+use certpath_inputs::{AllSettings, AskedPurpose, RunError, read_inputs, write_text};
 use std::alloc::Global;
 use thiserror::Error;
 
@@ -48,14 +49,10 @@ fn said_of_all<B: Source, A: Source, V: Source, E: Source>(
         (V.remaining vouchers.old) (V.remaining vouchers.new) (E.remaining evidence.old) (E.remaining evidence.new) settings.now.limit) }
     ensures not_write { IfErr result (λ e. e ≢ RecheckError.Run RunError.Write) }
     ensures uses { UseRecheckReaders result
-        (record { reads = B.reads bundle.old; failures = B.failures bundle.old; ends = B.ends bundle.old; widest = B.widest bundle.old })
-        (record { reads = B.reads bundle.new; failures = B.failures bundle.new; ends = B.ends bundle.new; widest = B.widest bundle.new })
-        (record { reads = A.reads anchors.old; failures = A.failures anchors.old; ends = A.ends anchors.old; widest = A.widest anchors.old })
-        (record { reads = A.reads anchors.new; failures = A.failures anchors.new; ends = A.ends anchors.new; widest = A.widest anchors.new })
-        (record { reads = V.reads vouchers.old; failures = V.failures vouchers.old; ends = V.ends vouchers.old; widest = V.widest vouchers.old })
-        (record { reads = V.reads vouchers.new; failures = V.failures vouchers.new; ends = V.ends vouchers.new; widest = V.widest vouchers.new })
-        (record { reads = E.reads evidence.old; failures = E.failures evidence.old; ends = E.ends evidence.old; widest = E.widest evidence.old })
-        (record { reads = E.reads evidence.new; failures = E.failures evidence.new; ends = E.ends evidence.new; widest = E.widest evidence.new }) }
+        (counts B.Source bundle.old) (counts B.Source bundle.new)
+        (counts A.Source anchors.old) (counts A.Source anchors.new)
+        (counts V.Source vouchers.old) (counts V.Source vouchers.new)
+        (counts E.Source evidence.old) (counts E.Source evidence.new) }
 {
     let inputs = match read_inputs(alloc, bundle, anchors, vouchers, settings.limit) {
         Ok(inputs) => inputs,
@@ -105,14 +102,10 @@ pub fn run_recheck<B: Source, A: Source, V: Source, E: Source, W: Sink>(
         (V.remaining vouchers.old) (V.remaining vouchers.new) (E.remaining evidence.old) (E.remaining evidence.new) settings.now.limit) }
     ensures write { W.failures writer.new ≡ W.failures writer.old + failed_recheck_writes result }
     ensures uses { UseRecheckReaders result
-        (record { reads = B.reads bundle.old; failures = B.failures bundle.old; ends = B.ends bundle.old; widest = B.widest bundle.old })
-        (record { reads = B.reads bundle.new; failures = B.failures bundle.new; ends = B.ends bundle.new; widest = B.widest bundle.new })
-        (record { reads = A.reads anchors.old; failures = A.failures anchors.old; ends = A.ends anchors.old; widest = A.widest anchors.old })
-        (record { reads = A.reads anchors.new; failures = A.failures anchors.new; ends = A.ends anchors.new; widest = A.widest anchors.new })
-        (record { reads = V.reads vouchers.old; failures = V.failures vouchers.old; ends = V.ends vouchers.old; widest = V.widest vouchers.old })
-        (record { reads = V.reads vouchers.new; failures = V.failures vouchers.new; ends = V.ends vouchers.new; widest = V.widest vouchers.new })
-        (record { reads = E.reads evidence.old; failures = E.failures evidence.old; ends = E.ends evidence.old; widest = E.widest evidence.old })
-        (record { reads = E.reads evidence.new; failures = E.failures evidence.new; ends = E.ends evidence.new; widest = E.widest evidence.new }) }
+        (counts B.Source bundle.old) (counts B.Source bundle.new)
+        (counts A.Source anchors.old) (counts A.Source anchors.new)
+        (counts V.Source vouchers.old) (counts V.Source vouchers.new)
+        (counts E.Source evidence.old) (counts E.Source evidence.new) }
 {
     run_recheck_for(
         alloc, bundle, anchors, vouchers, evidence, settings, None, writer,
@@ -147,14 +140,10 @@ pub fn run_recheck_for<B: Source, A: Source, V: Source, E: Source, W: Sink>(
         (V.remaining vouchers.old) (V.remaining vouchers.new) (E.remaining evidence.old) (E.remaining evidence.new) settings.now.limit) }
     ensures write { W.failures writer.new ≡ W.failures writer.old + failed_recheck_writes result }
     ensures uses { UseRecheckReaders result
-        (record { reads = B.reads bundle.old; failures = B.failures bundle.old; ends = B.ends bundle.old; widest = B.widest bundle.old })
-        (record { reads = B.reads bundle.new; failures = B.failures bundle.new; ends = B.ends bundle.new; widest = B.widest bundle.new })
-        (record { reads = A.reads anchors.old; failures = A.failures anchors.old; ends = A.ends anchors.old; widest = A.widest anchors.old })
-        (record { reads = A.reads anchors.new; failures = A.failures anchors.new; ends = A.ends anchors.new; widest = A.widest anchors.new })
-        (record { reads = V.reads vouchers.old; failures = V.failures vouchers.old; ends = V.ends vouchers.old; widest = V.widest vouchers.old })
-        (record { reads = V.reads vouchers.new; failures = V.failures vouchers.new; ends = V.ends vouchers.new; widest = V.widest vouchers.new })
-        (record { reads = E.reads evidence.old; failures = E.failures evidence.old; ends = E.ends evidence.old; widest = E.widest evidence.old })
-        (record { reads = E.reads evidence.new; failures = E.failures evidence.new; ends = E.ends evidence.new; widest = E.widest evidence.new }) }
+        (counts B.Source bundle.old) (counts B.Source bundle.new)
+        (counts A.Source anchors.old) (counts A.Source anchors.new)
+        (counts V.Source vouchers.old) (counts V.Source vouchers.new)
+        (counts E.Source evidence.old) (counts E.Source evidence.new) }
 {
     let said = match said_of_all(
         alloc, bundle, anchors, vouchers, evidence, settings, purpose,

@@ -3,8 +3,8 @@
 ghost use Rattle.std.specs.Prelude.{◌≡◌, length, IfOk, string_bytes};
 ghost use Rattle.cert_judge.specs.Items.{rules_by};
 ghost use Rattle.cert_serving.specs.declared.permits.Permits.{Permits};
-ghost use Rattle.certpath_sources.specs.Check.{check_line};
-ghost use Rattle.certpath_sources.specs.Demands.{ArePermitsOf, VouchesWhere, demanded, target_octets};
+ghost use Rattle.certpath_inputs.specs.Check.{check_line};
+ghost use Rattle.certpath_inputs.specs.Demands.{ArePermitsOf, VouchesWhere, demanded, target_octets};
 ghost use Rattle.certpath_recheck.specs.Recheck.{IsSaidOf, IsSaidFor};
 
 use asn1_core::OutOfMemory;
@@ -12,7 +12,7 @@ use cert_graph::Inventory;
 use cert_judge::Vouch;
 use cert_purpose::Restricted;
 use certcheck::check_all;
-use certpath_sources::{AllSettings, AskedPurpose, Demand, Inputs, permits_of, push_check};
+use certpath_inputs::{AllSettings, AskedPurpose, Demand, Inputs, permits_of, push_check};
 use std::alloc::{AllocError, Global};
 
 /// What the check says of an inventory, by what vouches.

@@ -16,21 +16,21 @@ use Rattle.cert_judge.specs.ItemGraph.{graph_of_items}
 use Rattle.cert_judge.specs.JudgedItems.{AreJudged}
 use Rattle.cert_judge.specs.Revoking.{Item, Rules}
 use Rattle.cert_judge.specs.declared.judged.JudgedItem.{JudgedItem}
-use Rattle.certcheck.specs.declared.vouchers.Vouchers.{Vouchers}
+use Rattle.cert_vouchers.specs.declared.vouchers.Vouchers.{Vouchers}
 use Rattle.certpath_evidence.specs.Evidence.{evidence, told_by}
 use Rattle.certpath_find.proofs.Answering.{one_classing}
-use Rattle.certpath_sources.specs.declared.settings.AllSettings.{AllSettings}
+use Rattle.certpath_inputs.specs.declared.settings.AllSettings.{AllSettings}
 use Rattle.certpath_run.specs.declared.settings.AllOutcome.{AllOutcome}
 use Rattle.certpath_run.specs.declared.settings.AllOutcome.TheVariants.{Each, NotEach}
 use Rattle.certpath_run.specs.Report.{class_word, end_line, certificates_among}
-use Rattle.certpath_sources.specs.Check.{check_line}
+use Rattle.certpath_inputs.specs.Check.{check_line}
 use Rattle.cert_judge.specs.Items.{rules_by}
 use Rattle.cert_serving.specs.declared.permits.Permits.{Permits}
-use Rattle.certpath_sources.specs.Inputs.{VouchesBy}
-use Rattle.certpath_sources.specs.declared.demand.AskedPurpose.{AskedPurpose}
-use Rattle.certpath_sources.specs.Demands.{ArePermitsOf, VouchesWhere, demand_lines, demanded, purpose_line, target_octets}
-use Rattle.certpath_sources.specs.declared.demand.Demand.{Demand}
-use Rattle.certpath_sources.proofs.DemandFacts.{shown_by}
+use Rattle.certpath_inputs.specs.Inputs.{VouchesBy}
+use Rattle.certpath_inputs.specs.declared.demand.AskedPurpose.{AskedPurpose}
+use Rattle.certpath_inputs.specs.Demands.{ArePermitsOf, VouchesWhere, demand_lines, demanded, purpose_line, target_octets}
+use Rattle.certpath_inputs.specs.declared.demand.Demand.{Demand}
+use Rattle.certpath_inputs.proofs.DemandFacts.{shown_by}
 use Rattle.certpath_run.specs.AllReport.{verdict_end, verdict_lines, all_report_with, is_pathless, has_pathless, outcome_of_all, IsAllReportBy, IsAllReportFor, IsAllReportOf, IsAllReportWith, AreFindingsFor}
 use Rattle.certpath_run.specs.declared.reporting_all.ReportedAll.{ReportedAll}
 use Rattle.certpath_run.specs.JudgedReport.{judged_word, counts_line, certificates_of, judged_verdict_line, judged_verdict_lines, judged_all_report}

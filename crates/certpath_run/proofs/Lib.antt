@@ -1,5 +1,6 @@
+mod FrameFacts
 mod InventoryFacts
+mod Reaching
 mod ReportFacts
 mod Why
 mod Within
-mod Written

@@ -12,7 +12,7 @@ use Rattle.cert_judge.specs.declared.judged.JudgedItem.TheVariants.{Certificate 
 use Rattle.cert_judge.specs.JudgedItems.{IsJudged, AreJudged}
 use Rattle.cert_judge.specs.Revoking.{Item}
 use Rattle.certpath_run.specs.Report.{class_word, item_lines, is_certificate, certificates_among, end_line, position_words, answer_line, report_with}
-use Rattle.certpath_sources.specs.Check.{check_line}
+use Rattle.certpath_inputs.specs.Check.{check_line}
 use Rattle.certpath_run.specs.JudgedReport.{judged_word, judged_line, judged_lines, one_certificate, certificates_of, counts_line, judged_report}
 
 pub drop_next : {X : Type 0} (xs : List X) (k : ℕ) (d : X) → k < length xs → drop k xs ≡ get_or xs k d ∷ drop (k + 1) xs

@@ -1,15 +1,15 @@
 -- What stands in the way of a path, of what was read.
 use Rattle.std.proofs.Common.{◌≡◌, ◌∙◌, ◌++◌, ap, subst, append_assoc, ℕ, Bool, true, List}
 use Rattle.cert_framing.specs.Held.{Framed}
-use Rattle.cert_graph.specs.Adequate.{IsTrueAnswer}
 use Rattle.cert_graph.specs.declared.answer.Answer.{Answer}
 use Rattle.cert_judge.specs.Classed.{AreClassed}
 use Rattle.cert_judge.specs.ItemGraph.{graph_of_items}
 use Rattle.cert_judge.specs.Revoking.{Item, Rules}
+use Rattle.certpath_find.specs.Answered.{IsFound}
 use Rattle.certpath_find.proofs.Answering.{one_classing}
-use Rattle.certpath_sources.specs.Check.{check_line}
-use Rattle.certpath_sources.specs.Demands.{demand_lines}
-use Rattle.certpath_sources.specs.declared.demand.Demand.{Demand}
+use Rattle.certpath_inputs.specs.Check.{check_line}
+use Rattle.certpath_inputs.specs.Demands.{demand_lines}
+use Rattle.certpath_inputs.specs.declared.demand.Demand.{Demand}
 use Rattle.certpath_why.specs.Why.{AppendsWhyFor}
 use Rattle.certpath_run.specs.Report.{answer_line}
 use Rattle.certpath_run.specs.Runs.{IsWhyReportWith, kind_of}
@@ -17,7 +17,7 @@ use Rattle.certpath_run.specs.declared.settings.Outcome.{Outcome}
 
 pub reported : (demand : Demand) (r search : Rules) (items anchors : Framed) (target : ℕ) (xs ys read roots : List Item) (answer : Answer) (said : Bool) (begun text : List ℕ) (outcome : Outcome)
     → AreClassed items.items xs → AreClassed anchors.items ys → AreClassed items.items read → AreClassed anchors.items roots
-    → (said ≡ true) × IsTrueAnswer (graph_of_items search xs ys) target answer → begun ≡ demand_lines demand ++ (answer_line answer ++ check_line said)
+    → (said ≡ true) × IsFound (graph_of_items search xs ys) target answer → begun ≡ demand_lines demand ++ (answer_line answer ++ check_line said)
     → AppendsWhyFor demand r search read roots target answer begun text → outcome ≡ kind_of answer → IsWhyReportWith demand r search items anchors target text outcome
 reported demand r search items anchors target xs ys read roots answer said begun text outcome xs_are ys_are read_are roots_are holds begins told is =
     let same : xs ≡ read = one_classing items.items xs read xs_are read_are in
@@ -30,7 +30,7 @@ reported demand r search items anchors target xs ys read roots answer said begun
       answer = answer;
       are_classed = read_are;
       anchors_are_classed = roots_are;
-      holds = subst (λ l. IsTrueAnswer (graph_of_items search l roots) target answer) same (subst (λ l. IsTrueAnswer (graph_of_items search xs l) target answer) same_anchors holds.1);
+      found = subst (λ l. IsFound (graph_of_items search l roots) target answer) same (subst (λ l. IsFound (graph_of_items search xs l) target answer) same_anchors holds.1);
       why = why;
       is_why = told.2;
       text_is = told.1 ∙ ap (λ t. t ++ why) begins ∙ append_assoc lines (answer_line answer ++ check_line said) why

@@ -2,8 +2,8 @@
 use Rattle.std.proofs.Common.{◌≡◌, ℕ, List, subst}
 use Rattle.cert_judge.specs.Vouching.{Vouching}
 use Rattle.cert_serving.specs.declared.permits.Permits.{Permits}
-use Rattle.certcheck.specs.declared.remembered.RememberedVouchers.{RememberedVouchers}
-use Rattle.certpath_sources.specs.Demands.{VouchesWhere}
+use Rattle.cert_vouchers.specs.declared.remembered.RememberedVouchers.{RememberedVouchers}
+use Rattle.certpath_inputs.specs.Demands.{VouchesWhere}
 
 -- holds by those that are equal to them
 pub by_equal : (P : Vouching → Type 0) (v w : RememberedVouchers) (p q : Permits) → v ≡ w → p ≡ q → P (VouchesWhere p v.vouchers.now) → P (VouchesWhere q w.vouchers.now)

@@ -13,16 +13,16 @@ use Rattle.cert_judge.specs.ItemGraph.{graph_of_items}
 use Rattle.cert_judge.specs.Items.{rules_by}
 use Rattle.cert_judge.specs.Revoking.{Item, Rules}
 use Rattle.cert_model.specs.Class.{Class}
-use Rattle.certcheck.specs.declared.vouchers.Vouchers.{Vouchers}
+use Rattle.cert_vouchers.specs.declared.vouchers.Vouchers.{Vouchers}
 use Rattle.certpath_evidence.specs.Evidence.{evidence, told_by}
-use Rattle.certpath_sources.specs.declared.demand.Demand.{Demand}
-use Rattle.certpath_sources.specs.Demands.{HoldsFor, demand_lines, purpose_line}
-use Rattle.certpath_sources.specs.declared.settings.AllSettings.{AllSettings}
+use Rattle.certpath_inputs.specs.declared.demand.Demand.{Demand}
+use Rattle.certpath_inputs.specs.Demands.{HoldsFor, demand_lines, purpose_line}
+use Rattle.certpath_inputs.specs.declared.settings.AllSettings.{AllSettings}
 use Rattle.certpath_run.specs.declared.settings.AllOutcome.{AllOutcome}
 use Rattle.certpath_run.specs.declared.settings.AllOutcome.TheVariants.{Each, NotEach}
 use Rattle.certpath_run.specs.Report.{class_word, end_line, anchors_line, position_words}
-use Rattle.certpath_sources.specs.Check.{check_line}
-use Rattle.certpath_sources.specs.Inputs.{VouchesBy}
+use Rattle.certpath_inputs.specs.Check.{check_line}
+use Rattle.certpath_inputs.specs.Inputs.{VouchesBy}
 
 -- what is said of an item as a target: its path and the anchor, that it has none, or the class of what is no certificate
 abbrev pub verdict_end : Class → Verdict → List ℕ
@@ -77,10 +77,6 @@ IsAllReport = IsAllReportWith []
 -- the text is the report on all items by these settings, and the outcome is its own
 abbrev pub IsAllReportOn : AllSettings → AllOutcome → Framed → Framed → Vouchers → List ℕ → Type 0
 IsAllReportOn settings outcome items anchors pairs text = IsAllReport (rules_by settings.policy.moment settings.policy.demand_lists (VouchesBy pairs)) items anchors text outcome
-
--- and this is the evidence of the inventory that it reports
-abbrev pub AreFindingsOn : AllSettings → AllOutcome → List ℕ → Framed → Framed → Vouchers → List ℕ → Type 0
-AreFindingsOn settings outcome shown items anchors pairs text = (report : IsAllReportOn settings outcome items anchors pairs text) × (shown ≡ evidence (told_by report.inventory))
 
 -- the report of an inventory, by the relation under which its paths are judged
 abbrev pub IsAllReportBy : List ℕ → AllSettings → AllOutcome → Inventory → Framed → Framed → List ℕ → Vouching → Type 0

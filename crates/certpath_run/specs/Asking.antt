@@ -8,12 +8,12 @@ use Rattle.cert_judge.specs.Revoking.{Item}
 use Rattle.cert_questions.specs.declared.question.Question.{Question}
 use Rattle.cert_questions.specs.Questions.{AreQuestions}
 use Rattle.cert_questions.specs.Text.{question_lines}
-use Rattle.certpath_input.specs.Inputs.{ReadsItems}
-use Rattle.certpath_run.specs.declared.asking.ItemInput.{ItemInput}
-use Rattle.certpath_run.specs.declared.asking.ItemInput.TheVariants.{Bundle, Anchors}
-use Rattle.certpath_run.specs.declared.asking.QuestionsError.{QuestionsError}
-use Rattle.certpath_run.specs.declared.asking.QuestionsError.TheVariants.{Read, TooLong, OutOfMemory, Write}
-use Rattle.certpath_sources.specs.Uses.{Use, Counts, Used, unread, whole, failed, too_long, stopped}
+use Rattle.certpath_inputs.specs.Reads.{ReadsItems}
+use Rattle.certpath_run.specs.declared.items.ItemInput.{ItemInput}
+use Rattle.certpath_run.specs.declared.items.ItemInput.TheVariants.{Bundle, Anchors}
+use Rattle.certpath_run.specs.declared.items.ItemsError.{ItemsError}
+use Rattle.certpath_run.specs.declared.items.ItemsError.TheVariants.{Read, TooLong, OutOfMemory, Write}
+use Rattle.certpath_inputs.specs.Uses.{Use, Counts, Used, unread, whole, failed, too_long, stopped}
 
 -- the text has a line for each question of these items and anchors, and no other line
 pub record AreQuestionsOf (items anchors : Framed) (text : List ℕ) : Type 0 where
@@ -45,23 +45,8 @@ pub record WritesQuestionsInPart (bundle bundle' anchors anchors' sink sink' : O
   pub has_questions : HasQuestions bundle bundle' anchors anchors' limit text
   pub wrote : AppendsFront sink sink' text
 
--- an error of the reading of this input
-abbrev pub IsOfItems : ItemInput → QuestionsError → Type 0
-IsOfItems input (Read i) = i ≡ input
-IsOfItems input (TooLong i) = i ≡ input
-IsOfItems input OutOfMemory = Unit {0}
-IsOfItems input Write = ⊥
-
--- how a single reader was used that gave this
-abbrev pub item_use_of : {A : Type 0} → Result A QuestionsError → Use
-item_use_of (Ok x) = whole
-item_use_of (Err (Read i)) = failed
-item_use_of (Err (TooLong i)) = too_long
-item_use_of (Err OutOfMemory) = stopped
-item_use_of (Err Write) = whole
-
 -- how the readers of bundle and anchors were used, one after the other
-abbrev pub AreItemUses : {A : Type 0} → Result A QuestionsError → Use → Use → Type 0
+abbrev pub AreItemUses : {A : Type 0} → Result A ItemsError → Use → Use → Type 0
 AreItemUses (Ok x) b a = (b ≡ whole) × (a ≡ whole)
 AreItemUses (Err (Read Bundle)) b a = (b ≡ failed) × (a ≡ unread)
 AreItemUses (Err (Read Anchors)) b a = (b ≡ whole) × (a ≡ failed)
@@ -71,17 +56,9 @@ AreItemUses (Err OutOfMemory) b a = ((b ≡ stopped) × (a ≡ unread)) ⊎ ((b 
 AreItemUses (Err Write) b a = (b ≡ whole) × (a ≡ whole)
 
 -- the readers' counts went so
-pub record UseItemReaders {A : Type 0} (result : Result A QuestionsError) (bundle bundle' anchors anchors' : Counts) : Type 0 where
+pub record UseItemReaders {A : Type 0} (result : Result A ItemsError) (bundle bundle' anchors anchors' : Counts) : Type 0 where
   pub b : Use
   pub a : Use
   pub are_uses : AreItemUses result b a
   pub bundle_used : Used b bundle bundle'
   pub anchors_used : Used a anchors anchors'
-
--- how many calls of the writer failed
-abbrev pub failed_question_writes : {A : Type 0} → Result A QuestionsError → ℕ
-failed_question_writes (Ok x) = 0
-failed_question_writes (Err (Read i)) = 0
-failed_question_writes (Err (TooLong i)) = 0
-failed_question_writes (Err OutOfMemory) = 0
-failed_question_writes (Err Write) = 1

@@ -8,7 +8,7 @@ use Rattle.cert_graph.specs.declared.inventory.Verdict.TheVariants.{FirstPath, P
 use Rattle.cert_judge.specs.declared.judged.JudgedItem.{JudgedItem}
 use Rattle.cert_judge.specs.declared.judged.JudgedItem.TheVariants.{Certificate as certificate_judged, List as list_judged, Other as other_judged}
 use Rattle.certpath_run.specs.Report.{end_words, end_line, position_words, answer_line}
-use Rattle.certpath_sources.specs.Check.{check_line}
+use Rattle.certpath_inputs.specs.Check.{check_line}
 
 abbrev pub judged_word : JudgedItem → List ℕ
 judged_word (certificate_judged j) = codes "cert"

@@ -1,6 +1,10 @@
 pub mod AllReport
 pub mod Asking
+pub mod FrameText
+pub mod Frames
+pub mod Items
 pub mod JudgedReport
 pub mod Judging
 pub mod Report
 pub mod Runs
+pub mod Reaching

@@ -7,7 +7,7 @@ use Rattle.cert_graph.specs.declared.answer.Answer.{Answer}
 use Rattle.cert_graph.specs.declared.answer.Answer.TheVariants.{Path, NoPath, NoTarget}
 use Rattle.cert_model.specs.Class.{Class, certificate, list, other}
 use Rattle.cert_judge.specs.Revoking.{Item}
-use Rattle.certpath_sources.specs.Check.{check_line}
+use Rattle.certpath_inputs.specs.Check.{check_line}
 
 abbrev pub class_word : Class → List ℕ
 class_word (certificate c) = codes "cert"

@@ -13,15 +13,16 @@ use Rattle.cert_judge.specs.Revoking.{Item, Rules}
 use Rattle.cert_judge.specs.Vouching.{Vouching, processing_too}
 use Rattle.cert_serving.specs.Refusing.{are_processed}
 use Rattle.cert_serving.specs.declared.permits.Permits.{Permits}
-use Rattle.certcheck.specs.declared.vouchers.Vouchers.{Vouchers}
-use Rattle.certpath_sources.specs.Inputs.{VouchesBy, HasText}
-use Rattle.certpath_sources.specs.Demands.{ArePermitsOf, HoldsFor, IfNeither, VouchesWhere, demand_lines, demanded, of_purpose, target_octets}
-use Rattle.certpath_sources.specs.declared.demand.Demand.{Demand}
+use Rattle.cert_vouchers.specs.declared.vouchers.Vouchers.{Vouchers}
+use Rattle.certpath_inputs.specs.Inputs.{VouchesBy, HasText}
+use Rattle.certpath_inputs.specs.Demands.{ArePermitsOf, HoldsFor, IfNeither, VouchesWhere, demand_lines, demanded, of_purpose, target_octets}
+use Rattle.certpath_inputs.specs.declared.demand.Demand.{Demand}
 use Rattle.certpath_run.specs.declared.settings.Settings.{Settings}
 use Rattle.certpath_run.specs.declared.settings.Outcome.{Outcome}
 use Rattle.certpath_run.specs.declared.settings.Outcome.TheVariants.{Path, NoPath, NoTarget}
 use Rattle.certpath_run.specs.Report.{report_with, answer_line}
-use Rattle.certpath_sources.specs.Check.{check_line}
+use Rattle.certpath_inputs.specs.Check.{check_line}
+use Rattle.certpath_find.specs.Answered.{IsFound}
 use Rattle.certpath_why.specs.Why.{IsWhyFor}
 
 abbrev pub kind_of : Answer → Outcome
@@ -44,7 +45,8 @@ pub record IsReportWith (lines : List ℕ) (r : Rules) (items anchors : Framed) 
 abbrev pub IsReport : Rules → Framed → Framed → ℕ → List ℕ → Outcome → Type 0
 IsReport = IsReportWith []
 
--- The lines of what is demanded, the true answer, what the check says of it: yes; and what stands in the way of a path. The lines of
+-- The lines of what is demanded, the answer, what the check says of it: yes; and what stands in the way of a path. The answer is true,
+-- and its rows hold exactly how far each issuer leads, so the lines of path lengths are fixed. The lines of
 -- certificates are by the first rules, and the answer is by the second: these vouch for less where something is demanded.
 pub record IsWhyReportWith (demand : Demand) (r search : Rules) (items anchors : Framed) (target : ℕ) (text : List ℕ) (outcome : Outcome) : Type 0 where
   pub classed : List Item
@@ -52,7 +54,7 @@ pub record IsWhyReportWith (demand : Demand) (r search : Rules) (items anchors :
   pub answer : Answer
   pub are_classed : AreClassed items.items classed
   pub anchors_are_classed : AreClassed anchors.items classed_anchors
-  pub holds : IsTrueAnswer (graph_of_items search classed classed_anchors) target answer
+  pub found : IsFound (graph_of_items search classed classed_anchors) target answer
   pub why : List ℕ
   pub is_why : IsWhyFor demand r search classed classed_anchors target answer why
   pub text_is : text ≡ demand_lines demand ++ (answer_line answer ++ (check_line true ++ why))

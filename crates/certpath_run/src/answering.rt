@@ -1,13 +1,13 @@
-//! The answer on a target, found and checked.
+//! The answer on a target, found by `certpath_find` and checked by `certcheck`.
 
 ghost use Rattle.std.specs.Prelude.{◌≡◌, List, IfOk, true};
-ghost use Rattle.cert_graph.specs.Adequate.{IsTrueAnswer};
 ghost use Rattle.cert_judge.specs.Classed.{AreClassed};
 ghost use Rattle.cert_judge.specs.ItemGraph.{graph_of_items};
 ghost use Rattle.cert_judge.specs.Items.{rules_by};
 ghost use Rattle.cert_judge.specs.JudgedItems.{AreJudged};
 ghost use Rattle.cert_judge.specs.Revoking.{Item};
 ghost use Rattle.cert_model.specs.View.{time_view};
+ghost use Rattle.certpath_find.specs.Answered.{IsFound};
 ghost use Rattle.certpath_run.specs.Runs.{kind_of};
 
 use crate::settings::{Outcome, Settings};
@@ -16,7 +16,7 @@ use cert_graph::Answer;
 use cert_judge::{JudgedItem, Vouch};
 use certcheck::check;
 use certpath_find::find_judged;
-use certpath_sources::Inputs;
+use certpath_inputs::Inputs;
 use std::alloc::Global;
 
 /// An answer, and what the check says of it.
@@ -50,7 +50,7 @@ pub(crate) fn answer_on<'a, V: Vouch>(
 ) -> Result<Answered, OutOfMemory>
     ensures { (xs ys : List Item) → AreClassed inputs.now.items.items xs → AreClassed inputs.now.anchors.items ys
         → AreJudged (time_view settings.now.policy.moment) xs items.now → AreJudged (time_view settings.now.policy.moment) ys anchors.now
-        → IfOk result (λ a. (a.said ≡ true) × IsTrueAnswer (graph_of_items (rules_by settings.now.policy.moment settings.now.policy.demand_lists (V.vouches_for vouch.now)) xs ys) settings.now.target a.answer) }
+        → IfOk result (λ a. (a.said ≡ true) × IsFound (graph_of_items (rules_by settings.now.policy.moment settings.now.policy.demand_lists (V.vouches_for vouch.now)) xs ys) settings.now.target a.answer) }
 {
     let policy = settings.policy;
     let target = settings.target;

@@ -1,4 +1,4 @@
-//! Items, judged by a policy.
+//! Items, judged at the moment of a policy: what the search and the lines of the report are over.
 
 ghost use Rattle.std.specs.Prelude.{IfOk};
 ghost use Rattle.cert_model.specs.View.{time_view};
@@ -10,7 +10,7 @@ use cert_judge::{JudgedItem, Policy};
 use certpath_find::judged_items;
 use std::alloc::Global;
 
-/// The items at the policy's moment.
+/// Judges the items at the policy's moment, by the readers of the search. One pass over them.
 pub(crate) fn judged_by<'a>(
     alloc: Global,
     items: &'a Items,

@@ -1,25 +1,35 @@
-//! Reads items, anchors and vouchers, finds the answer, checks it, and writes the report, or what stands in the way of a path; or
-//! writes the evidence for all items; or asks which keys may have signed which items.
+//! The commands of the program over any reader and writer: each reads its inputs to their ends,
+//! builds a text, and writes it at once.
+//!
+//! `path`, `why` and `paths` read bundle, anchors and vouchers. They are one function,
+//! [`run_report`], over what is reported: a type that implements [`Reports`]. Items are judged by
+//! `certpath_find`, the answer is found over what was judged, and `certcheck` checks it over the
+//! items themselves. [`run_questions`] and [`frame`] are over items alone.
 #![tactic(auto)]
 
 mod answering;
 mod asking;
-mod explaining;
 mod finding;
+mod frame_text;
+mod framing;
+mod items;
 mod judging;
+pub mod laws;
 mod remembering;
 mod report;
 mod report_all;
 mod reporting;
 mod reporting_all;
+mod reports;
 mod running;
-mod running_all;
 mod settings;
 
-pub use crate::asking::{ItemInput, QuestionsError, run_questions};
-pub use crate::explaining::{run_why, run_why_for};
-pub use crate::finding::{Findings, find_evidence, find_evidence_for};
-pub use crate::running::{run, run_for};
-pub use crate::running_all::{run_all, run_all_for};
+pub use crate::asking::run_questions;
+pub use crate::framing::frame;
+pub use crate::items::{ItemInput, ItemsError};
+pub use crate::reports::{
+    EvidenceReport, Findings, PathReport, PathsReport, Reported, Reports, WhyReport,
+};
+pub use crate::running::{read_report, run, run_report};
 pub use crate::settings::{AllOutcome, Outcome, Settings};
-pub use certpath_sources::{AllSettings, AskedHost, AskedPurpose, Demand, Input, RunError};
+pub use certpath_inputs::{AllSettings, AskedHost, AskedPurpose, Demand, Input, RunError};

@@ -1,12 +1,13 @@
-//! The vouchers of a run, told of the texts that may be asked for.
+//! A cache of digests for the keys and items of a run, so that none is hashed twice.
 
 ghost use Rattle.std.specs.Prelude.{◌≡◌};
 
 use cert_judge::JudgedItem;
-use certcheck::{RememberedVouchers, Vouchers};
+use cert_vouchers::{RememberedVouchers, Vouchers};
 use std::alloc::Global;
 
-/// Tells of an item: whoever issued it may vouch for it, and its key for others where it is fit to issue.
+/// Prepares for an item: whoever issued it may vouch for it, and its key for others where it is fit
+/// to issue.
 fn expect_item<'a>(remembered: &mut RememberedVouchers<'a>, item: &JudgedItem<'a>)
     ensures { remembered.new.vouchers.now ≡ remembered.old.vouchers.now }
 {
@@ -22,7 +23,7 @@ fn expect_item<'a>(remembered: &mut RememberedVouchers<'a>, item: &JudgedItem<'a
     }
 }
 
-/// Tells of an anchor, whose key may vouch for items.
+/// Prepares for an anchor, whose key may vouch for items.
 fn expect_anchor<'a>(remembered: &mut RememberedVouchers<'a>, anchor: &JudgedItem<'a>)
     ensures { remembered.new.vouchers.now ≡ remembered.old.vouchers.now }
 {
@@ -31,7 +32,7 @@ fn expect_anchor<'a>(remembered: &mut RememberedVouchers<'a>, anchor: &JudgedIte
     }
 }
 
-/// Vouchers that hash each text of these items and anchors at most once, whoever asks.
+/// Returns the vouchers with a cache: they hash each text of these items and anchors at most once.
 pub(crate) fn remembered_for<'a>(
     alloc: Global,
     vouchers: &'a Vouchers,

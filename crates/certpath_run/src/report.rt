@@ -1,15 +1,15 @@
-//! The text of the report.
+//! The text of the report on a target, and the lines that it shares with the other reports.
 
 ghost use Rattle.std.specs.Prelude.{◌≡◌, ◌≤◌, ℕ, [], ◌∷◌, ◌++◌, codes, length, string_bytes, OnOk, IfOk};
 ghost use Rattle.std.specs.Fmt.{decimal};
 ghost use Rattle.certpath_run.specs.Report.{end_line, position_words, answer_line};
-ghost use Rattle.certpath_sources.specs.Demands.{demand_lines};
+ghost use Rattle.certpath_inputs.specs.Demands.{demand_lines};
 ghost use Rattle.certpath_run.specs.JudgedReport.{judged_line, judged_lines, one_certificate, certificates_of, counts_line, judged_report};
 
 use cert_framing::End;
 use cert_graph::Answer;
 use cert_judge::JudgedItem;
-use certpath_sources::{Demand, push_check, push_demand};
+use certpath_inputs::{Demand, push_check, push_demand};
 use std::alloc::{AllocError, Global};
 
 /// The line of item `k`.
@@ -86,6 +86,7 @@ pub(crate) fn push_anchors(
     }
 }
 
+/// Appends the positions of a path, each after a space.
 fn push_positions(text: &mut String, positions: &[usize]) -> Result<(), AllocError>
     ensures { OnOk result (string_bytes text.new ≡ string_bytes text.old ++ position_words positions.now) }
 {
@@ -95,6 +96,7 @@ fn push_positions(text: &mut String, positions: &[usize]) -> Result<(), AllocErr
     Ok(())
 }
 
+/// Appends a path and its anchor.
 pub(crate) fn push_path(
     text: &mut String,
     positions: &[usize],

@@ -2,7 +2,7 @@
 
 ghost use Rattle.std.specs.Prelude.{◌≡◌, ◌++◌, length, string_bytes, OnOk, IfOk};
 ghost use Rattle.certpath_run.specs.AllReport.{is_pathless, outcome_of_all};
-ghost use Rattle.certpath_sources.specs.Demands.{demand_lines};
+ghost use Rattle.certpath_inputs.specs.Demands.{demand_lines};
 ghost use Rattle.certpath_run.specs.JudgedReport.{judged_verdict_line, judged_verdict_lines, judged_all_report};
 
 use crate::report::{count_certificates, push_anchors, push_end, push_item, push_path};
@@ -10,7 +10,7 @@ use crate::settings::AllOutcome;
 use cert_framing::End;
 use cert_graph::Verdict;
 use cert_judge::JudgedItem;
-use certpath_sources::{Demand, push_check, push_demand};
+use certpath_inputs::{Demand, push_check, push_demand};
 use std::alloc::{AllocError, Global};
 
 /// The line of item `k`.

@@ -1,4 +1,5 @@
-//! What is reported of inputs that were read.
+//! The reports on a target: the answer by what was read, what the check says of it, and what
+//! prevents a path.
 
 ghost use Rattle.std.specs.Prelude.{◌≡◌, ◌++◌, IfOk, map, string_bytes};
 ghost use Rattle.cert_judge.specs.Classed.{AreClassed};
@@ -9,30 +10,25 @@ ghost use Rattle.cert_purpose.specs.Restricting.{restricted_by};
 ghost use Rattle.cert_serving.specs.declared.permits.Permits.{Permits};
 ghost use Rattle.certpath_run.specs.Judging.{AreJudgedOf};
 ghost use Rattle.certpath_run.specs.Report.{answer_line};
-ghost use Rattle.certpath_sources.specs.Check.{check_line};
-ghost use Rattle.certpath_sources.specs.Demands.{ArePermitsOf, VouchesWhere, demanded, demand_lines, target_octets};
-ghost use Rattle.certpath_sources.specs.Inputs.{VouchesBy};
+ghost use Rattle.certpath_inputs.specs.Check.{check_line};
+ghost use Rattle.certpath_inputs.specs.Demands.{ArePermitsOf, VouchesWhere, demanded, demand_lines, target_octets};
+ghost use Rattle.certpath_inputs.specs.Inputs.{VouchesBy};
 ghost use Rattle.certpath_run.specs.Runs.{IsReportWith, IsReportFor, IsWhyOn, IsWhyReportFor, IsWhyReportWith, VouchesAnyWhere};
 
 use crate::answering::{Answered, answer_on};
 use crate::judging::judged_by;
 use crate::remembering::remembered_for;
 use crate::report::{push_answer, report_of};
+use crate::reports::Reported;
 use crate::settings::{Outcome, Settings};
 use asn1_core::OutOfMemory;
-use cert_judge::{JudgedItem, ReadItem, Vouch};
+use cert_judge::{JudgedItem, ReadItem, Vouch, read_items};
 use cert_purpose::{Permit, Restricted};
-use certcheck::RememberedVouchers;
-use certpath_sources::{Demand, Inputs, permits_of, push_check, push_demand};
-use certpath_why::{push_why, push_why_for, read_items};
+use cert_vouchers::RememberedVouchers;
+use certcheck::TreeReader;
+use certpath_inputs::{Demand, Inputs, permits_of, push_check, push_demand};
+use certpath_why::{push_why, push_why_for};
 use std::alloc::{AllocError, Global};
-
-/// A report, and the kind of the answer.
-#[derive(Drop)]
-pub(crate) struct Reported {
-    pub(crate) text: String,
-    pub(crate) outcome: Outcome,
-}
 
 /// Finds the answer by what vouches, checks it, and builds the report.
 fn report_by<'a, V: Vouch>(
@@ -43,7 +39,7 @@ fn report_by<'a, V: Vouch>(
     vouch: &V,
     settings: &Settings,
     demand: &Demand<'_>,
-) -> Result<Reported, OutOfMemory>
+) -> Result<Reported<Outcome>, OutOfMemory>
     requires items { AreJudgedOf (time_view settings.now.policy.moment) inputs.now.items.items items.now }
     requires anchors { AreJudgedOf (time_view settings.now.policy.moment) inputs.now.anchors.items anchors.now }
     ensures { IfOk result (λ r. IsReportWith (demand_lines demand.now) (rules_by settings.now.policy.moment settings.now.policy.demand_lists (V.vouches_for vouch.now)) inputs.now.items inputs.now.anchors settings.now.target (string_bytes r.text) r.outcome) }
@@ -72,7 +68,7 @@ fn report_within<'a>(
     vouch: &RememberedVouchers<'a>,
     settings: &Settings,
     demand: &Demand<'_>,
-) -> Result<Reported, OutOfMemory>
+) -> Result<Reported<Outcome>, OutOfMemory>
     requires items { AreJudgedOf (time_view settings.now.policy.moment) inputs.now.items.items items.now }
     requires anchors { AreJudgedOf (time_view settings.now.policy.moment) inputs.now.anchors.items anchors.now }
     ensures { IfOk result (λ r. (permits : Permits) × ArePermitsOf (demanded demand.now (target_octets inputs.now.items.items settings.now.target)) inputs.now.items.items permits
@@ -89,7 +85,7 @@ pub(crate) fn report_on(
     inputs: &Inputs,
     settings: &Settings,
     demand: &Demand<'_>,
-) -> Result<Reported, OutOfMemory>
+) -> Result<Reported<Outcome>, OutOfMemory>
     ensures { IfOk result (λ r. IsReportFor settings.now demand.now r.outcome inputs.now.items inputs.now.anchors inputs.now.vouchers (string_bytes r.text)) }
 {
     let items = judged_by(alloc, &inputs.items, &settings.policy)?;
@@ -139,12 +135,13 @@ struct Both<'a> {
     anchors: Vec<ReadItem<'a>>,
 }
 
+/// Reads items and anchors by the reader of the check.
 fn both_read<'a>(alloc: Global, inputs: &'a Inputs) -> Result<Both<'a>, OutOfMemory>
     ensures items { IfOk result (λ both. AreClassed inputs.now.items.items (map item_of both.items.items)) }
     ensures anchors { IfOk result (λ both. AreClassed inputs.now.anchors.items (map item_of both.anchors.items)) }
 {
-    let items = read_items(alloc, &inputs.items)?;
-    let anchors = read_items(alloc, &inputs.anchors)?;
+    let items = read_items::<TreeReader>(alloc, &inputs.items)?;
+    let anchors = read_items::<TreeReader>(alloc, &inputs.anchors)?;
     Ok(Both { items, anchors })
 }
 
@@ -156,7 +153,7 @@ fn why_alone<'a>(
     anchors: &[JudgedItem<'a>],
     vouch: &RememberedVouchers<'a>,
     settings: &Settings,
-) -> Result<Reported, OutOfMemory>
+) -> Result<Reported<Outcome>, OutOfMemory>
     requires items { AreJudgedOf (time_view settings.now.policy.moment) inputs.now.items.items items.now }
     requires anchors { AreJudgedOf (time_view settings.now.policy.moment) inputs.now.anchors.items anchors.now }
     ensures { IfOk result (λ r. IsWhyOn settings.now r.outcome inputs.now.items inputs.now.anchors vouch.now.vouchers.now (string_bytes r.text)) }
@@ -189,7 +186,7 @@ fn why_by<'a, P: Permit>(
     permit: &P,
     settings: &Settings,
     demand: &Demand<'_>,
-) -> Result<Reported, OutOfMemory>
+) -> Result<Reported<Outcome>, OutOfMemory>
     requires items { AreJudgedOf (time_view settings.now.policy.moment) inputs.now.items.items items.now }
     requires anchors { AreJudgedOf (time_view settings.now.policy.moment) inputs.now.anchors.items anchors.now }
     ensures { IfOk result (λ r. IsWhyReportWith demand.now
@@ -226,7 +223,7 @@ fn why_within<'a>(
     vouch: &RememberedVouchers<'a>,
     settings: &Settings,
     demand: &Demand<'_>,
-) -> Result<Reported, OutOfMemory>
+) -> Result<Reported<Outcome>, OutOfMemory>
     requires items { AreJudgedOf (time_view settings.now.policy.moment) inputs.now.items.items items.now }
     requires anchors { AreJudgedOf (time_view settings.now.policy.moment) inputs.now.anchors.items anchors.now }
     ensures { IfOk result (λ r. (permits : Permits) × ArePermitsOf (demanded demand.now (target_octets inputs.now.items.items settings.now.target)) inputs.now.items.items permits
@@ -239,13 +236,14 @@ fn why_within<'a>(
     )
 }
 
-/// Finds the answer where something may be demanded, checks it, and reports what stands in the way of a path.
+/// Finds the answer where something may be demanded, checks it, and reports what stands in the way
+/// of a path.
 pub(crate) fn why_on(
     alloc: Global,
     inputs: &Inputs,
     settings: &Settings,
     demand: &Demand<'_>,
-) -> Result<Reported, OutOfMemory>
+) -> Result<Reported<Outcome>, OutOfMemory>
     ensures { IfOk result (λ r. IsWhyReportFor settings.now demand.now r.outcome inputs.now.items inputs.now.anchors inputs.now.vouchers (string_bytes r.text)) }
 {
     let items = judged_by(alloc, &inputs.items, &settings.policy)?;

@@ -1,9 +1,9 @@
-//! What is reported of all items of inputs that were read.
+//! The report on all items: their paths by what was read, and what the check says of them.
 
 ghost use Rattle.std.specs.Prelude.{length, IfOk, string_bytes};
 ghost use Rattle.cert_model.specs.View.{time_view};
 ghost use Rattle.cert_serving.specs.declared.permits.Permits.{Permits};
-ghost use Rattle.certpath_sources.specs.Demands.{ArePermitsOf, VouchesWhere, demanded, demand_lines, target_octets};
+ghost use Rattle.certpath_inputs.specs.Demands.{ArePermitsOf, VouchesWhere, demanded, demand_lines, target_octets};
 ghost use Rattle.certpath_run.specs.Judging.{AreJudgedOf};
 ghost use Rattle.certpath_run.specs.AllReport.{IsAllReportBy, IsAllReportFor, IsAllReportOf};
 
@@ -15,9 +15,10 @@ use asn1_core::OutOfMemory;
 use cert_graph::Inventory;
 use cert_judge::{JudgedItem, Vouch};
 use cert_purpose::Restricted;
-use certcheck::{RememberedVouchers, check_all};
+use cert_vouchers::RememberedVouchers;
+use certcheck::check_all;
 use certpath_find::find_all_judged;
-use certpath_sources::{AllSettings, Demand, Inputs, permits_of};
+use certpath_inputs::{AllSettings, Demand, Inputs, permits_of};
 use std::alloc::Global;
 
 /// A report on all items, whether each certificate has a path, and the inventory that it reports.
@@ -90,7 +91,8 @@ fn report_all_within<'a>(
     report_all_by(alloc, inputs, items, anchors, &restricted, settings, demand)
 }
 
-/// Finds the paths of all items where a purpose may be demanded, checks them, and builds the report.
+/// Finds the paths of all items where a purpose may be demanded, checks them, and builds the
+/// report.
 pub(crate) fn report_on_all(
     alloc: Global,
     inputs: &Inputs,

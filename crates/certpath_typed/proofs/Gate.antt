@@ -8,7 +8,7 @@ use Rattle.cert_model.specs.Fields.{Certificate, RevocationList}
 use Rattle.cert_model.specs.Octets.{certificate_octets, list_octets}
 use Rattle.cert_model.specs.Range.{AreCertificateFields, AreListFields}
 use Rattle.cert_model.specs.Class.{IsCertificateItem, IsListItem, IsClassOf, other}
-use Rattle.certcheck.proofs.Found.{certificate_item, list_item}
+use Rattle.cert_model.proofs.StrictItems.{certificate_item, list_item}
 use Rattle.certpath_typed.specs.Tried.{TriesTree}
 
 -- one header for each element of the object is no fewer

@@ -1,4 +1,5 @@
-//! What an item is.
+//! What an item is, by the lenient readers: the gate, the reading, the range and the comparison, in this
+//! order, of a certificate and then of a list. Headers are counted on the way.
 
 ghost use Rattle.std.specs.Prelude.{◌≡◌, ◌↔◌, ◌+◌, ◌*◌, ◌^◌, ◌<◌, ◌≤◌, ℕ, length, IfOk, IfSome, MatchOption, IsTrue};
 ghost use Rattle.asn1_core.specs.Counts.{attempts};
@@ -6,7 +7,7 @@ ghost use Rattle.der_tree.specs.Object.{IsDerObject};
 ghost use Rattle.cert_model.specs.Class.{IsCertificateItem, IsListItem, IsClassOf};
 ghost use Rattle.cert_model.specs.Fields.{Certificate, RevocationList};
 ghost use Rattle.cert_model.specs.View.{certificate_view, list_view};
-ghost use Rattle.certcheck.specs.ClassView.{class_view};
+ghost use Rattle.cert_model.specs.ClassView.{class_view};
 ghost use Rattle.certpath_typed.specs.Tried.{HasTried, TriesTree};
 
 use crate::certificates::certificate_fields;
@@ -14,14 +15,16 @@ use crate::lists::list_fields;
 use crate::read::{certificate_read, list_read};
 use crate::written::{is_written_certificate, is_written_list};
 use asn1_core::{HeaderCount, OutOfMemory};
+use cert_model::ItemClass;
 use cert_model::fields::{CertFields, ListFields};
-use certcheck::ItemClass;
 use der_tree::{MAX_RECURSION, is_der_object_counted};
 use std::alloc::Global;
 
-/// The answer of `read_typed`, and the header attempts that it took, in the count: at most 17 for each octet, so none for no
-/// octets, and at least so many as the item's tree has elements and 17 more where it is a certificate, nine more where it is a
-/// list. The count never falls, and keeps to these bounds where memory is refused too.
+/// `read_typed`, which raises a count by each header that it tries (X.690, 8.1): at most 17 for each
+/// octet, so none for no octets, and at least one for each element of the item's tree and 17 more if it
+/// is a certificate, nine more if it is a list.
+///
+/// The only error is out of memory. The count keeps to these bounds then too, and never falls.
 pub fn read_typed_counted<'a>(
     alloc: Global,
     item: &'a [u8],
@@ -45,7 +48,7 @@ pub fn read_typed_counted<'a>(
     Ok(ItemClass::Other)
 }
 
-/// Whether the item is one DER object of at most 50 levels. No memory is taken.
+/// Whether the item is one DER object of at most `MAX_RECURSION` levels. No memory is taken.
 #[tactic(auto, using(crate::proofs::Gate::each_tried))]
 fn is_object(item: &[u8], count: &mut HeaderCount) -> bool
     requires { attempts count.old + length item.now < 2 ^ 128 }

@@ -3,8 +3,8 @@
 ghost use Rattle.std.specs.Prelude.{◌≡◌, ◌^◌, ◌<◌, ℕ, List, [], length};
 ghost use Rattle.cert_model.specs.Class.{IsCertificateItem, IsListItem, IsClassOf};
 ghost use Rattle.cert_model.specs.Fields.{Certificate, RevocationList};
-ghost use Rattle.certcheck.specs.ClassView.{class_view};
-ghost use Rattle.certcheck.specs.declared.class.ItemClass.{ItemClass};
+ghost use Rattle.cert_model.specs.ClassView.{class_view};
+ghost use Rattle.cert_model.specs.declared.class.ItemClass.{ItemClass};
 ghost use Rattle.x509_links.specs.Grammars.{X509Certificate, CertificateRevocationList};
 ghost use Rattle.x509_links.specs.Readers.{IsUnparsed};
 ghost use Rattle.x509_links.specs.Lenient.{lenient_certificate, lenient_list};

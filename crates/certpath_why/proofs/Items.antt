@@ -6,8 +6,8 @@ use Rattle.std.proofs.lemmas.Bool.{cases_lt}
 use Rattle.std.proofs.lemmas.List.{length-map, get_or_default, get_or-map}
 use Rattle.std.proofs.lemmas.Option.{slice_get-map, slice_get-get_or, slice_get_past}
 use Rattle.cert_graph.specs.Entries.{IsAt}
-use Rattle.cert_groups.specs.declared.places.Part.TheVariants.{Name}
-use Rattle.cert_groups.specs.Places.{shown_at, Shows}
+use Rattle.cert_graph.specs.declared.places.Part.TheVariants.{Name}
+use Rattle.cert_graph.specs.Places.{shown_at, Shows}
 use Rattle.cert_model.specs.Fields.{Certificate, RevocationList}
 use Rattle.cert_model.specs.Octets.{name_octets}
 use Rattle.cert_model.specs.Class.{certificate, list, other}

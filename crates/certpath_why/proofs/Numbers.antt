@@ -4,12 +4,12 @@ use Rattle.std.specs.BTreeMap as mapped
 use Rattle.std.specs.BTreeMap.{BTreeMap}
 use Rattle.std.proofs.lemmas.Bool.{cases_lt, cases_Bool, cond-true, cond-false}
 use Rattle.std.proofs.lemmas.Option.{slice_get_past}
-use Rattle.cert_graph.proofs.Places.{element_at}
-use Rattle.cert_groups.specs.declared.buckets.Bucket.{Bucket}
-use Rattle.cert_groups.specs.declared.places.Place.{Place}
-use Rattle.cert_groups.specs.declared.places.Part.TheVariants.{Name}
-use Rattle.cert_groups.specs.Places.{shown_at, Shows}
-use Rattle.cert_groups.proofs.Gathering.{E, R, same}
+use Rattle.cert_graph.proofs.PlacesOfNodes.{element_at}
+use Rattle.cert_graph.specs.declared.buckets.Bucket.{Bucket}
+use Rattle.cert_graph.specs.declared.places.Place.{Place}
+use Rattle.cert_graph.specs.declared.places.Part.TheVariants.{Name}
+use Rattle.cert_graph.specs.Places.{shown_at, Shows}
+use Rattle.cert_graph.proofs.Gathering.{E, R, same}
 use Rattle.certpath_why.specs.Numbered.{AreNumbered}
 use Rattle.certpath_why.specs.Reached.{ArePositions}
 use Rattle.certpath_why.specs.Directories.{IsDirectory}

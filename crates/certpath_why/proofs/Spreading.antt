@@ -8,7 +8,7 @@ use Rattle.std.proofs.Math.Seq.{get_or-append_seam}
 use Rattle.std.proofs.lemmas.Bool.{cases_lt, cases_eq, false≢true}
 use Rattle.std.proofs.lemmas.List.{append-nil, take_more, get_or-set_same, get_or-set_other, get_or_default, get_or_past}
 use Rattle.std.proofs.lemmas.List.Elements.{Contains-append_left, Contains-append_right, Contains-append_cases, Contains-push, Contains-push_cases}
-use Rattle.cert_groups.proofs.Sifted.{push_ascends}
+use Rattle.cert_graph.proofs.Sifted.{push_ascends}
 use Rattle.cert_judge.specs.Revoking.{Item}
 use Rattle.certpath_why.specs.Found.{IsMarked, Spreads, SpreadsFrom, AreSpread}
 use Rattle.certpath_why.specs.Reached.{IsCertificateAt, IsIssuerByName, IsReachedIn, IsReached, IsFurther, ArePositions}

@@ -24,7 +24,7 @@ use Rattle.certpath_why.proofs.Texts.{texts_append, texts_one}
 use Rattle.cert_reasons.specs.Order.{AreAll}
 use Rattle.cert_reasons.specs.Links.{HasLinkReason, link_order}
 use Rattle.certpath_why.specs.Lines.{to_item, to_anchor, link_lines}
-use Rattle.certpath_sources.specs.declared.demand.Demand.{Demand}
+use Rattle.certpath_inputs.specs.declared.demand.Demand.{Demand}
 use Rattle.certpath_why.specs.Demanded.{AreDemandLines}
 use Rattle.certpath_why.specs.Why.{TellsLink, TellsAnchor, AreTexts, missing_lines, TellsLinks, TellsUnusable, TellsNoIssuer, TellsCertificate, TellsAt, TellsItem, TellsItemAt, TellsList, AreKeysOf, positions, octets_at}
 use Rattle.certpath_why.specs.Lines.{subject_line}

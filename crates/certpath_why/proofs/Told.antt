@@ -9,10 +9,10 @@ use Rattle.cert_purpose.specs.Purposes.{extended_key_usage, IsOneUnder}
 use Rattle.cert_purpose.proofs.Ones.{one_of_one, one_not_none, more_not_none, more_not_one}
 use Rattle.cert_serving.specs.Demanding.{Meets}
 use Rattle.cert_serving.specs.Serving.{subject_alt_name}
-use Rattle.certpath_sources.specs.Demands.{demanded}
-use Rattle.certpath_sources.specs.declared.demand.AskedHost.{AskedHost}
-use Rattle.certpath_sources.specs.declared.demand.AskedPurpose.{AskedPurpose}
-use Rattle.certpath_sources.specs.declared.demand.Demand.{Demand}
+use Rattle.certpath_inputs.specs.Demands.{demanded}
+use Rattle.certpath_inputs.specs.declared.demand.AskedHost.{AskedHost}
+use Rattle.certpath_inputs.specs.declared.demand.AskedPurpose.{AskedPurpose}
+use Rattle.certpath_inputs.specs.declared.demand.Demand.{Demand}
 use Rattle.certpath_why.specs.Demanded.{IsPurposeLine, IsHostLine, IsLineUnless, AreUnmetLines, AreDemandLines}
 use Rattle.certpath_why.specs.Hosts.{hosts_among, hosts_words, AreNamesWords, AreHostsWords}
 use Rattle.certpath_why.specs.Laws.{AreShort}

@@ -3,10 +3,10 @@ use Rattle.std.specs.Prelude.{◌≡◌, ◌⊎◌, ℕ, List, [], ◌∷◌, �
 use Rattle.cert_model.specs.Fields.{Certificate, Extension}
 use Rattle.cert_judge.specs.Revoking.{Item}
 use Rattle.cert_serving.specs.Demanding.{AllowsIt, ServesIt}
-use Rattle.certpath_sources.specs.Demands.{IfNeither, demanded}
-use Rattle.certpath_sources.specs.declared.demand.AskedHost.{AskedHost}
-use Rattle.certpath_sources.specs.declared.demand.AskedPurpose.{AskedPurpose}
-use Rattle.certpath_sources.specs.declared.demand.Demand.{Demand}
+use Rattle.certpath_inputs.specs.Demands.{IfNeither, demanded}
+use Rattle.certpath_inputs.specs.declared.demand.AskedHost.{AskedHost}
+use Rattle.certpath_inputs.specs.declared.demand.AskedPurpose.{AskedPurpose}
+use Rattle.certpath_inputs.specs.declared.demand.Demand.{Demand}
 use Rattle.certpath_why.specs.Hosts.{AreHostsWords}
 use Rattle.certpath_why.specs.Lines.{at_words}
 use Rattle.certpath_why.specs.Uses.{AreUsesWords}

@@ -1,10 +1,10 @@
 -- Buckets of places by their names. Contracts of private functions cite it.
 use Rattle.std.specs.Prelude.{◌↔◌, ◌<◌, ℕ, List, length, Contains}
-use Rattle.cert_groups.specs.declared.buckets.Bucket.{Bucket}
-use Rattle.cert_groups.specs.declared.places.Place.{Place}
-use Rattle.cert_groups.specs.declared.places.Part.TheVariants.{Name}
-use Rattle.cert_groups.specs.Places.{Shows}
-use Rattle.cert_groups.specs.Buckets.{AreBuckets}
+use Rattle.cert_graph.specs.declared.buckets.Bucket.{Bucket}
+use Rattle.cert_graph.specs.declared.places.Place.{Place}
+use Rattle.cert_graph.specs.declared.places.Part.TheVariants.{Name}
+use Rattle.cert_graph.specs.Places.{Shows}
+use Rattle.cert_graph.specs.Buckets.{AreBuckets}
 
 -- the buckets of all places by their names
 pub record IsDirectory (all : List Place) (buckets : List Bucket) : Type 0 where

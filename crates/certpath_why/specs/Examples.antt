@@ -5,8 +5,8 @@ use Rattle.cert_model.specs.Fields.{Identifier, Certificate, Extension}
 use Rattle.cert_judge.specs.Examples.{extended_by}
 use Rattle.cert_purpose.specs.Examples.{server_auth, usage}
 use Rattle.cert_serving.specs.Examples.{dns, naming}
-use Rattle.certpath_sources.specs.Demands.{of_purpose}
-use Rattle.certpath_sources.specs.declared.demand.Demand.{Demand}
+use Rattle.certpath_inputs.specs.Demands.{of_purpose}
+use Rattle.certpath_inputs.specs.declared.demand.Demand.{Demand}
 use Rattle.host_names.specs.Examples.{a_b, w_a_b}
 use Rattle.host_names.specs.declared.host.Host.TheVariants.{Name}
 use Rattle.purpose_names.specs.Names.{identifier_of}

@@ -1,6 +1,6 @@
 -- What the code holds beside the items. Contracts of private functions cite it.
 use Rattle.std.specs.Prelude.{◌≡◌, ◌↔◌, ◌⊎◌, ◌<◌, ◌++◌, ℕ, Bool, true, false, List, length, map, slice_index_or, Contains, Some, None}
-use Rattle.cert_groups.specs.declared.places.Place.{Place}
+use Rattle.cert_graph.specs.declared.places.Place.{Place}
 use Rattle.cert_judge.specs.declared.items.ReadItem.{ReadItem}
 use Rattle.cert_judge.specs.declared.items.ReadItem.TheVariants.{Certificate as certificate_read, List as list_read, Other as other_read}
 use Rattle.cert_judge.specs.Revoking.{Item}

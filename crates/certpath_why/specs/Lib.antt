@@ -12,5 +12,6 @@ pub mod Examples
 pub mod Appended
 pub mod LinkText
 pub mod Numbered
+pub mod Question
 pub mod Directories
 pub mod Found

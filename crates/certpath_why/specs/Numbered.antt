@@ -5,7 +5,7 @@ use Rattle.std.specs.Ordering.{on, nat_cmp}
 use Rattle.std.specs.Cmp.Lexicographic.{slice_cmp}
 use Rattle.std.specs.BTreeMap as mapped
 use Rattle.std.specs.BTreeMap.{BTreeMap}
-use Rattle.cert_groups.specs.declared.buckets.Bucket.{Bucket}
+use Rattle.cert_graph.specs.declared.buckets.Bucket.{Bucket}
 
 -- the number that stands under a text
 abbrev pub number_of : BTreeMap (Bor (List ℕ)) ℕ → Bor (List ℕ) → ℕ → Type 0

@@ -19,8 +19,8 @@ use Rattle.cert_reasons.specs.Certificates.{HasReason, order_of}
 use Rattle.cert_reasons.specs.Issuers.{HasIssuerReason, issuer_order}
 use Rattle.cert_reasons.specs.Links.{HasLinkReason, link_order}
 use Rattle.cert_reasons.specs.Lists.{HasReasonAmong, list_order}
-use Rattle.certpath_sources.specs.Demands.{of_purpose, target_octets}
-use Rattle.certpath_sources.specs.declared.demand.Demand.{Demand}
+use Rattle.certpath_inputs.specs.Demands.{of_purpose, target_octets}
+use Rattle.certpath_inputs.specs.declared.demand.Demand.{Demand}
 use Rattle.certpath_why.specs.Bounds.{reach_by, IsBound}
 use Rattle.certpath_why.specs.Demanded.{AreDemandLines}
 use Rattle.certpath_why.specs.Lines.{reach_lines, subject_line, unusable_line, issuer_line, missing_line, to_item, to_anchor, link_lines, list_lines}

@@ -5,17 +5,19 @@ ghost use Rattle.std.specs.List.{flat_map};
 ghost use Rattle.cert_graph.specs.Entries.{IsAt};
 ghost use Rattle.cert_graph.specs.declared.reach.Reach.TheVariants.{No, UpTo};
 ghost use Rattle.cert_judge.specs.ItemGraph.{IsLink};
-ghost use Rattle.cert_judge.specs.Items.{item_of, certificate_item, rules_by};
+ghost use Rattle.cert_judge.specs.Items.{certificate_item};
 ghost use Rattle.cert_reasons.specs.Linking.{HasItsLists};
 ghost use Rattle.certpath_why.specs.Bounds.{reach_by, IsHeldBack, IsBound};
 ghost use Rattle.certpath_why.specs.Found.{AreMarked, IsFound, IsMarked};
 ghost use Rattle.certpath_why.specs.Lines.{reach_lines};
+ghost use Rattle.certpath_why.specs.Question.{items_in, link_items, link_rules, rules_in};
 ghost use Rattle.certpath_why.specs.Reached.{ArePositions, HasSubject, IsCertificateAt, IsFurther};
 
-use crate::found::{Found, certificate_at};
+use crate::found::certificate_at;
 use crate::marks::{marked_but, no_marks, put_mark};
+use crate::question::Question;
 use cert_graph::{Answer, Reach, reach_at};
-use cert_judge::{CertificateItem, Policy, Vouch};
+use cert_judge::{CertificateItem, Vouch};
 use cert_reasons::{Linking, Unlinked};
 use std::alloc::{AllocError, Global};
 
@@ -32,6 +34,7 @@ fn reach_in(answer: &Answer, place: usize) -> Reach
     }
 }
 
+/// Whether an issuer leads to no anchor.
 fn leads_nowhere(reach: Reach) -> bool
     ensures { IsTrue result ↔ (reach ≡ No) }
 {
@@ -60,14 +63,15 @@ fn is_counted(certificate: &CertificateItem<'_>) -> bool
     certificate.subject != certificate.issuer
 }
 
+/// Whether there is no reason.
 fn is_none(reasons: &[Unlinked]) -> bool
     ensures { IsTrue result ↔ (reasons.now ≡ []) }
 {
     reasons.is_empty()
 }
 
-/// Whether a certificate is linked to an issuer of its issuer's name, which leads to an anchor, but with nothing
-/// counted below it.
+/// Whether a certificate is linked to an issuer of its issuer's name, which leads to an anchor, but
+/// with nothing counted below it.
 fn is_held_back<V: Vouch>(
     alloc: Global,
     answer: &Answer,
@@ -76,9 +80,9 @@ fn is_held_back<V: Vouch>(
     vouch: &V,
 ) -> Result<bool, AllocError>
     requires lists { HasItsLists linking.now }
-    requires subject { HasSubject (map item_of linking.now.items.now) linking.now.certificate.now.issuer.now issuer }
+    requires subject { HasSubject (link_items linking.now) linking.now.certificate.now.issuer.now issuer }
     ensures { IfOk result (λ held. IsTrue held ↔ ((reach_by answer.now issuer ≡ UpTo 0)
-        × IsAt (map item_of linking.now.items.now) issuer (IsLink (rules_by linking.now.policy.moment linking.now.policy.demand_lists (V.vouches_for vouch.now)) (map item_of linking.now.items.now) (certificate_item linking.now.certificate.now)))) }
+        × IsAt (link_items linking.now) issuer (IsLink (link_rules V.Vouch linking.now vouch.now) (link_items linking.now) (certificate_item linking.now.certificate.now)))) }
 {
     if !takes_none_below(reach_in(answer, issuer)) {
         return Ok(false);
@@ -100,10 +104,10 @@ fn mark_among<V: Vouch>(
     vouch: &V,
 ) -> Result<(), AllocError>
     requires lists { HasItsLists linking.now }
-    requires issuers { ArePositions (HasSubject (map item_of linking.now.items.now) linking.now.certificate.now.issuer.now) issuers.now }
+    requires issuers { ArePositions (HasSubject (link_items linking.now) linking.now.certificate.now.issuer.now) issuers.now }
     requires count { length marks.now.items ≡ length linking.now.items.now }
     ensures { OnOk result (AreMarked (λ v. Contains issuers.now v × ((reach_by answer.now v ≡ UpTo 0)
-        × IsAt (map item_of linking.now.items.now) v (IsLink (rules_by linking.now.policy.moment linking.now.policy.demand_lists (V.vouches_for vouch.now)) (map item_of linking.now.items.now) (certificate_item linking.now.certificate.now)))) marks.old.items marks.new.items) }
+        × IsAt (link_items linking.now) v (IsLink (link_rules V.Vouch linking.now vouch.now) (link_items linking.now) (certificate_item linking.now.certificate.now)))) marks.old.items marks.new.items) }
 {
     for issuer in issuers {
         let held = is_held_back(alloc, answer, linking, *issuer, vouch)?;
@@ -119,18 +123,16 @@ fn mark_among<V: Vouch>(
 fn mark_from<V: Vouch>(
     marks: &mut Vec<bool>,
     alloc: Global,
-    found: &Found<'_, '_>,
+    question: &Question<'_, '_, V>,
     answer: &Answer,
     place: usize,
-    vouch: &V,
-    policy: &Policy,
 ) -> Result<(), AllocError>
-    requires known { IsFound found.now }
-    requires certificate { IsCertificateAt (map item_of found.now.items.now) place }
-    requires count { length marks.now.items ≡ length found.now.items.now }
-    ensures { OnOk result (AreMarked (IsHeldBack (rules_by policy.now.moment policy.now.demand_lists (V.vouches_for vouch.now)) (map item_of found.now.items.now) (reach_by answer.now) place) marks.old.items marks.new.items) }
+    requires known { IsFound question.now.found.now }
+    requires certificate { IsCertificateAt (items_in question.now) place }
+    requires count { length marks.now.items ≡ length question.now.found.now.items.now }
+    ensures { OnOk result (AreMarked (IsHeldBack (rules_in V.Vouch question.now) (items_in question.now) (reach_by answer.now) place) marks.old.items marks.new.items) }
 {
-    let Some(certificate) = certificate_at(found.items, place) else {
+    let Some(certificate) = certificate_at(question.found.items, place) else {
         return Ok(());
     };
     if !leads_nowhere(reach_in(answer, place)) {
@@ -139,51 +141,46 @@ fn mark_from<V: Vouch>(
     if !is_counted(certificate) {
         return Ok(());
     }
-    let issuers = found.issuers(certificate.issuer);
-    let linking = found.linking(alloc, certificate, policy)?;
-    mark_among(marks, alloc, answer, &linking, issuers, vouch)?;
+    let issuers = question.found.issuers(certificate.issuer);
+    let linking = question.found.linking(alloc, certificate, question.policy)?;
+    mark_among(marks, alloc, answer, &linking, issuers, question.vouch)?;
     Ok(())
 }
 
 /// Marks of the issuers from which a path length holds one of some certificates back.
 fn bound_marks<V: Vouch>(
     alloc: Global,
-    found: &Found<'_, '_>,
-    target: usize,
+    question: &Question<'_, '_, V>,
     answer: &Answer,
     further: &[usize],
-    vouch: &V,
-    policy: &Policy,
 ) -> Result<Vec<bool>, AllocError>
-    requires known { IsFound found.now }
-    requires further { ArePositions (IsFurther (map item_of found.now.items.now) target) further.now }
+    requires known { IsFound question.now.found.now }
+    requires further { ArePositions (IsFurther (items_in question.now) question.now.target) further.now }
     ensures { IfOk result (λ marks. (v : ℕ) → IsMarked marks.items v ↔ ((w : ℕ) × Contains further.now w
-        × IsHeldBack (rules_by policy.now.moment policy.now.demand_lists (V.vouches_for vouch.now)) (map item_of found.now.items.now) (reach_by answer.now) w v)) }
+        × IsHeldBack (rules_in V.Vouch question.now) (items_in question.now) (reach_by answer.now) w v)) }
 {
-    let mut marks = no_marks(alloc, found.items.len())?;
+    let mut marks = no_marks(alloc, question.found.items.len())?;
     for place in further {
-        mark_from(&mut marks, alloc, found, answer, *place, vouch, policy)?;
+        mark_from(&mut marks, alloc, question, answer, *place)?;
     }
     Ok(marks)
 }
 
-/// The positions of the issuers whose path length, or that of an issuer above them, stands in the way of one of
-/// the certificates that are reached.
+/// The positions of the issuers whose path length, or that of an issuer above them, stands in the
+/// way of one of the certificates that are reached.
 pub(crate) fn bound_among<V: Vouch>(
     alloc: Global,
-    found: &Found<'_, '_>,
-    target: usize,
+    question: &Question<'_, '_, V>,
     answer: &Answer,
     further: &[usize],
-    vouch: &V,
-    policy: &Policy,
 ) -> Result<Vec<usize>, AllocError>
-    requires known { IsFound found.now }
-    requires further { ArePositions (IsFurther (map item_of found.now.items.now) target) further.now }
-    ensures { IfOk result (λ bound. ArePositions (IsBound (rules_by policy.now.moment policy.now.demand_lists (V.vouches_for vouch.now)) (map item_of found.now.items.now) target (reach_by answer.now)) bound.items) }
+    requires known { IsFound question.now.found.now }
+    requires further { ArePositions (IsFurther (items_in question.now) question.now.target) further.now }
+    ensures { IfOk result (λ bound. ArePositions (IsBound (rules_in V.Vouch question.now)
+        (items_in question.now) question.now.target (reach_by answer.now)) bound.items) }
 {
-    let marks = bound_marks(alloc, found, target, answer, further, vouch, policy)?;
-    let bound = marked_but(alloc, &marks, target)?;
+    let marks = bound_marks(alloc, question, answer, further)?;
+    let bound = marked_but(alloc, &marks, question.target)?;
     Ok(bound)
 }
 

@@ -1,42 +1,46 @@
-//! The lines of a certificate.
+//! The lines of one certificate that is reached: why it is not usable, what it doesn't meet, why it
+//! may not issue others, and its links to the certificates and anchors of its issuer's name.
 
 ghost use Rattle.std.specs.Prelude.{◌≡◌, ◌++◌, ℕ, List, [], nat_eq, OnOk, IfOk, map, string_bytes};
 ghost use Rattle.cert_graph.specs.Entries.{IsAt};
 ghost use Rattle.cert_model.specs.Octets.{name_octets};
-ghost use Rattle.cert_judge.specs.Items.{item_of, certificate_of, certificate_item, rules_by};
+ghost use Rattle.cert_judge.specs.Items.{item_of, certificate_of, certificate_item};
 ghost use Rattle.cert_judge.specs.declared.items.ReadItem.TheVariants.{Certificate as certificate_read};
 ghost use Rattle.cert_reasons.specs.Linking.{HasItsLists};
 ghost use Rattle.certpath_why.specs.Reached.{ArePositions, HasSubject, IsCertificateAt};
 ghost use Rattle.certpath_why.specs.Lines.{missing_line};
+ghost use Rattle.certpath_why.specs.Question.{anchors_in, items_in, link_items, link_rules, rules_in};
 ghost use Rattle.certpath_why.specs.Why.{AreTexts, TellsUnusable, TellsNoIssuer, TellsLink, TellsAnchor, missing_lines, TellsLinks, TellsCertificate, TellsAt, octets_at};
 ghost use Rattle.certpath_why.specs.Found.{IsFound};
 ghost use Rattle.certpath_why.specs.Appended.{Appends};
 
-use crate::demanded::{Sought, push_unmet};
+use crate::demanded::push_unmet;
 use crate::found::{Found, certificate_at};
 use crate::lines::{
     Link, push_all_no_issuer, push_all_unusable, push_link, push_missing, push_subject,
 };
+use crate::question::Question;
 use asn1_core::OutOfMemory;
-use cert_judge::{CertificateItem, Policy, ReadItem, Vouch};
+use cert_judge::{CertificateItem, ReadItem, Vouch};
 use cert_reasons::{Linking, why_no_issuer, why_unusable};
 use std::alloc::{AllocError, Global};
 
+/// Appends why a certificate is not usable.
 fn tell_unusable<V: Vouch>(
     text: &mut String,
     alloc: Global,
+    question: &Question<'_, '_, V>,
     place: usize,
     certificate: &CertificateItem<'_>,
-    vouch: &V,
-    policy: &Policy,
 ) -> Result<(), AllocError>
-    ensures { OnOk result (Appends (TellsUnusable (rules_by policy.now.moment policy.now.demand_lists (V.vouches_for vouch.now)) place (certificate_item certificate.now) (certificate_of certificate.now)) (string_bytes text.old) (string_bytes text.new)) }
+    ensures { OnOk result (Appends (TellsUnusable (rules_in V.Vouch question.now) place (certificate_item certificate.now) (certificate_of certificate.now))
+        (string_bytes text.old) (string_bytes text.new)) }
 {
-    let moment = policy.moment();
+    let moment = question.policy.moment();
     let reasons = why_unusable(
         alloc,
         &certificate.fields,
-        vouch,
+        question.vouch,
         certificate.octets,
         &moment,
     )?;
@@ -44,6 +48,7 @@ fn tell_unusable<V: Vouch>(
     Ok(())
 }
 
+/// Appends why a certificate may not issue others; nothing of the target, which needs not to.
 fn tell_no_issuer(
     text: &mut String,
     alloc: Global,
@@ -71,8 +76,10 @@ fn tell_link<V: Vouch>(
     vouch: &V,
 ) -> Result<(), AllocError>
     requires lists { HasItsLists linking.now }
-    requires subject { HasSubject (map item_of linking.now.items.now) linking.now.certificate.now.issuer.now issuer }
-    ensures { OnOk result (Appends (TellsLink (rules_by linking.now.policy.moment linking.now.policy.demand_lists (V.vouches_for vouch.now)) (map item_of linking.now.items.now) place (certificate_item linking.now.certificate.now) (certificate_of linking.now.certificate.now) issuer) (string_bytes text.old) (string_bytes text.new)) }
+    requires subject { HasSubject (link_items linking.now) linking.now.certificate.now.issuer.now issuer }
+    ensures { OnOk result (Appends (TellsLink (link_rules V.Vouch linking.now vouch.now)
+        (link_items linking.now) place (certificate_item linking.now.certificate.now) (certificate_of linking.now.certificate.now) issuer)
+        (string_bytes text.old) (string_bytes text.new)) }
 {
     let Some(item) = certificate_at(linking.items(), issuer) else {
         return Ok(());
@@ -82,6 +89,7 @@ fn tell_link<V: Vouch>(
     Ok(())
 }
 
+/// Appends the lines of the links to all certificates of the issuer's name.
 fn tell_links<V: Vouch>(
     text: &mut String,
     alloc: Global,
@@ -91,8 +99,10 @@ fn tell_links<V: Vouch>(
     vouch: &V,
 ) -> Result<(), AllocError>
     requires lists { HasItsLists linking.now }
-    requires issuers { ArePositions (HasSubject (map item_of linking.now.items.now) linking.now.certificate.now.issuer.now) issuers.now }
-    ensures { OnOk result (Appends (AreTexts (TellsLink (rules_by linking.now.policy.moment linking.now.policy.demand_lists (V.vouches_for vouch.now)) (map item_of linking.now.items.now) place (certificate_item linking.now.certificate.now) (certificate_of linking.now.certificate.now)) issuers.now) (string_bytes text.old) (string_bytes text.new)) }
+    requires issuers { ArePositions (HasSubject (link_items linking.now) linking.now.certificate.now.issuer.now) issuers.now }
+    ensures { OnOk result (Appends (AreTexts (TellsLink (link_rules V.Vouch linking.now vouch.now)
+        (link_items linking.now) place (certificate_item linking.now.certificate.now) (certificate_of linking.now.certificate.now)) issuers.now)
+        (string_bytes text.old) (string_bytes text.new)) }
 {
     for issuer in issuers {
         tell_link(text, alloc, place, linking, *issuer, vouch)?;
@@ -112,7 +122,9 @@ fn tell_anchor<V: Vouch>(
 ) -> Result<(), AllocError>
     requires lists { HasItsLists linking.now }
     requires subject { HasSubject (map item_of anchors.now) linking.now.certificate.now.issuer.now root }
-    ensures { OnOk result (Appends (TellsAnchor (rules_by linking.now.policy.moment linking.now.policy.demand_lists (V.vouches_for vouch.now)) (map item_of linking.now.items.now) (map item_of anchors.now) place (certificate_item linking.now.certificate.now) (certificate_of linking.now.certificate.now) root) (string_bytes text.old) (string_bytes text.new)) }
+    ensures { OnOk result (Appends (TellsAnchor (link_rules V.Vouch linking.now vouch.now)
+        (link_items linking.now) (map item_of anchors.now) place (certificate_item linking.now.certificate.now) (certificate_of linking.now.certificate.now) root)
+        (string_bytes text.old) (string_bytes text.new)) }
 {
     let Some(anchor) = certificate_at(anchors, root) else {
         return Ok(());
@@ -122,6 +134,7 @@ fn tell_anchor<V: Vouch>(
     Ok(())
 }
 
+/// Appends the lines of the links to all anchors of the issuer's name.
 fn tell_anchors<V: Vouch>(
     text: &mut String,
     alloc: Global,
@@ -133,7 +146,9 @@ fn tell_anchors<V: Vouch>(
 ) -> Result<(), AllocError>
     requires lists { HasItsLists linking.now }
     requires roots { ArePositions (HasSubject (map item_of anchors.now) linking.now.certificate.now.issuer.now) roots.now }
-    ensures { OnOk result (Appends (AreTexts (TellsAnchor (rules_by linking.now.policy.moment linking.now.policy.demand_lists (V.vouches_for vouch.now)) (map item_of linking.now.items.now) (map item_of anchors.now) place (certificate_item linking.now.certificate.now) (certificate_of linking.now.certificate.now)) roots.now) (string_bytes text.old) (string_bytes text.new)) }
+    ensures { OnOk result (Appends (AreTexts (TellsAnchor (link_rules V.Vouch linking.now vouch.now)
+        (link_items linking.now) (map item_of anchors.now) place (certificate_item linking.now.certificate.now) (certificate_of linking.now.certificate.now)) roots.now)
+        (string_bytes text.old) (string_bytes text.new)) }
 {
     for root in roots {
         tell_anchor(text, alloc, anchors, place, linking, *root, vouch)?;
@@ -163,47 +178,61 @@ fn tell_missing(
     Ok(())
 }
 
-fn tell_all_links<'b, 'a, V: Vouch>(
+/// The lines of all links of a certificate, and that of its missing issuer.
+fn tell_all_links<'q, 'a, V: Vouch>(
     text: &mut String,
     alloc: Global,
-    found: &Found<'b, 'a>,
+    question: &Question<'q, 'a, V>,
     place: usize,
-    certificate: &'b CertificateItem<'a>,
-    vouch: &V,
-    policy: &Policy,
+    certificate: &'q CertificateItem<'a>,
 ) -> Result<(), OutOfMemory>
-    requires known { IsFound found.now }
-    ensures { OnOk result (Appends (TellsLinks (rules_by policy.now.moment policy.now.demand_lists (V.vouches_for vouch.now)) (map item_of found.now.items.now) (map item_of found.now.anchors.now) place (certificate_item certificate.now) (certificate_of certificate.now)) (string_bytes text.old) (string_bytes text.new)) }
+    requires known { IsFound question.now.found.now }
+    ensures { OnOk result (Appends (TellsLinks (rules_in V.Vouch question.now)
+        (items_in question.now) (anchors_in question.now) place (certificate_item certificate.now) (certificate_of certificate.now))
+        (string_bytes text.old) (string_bytes text.new)) }
 {
+    let found = question.found;
     let issuers = found.issuers(certificate.issuer);
     let roots = found.roots(certificate.issuer);
-    let linking = found.linking(alloc, certificate, policy)?;
-    tell_links(text, alloc, place, &linking, issuers, vouch)?;
-    tell_anchors(text, alloc, found.anchors, place, &linking, roots, vouch)?;
+    let linking = found.linking(alloc, certificate, question.policy)?;
+    tell_links(text, alloc, place, &linking, issuers, question.vouch)?;
+    tell_anchors(
+        text,
+        alloc,
+        found.anchors,
+        place,
+        &linking,
+        roots,
+        question.vouch,
+    )?;
     tell_missing(text, alloc, found, place, certificate, issuers, roots)?;
     Ok(())
 }
 
-fn tell_certificate<'b, 'a, V: Vouch>(
+/// Appends all lines of a certificate.
+fn tell_certificate<'q, 'a, V: Vouch>(
     text: &mut String,
     alloc: Global,
-    found: &Found<'b, 'a>,
-    sought: &Sought<'_, '_>,
-    target: usize,
+    question: &Question<'q, 'a, V>,
     place: usize,
-    certificate: &'b CertificateItem<'a>,
-    vouch: &V,
-    policy: &Policy,
+    certificate: &'q CertificateItem<'a>,
 ) -> Result<(), OutOfMemory>
-    requires known { IsFound found.now }
-    requires target { sought.now.target.now ≡ octets_at (map item_of found.now.items.now) target }
-    ensures { OnOk result (Appends (TellsCertificate sought.now.demand.now (rules_by policy.now.moment policy.now.demand_lists (V.vouches_for vouch.now)) (map item_of found.now.items.now) (map item_of found.now.anchors.now) target place (certificate_item certificate.now) (certificate_of certificate.now)) (string_bytes text.old) (string_bytes text.new)) }
+    requires known { IsFound question.now.found.now }
+    requires target { question.now.sought.target.now ≡ octets_at (items_in question.now) question.now.target }
+    ensures { OnOk result (Appends (TellsCertificate question.now.sought.demand.now (rules_in V.Vouch question.now) (items_in question.now) (anchors_in question.now)
+        question.now.target place (certificate_item certificate.now) (certificate_of certificate.now)) (string_bytes text.old) (string_bytes text.new)) }
 {
-    push_subject(text, alloc, &found.labels, place, certificate.subject)?;
-    tell_unusable(text, alloc, place, certificate, vouch, policy)?;
-    push_unmet(text, alloc, sought, place, certificate)?;
-    tell_no_issuer(text, alloc, target, place, certificate)?;
-    tell_all_links(text, alloc, found, place, certificate, vouch, policy)?;
+    push_subject(
+        text,
+        alloc,
+        &question.found.labels,
+        place,
+        certificate.subject,
+    )?;
+    tell_unusable(text, alloc, question, place, certificate)?;
+    push_unmet(text, alloc, &question.sought, place, certificate)?;
+    tell_no_issuer(text, alloc, question.target, place, certificate)?;
+    tell_all_links(text, alloc, question, place, certificate)?;
     Ok(())
 }
 
@@ -211,31 +240,18 @@ fn tell_certificate<'b, 'a, V: Vouch>(
 pub(crate) fn tell_at<V: Vouch>(
     text: &mut String,
     alloc: Global,
-    found: &Found<'_, '_>,
-    sought: &Sought<'_, '_>,
-    target: usize,
+    question: &Question<'_, '_, V>,
     place: usize,
-    vouch: &V,
-    policy: &Policy,
 ) -> Result<(), OutOfMemory>
-    requires known { IsFound found.now }
-    requires target { sought.now.target.now ≡ octets_at (map item_of found.now.items.now) target }
-    requires certificate { IsCertificateAt (map item_of found.now.items.now) place }
-    ensures { OnOk result (Appends (TellsAt sought.now.demand.now (rules_by policy.now.moment policy.now.demand_lists (V.vouches_for vouch.now)) (map item_of found.now.items.now) (map item_of found.now.anchors.now) target place) (string_bytes text.old) (string_bytes text.new)) }
+    requires known { IsFound question.now.found.now }
+    requires target { question.now.sought.target.now ≡ octets_at (items_in question.now) question.now.target }
+    requires certificate { IsCertificateAt (items_in question.now) place }
+    ensures { OnOk result (Appends (TellsAt question.now.sought.demand.now (rules_in V.Vouch question.now)
+        (items_in question.now) (anchors_in question.now) question.now.target place) (string_bytes text.old) (string_bytes text.new)) }
 {
-    let Some(certificate) = certificate_at(found.items, place) else {
+    let Some(certificate) = certificate_at(question.found.items, place) else {
         return Ok(());
     };
-    tell_certificate(
-        text,
-        alloc,
-        found,
-        sought,
-        target,
-        place,
-        certificate,
-        vouch,
-        policy,
-    )?;
+    tell_certificate(text, alloc, question, place, certificate)?;
     Ok(())
 }

@@ -5,7 +5,7 @@ ghost use Rattle.cert_judge.specs.Items.{item_of, certificate_of, certificate_it
 ghost use Rattle.cert_purpose.specs.Purposes.{Allows};
 ghost use Rattle.cert_serving.specs.Demanding.{AllowsIt, ServesIt};
 ghost use Rattle.cert_serving.specs.Serving.{Serves};
-ghost use Rattle.certpath_sources.specs.Demands.{demanded};
+ghost use Rattle.certpath_inputs.specs.Demands.{demanded};
 ghost use Rattle.certpath_why.specs.Appended.{Appends};
 ghost use Rattle.certpath_why.specs.Demanded.{IsPurposeLine, IsHostLine, IsLineUnless, AreDemandLines};
 ghost use Rattle.certpath_why.specs.Lines.{at_words};
@@ -18,17 +18,19 @@ use asn1_core::OutOfMemory;
 use cert_judge::{CertificateItem, ReadItem};
 use cert_purpose::allows;
 use cert_serving::serves;
-use certpath_sources::{AskedHost, AskedPurpose, Demand};
+use certpath_inputs::{AskedHost, AskedPurpose, Demand};
 use std::alloc::{AllocError, Global};
 
 /// What is demanded of the paths from a target.
 #[derive(Clone, Copy)]
 pub(crate) struct Sought<'b, 'a> {
+    /// A purpose, a host, both or neither.
     pub(crate) demand: &'b Demand<'a>,
     /// The octets of the target.
     pub(crate) target: &'b [u8],
 }
 
+/// Returns the octets of an item.
 fn octets_of<'a>(item: &ReadItem<'a>) -> &'a [u8]
     ensures { result.now ≡ (item_of item.now).octets }
 {
@@ -39,6 +41,7 @@ fn octets_of<'a>(item: &ReadItem<'a>) -> &'a [u8]
     }
 }
 
+/// Returns the octets of the item at a position that there is.
 fn octets_there<'a>(items: &[ReadItem<'a>], place: usize) -> &'a [u8]
     requires { place < length items.now }
     ensures { result.now ≡ octets_at (map item_of items.now) place }
@@ -57,12 +60,14 @@ pub(crate) fn octets_at<'a>(items: &[ReadItem<'a>], place: usize) -> &'a [u8]
     }
 }
 
+/// Appends what a line of an unmet purpose begins with.
 fn push_not_for(text: &mut String, place: usize, shown: &str) -> Result<(), AllocError>
     ensures { OnOk result (string_bytes text.new ≡ string_bytes text.old ++ (at_words place ++ (codes " isn't for " ++ (shown.now ++ codes ": ")))) }
 {
     write!(text, "at {place} isn't for {shown}: ")
 }
 
+/// Appends what a line of an unmet host begins with.
 fn push_not_serving(text: &mut String, place: usize, shown: &str) -> Result<(), AllocError>
     ensures { OnOk result (string_bytes text.new ≡ string_bytes text.old ++ (at_words place ++ (codes " doesn't serve " ++ (shown.now ++ codes ": ")))) }
 {
@@ -127,6 +132,7 @@ fn push_unmet_purpose(
     Ok(())
 }
 
+/// Whether a certificate is the target: it has its octets.
 fn is_target(octets: &[u8], target: &[u8]) -> bool
     ensures { IsTrue result ↔ (octets.now ≡ target.now) }
 {
@@ -162,7 +168,8 @@ pub(crate) fn push_unmet(
     place: usize,
     certificate: &CertificateItem<'_>,
 ) -> Result<(), OutOfMemory>
-    ensures { OnOk result (Appends (AreDemandLines sought.now.demand.now sought.now.target.now place (certificate_item certificate.now) (certificate_of certificate.now)) (string_bytes text.old) (string_bytes text.new)) }
+    ensures { OnOk result (Appends (AreDemandLines sought.now.demand.now sought.now.target.now place (certificate_item certificate.now) (certificate_of certificate.now))
+        (string_bytes text.old) (string_bytes text.new)) }
 {
     if sought.demand.is_none() {
         return Ok(());

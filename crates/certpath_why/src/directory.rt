@@ -1,16 +1,17 @@
-//! Positions by the names that are shown there.
+//! A look-up of positions by name, made once for the subjects of items and anchors and for the
+//! issuers of lists. It costs a sort of the names; each look-up is one of a sorted map.
 
 ghost use Rattle.std.specs.Prelude.{◌≡◌, ◌↔◌, ◌<◌, ℕ, List, length, IfOk, Contains, slice_index_or};
 ghost use Rattle.std.specs.List.Sorted.{IsStrictlyIncreasing};
-ghost use Rattle.cert_groups.specs.declared.places.Place.{Place};
-ghost use Rattle.cert_groups.specs.declared.places.Part.TheVariants.{Name};
-ghost use Rattle.cert_groups.specs.Places.{Shows};
-ghost use Rattle.cert_groups.specs.declared.buckets.Bucket.{Bucket};
+ghost use Rattle.cert_graph.specs.declared.places.Place.{Place};
+ghost use Rattle.cert_graph.specs.declared.places.Part.TheVariants.{Name};
+ghost use Rattle.cert_graph.specs.Places.{Shows};
+ghost use Rattle.cert_graph.specs.declared.buckets.Bucket.{Bucket};
 ghost use Rattle.certpath_why.specs.Reached.{ArePositions};
 ghost use Rattle.certpath_why.specs.Numbered.{AreNumbered};
 ghost use Rattle.certpath_why.specs.Directories.{IsDirectory};
 
-use cert_groups::{Bucket, Part, Place, alike};
+use cert_graph::{Bucket, Part, Place, alike};
 use std::alloc::{AllocError, Global};
 use std::collections::BTreeMap;
 
@@ -22,6 +23,7 @@ pub(crate) struct Directory<'a> {
     ghost numbered: { AreNumbered buckets.items (length buckets.items) numbers },
 }
 
+/// Returns the numbers below a count, in ascending order.
 fn numbers_below(alloc: Global, count: usize) -> Result<Vec<usize>, AllocError>
     ensures ascends { IfOk result (λ numbers. IsStrictlyIncreasing numbers.items) }
     ensures exact { IfOk result (λ numbers. (v : ℕ) → Contains numbers.items v ↔ (v < count)) }

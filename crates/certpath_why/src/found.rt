@@ -1,4 +1,5 @@
-//! Items and anchors with their directories.
+//! Items and anchors with their directories: which of them have a subject, and which lists an
+//! issuer.
 
 ghost use Rattle.std.specs.Prelude.{◌≡◌, ◌↔◌, map, IfOk, IfSome, IsNone, IsTrue};
 ghost use Rattle.cert_graph.specs.Entries.{IsAt};
@@ -13,7 +14,7 @@ ghost use Rattle.certpath_why.specs.Reached.{ArePositions, HasSubject, IsCertifi
 use crate::directory::Directory;
 use crate::names::Labels;
 use asn1_core::OutOfMemory;
-use cert_groups::Place;
+use cert_graph::Place;
 use cert_judge::{CertificateItem, Policy, ReadItem};
 use cert_reasons::Linking;
 use std::alloc::{AllocError, Global};
@@ -29,6 +30,7 @@ pub(crate) struct Found<'b, 'a> {
     roots: Directory<'a>,
 }
 
+/// Returns the place of an item by its subject, if it is a certificate.
 fn subject_place<'a>(item: &ReadItem<'a>) -> Place<'a>
     ensures { result ≡ subject_place item.now }
 {
@@ -43,6 +45,7 @@ fn subject_place<'a>(item: &ReadItem<'a>) -> Place<'a>
     }
 }
 
+/// Returns the place of an item by its issuer, if it is a list.
 fn list_place<'a>(item: &ReadItem<'a>) -> Place<'a>
     ensures { result ≡ list_place item.now }
 {
@@ -107,6 +110,7 @@ pub(crate) fn is_certificate(items: &[ReadItem<'_>], place: usize) -> bool
 }
 
 impl<'b, 'a> Found<'b, 'a> {
+    /// Makes the directories of these items and anchors.
     pub(crate) fn new(
         alloc: Global,
         items: &'b [ReadItem<'a>],

@@ -16,8 +16,8 @@ ghost use Rattle.cert_model.specs.Fields.{CivilTime, Certificate, Extension};
 ghost use Rattle.cert_purpose.specs.Examples.{usage};
 ghost use Rattle.cert_purpose.specs.Purposes.{purposes_octets};
 ghost use Rattle.cert_serving.specs.Demanding.{Meets};
-ghost use Rattle.certpath_sources.specs.Demands.{demanded};
-ghost use Rattle.certpath_sources.specs.declared.demand.Demand.{Demand};
+ghost use Rattle.certpath_inputs.specs.Demands.{demanded};
+ghost use Rattle.certpath_inputs.specs.declared.demand.Demand.{Demand};
 ghost use Rattle.certpath_why.specs.Bounds.{reach_by, IsBound};
 ghost use Rattle.certpath_why.specs.Demanded.{AreDemandLines};
 ghost use Rattle.certpath_why.specs.Examples.{others, for_others, of_others, of_a_b, for_server, for_w_a_b};
@@ -28,15 +28,16 @@ ghost use Rattle.certpath_why.specs.Listed.{shown_part, listed};
 ghost use Rattle.certpath_why.specs.Reached.{IsReached};
 ghost use Rattle.certpath_why.specs.Uses.{AreUsesWords};
 
-/// Each certificate of a list that would be a path but for path lengths is reached from the target, so it
-/// has its lines.
+/// Each certificate of a list that would be a path but for path lengths is reached from the target,
+/// so it has its lines.
 pub fn certificates_of_a_path_are_reached()
     ensures { (moment : CivilTime) (demand : Bool) (vouches : List ℕ → List ℕ → Bool) (items anchors : List Item) (target : ℕ) (ps : List ℕ) (anchor v : ℕ)
         → IsUncountedPath (rules_from moment demand vouches) items anchors target ps anchor → Contains ps v → IsReached items target v }
 {}
 
-/// By an adequate answer that there is no path, a path length stands in the way at one of the certificates
-/// of each list that would be a path but for path lengths: it has the line of its bound.
+/// By an adequate answer that there is no path, a path length stands in the way at one of the
+/// certificates of each list that would be a path but for path lengths: it has the line of its
+/// bound.
 pub fn path_length_stands_in_the_way()
     ensures { (moment : CivilTime) (demand : Bool) (vouches : List ℕ → List ℕ → Bool) (items anchors : List Item) (target : ℕ) (table : Table) (ps : List ℕ) (anchor : ℕ)
         → let r = rules_from moment demand vouches in IsAdequate (graph_of_items r items anchors) target (NoPath table) → IsUncountedPath r items anchors target ps anchor
@@ -51,8 +52,8 @@ pub fn path_exactly_where_nothing_stands_in_the_way()
         → ((ps : List ℕ) × (anchor : ℕ) × IsFreePath r items anchors target (reach_by answer) ps anchor) ↔ ((ps : List ℕ) × (anchor : ℕ) × IsValidPath (graph_of_items r items anchors) target ps anchor) }
 {}
 
-/// An example of a bound: an authority that lets no other stand below it holds another one back, and not the
-/// target, which doesn't count.
+/// An example of a bound: an authority that lets no other stand below it holds another one back,
+/// and not the target, which doesn't count.
 pub fn example_of_a_bound()
     ensures bound { IsBound (vouching_for_all false) (map certificate_item limited_above) 0 (at_row (No ∷ No ∷ UpTo 0 ∷ [])) 2 }
     ensures target { IsBound (vouching_for_all false) (map certificate_item limited_above) 1 (at_row (No ∷ No ∷ UpTo 0 ∷ [])) 2 → ⊥ }
@@ -70,9 +71,9 @@ pub fn words_of_extensions()
     ensures hosts { (es : List Extension) (one other : List ℕ) → AreShort es → AreHostsWords es one → AreHostsWords es other → one ≡ other }
 {}
 
-/// Of demands: a certificate that is for other purposes, two extKeyUsage and an empty one; a target that
-/// names another host, an issuer, which isn't asked for one, and no subjectAltName; names of which some are
-/// left out, a name that is cut off, and one with a comma.
+/// Of demands: a certificate that is for other purposes, two extKeyUsage and an empty one; a target
+/// that names another host, an issuer, which isn't asked for one, and no subjectAltName; names of
+/// which some are left out, a name that is cut off, and one with a comma.
 pub fn examples_of_demands()
     ensures octets { purposes_octets others ≡ for_others }
     ensures purpose { (target : List ℕ) (x : Item) → AreDemandLines for_server target 1 x of_others (at_words 1 ++ codes " isn't for serverAuth: it is for clientAuth, emailProtection\n") }

@@ -18,8 +18,8 @@ ghost use Rattle.certpath_why.specs.Reached.{IsReached};
 use cert_judge::Vouch;
 
 /// Lists of certificates that would be paths but for path lengths: each of their certificates is
-/// reached from the target, so it has its lines. By an adequate answer that there is no path, one of
-/// them has the line of its bound; and a path exists exactly if such a list has none.
+/// reached from the target, so it has its lines. By an adequate answer that there is no path, one
+/// of them has the line of its bound; and a path exists exactly if such a list has none.
 pub fn bounds_by<V: Vouch>(_vouch: &V)
     ensures reached { (moment : CivilTime) (demand : Bool) (items anchors : List Item) (target : ℕ) (ps : List ℕ) (anchor v : ℕ)
         → IsUncountedPath (rules_at moment demand (V.vouches_for _vouch.now)) items anchors target ps anchor → Contains ps v → IsReached items target v }

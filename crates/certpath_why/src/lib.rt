@@ -1,9 +1,15 @@
 //! What stands in the way of a certification path, as lines of text (RFC 5280, 6.1 and 6.3).
 //!
-//! The lines say, for each certificate that is reached from the target by the names of issuers, why it is
-//! not usable, which purpose it isn't for and which host it doesn't serve, where these are demanded, why
-//! it may not issue others, and how it is linked. Then they name each revocation list that nobody uses. Each line is a reason of `cert_reasons`: none is missing, and none is there that does not
-//! apply.
+//! The lines say, for each certificate that is reached from the target by the names of issuers, why
+//! it is not usable, which purpose it isn't for and which host it doesn't serve, where these are
+//! demanded, why it may not issue others, and how it is linked. Then they name each revocation list
+//! that nobody uses. Each line is a reason of `cert_reasons`: none is missing, and none is there
+//! that does not apply.
+//!
+//! [`push_why`] is the report without a demand, [`push_why_for`] the one with it. [`laws`] and
+//! [`laws_by`] have what follows from their contracts.
+//!
+//! Items come read, as `cert_judge::read_items` reads them; nothing here reads one.
 #![tactic(auto)]
 
 mod bounds;
@@ -20,10 +26,10 @@ mod lists;
 mod marks;
 mod names;
 mod processing;
+mod question;
 mod reached;
 mod uses;
 mod why;
 mod words;
 
 pub use crate::why::{push_why, push_why_for};
-pub use cert_reading::read_items;

@@ -1,4 +1,6 @@
-//! The lines, each of one fact.
+//! Appends one line, or the lines of one list of reasons: the subject, why a certificate is not
+//! usable, why it may not issue others, its links, and why a list is not used. Which lines there
+//! are, is for `certificates.rt` and `lists.rt`.
 
 ghost use Rattle.std.specs.Prelude.{◌≡◌, ◌++◌, ◌∷◌, [], codes, OnOk, string_bytes};
 ghost use Rattle.std.specs.Fmt.{decimal};
@@ -14,7 +16,7 @@ use cert_model::fields::{CertFields, ListFields};
 use cert_reasons::{NoIssuer, Unlinked, Unusable, Unused};
 use std::alloc::{AllocError, Global};
 
-/// The certificate's own line.
+/// Appends the first line of a certificate: its position and its subject.
 pub(crate) fn push_subject(
     text: &mut String,
     alloc: Global,
@@ -30,6 +32,7 @@ pub(crate) fn push_subject(
     Ok(())
 }
 
+/// Appends the line of one reason why a certificate is not usable.
 fn push_unusable(
     text: &mut String,
     place: usize,
@@ -60,6 +63,7 @@ pub(crate) fn push_all_unusable(
     Ok(())
 }
 
+/// Appends the line of one reason why a certificate may not issue others.
 fn push_no_issuer(text: &mut String, place: usize, reason: NoIssuer) -> Result<(), AllocError>
     ensures { OnOk result (string_bytes text.new ≡ string_bytes text.old ++ issuer_line place reason) }
 {
@@ -84,7 +88,7 @@ pub(crate) fn push_all_no_issuer(
     Ok(())
 }
 
-/// No certificate and no anchor has the issuer's name.
+/// Appends the line of an issuer's name that no certificate and no anchor has.
 pub(crate) fn push_missing(
     text: &mut String,
     alloc: Global,
@@ -103,10 +107,13 @@ pub(crate) fn push_missing(
 /// From the certificate at a position to an item or an anchor.
 #[derive(Clone, Copy, Debug)]
 pub(crate) enum Link {
+    /// To the item at a position.
     Item(usize, usize),
+    /// To the anchor at a position among the anchors.
     Anchor(usize, usize),
 }
 
+/// Appends the two ends of a link.
 fn push_ends(text: &mut String, link: Link) -> Result<(), AllocError>
     ensures { OnOk result (string_bytes text.new ≡ string_bytes text.old ++ link_text link) }
 {
@@ -116,6 +123,7 @@ fn push_ends(text: &mut String, link: Link) -> Result<(), AllocError>
     }
 }
 
+/// Appends the line of a link that holds.
 fn push_linked(text: &mut String, link: Link) -> Result<(), AllocError>
     ensures { OnOk result (string_bytes text.new ≡ string_bytes text.old ++ (link_text link ++ codes " linked\n")) }
 {
@@ -124,6 +132,7 @@ fn push_linked(text: &mut String, link: Link) -> Result<(), AllocError>
     Ok(())
 }
 
+/// Appends the line of one reason why a link doesn't hold.
 fn push_unlinked(text: &mut String, link: Link, reason: Unlinked) -> Result<(), AllocError>
     ensures { OnOk result (string_bytes text.new ≡ string_bytes text.old ++ unlinked_line (link_text link) reason) }
 {
@@ -134,6 +143,7 @@ fn push_unlinked(text: &mut String, link: Link, reason: Unlinked) -> Result<(), 
     Ok(())
 }
 
+/// Appends a line for each of these reasons.
 fn push_all_unlinked(text: &mut String, link: Link, reasons: &[Unlinked]) -> Result<(), AllocError>
     ensures { OnOk result (string_bytes text.new ≡ string_bytes text.old ++ flat_map (unlinked_line (link_text link)) reasons.now) }
 {
@@ -157,6 +167,7 @@ pub(crate) fn push_link(
     push_all_unlinked(text, link, reasons)
 }
 
+/// Appends the line of one reason why a list is not used.
 fn push_unused(
     text: &mut String,
     place: usize,
@@ -171,6 +182,7 @@ fn push_unused(
     Ok(())
 }
 
+/// Appends a line for each of these reasons.
 fn push_all_unused(
     text: &mut String,
     place: usize,
@@ -185,6 +197,7 @@ fn push_all_unused(
     Ok(())
 }
 
+/// Appends the first line of a list: its position and its issuer.
 fn push_list_name(
     text: &mut String,
     alloc: Global,

@@ -24,6 +24,7 @@ pub(crate) trait Part {
         ensures { OnOk result (string_bytes text.new ≡ string_bytes text.old ++ shown_part (text_of self.now)) };
 }
 
+/// Appends an octet of a name, with commas escaped too.
 fn push_listed_octet(text: &mut String, octet: u8) -> Result<(), AllocError>
     ensures { OnOk result (string_bytes text.new ≡ string_bytes text.old ++ listed_octet octet) }
 {
@@ -35,6 +36,7 @@ fn push_listed_octet(text: &mut String, octet: u8) -> Result<(), AllocError>
     }
 }
 
+/// Appends octets likewise.
 fn push_listed_octets(text: &mut String, octets: &[u8]) -> Result<(), AllocError>
     ensures { OnOk result (string_bytes text.new ≡ string_bytes text.old ++ flat_map listed_octet octets.now) }
 {

@@ -1,7 +1,8 @@
 //! The lines of the lists that nobody uses.
 
 ghost use Rattle.std.specs.Prelude.{◌≡◌, ◌++◌, ◌<◌, ◌⊎◌, ℕ, List, Contains, length, OnOk, IfOk, map, string_bytes};
-ghost use Rattle.cert_judge.specs.Items.{item_of, list_of, list_item, rules_by};
+ghost use Rattle.cert_judge.specs.Items.{item_of, list_of, list_item};
+ghost use Rattle.certpath_why.specs.Question.{anchors_in, items_in, rules_in};
 ghost use Rattle.certpath_why.specs.Reached.{IsCertificateAt};
 ghost use Rattle.certpath_why.specs.Why.{AreTexts, AreKeysOf, TellsList, TellsItem, TellsItemAt, positions};
 ghost use Rattle.certpath_why.specs.Found.{IsFound};
@@ -9,8 +10,9 @@ ghost use Rattle.certpath_why.specs.Appended.{Appends, HasKeyAt, KeysAt, AddsKey
 
 use crate::found::{Found, certificate_at};
 use crate::lines::push_list;
+use crate::question::Question;
 use asn1_core::OutOfMemory;
-use cert_judge::{ListItem, Policy, ReadItem, Vouch};
+use cert_judge::{ListItem, ReadItem, Vouch};
 use cert_reasons::why_list_unused_by_any;
 use std::alloc::{AllocError, Global};
 
@@ -55,24 +57,24 @@ fn keys_of<'a>(
     Ok(keys)
 }
 
+/// Appends the lines of a list; none if it is used under a key of its issuer's name.
 fn tell_list<V: Vouch>(
     text: &mut String,
     alloc: Global,
-    found: &Found<'_, '_>,
+    question: &Question<'_, '_, V>,
     place: usize,
     list: &ListItem<'_>,
-    vouch: &V,
-    policy: &Policy,
 ) -> Result<(), OutOfMemory>
-    requires known { IsFound found.now }
-    ensures { OnOk result (Appends (TellsList (rules_by policy.now.moment policy.now.demand_lists (V.vouches_for vouch.now)) (map item_of found.now.items.now) (map item_of found.now.anchors.now) place (list_item list.now) (list_of list.now)) (string_bytes text.old) (string_bytes text.new)) }
+    requires known { IsFound question.now.found.now }
+    ensures { OnOk result (Appends (TellsList (rules_in V.Vouch question.now)
+        (items_in question.now) (anchors_in question.now) place (list_item list.now) (list_of list.now)) (string_bytes text.old) (string_bytes text.new)) }
 {
-    let keys = keys_of(alloc, found, list.issuer)?;
-    let reasons = why_list_unused_by_any(alloc, list, &keys, vouch, policy)?;
+    let keys = keys_of(alloc, question.found, list.issuer)?;
+    let reasons = why_list_unused_by_any(alloc, list, &keys, question.vouch, question.policy)?;
     push_list(
         text,
         alloc,
-        &found.labels,
+        &question.found.labels,
         place,
         list.issuer,
         &list.fields,
@@ -81,21 +83,21 @@ fn tell_list<V: Vouch>(
     Ok(())
 }
 
+/// Appends the lines of an item that is a list.
 fn tell_item<V: Vouch>(
     text: &mut String,
     alloc: Global,
-    found: &Found<'_, '_>,
+    question: &Question<'_, '_, V>,
     place: usize,
     item: &ReadItem<'_>,
-    vouch: &V,
-    policy: &Policy,
 ) -> Result<(), OutOfMemory>
-    requires known { IsFound found.now }
-    ensures { OnOk result (Appends (TellsItem (rules_by policy.now.moment policy.now.demand_lists (V.vouches_for vouch.now)) (map item_of found.now.items.now) (map item_of found.now.anchors.now) place (item_of item.now) (item_of item.now).class) (string_bytes text.old) (string_bytes text.new)) }
+    requires known { IsFound question.now.found.now }
+    ensures { OnOk result (Appends (TellsItem (rules_in V.Vouch question.now)
+        (items_in question.now) (anchors_in question.now) place (item_of item.now) (item_of item.now).class) (string_bytes text.old) (string_bytes text.new)) }
 {
     match item {
         ReadItem::Certificate(_) => Ok(()),
-        ReadItem::List(list) => tell_list(text, alloc, found, place, list, vouch, policy),
+        ReadItem::List(list) => tell_list(text, alloc, question, place, list),
         ReadItem::Other(_) => Ok(()),
     }
 }
@@ -104,15 +106,14 @@ fn tell_item<V: Vouch>(
 pub(crate) fn tell_lists<V: Vouch>(
     text: &mut String,
     alloc: Global,
-    found: &Found<'_, '_>,
-    vouch: &V,
-    policy: &Policy,
+    question: &Question<'_, '_, V>,
 ) -> Result<(), OutOfMemory>
-    requires known { IsFound found.now }
-    ensures { OnOk result (Appends (AreTexts (TellsItemAt (rules_by policy.now.moment policy.now.demand_lists (V.vouches_for vouch.now)) (map item_of found.now.items.now) (map item_of found.now.anchors.now)) (positions (length (map item_of found.now.items.now)))) (string_bytes text.old) (string_bytes text.new)) }
+    requires known { IsFound question.now.found.now }
+    ensures { OnOk result (Appends (AreTexts (TellsItemAt (rules_in V.Vouch question.now)
+        (items_in question.now) (anchors_in question.now)) (positions (length (items_in question.now)))) (string_bytes text.old) (string_bytes text.new)) }
 {
-    for (place, item) in found.items.iter().enumerate() {
-        tell_item(text, alloc, found, place, item, vouch, policy)?;
+    for (place, item) in question.found.items.iter().enumerate() {
+        tell_item(text, alloc, question, place, item)?;
     }
     Ok(())
 }

@@ -1,4 +1,4 @@
-//! Marks of places.
+//! One mark for each position of a list of items: whether it was reached, or prevents a path.
 
 ghost use Rattle.std.specs.Prelude.{◌≡◌, ◌≢◌, ◌↔◌, ◌<◌, ◌⊎◌, ℕ, length, IfOk, IsTrue};
 ghost use Rattle.certpath_why.specs.Found.{IsMarked};
@@ -6,6 +6,7 @@ ghost use Rattle.certpath_why.specs.Reached.{ArePositions};
 
 use std::alloc::{AllocError, Global};
 
+/// Returns so many marks, none of them set.
 pub(crate) fn no_marks(alloc: Global, count: usize) -> Result<Vec<bool>, AllocError>
     ensures count { IfOk result (λ marks. length marks.items ≡ count) }
     ensures none { IfOk result (λ marks. (u : ℕ) → IsMarked marks.items u → ⊥) }
@@ -17,6 +18,7 @@ pub(crate) fn no_marks(alloc: Global, count: usize) -> Result<Vec<bool>, AllocEr
     Ok(marks)
 }
 
+/// Whether a position is marked; none is from the end of the marks on.
 pub(crate) fn is_marked(marks: &[bool], place: usize) -> bool
     ensures { IsTrue result ↔ IsMarked marks.now place }
 {
@@ -26,6 +28,7 @@ pub(crate) fn is_marked(marks: &[bool], place: usize) -> bool
     }
 }
 
+/// Marks a position.
 pub(crate) fn put_mark(marks: &mut Vec<bool>, place: usize)
     requires { place < length marks.now.items }
     ensures count { length marks.new.items ≡ length marks.old.items }
@@ -34,13 +37,14 @@ pub(crate) fn put_mark(marks: &mut Vec<bool>, place: usize)
     marks[place] = true;
 }
 
+/// Whether a position is marked, and isn't the one that is left out.
 fn is_marked_but(marks: &[bool], left: usize, place: usize) -> bool
     ensures { IsTrue result ↔ (IsMarked marks.now place × (place ≢ left)) }
 {
     is_marked(marks, place) && place != left
 }
 
-/// The places that are marked, in ascending order, without one that is left out.
+/// Returns the positions that are marked, in ascending order, without one that is left out.
 pub(crate) fn marked_but(
     alloc: Global,
     marks: &[bool],

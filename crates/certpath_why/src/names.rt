@@ -1,4 +1,5 @@
-//! Names as text that is printable ASCII.
+//! Names as text that is printable ASCII: what a line says of a subject or an issuer. Any other
+//! octet and the backslash are escaped as `\0A`, so that no name holds a line feed.
 
 ghost use Rattle.std.specs.Prelude.{◌≡◌, ◌++◌, ℕ, List, IfOk, OnOk, string_bytes, option_map};
 ghost use Rattle.x509_names.specs.View.{name_view};
@@ -17,6 +18,9 @@ use x509_core::X509Error;
 use x509_names::X509Name;
 use x509_objects::{OidRegistry, oid_registry};
 
+/// The control character after the printable ones of ASCII.
+const DELETE: u8 = 0x7f;
+
 /// The names of attribute types.
 #[derive(Drop)]
 pub(crate) struct Labels {
@@ -25,18 +29,21 @@ pub(crate) struct Labels {
 }
 
 impl Labels {
+    /// Loads the names.
     pub(crate) fn new(alloc: Global) -> Result<Labels, OutOfMemory> {
         let registry = oid_registry(alloc)?;
         Ok(Labels { registry })
     }
 }
 
+/// Whether an octet stands for itself.
 fn is_plain(octet: u8) -> bool
     ensures { result ≡ is_plain octet }
 {
-    octet >= b' ' && octet < 0x7f && octet != b'\\'
+    octet >= b' ' && octet < DELETE && octet != b'\\'
 }
 
+/// Appends an octet as two hexadecimal digits.
 #[tactic(auto, using(std::proofs::lemmas::Fmt::hex_byte))]
 pub(crate) fn push_pair(text: &mut String, octet: u8) -> Result<(), AllocError>
     ensures { OnOk result (string_bytes text.new ≡ string_bytes text.old ++ upper_pair octet) }
@@ -44,6 +51,7 @@ pub(crate) fn push_pair(text: &mut String, octet: u8) -> Result<(), AllocError>
     write!(text, "{octet:02X}")
 }
 
+/// Appends an octet, escaped where it doesn't stand for itself.
 pub(crate) fn push_octet(text: &mut String, octet: u8) -> Result<(), AllocError>
     ensures { OnOk result (string_bytes text.new ≡ string_bytes text.old ++ escaped_octet octet) }
 {
@@ -55,6 +63,7 @@ pub(crate) fn push_octet(text: &mut String, octet: u8) -> Result<(), AllocError>
     }
 }
 
+/// Appends octets likewise.
 fn push_escaped(text: &mut String, octets: &[u8]) -> Result<(), AllocError>
     ensures { OnOk result (string_bytes text.new ≡ string_bytes text.old ++ escaped octets.now) }
 {
@@ -64,6 +73,7 @@ fn push_escaped(text: &mut String, octets: &[u8]) -> Result<(), AllocError>
     Ok(())
 }
 
+/// Appends octets in hexadecimal.
 pub(crate) fn push_hex(text: &mut String, octets: &[u8]) -> Result<(), AllocError>
     ensures { OnOk result (string_bytes text.new ≡ string_bytes text.old ++ upper_hex octets.now) }
 {
@@ -73,6 +83,7 @@ pub(crate) fn push_hex(text: &mut String, octets: &[u8]) -> Result<(), AllocErro
     Ok(())
 }
 
+/// Appends the text of a name, which may be empty.
 fn push_text(text: &mut String, name: &[u8]) -> Result<(), AllocError>
     ensures { OnOk result (string_bytes text.new ≡ string_bytes text.old ++ text_or_empty name.now) }
 {
@@ -114,7 +125,8 @@ fn whole_text(alloc: Global, labels: &Labels, octets: &[u8]) -> Result<Option<St
     }
 }
 
-/// A name, by its octets.
+/// Appends a name, by its octets: its text, or its octets in hexadecimal after `#` where it has
+/// none.
 pub(crate) fn push_name(
     text: &mut String,
     alloc: Global,

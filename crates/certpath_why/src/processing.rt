@@ -1,4 +1,4 @@
-//! A relation that processes more.
+//! Who vouches, where the extensions that are looked at for a demand may be critical too.
 
 ghost use Rattle.std.specs.Prelude.{◌≡◌};
 

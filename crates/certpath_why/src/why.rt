@@ -1,9 +1,11 @@
-//! The whole.
+//! The whole report: the lines of what is reached from the target, how far each issuer leads, and the
+//! lines of the lists that nobody uses. It calls what writes one certificate and one list.
 
 ghost use Rattle.std.specs.Prelude.{◌≡◌, ◌⊎◌, OnOk, [], map, string_bytes};
 ghost use Rattle.cert_judge.specs.Items.{item_of, rules_by};
 ghost use Rattle.cert_judge.specs.Vouching.{processing_too};
 ghost use Rattle.cert_purpose.specs.Restricting.{restricted_by};
+ghost use Rattle.certpath_why.specs.Question.{anchors_in, items_in, rules_in};
 ghost use Rattle.certpath_why.specs.Reached.{ArePositions, IsFurther, IsCertificateAt};
 ghost use Rattle.certpath_why.specs.Why.{AreTexts, TellsAt, TellsReached, AppendsWhy, AppendsWhyFor, octets_at};
 ghost use Rattle.certpath_why.specs.Found.{IsFound};
@@ -15,121 +17,133 @@ use crate::demanded::{Sought, octets_at};
 use crate::found::{Found, is_certificate};
 use crate::lists::tell_lists;
 use crate::processing::Processing;
+use crate::question::Question;
 use crate::reached::further_than;
 use asn1_core::OutOfMemory;
 use cert_graph::Answer;
 use cert_judge::{Policy, ReadItem, Vouch};
 use cert_purpose::{Permit, Restricted};
-use certpath_sources::Demand;
+use certpath_inputs::Demand;
 use std::alloc::Global;
 
+/// The lines of the target, where it is a certificate.
 fn tell_target<V: Vouch>(
     text: &mut String,
     alloc: Global,
-    found: &Found<'_, '_>,
-    sought: &Sought<'_, '_>,
-    target: usize,
-    vouch: &V,
-    policy: &Policy,
+    question: &Question<'_, '_, V>,
 ) -> Result<(), OutOfMemory>
-    requires known { IsFound found.now }
-    requires target { sought.now.target.now ≡ octets_at (map item_of found.now.items.now) target }
-    ensures { OnOk result (Appends (λ own. TellsAt sought.now.demand.now (rules_by policy.now.moment policy.now.demand_lists (V.vouches_for vouch.now)) (map item_of found.now.items.now) (map item_of found.now.anchors.now) target target own
-        ⊎ ((IsCertificateAt (map item_of found.now.items.now) target → ⊥) × (own ≡ []))) (string_bytes text.old) (string_bytes text.new)) }
+    requires known { IsFound question.now.found.now }
+    requires target { question.now.sought.target.now ≡ octets_at (items_in question.now) question.now.target }
+    ensures { OnOk result (Appends (λ own. TellsAt question.now.sought.demand.now (rules_in V.Vouch question.now)
+        (items_in question.now) (anchors_in question.now) question.now.target question.now.target own
+        ⊎ ((IsCertificateAt (items_in question.now) question.now.target → ⊥) × (own ≡ []))) (string_bytes text.old) (string_bytes text.new)) }
 {
-    if is_certificate(found.items, target) {
-        tell_at(text, alloc, found, sought, target, target, vouch, policy)?;
+    if is_certificate(question.found.items, question.target) {
+        tell_at(text, alloc, question, question.target)?;
         return Ok(());
     }
     Ok(())
 }
 
+/// The lines of the further certificates that are reached.
 fn tell_further<V: Vouch>(
     text: &mut String,
     alloc: Global,
-    found: &Found<'_, '_>,
-    sought: &Sought<'_, '_>,
-    target: usize,
+    question: &Question<'_, '_, V>,
     further: &[usize],
-    vouch: &V,
-    policy: &Policy,
 ) -> Result<(), OutOfMemory>
-    requires known { IsFound found.now }
-    requires target { sought.now.target.now ≡ octets_at (map item_of found.now.items.now) target }
-    requires further { ArePositions (IsFurther (map item_of found.now.items.now) target) further.now }
-    ensures { OnOk result (Appends (AreTexts (TellsAt sought.now.demand.now (rules_by policy.now.moment policy.now.demand_lists (V.vouches_for vouch.now)) (map item_of found.now.items.now) (map item_of found.now.anchors.now) target) further.now) (string_bytes text.old) (string_bytes text.new)) }
+    requires known { IsFound question.now.found.now }
+    requires target { question.now.sought.target.now ≡ octets_at (items_in question.now) question.now.target }
+    requires further { ArePositions (IsFurther (items_in question.now) question.now.target) further.now }
+    ensures { OnOk result (Appends (AreTexts (TellsAt question.now.sought.demand.now (rules_in V.Vouch question.now)
+        (items_in question.now) (anchors_in question.now) question.now.target) further.now)
+        (string_bytes text.old) (string_bytes text.new)) }
 {
     for place in further {
-        tell_at(text, alloc, found, sought, target, *place, vouch, policy)?;
+        tell_at(text, alloc, question, *place)?;
     }
     Ok(())
 }
 
+/// The lines of all that is reached, and how far a path length lets each of it lead by the relation
+/// of the answer.
 fn tell_reached<V: Vouch, S: Vouch>(
     text: &mut String,
     alloc: Global,
-    found: &Found<'_, '_>,
-    sought: &Sought<'_, '_>,
-    target: usize,
+    question: &Question<'_, '_, V>,
     answer: &Answer,
-    vouch: &V,
     search: &S,
-    policy: &Policy,
 ) -> Result<(), OutOfMemory>
-    requires known { IsFound found.now }
-    requires target { sought.now.target.now ≡ octets_at (map item_of found.now.items.now) target }
-    ensures { OnOk result (Appends (TellsReached sought.now.demand.now (rules_by policy.now.moment policy.now.demand_lists (V.vouches_for vouch.now)) (rules_by policy.now.moment policy.now.demand_lists (S.vouches_for search.now)) (map item_of found.now.items.now) (map item_of found.now.anchors.now) target answer.now) (string_bytes text.old) (string_bytes text.new)) }
+    requires known { IsFound question.now.found.now }
+    requires target { question.now.sought.target.now ≡ octets_at (items_in question.now) question.now.target }
+    ensures { OnOk result (Appends (TellsReached question.now.sought.demand.now (rules_in V.Vouch question.now) (rules_by question.now.policy.now.moment question.now.policy.now.demand_lists (S.vouches_for search.now))
+        (items_in question.now) (anchors_in question.now) question.now.target answer.now) (string_bytes text.old) (string_bytes text.new)) }
 {
-    let further = further_than(alloc, found, target)?;
-    tell_target(text, alloc, found, sought, target, vouch, policy)?;
-    tell_further(text, alloc, found, sought, target, &further, vouch, policy)?;
-    let bound = bound_among(alloc, found, target, answer, &further, search, policy)?;
+    let searched = Question {
+        found: question.found,
+        target: question.target,
+        sought: question.sought,
+        vouch: search,
+        policy: question.policy,
+    };
+    let further = further_than(alloc, question.found, question.target)?;
+    tell_target(text, alloc, question)?;
+    tell_further(text, alloc, question, &further)?;
+    let bound = bound_among(alloc, &searched, answer, &further)?;
     push_all_bounds(text, answer, &bound)?;
     Ok(())
 }
 
-/// What stands in the way, by who vouches for certificates and lists, and by the relation of the answer.
-fn push_why_by<V: Vouch, S: Vouch>(
+/// What stands in the way, by who vouches for certificates and lists, and by the relation of the
+/// answer.
+fn push_why_by<'q, 'a, V: Vouch, S: Vouch>(
     text: &mut String,
     alloc: Global,
-    items: &[ReadItem<'_>],
-    anchors: &[ReadItem<'_>],
+    items: &'q [ReadItem<'a>],
+    anchors: &'q [ReadItem<'a>],
     target: usize,
     answer: &Answer,
-    vouch: &V,
-    search: &S,
-    demand: &Demand<'_>,
-    policy: &Policy,
+    vouch: &'q V,
+    search: &'q S,
+    demand: &'q Demand<'a>,
+    policy: &'q Policy,
 ) -> Result<(), OutOfMemory>
-    ensures { OnOk result (AppendsWhyFor demand.now (rules_by policy.now.moment policy.now.demand_lists (V.vouches_for vouch.now)) (rules_by policy.now.moment policy.now.demand_lists (S.vouches_for search.now)) (map item_of items.now) (map item_of anchors.now) target answer.now (string_bytes text.old) (string_bytes text.new)) }
+    ensures { OnOk result (AppendsWhyFor demand.now (rules_by policy.now.moment policy.now.demand_lists (V.vouches_for vouch.now))
+        (rules_by policy.now.moment policy.now.demand_lists (S.vouches_for search.now)) (map item_of items.now) (map item_of anchors.now) target answer.now
+        (string_bytes text.old) (string_bytes text.new)) }
 {
     let found = Found::new(alloc, items, anchors)?;
-    let sought = Sought {
-        demand,
-        target: octets_at(items, target),
+    let question = Question {
+        found: &found,
+        target,
+        sought: Sought {
+            demand,
+            target: octets_at(items, target),
+        },
+        vouch,
+        policy,
     };
-    tell_reached(
-        text, alloc, &found, &sought, target, answer, vouch, search, policy,
-    )?;
-    tell_lists(text, alloc, &found, vouch, policy)?;
+    tell_reached(text, alloc, &question, answer, search)?;
+    tell_lists(text, alloc, &question)?;
     Ok(())
 }
 
-/// Appends what stands in the way of a path: the lines of the target, where it is a certificate, and of each
-/// further certificate that is reached from it by the names of issuers, in ascending order. If there is no
-/// path, each issuer has a line from which a path length holds back a certificate that is reached and linked
-/// to it. Then come the lines of each list that nobody uses, also where there is a path. Of items that are
-/// neither certificates nor lists there is no line.
+/// Appends what stands in the way of a path: the lines of the target, where it is a certificate,
+/// and of each further certificate that is reached from it by the names of issuers, in ascending
+/// order. If there is no path, each issuer has a line from which a path length holds back a
+/// certificate that is reached and linked to it. Then come the lines of each list that nobody uses,
+/// also where there is a path. Of items that are neither certificates nor lists there is no line.
 ///
-/// Positions count from 0, those of anchors by themselves. Names are printable ASCII: any other octet and
-/// the backslash are escaped, so no name holds a line feed.
+/// Positions count from 0, those of anchors by themselves. Names are printable ASCII: any other
+/// octet and the backslash are escaped, so no name holds a line feed.
 ///
-/// The bounds are those of the answer's row: of an answer of `find`, exactly how far each issuer leads.
+/// The bounds are those of the answer's row: of an answer of `find`, exactly how far each issuer
+/// leads.
 ///
-/// The only error is out of memory; the text then ends anywhere. Certificates and lists are found by sorted
-/// maps of names. Each certificate that is told costs one pass over the entries of its issuer's lists, each
-/// link what `Linking::why_unlinked` costs, and each list what `why_list_unused_by_any` costs for the keys
-/// of its issuer's name.
+/// The only error is out of memory; the text then ends anywhere. Certificates and lists are found
+/// by sorted maps of names. Each certificate that is told costs one pass over the entries of its
+/// issuer's lists, each link what `Linking::why_unlinked` costs, and each list what
+/// `why_list_unused_by_any` costs for the keys of its issuer's name.
 pub fn push_why<V: Vouch>(
     text: &mut String,
     alloc: Global,
@@ -140,7 +154,8 @@ pub fn push_why<V: Vouch>(
     vouch: &V,
     policy: &Policy,
 ) -> Result<(), OutOfMemory>
-    ensures { OnOk result (AppendsWhy (rules_by policy.now.moment policy.now.demand_lists (V.vouches_for vouch.now)) (map item_of items.now) (map item_of anchors.now) target answer.now (string_bytes text.old) (string_bytes text.new)) }
+    ensures { OnOk result (AppendsWhy (rules_by policy.now.moment policy.now.demand_lists (V.vouches_for vouch.now))
+        (map item_of items.now) (map item_of anchors.now) target answer.now (string_bytes text.old) (string_bytes text.new)) }
 {
     let demand = Demand::none();
     push_why_by(
@@ -148,17 +163,18 @@ pub fn push_why<V: Vouch>(
     )
 }
 
-/// Likewise where a purpose may be demanded of each certificate of the path, and a host of the target (RFC
-/// 5280, 4.2.1.12; RFC 9525, 6), by a permit of the items that meet the demand. Each certificate that is
-/// reached and doesn't allow the purpose has a line that says what it is for; the target, if it doesn't serve
-/// the host, has one that says which hosts it names. Of 20 purposes or names at most, with 253 octets of each.
+/// Likewise where a purpose may be demanded of each certificate of the path, and a host of the
+/// target (RFC 5280, 4.2.1.12; RFC 9525, 6), by a permit of the items that meet the demand. Each
+/// certificate that is reached and doesn't allow the purpose has a line that says what it is for;
+/// the target, if it doesn't serve the host, has one that says which hosts it names. Of 20 purposes
+/// or names at most, with 253 octets of each.
 ///
-/// Links are those of whatever is permitted: `no voucher` is never said of a certificate that only lacks the
-/// purpose. What the permit processes may be critical. The answer has to be one of a search by
-/// `cert_purpose::Restricted` of both, and so are the bounds.
+/// Links are those of whatever is permitted: `no voucher` is never said of a certificate that only
+/// lacks the purpose. What the permit processes may be critical. The answer has to be one of a
+/// search by `cert_purpose::Restricted` of both, and so are the bounds.
 ///
-/// It costs what `push_why` does, and time and memory linear in the extensions of what is reached. Without a
-/// demand it appends what `push_why` does.
+/// It costs what `push_why` does, and time and memory linear in the extensions of what is reached.
+/// Without a demand it appends what `push_why` does.
 pub fn push_why_for<V: Vouch, P: Permit>(
     text: &mut String,
     alloc: Global,
@@ -171,7 +187,8 @@ pub fn push_why_for<V: Vouch, P: Permit>(
     demand: &Demand<'_>,
     policy: &Policy,
 ) -> Result<(), OutOfMemory>
-    ensures { OnOk result (AppendsWhyFor demand.now (rules_by policy.now.moment policy.now.demand_lists (processing_too (P.processes permit.now) (V.vouches_for vouch.now)))
+    ensures { OnOk result (AppendsWhyFor demand.now
+        (rules_by policy.now.moment policy.now.demand_lists (processing_too (P.processes permit.now) (V.vouches_for vouch.now)))
         (rules_by policy.now.moment policy.now.demand_lists (restricted_by (P.permits permit.now) (P.processes permit.now) (V.vouches_for vouch.now)))
         (map item_of items.now) (map item_of anchors.now) target answer.now (string_bytes text.old) (string_bytes text.new)) }
 {

@@ -1,4 +1,5 @@
-//! The words of each reason.
+//! The words of each reason, without the position and the name before them: why a certificate is
+//! not usable, may not issue others or is not linked, and why a list is not used.
 
 ghost use Rattle.std.specs.Prelude.{◌≡◌, ◌++◌, OnOk, string_bytes, map, slice_get};
 ghost use Rattle.cert_model.specs.View.{ext_view, time_view, certificate_view, list_view};
@@ -11,6 +12,7 @@ use cert_reasons::{NoIssuer, Unlinked, Unusable, Unused};
 use jiff::civil::DateTime;
 use std::alloc::AllocError;
 
+/// Returns the identifier of the extension at a position; none of its octets if there is none.
 fn identifier_at<'a>(extensions: &[ExtField<'a>], place: usize) -> &'a [u8]
     ensures { result.now ≡ identifier_of (slice_get (map ext_view extensions.now) place) }
 {
@@ -20,6 +22,7 @@ fn identifier_at<'a>(extensions: &[ExtField<'a>], place: usize) -> &'a [u8]
     }
 }
 
+/// Appends the identifier of the extension at a position, in numbers with dots.
 fn push_identifier(
     text: &mut String,
     extensions: &[ExtField<'_>],
@@ -31,19 +34,21 @@ fn push_identifier(
     write!(text, "{identifier}")
 }
 
+/// Appends a moment, as `2026-01-31T12:00:00`.
 fn push_moment(text: &mut String, moment: &DateTime) -> Result<(), AllocError>
     ensures { OnOk result (string_bytes text.new ≡ string_bytes text.old ++ shown_moment (time_view moment.now)) }
 {
     write!(text, "{moment}")
 }
 
+/// Appends which extension is meant, and these words.
 fn push_extension(text: &mut String, place: usize, words: &str) -> Result<(), AllocError>
     ensures { OnOk result (string_bytes text.new ≡ string_bytes text.old ++ (extension place ++ words.now)) }
 {
     write!(text, "extension {place}{words}")
 }
 
-/// Why a certificate is not usable.
+/// Appends why a certificate is not usable (RFC 5280, 6.1.3, a, and 6.1.4, o).
 pub(crate) fn push_unusable_words(
     text: &mut String,
     fields: &CertFields<'_>,
@@ -78,7 +83,7 @@ pub(crate) fn push_unusable_words(
     Ok(())
 }
 
-/// Why it may not issue others.
+/// Appends why it may not issue others (RFC 5280, 6.1.4, k and n).
 pub(crate) fn push_issuer_words(text: &mut String, reason: NoIssuer) -> Result<(), AllocError>
     ensures { OnOk result (string_bytes text.new ≡ string_bytes text.old ++ issuer_words reason) }
 {
@@ -92,7 +97,7 @@ pub(crate) fn push_issuer_words(text: &mut String, reason: NoIssuer) -> Result<(
     }
 }
 
-/// Why it is not linked to an issuer or anchor.
+/// Appends why it is not linked to an issuer or anchor (RFC 5280, 6.1.3, and 6.3).
 pub(crate) fn push_link_words(text: &mut String, reason: Unlinked) -> Result<(), AllocError>
     ensures { OnOk result (string_bytes text.new ≡ string_bytes text.old ++ link_words reason) }
 {
@@ -104,6 +109,7 @@ pub(crate) fn push_link_words(text: &mut String, reason: Unlinked) -> Result<(),
     }
 }
 
+/// Appends the next update of a list, if it has one.
 fn push_next_update(text: &mut String, fields: &ListFields<'_>) -> Result<(), AllocError>
     ensures { OnOk result (string_bytes text.new ≡ string_bytes text.old ++ moment_or_none (list_view fields.now).next_update) }
 {
@@ -113,7 +119,7 @@ fn push_next_update(text: &mut String, fields: &ListFields<'_>) -> Result<(), Al
     }
 }
 
-/// Why a list is not used.
+/// Appends why a list is not used (RFC 5280, 5.1.2.5, 5.2 and 6.3.3).
 pub(crate) fn push_list_words(
     text: &mut String,
     fields: &ListFields<'_>,

@@ -1,12 +1,12 @@
 //! A struct of one's own, read and written as a SEQUENCE of two values by `Pair`.
 
 ghost use Rattle.std.specs.Prelude.{◌≡◌, ◌⊎◌, Some};
-ghost use Rattle.asn1_pairs.specs.Pairs.{PairMeans, pair_element};
+ghost use Rattle.asn1_lists.specs.Pairs.{PairMeans, pair_element};
 
 use asn1_any::Any;
 use asn1_core::{Class, Err, Error, SerializeResult, Tag};
 use asn1_device::Sink;
-use asn1_pairs::Pair;
+use asn1_lists::Pair;
 use asn1_traits::{DerAnyMeaning, DerKind, DerMeaning, FromDerAny, Tagged, ToDer};
 use std::alloc::Global;
 

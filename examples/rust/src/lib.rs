@@ -17,7 +17,7 @@ pub const BAD_HOST: i32 = 9;
 pub const LIMIT: u32 = 16_777_216;
 
 /// The version of the calls that are declared here.
-pub const VERSION: u32 = 4;
+pub const VERSION: u32 = 5;
 
 #[repr(C)]
 #[derive(Clone, Copy, Debug, Default, PartialEq, Eq)]

@@ -2,8 +2,7 @@
 
 use super::{back_again, same};
 use asn1_core::{Err as Refusal, Error, IResult, Needed};
-use asn1_lists::SetOf;
-use asn1_pairs::Pair;
+use asn1_lists::{Pair, SetOf};
 use asn1_tagged::{OptTaggedExplicit, TaggedImplicit};
 use asn1_traits::{FromDer, ToDer, read_back};
 use std::test::Fail;

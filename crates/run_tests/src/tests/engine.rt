@@ -3,7 +3,7 @@
 use crate::tests::devices::{Full, Giver, Repeater, Taker};
 use crate::tests::framing::{FIRST, THIRD};
 use asn1_device::{ReadSource, WriteSink};
-use certpath_engine::{End, FrameError, frame};
+use certpath_engine::{End, ItemInput, ItemsError, frame};
 use std::alloc::{AllocError, Global};
 use std::fmt::Debug;
 use std::process::Abort;
@@ -19,7 +19,7 @@ const NEVER: usize = usize::MAX;
 // What a device answers, and what the other was given.
 #[derive(Drop)]
 struct Framed {
-    answer: Result<End, FrameError>,
+    answer: Result<End, ItemsError>,
     taken: Vec<u8>,
 }
 
@@ -53,7 +53,7 @@ fn a_read_that_fails(rt: HostRuntime) -> Result<(), Fail> {
         let giver = Giver::new(octets.as_slice(), 40, fails_at);
         let done = frame_on(rt.alloc(), giver, taker(&rt));
         if fails_at < 5 {
-            same(&rt, done.answer, Err(FrameError::Read));
+            same(&rt, done.answer, Err(ItemsError::Read(ItemInput::Bundle)));
             assert!(rt; done.taken.is_empty(), "at {fails_at}");
         } else {
             same(&rt, done.answer, Ok(End::Clean));
@@ -82,7 +82,7 @@ fn a_write_that_fails(rt: HostRuntime) -> Result<(), Fail> {
 // A write failed, with so many octets of the text written.
 fn wrote_a_front<R: Abort>(rt: &R, done: &Framed, text: &[u8], room: usize) {
     assert!(rt;
-        done.answer == Err(FrameError::Write),
+        done.answer == Err(ItemsError::Write),
         "answer after {room}"
     );
     assert!(rt; done.taken.len() == room, "length after {room}");
@@ -98,7 +98,7 @@ fn the_flush(rt: HostRuntime) -> Result<(), Fail> {
         let mut sink = WriteSink::new(device);
         let answer = frame(rt.alloc(), &mut source, 0, &mut sink);
         let wanted = if flush_fails {
-            Err(FrameError::Write)
+            Err(ItemsError::Write)
         } else {
             Ok(End::Clean)
         };
@@ -120,7 +120,7 @@ fn a_reader_without_an_end(rt: HostRuntime) -> Result<(), Fail> {
     // the end may come at the last read that is made
     for (left, wanted) in [
         (16_777_215, Ok(End::Fault(0))),
-        (16_777_216, Err(FrameError::TooLong)),
+        (16_777_216, Err(ItemsError::TooLong(ItemInput::Bundle))),
     ] {
         let mut source = ReadSource::new(Repeater { octet: 0x31, left });
         let mut sink = WriteSink::new(taker(&rt));
@@ -134,10 +134,10 @@ fn a_reader_without_an_end(rt: HostRuntime) -> Result<(), Fail> {
 #[test]
 fn texts_of_errors(rt: HostRuntime) -> Result<(), Fail> {
     for (error, name) in [
-        (FrameError::Read, "Read"),
-        (FrameError::TooLong, "TooLong"),
-        (FrameError::OutOfMemory, "OutOfMemory"),
-        (FrameError::Write, "Write"),
+        (ItemsError::Read(ItemInput::Bundle), "Read"),
+        (ItemsError::TooLong(ItemInput::Bundle), "TooLong"),
+        (ItemsError::OutOfMemory, "OutOfMemory"),
+        (ItemsError::Write, "Write"),
     ] {
         let text = error.to_string(rt.alloc())?;
         same(&rt, text.as_str(), name);

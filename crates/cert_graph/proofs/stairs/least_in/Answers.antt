@@ -7,7 +7,7 @@ use Rattle.cert_graph.specs.Nodes.{graph_of}
 use Rattle.cert_graph.specs.declared.stairs.Stair.{Stair}
 use Rattle.cert_graph.specs.declared.stairs.Flight.{Flight}
 use Rattle.cert_graph.specs.Stairs.{AreStairs}
-use Rattle.cert_graph.proofs.Places.{element_at}
+use Rattle.cert_graph.proofs.PlacesOfNodes.{element_at}
 use Rattle.cert_graph.proofs.Climbing.{flight_found}
 use Rattle.cert_graph.proofs.stairs.least_in.Goals as goal
 

@@ -1,11 +1,11 @@
 use Rattle.std.proofs.Common.{rules, ◌≡◌, ◌<◌, ℕ, List, [], length, arith, sym, subst}
 use Rattle.std.specs.Prelude.{◌↔◌, Contains}
 use Rattle.std.specs.List.Sorted.{IsStrictlyIncreasing}
-use Rattle.cert_groups.specs.declared.places.Place.{Place}
-use Rattle.cert_groups.specs.declared.places.Part.TheVariants.{Name, Key}
-use Rattle.cert_groups.specs.Places.{Shows}
-use Rattle.cert_groups.specs.Links.{Adds}
-use Rattle.cert_groups.proofs.Adding.{adds_as}
+use Rattle.cert_graph.specs.declared.places.Place.{Place}
+use Rattle.cert_graph.specs.declared.places.Part.TheVariants.{Name, Key}
+use Rattle.cert_graph.specs.Places.{Shows}
+use Rattle.cert_graph.specs.Links.{Adds}
+use Rattle.cert_graph.proofs.Adding.{adds_as}
 use Rattle.cert_judge.specs.NamedLinks.{IsNamedLink, IsNamedAnchor}
 use Rattle.cert_judge.proofs.PlaceFacts.{keyless}
 use Rattle.cert_judge.proofs.NamedFacts.{bucket_at, buckets_of, name_more, named_by, all_names, all_anchor_names}

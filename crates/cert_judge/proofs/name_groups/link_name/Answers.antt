@@ -1,12 +1,12 @@
 use Rattle.std.proofs.Common.{◌≡◌, ◌∙◌, ◌<◌, ◌≤◌, length, arith, sym, subst}
 use Rattle.std.specs.Prelude.{All}
 use Rattle.std.specs.List.Sorted.{IsStrictlyIncreasing}
-use Rattle.cert_groups.specs.declared.places.Part.TheVariants.{Key}
-use Rattle.cert_groups.specs.Places.{Shows}
-use Rattle.cert_groups.specs.Buckets.{AreBuckets}
-use Rattle.cert_groups.specs.Links.{Adds, IsPlaceLink, IsPlaceAnchor}
-use Rattle.cert_groups.proofs.Adding.{adds_as}
-use Rattle.cert_groups.proofs.Placing.{all_below}
+use Rattle.cert_graph.specs.declared.places.Part.TheVariants.{Key}
+use Rattle.cert_graph.specs.Places.{Shows}
+use Rattle.cert_graph.specs.Buckets.{AreBuckets}
+use Rattle.cert_graph.specs.Links.{Adds, IsPlaceLink, IsPlaceAnchor}
+use Rattle.cert_graph.proofs.Adding.{adds_as}
+use Rattle.cert_graph.proofs.Placing.{all_below}
 use Rattle.cert_judge.proofs.NamedFacts.{under_from, bucket_at, key_more, all_keys, all_anchor_keys, behind}
 use Rattle.cert_judge.proofs.Vouched.{row_of_bucket, linked_from}
 use Rattle.cert_judge.proofs.name_groups.link_name.Goals as goal

@@ -1,6 +1,6 @@
 use Rattle.std.proofs.Common.{length}
-use Rattle.cert_groups.specs.Links.{Adds}
-use Rattle.cert_groups.proofs.Adding.{UpTo}
+use Rattle.cert_graph.specs.Links.{Adds}
+use Rattle.cert_graph.proofs.Adding.{UpTo}
 use Rattle.cert_judge.proofs.NamedFacts.{IsKeyLink, IsKeyAnchor}
 use Rattle.cert_judge.proofs.name_groups.link_name.Given as goal
 

@@ -1,7 +1,7 @@
 use Rattle.std.proofs.Common.{◌≡◌, ◌+◌, ℕ, List, [], length, get_or, arith, sym, subst, true, Bor}
 use Rattle.std.specs.Prelude.{◌↔◌, Any, Contains, IsTrue}
 use Rattle.std.specs.BTreeSet as sorted
-use Rattle.cert_groups.proofs.Sifted.{sifted_more, sifted_same, sifted_whole, nothing_added}
+use Rattle.cert_graph.proofs.Sifted.{sifted_more, sifted_same, sifted_whole, nothing_added}
 use Rattle.cert_judge.specs.Serials.{HasEqual}
 use Rattle.cert_judge.specs.Standing.{anything, IsUsedAgainstAt, IsIssuedBeside}
 use Rattle.cert_judge.proofs.Sets.{R}

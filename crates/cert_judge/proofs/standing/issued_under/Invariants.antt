@@ -1,5 +1,5 @@
 use Rattle.std.proofs.Common.{[]}
-use Rattle.cert_groups.proofs.Sifted.{Sifted}
+use Rattle.cert_graph.proofs.Sifted.{Sifted}
 use Rattle.cert_judge.specs.Standing.{anything, IsIssuedBeside}
 use Rattle.cert_judge.proofs.standing.issued_under.Given as goal
 

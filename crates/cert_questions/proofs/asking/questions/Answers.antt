@@ -1,7 +1,7 @@
 use Rattle.std.proofs.Common.{rules, ◌≡◌, ◌∙◌, ap, sym, subst, ℕ, ◌<◌, ◌++◌, List, map, length, arith, slice_get, Some, None, Bor, option_map}
 use Rattle.std.proofs.lemmas.List.{map-append, get_or_default}
 use Rattle.std.proofs.lemmas.Option.{slice_get-get_or}
-use Rattle.cert_groups.specs.declared.places.Place.{Place}
+use Rattle.cert_graph.specs.declared.places.Place.{Place}
 use Rattle.cert_judge.proofs.Grouping.{element}
 use Rattle.cert_questions.specs.declared.names.Shown.{Shown}
 use Rattle.cert_questions.specs.Firsts.{AreFirstsUnder}

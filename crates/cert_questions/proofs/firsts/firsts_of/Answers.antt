@@ -1,7 +1,7 @@
 use Rattle.std.proofs.Common.{◌≡◌, ◌∙◌, ap, sym, length, get_or, None, arith}
-use Rattle.cert_groups.specs.declared.places.Part.TheVariants.{Key}
-use Rattle.cert_groups.specs.Places.{shown, text_at, Shows}
-use Rattle.cert_groups.proofs.Sifted.{sifted_whole}
+use Rattle.cert_graph.specs.declared.places.Part.TheVariants.{Key}
+use Rattle.cert_graph.specs.Places.{shown, text_at, Shows}
+use Rattle.cert_graph.proofs.Sifted.{sifted_whole}
 use Rattle.cert_questions.specs.Firsts.{IsFirstAmong}
 use Rattle.cert_questions.proofs.FirstPlaces.{without_key, new_key, old_key}
 use Rattle.cert_questions.proofs.firsts.firsts_of.Goals as goal

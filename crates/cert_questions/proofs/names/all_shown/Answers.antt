@@ -1,7 +1,7 @@
 use Rattle.std.proofs.Common.{[], ◌∷◌, ◌++◌, subst, length, arith, ◌<◌, ◌≤◌}
 use Rattle.std.proofs.lemmas.List.{take_all}
 use Rattle.cert_judge.specs.Classed.{AreClassed}
-use Rattle.certcheck.proofs.Classing.{classed_none, classed_more}
+use Rattle.cert_judge.proofs.Classing.{classed_none, classed_more}
 use Rattle.cert_questions.proofs.Places.{shown_none, shown_more}
 use Rattle.cert_questions.proofs.names.all_shown.Goals as goal
 

@@ -1,5 +1,5 @@
 use Rattle.std.proofs.Common.{◌≡◌, ◌+◌, length, get_or, arith, sym, subst}
-use Rattle.cert_groups.proofs.Sifted.{sifted_more, sifted_same, nothing_added}
+use Rattle.cert_graph.proofs.Sifted.{sifted_more, sifted_same, nothing_added}
 use Rattle.cert_judge.proofs.Mapped.{not_both}
 use Rattle.cert_reasons.specs.Listed.{IsInForceAt}
 use Rattle.cert_reasons.proofs.Listing.{in_force_places}

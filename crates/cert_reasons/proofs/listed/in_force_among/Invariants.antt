@@ -1,4 +1,4 @@
-use Rattle.cert_groups.proofs.Sifted.{Sifted}
+use Rattle.cert_graph.proofs.Sifted.{Sifted}
 use Rattle.cert_reasons.specs.Listed.{IsInForceAt}
 use Rattle.cert_reasons.proofs.listed.in_force_among.Given as goal
 

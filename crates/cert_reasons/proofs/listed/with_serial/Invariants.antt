@@ -1,4 +1,4 @@
-use Rattle.cert_groups.proofs.Sifted.{Sifted}
+use Rattle.cert_graph.proofs.Sifted.{Sifted}
 use Rattle.cert_reasons.specs.Listed.{HasSerialAt}
 use Rattle.cert_reasons.proofs.listed.with_serial.Given as goal
 

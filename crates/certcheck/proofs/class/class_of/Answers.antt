@@ -4,7 +4,7 @@ use Rattle.der_tree.specs.View.{view}
 use Rattle.cert_model.specs.Octets.{certificate_octets, list_octets}
 use Rattle.cert_model.specs.Range.{AreCertificateFields, AreListFields}
 use Rattle.cert_model.specs.View.{certificate_view, list_view}
-use Rattle.certcheck.proofs.Found.{certificate_item, list_item}
+use Rattle.cert_model.proofs.StrictItems.{certificate_item, list_item}
 use Rattle.certcheck.proofs.class.class_of.Goals as goal
 
 pub returns-in-Some : goal.returns-in-Some

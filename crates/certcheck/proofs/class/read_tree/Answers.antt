@@ -3,7 +3,7 @@ use Rattle.std.proofs.lemmas.Grind.{common_steps}
 use Rattle.std.proofs.lemmas.Result.{IfOk-weaker}
 use Rattle.der_tree.specs.View.{view}
 use Rattle.cert_model.specs.Class.{IsClassOf}
-use Rattle.certcheck.specs.ClassView.{class_view}
+use Rattle.cert_model.specs.ClassView.{class_view}
 use Rattle.certcheck.proofs.Found.{refused_plainly, not_an_object, more_behind, all_read}
 use Rattle.certcheck.proofs.class.read_tree.Goals as goal
 

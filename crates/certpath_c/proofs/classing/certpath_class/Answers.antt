@@ -1,5 +1,5 @@
 use Rattle.std.proofs.Common.{refl, inl}
-use Rattle.certcheck.specs.ClassView.{class_view}
+use Rattle.cert_model.specs.ClassView.{class_view}
 use Rattle.certpath_c.proofs.classing.certpath_class.Goals as goal
 
 pub returns : goal.returns

@@ -1,17 +1,16 @@
 use Rattle.std.proofs.Common.{subst}
-use Rattle.std.proofs.lemmas.Result.{IfOk-weaker}
 use Rattle.cert_model.specs.Class.{IsClassOf, certificate, list, other}
 use Rattle.cert_model.specs.View.{certificate_view, list_view}
-use Rattle.certcheck.specs.ClassView.{class_view}
-use Rattle.certcheck.specs.declared.class.ItemClass.{ItemClass}
-use Rattle.certpath_c.specs.Contents.{IsReadOf, IsReadFrom}
+use Rattle.cert_model.specs.ClassView.{class_view}
+use Rattle.cert_model.specs.declared.class.ItemClass.{ItemClass}
 use Rattle.certpath_c.proofs.contents.item_read.Goals as goal
 
 pub returns-in-Certificate : goal.returns-in-Certificate
-returns-in-Certificate c =
-    let class = certificate (certificate_view c.in-Certificate.fields) in
-    let is_class = subst (λ (k : ItemClass). IsClassOf c.args.item.now (class_view k)) c.in-Certificate.is c.in_ok-fields.ensures.class in
-    IfOk-weaker c.certificate_read.result (IsReadOf class) (IsReadFrom c.args.item.now) (λ r h. (class, is_class, h)) c.certificate_read.ensures
+returns-in-Certificate c = (
+  certificate (certificate_view c.in-Certificate.fields),
+  subst (λ (k : ItemClass). IsClassOf c.args.item.now (class_view k)) c.in-Certificate.is c.in_ok-fields.ensures.class,
+  c.certificate_read.ensures,
+)
 
 pub returns-in-List : goal.returns-in-List
 returns-in-List c = (

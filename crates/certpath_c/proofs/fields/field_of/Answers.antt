@@ -1,8 +1,8 @@
 use Rattle.std.proofs.Common.{refl, subst}
 use Rattle.cert_model.specs.Class.{IsClassOf, certificate, list, other}
 use Rattle.cert_model.specs.View.{certificate_view, list_view}
-use Rattle.certcheck.specs.ClassView.{class_view}
-use Rattle.certcheck.specs.declared.class.ItemClass.{ItemClass}
+use Rattle.cert_model.specs.ClassView.{class_view}
+use Rattle.cert_model.specs.declared.class.ItemClass.{ItemClass}
 use Rattle.certpath_c.proofs.fields.field_of.Goals as goal
 
 pub returns-in-Certificate : goal.returns-in-Certificate

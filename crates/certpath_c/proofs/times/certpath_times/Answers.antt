@@ -1,5 +1,5 @@
 use Rattle.std.proofs.Common.{refl, inl}
-use Rattle.certcheck.specs.ClassView.{class_view}
+use Rattle.cert_model.specs.ClassView.{class_view}
 use Rattle.certpath_c.proofs.times.certpath_times.Goals as goal
 
 pub returns : goal.returns

@@ -13,10 +13,10 @@ returns-in_default-clause-only c = λ id a.
     let x = c.first_value.ensures.only a.value (rw c.deref.ensures.value a.stands) in
     let y = rw c.in_default.is at x in absurd y
 
-pub returns-then-not-is_object-clause-only : goal.returns-then-not-is_object-clause-only
-returns-then-not-is_object-clause-only c = λ id a.
+pub returns-then-not-is_der_object-clause-only : goal.returns-then-not-is_der_object-clause-only
+returns-then-not-is_der_object-clause-only c = λ id a.
     let same = one_value authority_key_identifier _ _ _ c.in-Some.ensures.found (rw c.deref.ensures.value a.stands) in
-    not_both _ (c.is_object.ensures.1 (subst (IsDerObject 50) (sym same) a.object)) c.if-not-is_object.true
+    not_both _ (c.is_der_object.ensures.1 (subst (IsDerObject 50) (sym same) a.object)) c.if-not-is_der_object.true
 
 pub returns-in_default-content_under-clause-only : goal.returns-in_default-content_under-clause-only
 returns-in_default-content_under-clause-only c = λ id a.
@@ -27,7 +27,7 @@ returns-in_default-content_under-clause-only c = λ id a.
 
 pub returns-clause-found : goal.returns-clause-found
 returns-clause-found c =
-    let object = c.is_object.ensures.0 (cc c.if-not-is_object.false) in
+    let object = c.is_der_object.ensures.0 (cc c.if-not-is_der_object.false) in
     some_weaker c.content_under-2.result (λ id. HasContent 128 c.in-Some-content_under.parts.now id.now) (λ id. IsAuthorityKeyId (certificate_view c.args.fields.now) id.now)
     (λ id h. record {
       value = c.in-Some.value.now;

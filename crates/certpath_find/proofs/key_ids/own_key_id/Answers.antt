@@ -13,15 +13,15 @@ returns-in_default-clause-only c = λ id a.
     let x = c.first_value.ensures.only a.value (rw c.deref.ensures.value a.stands) in
     let y = rw c.in_default.is at x in absurd y
 
-pub returns-then-not-is_object-clause-only : goal.returns-then-not-is_object-clause-only
-returns-then-not-is_object-clause-only c = λ id a.
+pub returns-then-not-is_der_object-clause-only : goal.returns-then-not-is_der_object-clause-only
+returns-then-not-is_der_object-clause-only c = λ id a.
     let same = one_value subject_key_identifier _ _ _ c.in-Some.ensures.found (rw c.deref.ensures.value a.stands) in
     let own = own_only a.value id (first_small subject_key_identifier _ a.value c.requires.small a.stands) a.spelled in
-    not_both _ (c.is_object.ensures.1 (subst (IsDerObject 50) (sym same) own.0)) c.if-not-is_object.true
+    not_both _ (c.is_der_object.ensures.1 (subst (IsDerObject 50) (sym same) own.0)) c.if-not-is_der_object.true
 
 pub returns-clause-found : goal.returns-clause-found
 returns-clause-found c =
-    let object = c.is_object.ensures.0 (cc c.if-not-is_object.false) in
+    let object = c.is_der_object.ensures.0 (cc c.if-not-is_der_object.false) in
     some_weaker c.octets_at.result (λ id. HasContent 4 c.in-Some.value.now id.now) (λ id. IsSubjectKeyId (certificate_view c.args.fields.now) id.now)
     (λ id h. record {
       value = c.in-Some.value.now;

@@ -1,7 +1,7 @@
 use Rattle.std.proofs.Common.{length, subst}
 use Rattle.cert_judge.specs.Items.{rules_by}
-use Rattle.certpath_sources.specs.Demands.{ArePermitsOf, demanded, target_octets}
-use Rattle.certpath_sources.proofs.DemandFacts.{of_ok, by_equal}
+use Rattle.certpath_inputs.specs.Demands.{ArePermitsOf, demanded, target_octets}
+use Rattle.certpath_inputs.proofs.DemandFacts.{of_ok, by_equal}
 use Rattle.certpath_recheck.specs.Recheck.{IsSaidOf}
 use Rattle.certpath_recheck.proofs.saying.said_within.Goals as goal
 

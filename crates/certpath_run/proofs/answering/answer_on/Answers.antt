@@ -16,4 +16,4 @@ returns g c = λ xs ys xs_are ys_are judged anchors_judged.
     let answer = c.in_ok-answer.answer in
     let found : IsFound (graph_of_items r xs ys) target answer = subst (λ d. IsFound (graph_of_items (rules_at m d V) xs ys) target answer) c.demands_lists.ensures (c.in_ok-answer.ensures m xs ys judged anchors_judged) in
     let said : c.in_ok-said.said ≡ true = check_says_yes r c.args.inputs.now.items.items c.args.inputs.now.anchors.items target answer c.in_ok-said.said c.in_ok-said.ensures.exact (xs, ys, xs_are, ys_are, found.adequate) in
-    (said, found.holds)
+    (said, found)

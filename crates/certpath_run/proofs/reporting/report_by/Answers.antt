@@ -1,6 +1,6 @@
 use Rattle.std.proofs.Common.{◌≡◌, ◌∙◌, ap, string_bytes}
 use Rattle.cert_model.specs.View.{time_view}
-use Rattle.certpath_sources.specs.Demands.{demand_lines}
+use Rattle.certpath_inputs.specs.Demands.{demand_lines}
 use Rattle.certpath_run.specs.Report.{report_with}
 use Rattle.certpath_run.proofs.ReportFacts.{same_report}
 use Rattle.certpath_run.proofs.reporting.report_by.Goals as goal
@@ -26,7 +26,7 @@ returns g c =
       answer = answered.answer;
       are_classed = xs_are;
       anchors_are_classed = ys_are;
-      holds = holds.1;
+      holds = holds.1.holds;
       text_is = written ∙ ap (λ e. report_with lines xs e ys c.end-2.result answered.answer answered.said) c.end.ensures ∙ ap (λ e. report_with lines xs inputs.items.end ys e answered.answer answered.said) c.end-2.ensures
           ∙ ap (λ s. report_with lines xs inputs.items.end ys inputs.anchors.end answered.answer s) holds.0;
       outcome_is = c.outcome-outcome.ensures;

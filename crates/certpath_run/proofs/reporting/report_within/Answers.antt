@@ -1,8 +1,8 @@
 use Rattle.std.proofs.Common.{string_bytes}
 use Rattle.cert_judge.specs.Items.{rules_by}
-use Rattle.certpath_sources.specs.Demands.{demand_lines}
+use Rattle.certpath_inputs.specs.Demands.{demand_lines}
 use Rattle.certpath_run.specs.Runs.{IsReportWith}
-use Rattle.certpath_sources.proofs.DemandFacts.{of_ok}
+use Rattle.certpath_inputs.proofs.DemandFacts.{of_ok}
 use Rattle.certpath_run.proofs.Within.{by_equal}
 use Rattle.certpath_run.proofs.reporting.report_within.Goals as goal
 

@@ -1,8 +1,8 @@
 use Rattle.std.proofs.Common.{◌≡◌, ◌∙◌, ◌++◌, ap, map, None, string_bytes}
 use Rattle.cert_judge.specs.Items.{rules_by, item_of}
-use Rattle.certpath_sources.specs.Check.{check_line}
-use Rattle.certpath_sources.specs.Demands.{demand_lines, of_purpose}
-use Rattle.certpath_sources.specs.Inputs.{VouchesBy}
+use Rattle.certpath_inputs.specs.Check.{check_line}
+use Rattle.certpath_inputs.specs.Demands.{demand_lines, of_purpose}
+use Rattle.certpath_inputs.specs.Inputs.{VouchesBy}
 use Rattle.certpath_run.specs.Report.{answer_line}
 use Rattle.certpath_run.proofs.Why.{reported}
 use Rattle.certpath_run.proofs.reporting.why_alone.Goals as goal

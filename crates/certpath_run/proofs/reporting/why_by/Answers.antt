@@ -1,10 +1,9 @@
 use Rattle.std.proofs.Common.{◌≡◌, ◌∙◌, ◌++◌, subst, map, true}
-use Rattle.cert_graph.specs.Adequate.{IsTrueAnswer}
 use Rattle.cert_judge.specs.ItemGraph.{graph_of_items}
 use Rattle.cert_judge.specs.Items.{rules_by, item_of}
 use Rattle.cert_judge.specs.Vouching.{processing_too}
 use Rattle.cert_purpose.specs.Restricting.{restricted_by}
-use Rattle.certpath_sources.specs.Inputs.{VouchesBy}
+use Rattle.certpath_inputs.specs.Inputs.{VouchesBy}
 use Rattle.certpath_run.proofs.Why.{reported}
 use Rattle.certpath_run.proofs.reporting.why_by.Goals as goal
 

@@ -1,4 +1,4 @@
-use Rattle.certpath_sources.proofs.DemandFacts.{of_ok}
+use Rattle.certpath_inputs.proofs.DemandFacts.{of_ok}
 use Rattle.certpath_run.proofs.reporting.why_within.Goals as goal
 
 pub returns : goal.returns

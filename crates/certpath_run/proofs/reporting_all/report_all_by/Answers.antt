@@ -3,7 +3,7 @@ use Rattle.cert_model.specs.View.{time_view}
 use Rattle.cert_judge.specs.Items.{rules_by, rules_at}
 use Rattle.cert_judge.specs.ItemGraph.{graph_of_items}
 use Rattle.certpath_find.specs.AnsweredAll.{IsFoundOfAll}
-use Rattle.certpath_sources.specs.Demands.{demand_lines}
+use Rattle.certpath_inputs.specs.Demands.{demand_lines}
 use Rattle.certpath_run.specs.AllReport.{all_report_with, outcome_of_all}
 use Rattle.certpath_run.specs.JudgedReport.{judged_all_report}
 use Rattle.certpath_run.proofs.InventoryFacts.{same_all_report, all_said_yes}

@@ -1,6 +1,6 @@
 use Rattle.std.proofs.Common.{length, subst, string_bytes}
-use Rattle.certpath_sources.specs.Demands.{ArePermitsOf, demand_lines, demanded, target_octets}
-use Rattle.certpath_sources.proofs.DemandFacts.{of_ok}
+use Rattle.certpath_inputs.specs.Demands.{ArePermitsOf, demand_lines, demanded, target_octets}
+use Rattle.certpath_inputs.proofs.DemandFacts.{of_ok}
 use Rattle.certpath_run.specs.AllReport.{IsAllReportBy}
 use Rattle.certpath_run.proofs.Within.{by_equal}
 use Rattle.certpath_run.proofs.reporting_all.report_all_within.Goals as goal

@@ -1,8 +1,8 @@
 use Rattle.std.proofs.Common.{◌≡◌, ◌∙◌, length, sym, subst, string_bytes, true, false}
 use Rattle.cert_serving.specs.declared.permits.Permits.{Permits}
-use Rattle.certpath_sources.specs.Inputs.{VouchesBy}
-use Rattle.certpath_sources.specs.Demands.{ArePermitsOf, VouchesWhere, demand_lines, demanded, is_none, target_octets}
-use Rattle.certpath_sources.proofs.DemandFacts.{of_ok, on_neither, on_some}
+use Rattle.certpath_inputs.specs.Inputs.{VouchesBy}
+use Rattle.certpath_inputs.specs.Demands.{ArePermitsOf, VouchesWhere, demand_lines, demanded, is_none, target_octets}
+use Rattle.certpath_inputs.proofs.DemandFacts.{of_ok, on_neither, on_some}
 use Rattle.certpath_run.specs.AllReport.{IsAllReportBy}
 use Rattle.certpath_run.proofs.InventoryFacts.{report_alone}
 use Rattle.certpath_run.proofs.reporting_all.report_on_all.Goals as goal

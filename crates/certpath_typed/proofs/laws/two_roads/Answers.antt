@@ -1,5 +1,5 @@
 use Rattle.cert_model.proofs.Classes.{class_once}
-use Rattle.certcheck.specs.ClassView.{class_view}
+use Rattle.cert_model.specs.ClassView.{class_view}
 use Rattle.certpath_typed.proofs.laws.two_roads.Goals as goal
 
 pub returns : goal.returns

@@ -1,11 +1,11 @@
 use Rattle.std.proofs.Common.{map}
 use Rattle.cert_judge.specs.Items.{item_of, rules_by}
+use Rattle.certpath_why.specs.Question.{anchors_in, items_in, rules_in}
 use Rattle.certpath_why.proofs.Telling.{tells_certificate}
 use Rattle.certpath_why.proofs.certificates.tell_certificate.Goals as goal
 
 pub returns : goal.returns
 returns g c =
     let x = c.args.certificate.now in
-    let f = c.args.found.now in
-    tells_certificate c.args.sought.now.demand.now (rules_by c.args.policy.now.moment c.args.policy.now.demand_lists (g.V.Vouch.vouches_for c.args.vouch.now)) (map item_of f.items.now) (map item_of f.anchors.now) _ c.args.target c.args.place x _ _ _ _ _ _
+    tells_certificate c.args.question.now.sought.demand.now (rules_in g.V.Vouch c.args.question.now) (items_in c.args.question.now) (anchors_in c.args.question.now) _ c.args.question.now.target c.args.place x _ _ _ _ _ _
     c.requires.target c.in_ok-push_subject.ensures c.in_ok-tell_unusable.ensures c.in_ok-push_unmet.ensures c.in_ok-tell_no_issuer.ensures c.in_ok-tell_all_links.ensures

@@ -1,5 +1,5 @@
 use Rattle.std.proofs.Common.{◌∙◌, ◌++◌, sym, refl}
-use Rattle.certpath_sources.proofs.DemandFacts.{on_some}
+use Rattle.certpath_inputs.proofs.DemandFacts.{on_some}
 use Rattle.certpath_why.proofs.Joined.{then_appended}
 use Rattle.certpath_why.proofs.demanded.push_unmet.Goals as goal
 

@@ -1,11 +1,11 @@
 use Rattle.std.proofs.Common.{◌≡◌, ◌∙◌, sym, subst, string_bytes, option_map}
 use Rattle.std.proofs.lemmas.Bool.{false≢true}
 use Rattle.cert_serving.specs.Demanding.{ServesIt}
-use Rattle.certpath_sources.specs.Demands.{demanded}
+use Rattle.certpath_inputs.specs.Demands.{demanded}
 use Rattle.cert_judge.specs.Items.{certificate_of}
 use Rattle.cert_model.specs.Range.{IfThere}
 use Rattle.cert_serving.specs.Serving.{Serves}
-use Rattle.certpath_sources.specs.declared.demand.AskedHost.{AskedHost}
+use Rattle.certpath_inputs.specs.declared.demand.AskedHost.{AskedHost}
 use Rattle.certpath_why.specs.Appended.{Appends}
 use Rattle.certpath_why.specs.Demanded.{IsLineUnless, IsHostLine}
 use Rattle.certpath_why.proofs.Unmet.{met, of_target}

@@ -2,7 +2,7 @@ use Rattle.std.proofs.Common.{sym, subst, string_bytes, option_map}
 use Rattle.cert_judge.specs.Items.{certificate_of}
 use Rattle.cert_model.specs.Range.{IfThere}
 use Rattle.cert_purpose.specs.Purposes.{Allows}
-use Rattle.certpath_sources.specs.declared.demand.AskedPurpose.{AskedPurpose}
+use Rattle.certpath_inputs.specs.declared.demand.AskedPurpose.{AskedPurpose}
 use Rattle.certpath_why.specs.Appended.{Appends}
 use Rattle.certpath_why.specs.Demanded.{IsLineUnless, IsPurposeLine}
 use Rattle.certpath_why.proofs.demanded.push_unmet_purpose.Goals as goal

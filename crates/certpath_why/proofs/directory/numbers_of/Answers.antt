@@ -1,6 +1,6 @@
 use Rattle.std.proofs.Common.{ap, sym, ◌∙◌}
 use Rattle.std.proofs.lemmas.List.{get_or_default}
-use Rattle.cert_groups.specs.declared.buckets.Bucket.{Bucket}
+use Rattle.cert_graph.specs.declared.buckets.Bucket.{Bucket}
 use Rattle.certpath_why.proofs.Numbers.{numbered_more}
 use Rattle.certpath_why.proofs.directory.numbers_of.Goals as goal
 

@@ -1,6 +1,6 @@
 use Rattle.std.proofs.Common.{ap, ◌∙◌}
 use Rattle.std.proofs.lemmas.List.{get_or_default}
-use Rattle.cert_groups.specs.declared.buckets.Bucket.{Bucket}
+use Rattle.cert_graph.specs.declared.buckets.Bucket.{Bucket}
 use Rattle.certpath_why.proofs.directory.places_in.Goals as goal
 
 pub returns : goal.returns

@@ -1,6 +1,7 @@
 use Rattle.std.proofs.Common.{map, get_or}
 use Rattle.std.proofs.lemmas.List.Elements.{Contains-get_or}
 use Rattle.cert_judge.specs.Items.{item_of, rules_by}
+use Rattle.certpath_why.specs.Question.{anchors_in, items_in, rules_in}
 use Rattle.certpath_why.specs.Why.{TellsAt}
 use Rattle.certpath_why.proofs.Texts.{texts_none, texts_more, texts_all}
 use Rattle.certpath_why.proofs.Spreading.{further_certificate}
@@ -9,13 +10,13 @@ use Rattle.certpath_why.proofs.why.tell_further.Goals as goal
 pub tell_at-requires-clause-certificate : goal.tell_at-requires-clause-certificate
 tell_at-requires-clause-certificate g c =
     let v = get_or c.args.further.now c.loop-place.place-index 0 in
-    further_certificate (map item_of c.args.found.now.items.now) c.args.target v ((c.requires.further.exact v).0 (Contains-get_or c.args.further.now c.loop-place.place-index 0 c.loop-place-test.true))
+    further_certificate (items_in c.args.question.now) c.args.question.now.target v ((c.requires.further.exact v).0 (Contains-get_or c.args.further.now c.loop-place.place-index 0 c.loop-place-test.true))
 
 pub loop-place-init : goal.loop-place-init
-loop-place-init g c = texts_none (TellsAt c.args.sought.now.demand.now (rules_by c.args.policy.now.moment c.args.policy.now.demand_lists (g.V.Vouch.vouches_for c.args.vouch.now)) (map item_of c.args.found.now.items.now) (map item_of c.args.found.now.anchors.now) c.args.target) c.args.further.now _
+loop-place-init g c = texts_none (TellsAt c.args.question.now.sought.demand.now (rules_in g.V.Vouch c.args.question.now) (items_in c.args.question.now) (anchors_in c.args.question.now) c.args.question.now.target) c.args.further.now _
 
 pub loop-place-preserved : goal.loop-place-preserved
-loop-place-preserved g c = texts_more (TellsAt c.args.sought.now.demand.now (rules_by c.args.policy.now.moment c.args.policy.now.demand_lists (g.V.Vouch.vouches_for c.args.vouch.now)) (map item_of c.args.found.now.items.now) (map item_of c.args.found.now.anchors.now) c.args.target) c.args.further.now c.loop-place.place-index 0 _ _ _ c.loop-place-test.true c.loop-place.invariant c.in_ok-tell_at.ensures
+loop-place-preserved g c = texts_more (TellsAt c.args.question.now.sought.demand.now (rules_in g.V.Vouch c.args.question.now) (items_in c.args.question.now) (anchors_in c.args.question.now) c.args.question.now.target) c.args.further.now c.loop-place.place-index 0 _ _ _ c.loop-place-test.true c.loop-place.invariant c.in_ok-tell_at.ensures
 
 pub returns : goal.returns
-returns g c = texts_all (TellsAt c.args.sought.now.demand.now (rules_by c.args.policy.now.moment c.args.policy.now.demand_lists (g.V.Vouch.vouches_for c.args.vouch.now)) (map item_of c.args.found.now.items.now) (map item_of c.args.found.now.anchors.now) c.args.target) c.args.further.now c.loop-place.place-index _ _ c.loop-place-test.false c.loop-place.invariant
+returns g c = texts_all (TellsAt c.args.question.now.sought.demand.now (rules_in g.V.Vouch c.args.question.now) (items_in c.args.question.now) (anchors_in c.args.question.now) c.args.question.now.target) c.args.further.now c.loop-place.place-index _ _ c.loop-place-test.false c.loop-place.invariant

@@ -2,7 +2,7 @@
 use Rattle.std.proofs.Common.{rules, tests}
 use Rattle.std.proofs.lemmas.Iterator.{cases_from_any, YieldsList-from_slice}
 use Rattle.cert_graph.specs.Groups.{HasAnchorBelow}
-use Rattle.cert_graph.proofs.Places.{any_iff, both}
+use Rattle.cert_graph.proofs.PlacesOfNodes.{any_iff, both}
 use Rattle.cert_graph.proofs.GroupFacts.{anchor_below}
 use Rattle.cert_graph.proofs.nodes.Nodes.has_anchor_below.Goals as goal
 

@@ -2,7 +2,7 @@
 use Rattle.std.proofs.Common.{rules, tests}
 use Rattle.std.proofs.lemmas.Iterator.{cases_from_any, YieldsList-from_slice}
 use Rattle.cert_graph.specs.Nodes.{HasAnchorLink, LinksToAnchor}
-use Rattle.cert_graph.proofs.Places.{any_iff}
+use Rattle.cert_graph.proofs.PlacesOfNodes.{any_iff}
 use Rattle.cert_graph.proofs.nodes.Nodes.links_to_anchor.Goals as goal
 
 pub returns : goal.returns

@@ -1,4 +1,4 @@
-use Rattle.cert_groups.proofs.Sifted.{Sifted}
+use Rattle.cert_graph.proofs.Sifted.{Sifted}
 use Rattle.cert_judge.specs.Rows.{VouchesAt}
 use Rattle.cert_judge.proofs.vouch.Vouch.vouched_by.Given as goal
 

@@ -4,9 +4,9 @@ use Rattle.std.specs.BTreeMap.{get}
 use Rattle.std.specs.List.{Contains}
 use Rattle.std.specs.List.Sorted.{IsStrictlyIncreasing}
 use Rattle.std.proofs.lemmas.List.{get_or_default}
-use Rattle.cert_groups.specs.declared.places.Part.TheVariants.{Name}
-use Rattle.cert_groups.specs.Places.{Shows}
-use Rattle.cert_groups.proofs.Gathering.{R}
+use Rattle.cert_graph.specs.declared.places.Part.TheVariants.{Name}
+use Rattle.cert_graph.specs.Places.{Shows}
+use Rattle.cert_graph.proofs.Gathering.{R}
 use Rattle.cert_judge.proofs.NamedFacts.{bucket_at, buckets_of}
 use Rattle.cert_questions.specs.Firsts.{IsFirstAmong}
 use Rattle.cert_questions.proofs.ByName.{firsts_under, named_more, bucket_named, knows_from}

@@ -1,5 +1,5 @@
 use Rattle.std.specs.BTreeMap.{get}
-use Rattle.cert_groups.proofs.Gathering.{R}
+use Rattle.cert_graph.proofs.Gathering.{R}
 use Rattle.cert_questions.proofs.ByName.{NamedSoFar}
 use Rattle.cert_questions.proofs.firsts.KeyHolders.new.Given as goal
 

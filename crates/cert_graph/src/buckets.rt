@@ -1,0 +1,55 @@
+//! Places with equal texts.
+
+ghost use Rattle.std.specs.Prelude.{◌≡◌, ◌<◌, ℕ, length, IfOk, OnOk};
+ghost use Rattle.std.specs.List.Sorted.{IsStrictlyIncreasing};
+ghost use Rattle.cert_graph.specs.Places.{Shows};
+ghost use Rattle.cert_graph.specs.Buckets.{AreBuckets, IsPushed};
+
+use crate::places::{Part, Place, text_at};
+use std::alloc::{AllocError, Global};
+use std::collections::BTreeMap;
+
+/// Places that show one text, in ascending order.
+#[derive(Drop)]
+pub struct Bucket<'a> {
+    pub text: &'a [u8],
+    pub places: Vec<usize>,
+}
+
+// One place more at the end of a bucket.
+fn push_to(buckets: &mut Vec<Bucket<'_>>, number: usize, place: usize) -> Result<(), AllocError>
+    requires { number < length buckets.now.items }
+    ensures { OnOk result (IsPushed buckets.old.items buckets.new.items number place) }
+{
+    let bucket = &mut buckets[number];
+    bucket.places.push(place)?;
+    Ok(())
+}
+
+/// The chosen places by the text of a part: a bucket for each text, and places without one are in none. Takes as many
+/// comparisons of texts as a sorted map of them.
+pub fn alike<'a>(
+    alloc: Global,
+    all: &[Place<'a>],
+    part: Part,
+    chosen: &[usize],
+) -> Result<Vec<Bucket<'a>>, AllocError>
+    requires { IsStrictlyIncreasing chosen.now }
+    ensures { IfOk result (λ buckets. AreBuckets (Shows part all.now) chosen.now buckets.items) }
+{
+    let mut known: BTreeMap<&'a [u8], usize> = BTreeMap::new(alloc);
+    let mut buckets = Vec::new(alloc);
+    for place in chosen {
+        if let Some(text) = text_at(all, part, *place) {
+            match known.get(&text) {
+                Some(number) => push_to(&mut buckets, *number, *place)?,
+                None => {
+                    known.insert(text, buckets.len())?;
+                    let places = vec![in alloc; *place]?;
+                    buckets.push(Bucket { text, places })?;
+                }
+            }
+        }
+    }
+    Ok(buckets)
+}

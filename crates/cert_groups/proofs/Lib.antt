@@ -1,4 +1,0 @@
-pub mod Sifted
-pub mod Adding
-pub mod Gathering
-pub mod Placing

@@ -1,6 +1,0 @@
-use Rattle.std.proofs.Common.{◌<◌}
-use Rattle.cert_groups.proofs.Sifted.{Sifted}
-use Rattle.cert_groups.proofs.sifting.between.Given as goal
-
-abbrev pub invariant-loop-place : goal.invariant-loop-place
-invariant-loop-place l = Sifted l.first (λ v. v < l.count) l.chosen l.place-index l.found.items

@@ -1,9 +1,0 @@
-use Rattle.std.proofs.Common.{◌≡◌}
-use Rattle.std.specs.Prelude.{is_some}
-use Rattle.cert_groups.specs.Places.{text_at}
-use Rattle.cert_groups.specs.declared.places.Part.TheVariants.{Id}
-use Rattle.cert_groups.proofs.Sifted.{Sifted}
-use Rattle.cert_groups.proofs.sifting.identified.Given as goal
-
-abbrev pub invariant-loop-place : goal.invariant-loop-place
-invariant-loop-place l = Sifted 0 (λ v. is_some (text_at Id l.all v) ≡ l.shown) l.chosen l.place-index l.found.items

@@ -1,6 +1,0 @@
-use Rattle.certcheck.specs.Vouching.{VouchesBy}
-use Rattle.certcheck.proofs.EachRow.{SiftedRows}
-use Rattle.certcheck.proofs.lookup.rows_of.Given as goal
-
-abbrev pub invariant-loop-place : goal.invariant-loop-place
-invariant-loop-place g l = SiftedRows (VouchesBy l.pairs) l.keys l.items l.chosen l.place-index l.rows.items

@@ -1,6 +1,0 @@
-use Rattle.certcheck.specs.Vouching.{VouchesBy}
-use Rattle.cert_judge.proofs.RowFacts.{RowsUpTo}
-use Rattle.certcheck.proofs.vouchers.VouchersVouch.vouched_by_each.Given as goal
-
-abbrev pub invariant-loop-key : goal.invariant-loop-key
-invariant-loop-key l = RowsUpTo (VouchesBy l.self.pairs) l.keys l.items l.chosen l.key-index l.rows.items

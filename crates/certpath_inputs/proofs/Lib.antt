@@ -1,0 +1,3 @@
+pub mod DemandFacts
+mod InputFacts
+mod Feeding

@@ -1,0 +1,5 @@
+pub mod Check
+pub mod Inputs
+pub mod Demands
+pub mod Uses
+pub mod Reads

@@ -1,0 +1,54 @@
+//! A run that says where the items of a stream lie.
+
+ghost use Rattle.std.specs.Prelude.{◌≡◌, ◌≢◌, ◌+◌, ◌≤◌, IfOk, IfErr, OnOk, IsErrOf};
+ghost use Rattle.certpath_run.specs.Frames.{Frames, FramesInPart};
+ghost use Rattle.certpath_run.specs.Items.{IsOfItems, UsesItemReader, failed_item_writes};
+ghost use Rattle.certpath_run.specs.declared.items.ItemInput.TheVariants.{Bundle};
+ghost use Rattle.certpath_inputs.specs.Uses.{counts};
+
+use crate::frame_text::text_of;
+use crate::items::{ItemInput, ItemsError, items_of};
+use asn1_device::{Sink, Source};
+use cert_framing::End;
+use certpath_inputs::write_text;
+use std::alloc::Global;
+
+/// Reads all that `reader` gives, cuts it into items of at most `limit` content octets, and writes
+/// their frame text to `writer`: a line for each item, with its number, where it begins and its
+/// length in octets, and a line for how the stream ends. It returns how the stream ends.
+///
+/// Nothing is written before all is read and the text is built. The writer is then flushed once.
+///
+/// # Errors
+///
+/// `Read` and `TooLong` of `ItemInput::Bundle`, or `OutOfMemory`, with nothing written; or `Write`:
+/// what was written is then a front of the text.
+pub fn frame<R: Source, W: Sink>(
+    alloc: Global,
+    reader: &mut R,
+    limit: u32,
+    writer: &mut W,
+) -> Result<End, ItemsError>
+    // What was read and written.
+    ensures ok { IfOk result (λ end. Frames (R.remaining reader.old) (R.remaining reader.new)
+        (W.contents writer.old) (W.contents writer.new) limit end) }
+    ensures part { IsErrOf result ItemsError.Write → FramesInPart (R.remaining reader.old) (R.remaining reader.new)
+        (W.contents writer.old) (W.contents writer.new) limit }
+    ensures nothing { IfErr result (λ e. e ≢ ItemsError.Write → writer.new ≡ writer.old) }
+    ensures flushed { OnOk result (W.flushes writer.new ≡ W.flushes writer.old + 1) }
+    ensures once { W.flushes writer.new ≤ W.flushes writer.old + 1 }
+
+    // When each error comes.
+    ensures only { IfErr result (λ e. e ≢ ItemsError.Write → IsOfItems Bundle e) }
+    ensures write { W.failures writer.new ≡ W.failures writer.old + failed_item_writes result }
+    ensures uses { UsesItemReader result (counts R.Source reader.old) (counts R.Source reader.new) }
+{
+    let items = items_of(alloc, reader, ItemInput::Bundle, limit)?;
+    let Ok(text) = text_of(alloc, &items) else {
+        return Err(ItemsError::OutOfMemory);
+    };
+    if write_text(writer, text.as_bytes()).is_err() {
+        return Err(ItemsError::Write);
+    }
+    Ok(items.end())
+}

@@ -1,2 +1,0 @@
-pub mod DemandFacts
-mod InputFacts

@@ -1,4 +1,0 @@
-pub mod Check
-pub mod Inputs
-pub mod Demands
-pub mod Uses

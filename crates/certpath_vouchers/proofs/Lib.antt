@@ -1,3 +1,0 @@
-mod LineFacts
-mod PairFacts
-mod SoFar

@@ -1,5 +1,0 @@
-use Rattle.certpath_vouchers.proofs.PairFacts as facts
-use Rattle.certpath_vouchers.proofs.laws.one_pair.Goals as goal
-
-pub returns : goal.returns
-returns c = facts.one_pair

@@ -1,6 +1,0 @@
-use Rattle.std.proofs.Common.{◌≢◌, ℕ, ◌<◌, get_or}
-use Rattle.certpath_vouchers.specs.VoucherFile.{line_feed}
-use Rattle.certpath_vouchers.proofs.lines.line_end.Given as goal
-
-abbrev pub invariant-loop-place : goal.invariant-loop-place
-invariant-loop-place l = (j d : ℕ) → j < l.place → get_or l.text j d ≢ line_feed

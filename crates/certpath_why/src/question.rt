@@ -1,0 +1,20 @@
+//! What the lines are about, as it is handed from one to the other.
+
+use crate::demanded::Sought;
+use crate::found::Found;
+use cert_judge::Policy;
+
+/// A target among items, what is demanded of it, and how certificates and lists are judged.
+#[derive(Clone, Copy)]
+pub(crate) struct Question<'q, 'a, V> {
+    /// Items and anchors, with their directories.
+    pub(crate) found: &'q Found<'q, 'a>,
+    /// The position of the target among the items.
+    pub(crate) target: usize,
+    /// What is demanded, and the octets of the target.
+    pub(crate) sought: Sought<'q, 'a>,
+    /// Which key vouches for which item.
+    pub(crate) vouch: &'q V,
+    /// The moment, and whether revocation lists are demanded.
+    pub(crate) policy: &'q Policy,
+}
