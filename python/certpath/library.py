@@ -7,7 +7,7 @@ from ctypes import (POINTER, byref, c_char_p, c_int8, c_int16, c_int32, c_size_t
 from typing import Any, Callable, Dict, List, Tuple, Type
 
 # The version of the calls that this package makes (CERTPATH_VERSION in certpath.h).
-VERSION = 4
+VERSION = 5
 NAME = "libcertpath.so"
 # The library is in the package, or in dist/ if this is a checkout of the repository.
 FOLDERS = (os.path.dirname(os.path.abspath(__file__)),

@@ -33,12 +33,12 @@ class Verified:
         return self.answer.found
 
     def why(self) -> str:
-        """What `certpath why` prints for the chain, without a host and a purpose: each reason why
-        there is no path."""
+        """What `certpath why` prints for the chain, the host and the purpose: each reason why there
+        is no path."""
         asked = self.answer.asked
         assert asked is not None
         return why(asked.bundle, asked.anchors, asked.vouchers, asked.target, asked.at,
-                   asked.demand_lists)
+                   asked.demand_lists, host=asked.host, purpose=asked.purpose)
 
 
 def loaded_from(sources: Sources) -> List[Loaded]:

@@ -374,7 +374,7 @@ class Reports(unittest.TestCase):
 
 class Library(unittest.TestCase):
     def test_version(self):
-        self.assertEqual(certpath.version(), 4)
+        self.assertEqual(certpath.version(), 5)
 
     def test_missing(self):
         ran = subprocess.run(

@@ -14,7 +14,7 @@ from datetime import datetime
 from unittest import mock
 
 import certpath
-from certpath.inventory import (anchors, blocks, files, index, inputs, logs, program, progress,
+from certpath.inventory import (anchors, blocks, files, hosts, index, inputs, logs, program, progress,
                                 ranges, reasons, rows, shards, signatures, tables, trees, words, work)
 from certpath.inventory.entries import Entry, Place
 from certpath.items import LIMIT
@@ -41,6 +41,40 @@ X509_LEAF = FRONT + b"\0\0" + vector(3, LEAF) + b"\0\0"
 KEY_HASH = bytes.fromhex(rows.key_digest(MIDDLE))
 PRECERT_LEAF = FRONT + b"\0\1" + KEY_HASH + vector(3, b"\x30\0") + b"\0\0"
 CHAIN = vector(3, vector(3, MIDDLE) + vector(3, ROOT))
+
+
+NAME = bytes.fromhex("300e310c300a06035504030c03") + b"one"
+PRECERTIFICATES, ANY, SERVER = map(bytes.fromhex, (
+    "060a2b06010401d679020404", "0604551d2500", "06082b06010505070301"))
+
+
+def element(tag, content):
+    size = len(content)
+    length = (b"\x82" + size.to_bytes(2, "big") if size > 255 else bytes([0x81, size]) if size > 127
+              else bytes([size]))
+    return bytes([tag]) + length + content
+
+
+def certificate(serial, extensions=b""):
+    """A certificate of one name that was issued under it, whose signature nobody vouches for."""
+    times = bytes.fromhex("301e170d") + b"260101000000Z" + b"\x17\x0d" + b"270101000000Z"
+    key = certpath.frame(LEAF)[0].public_key_bytes
+    algorithm = bytes.fromhex("300506032b6570")
+    signed = (b"\xa0\x03\x02\x01\x02" + b"\x02\x02" + (1000 + serial).to_bytes(2, "big") + algorithm
+              + NAME + times + NAME + key + extensions)
+    return element(0x30, element(0x30, signed) + algorithm + b"\x03\x02\x00\x00")
+
+
+def usage(purposes):
+    """An extKeyUsage (RFC 5280, 4.2.1.12) as the extensions of a certificate."""
+    value = element(0x04, element(0x30, b"".join(purposes)))
+    return element(0xa3, element(0x30, element(0x30, bytes.fromhex("0603551d25") + value)))
+
+
+def alternative(*names):
+    """Extensions with a subjectAltName of such names, each an element (RFC 5280, 4.2.1.6)."""
+    value = element(0x04, element(0x30, b"".join(names)))
+    return element(0xa3, element(0x30, element(0x30, bytes.fromhex("0603551d11") + value)))
 
 
 def answer(leaf, extra):
@@ -122,11 +156,22 @@ class Logs(unittest.TestCase):
         self.assertEqual([it.number for it in found], [1000, 1001])
 
     def test_issuer_key_hash(self):
-        for chain, cause in (((MIDDLE, ROOT), ""), ((ROOT, MIDDLE), ""), ((ROOT, LEAF), rows.WRONG_HASH),
-                             ((ROOT, LEAF, MIDDLE), rows.WRONG_HASH), ((b"none",), rows.WRONG_HASH), ((), "")):
-            entry = Entry(HERE, "precert_entry", LEAF, chain, issuer_key_hash=KEY_HASH)
+        """It is that of the chain's first certificate, or of the second one where the first signs
+        precertificates alone."""
+        signing, any_too, either = (certificate(1, usage(it)) for it in (
+            [PRECERTIFICATES], [PRECERTIFICATES, ANY], [PRECERTIFICATES, SERVER]))
+        own = bytes.fromhex(rows.key_digest(signing))
+        for key_hash, chain, cause in (
+                (KEY_HASH, (MIDDLE, ROOT), ""), (KEY_HASH, (MIDDLE,), ""),
+                (KEY_HASH, (ROOT, MIDDLE), rows.WRONG_HASH), (KEY_HASH, (ROOT,), rows.WRONG_HASH),
+                (KEY_HASH, (b"none", MIDDLE), rows.WRONG_HASH), (KEY_HASH, (), rows.NO_HASH),
+                (KEY_HASH, (signing, MIDDLE), ""), (KEY_HASH, (either, MIDDLE), ""),
+                (KEY_HASH, (signing, ROOT, MIDDLE), rows.WRONG_HASH),
+                (own, (signing, MIDDLE), rows.WRONG_HASH), (own, (signing,), rows.NO_HASH),
+                (own, (any_too, MIDDLE), ""), (KEY_HASH, (any_too, MIDDLE), rows.WRONG_HASH)):
+            entry = Entry(HERE, "precert_entry", LEAF, chain, issuer_key_hash=key_hash)
             self.assertEqual(rows.read(entry, LIMIT).row.cause, cause)
-        self.assertEqual(rows.read(Entry(HERE, "x509_entry", LEAF, (ROOT,)), LIMIT).row.cause, "")
+        self.assertEqual(rows.read(Entry(HERE, "x509_entry", LEAF, ()), LIMIT).row.cause, "")
 
     def test_no_answers(self):
         for text, offset, cause in ((b'{"entries": [', 13, "not JSON: Expecting value"),
@@ -485,29 +530,37 @@ class Programs(Room):
             program.report(program.found(), program.PATHS, question)
 
 
+class Hosts(Room):
+    """The hosts that certificates name, by the program."""
+
+    def names(self, octets):
+        return hosts.names_of(octets, program.found())
+
+    def test_names(self):
+        dns, address = (lambda it: element(0x82, it)), (lambda it: element(0x87, it))
+        many = [dns(b"%d.example.test" % it) for it in range(25)]
+        for names, expected in (
+                ([dns(b"a.test"), dns(b"*.invalid"), address(bytes([10, 0, 0, 1]))],
+                 "a.test, *.invalid, 10.0.0.1"),
+                ([element(0x81, b"a@b.test")], ""), ([], "its subjectAltName isn't well written"),
+                (many, ", ".join(f"{it}.example.test" for it in range(20)) + " and 5 more"),
+                ([dns(b"a, b\n")], "a\\2C b\\0A")):
+            self.assertEqual(self.names(certificate(1, alternative(*names))), expected)
+        self.assertEqual([*map(self.names, (LEAF, ROOT))], ["www.example.test", ""])
+
+    def test_no_answer(self):
+        for octets, error in ((b"none", "nothing is said|ended with status"), (sample("list.der"), "status 3")):
+            with self.assertRaisesRegex(program.Failed, error):
+                self.names(octets)
+
+
 class Reasons(Room):
     """Reasons of certificates of one name."""
-    NAME = bytes.fromhex("300e310c300a06035504030c03") + b"one"
-
-    def certificate(self, serial, extensions=b""):
-        """A certificate of the name that was issued under it, whose signature nobody vouches for."""
-        times = bytes.fromhex("301e170d") + b"260101000000Z" + b"\x17\x0d" + b"270101000000Z"
-        key = certpath.frame(LEAF)[0].public_key_bytes
-        algorithm = bytes.fromhex("300506032b6570")
-        signed = (b"\xa0\x03\x02\x01\x02" + b"\x02\x02" + (1000 + serial).to_bytes(2, "big") + algorithm
-                  + self.NAME + times + self.NAME + key + extensions)
-        whole = self.element(0x30, signed) + algorithm + b"\x03\x02\x00\x00"
-        return self.element(0x30, whole)
-
-    def element(self, tag, content):
-        length = len(content).to_bytes(2, "big")
-        return bytes([tag, 0x82]) + length + content if len(content) > 255 else (
-            bytes([tag, 0x81, len(content)]) if len(content) > 127 else bytes([tag, len(content)])) + content
 
     def made(self, count):
         path = os.path.join(self.folder, "index.sqlite")
         index.create(path)
-        found = [self.certificate(it) for it in range(count)]
+        found = [certificate(it) for it in range(count)]
         reads = [rows.read(Entry(HERE, "item", it), LIMIT) for it in found]
         self.assertEqual({it.row.kind for it in reads}, {"cert"})
         held = [index.Candidate(*it) for it in zip(reads, found)]
@@ -559,14 +612,14 @@ class Reasons(Room):
         """Where none of them issued itself, both reports are of the whole bundle."""
         path, targets = self.made(4)
         with index.Index(path) as opened:
-            held, whole = self.reasons(opened), opened.closure([targets[0].issuer])
+            held, whole, size = self.reasons(opened), opened.closure([targets[0].issuer]), reasons.Size(16, 18)
             with mock.patch.object(held, "reported", wraps=held.reported) as asked, \
                     mock.patch.object(opened, "under", return_value=[]):
                 opened.closure = lambda names: whole
-                found = held.together("", targets, 16)
+                found = held.together("", targets, size)
             self.assertEqual([len(it.args[0].items) for it in asked.call_args_list], [4, 4])
-            self.assertEqual(held.left, reasons.MOST_OF_BLOCK - 2 * 16 * 4)
-            self.assertEqual(found, self.reasons(opened).together(targets[0].issuer, targets, 16))
+            self.assertEqual(held.left, reasons.MOST_OF_BLOCK - 2 * 18)
+            self.assertEqual(found, self.reasons(opened).together(targets[0].issuer, targets, size))
 
     def test_lines(self):
         """Names that read like a reason are none, and of many lines the first are kept."""
@@ -576,7 +629,7 @@ class Reasons(Room):
                  "at 12 no issuer: no authority", "at 12 no issuer here: CN=c",
                  "list 9 CN=c", "list 9 not used: no next update", ""]
         found = reasons.places_of("\n".join(lines))
-        kinds = {(part.name, at): {kind: few.count for kind, few in held.items()}
+        kinds = {(part.name, at): {kind: few.total for kind, few in held.items()}
                  for (part, at), held in found.items()}
         self.assertEqual(kinds, {("CERTIFICATES", 3): {"not usable": 1, "not linked": 31},
                                  ("CERTIFICATES", 12): {"no issuer": 1, "no issuer here": 1},
@@ -585,41 +638,69 @@ class Reasons(Room):
         self.assertEqual([it.to for it in first], [*range(reasons.MOST_REASONS)])
 
     def test_limit(self):
+        """A report of too many pairs isn't asked for, nor more than a block may have, where the
+        octets that are read count, too."""
         path, targets = self.made(5)
         with index.Index(path) as opened:
-            with mock.patch.object(reasons, "MOST_STEPS", 5 * 30 - 1):
+            size, octets = self.reasons(opened).size(targets[0].issuer), sum(len(it.octets) for it in targets)
+            self.assertEqual(size, (30, 30 + octets // reasons.OCTETS_OF_PAIR))
+            with mock.patch.object(reasons, "MOST_PAIRS", 29):
                 found = self.reasons(opened).of(targets[:1])
             self.assertEqual([*found.values()],
                              ["not asked: 30 pairs of a certificate and one of its issuer's name"])
             held = self.reasons(opened)
-            held.left = 5 * 30
+            held.left = 2 * size.steps - 1
             found = held.of(targets[:2])
             self.assertEqual([it.startswith("not asked") for it in found.values()], [False, True])
 
     def test_limit_of_one_name(self):
-        """Of a thousand certificates of one name reasons are asked for, and of some more not."""
+        """A thousand certificates of one name have one report, with all of each."""
         path, _ = self.made(1)
         with index.Index(path) as opened:
             for count, may in ((1000, True), (1100, False)):
-                self.assertEqual(self.reasons(opened).may_ask(count + count ** 2, count), may)
+                pairs = count + count ** 2
+                self.assertEqual(self.reasons(opened).may_ask(reasons.Size(pairs, pairs)), may)
+
+    def test_many_of_one_name(self):
+        """All reasons are counted, also where there are hundreds of thousands."""
+        path, targets = self.made(400)
+        with index.Index(path) as opened:
+            held = self.reasons(opened)
+            with mock.patch.object(held, "reported", wraps=held.reported) as asked:
+                found = held.of(targets)
+        self.assertEqual(asked.call_count, 2)
+        self.assertEqual({it.rpartition("; ")[2] for it in found.values()},
+                         {f".. {400 * 400 + 400 - 1 - reasons.MOST_REASONS} further"})
 
     def test_front(self):
-        """Of many certificates of one name some give all reasons that stand in the table; where
-        they give fewer, all are asked about."""
+        """Where reports on all of many certificates of one name take too much, some of them give all
+        reasons that stand in the table; where they give fewer, all are asked about, as long as may
+        be. Nothing is tried where the name has no more certificates than these."""
         path, targets = self.made(9)
-        with index.Index(path) as opened, mock.patch.object(reasons, "MOST_WHOLE", 0), \
-                mock.patch.object(reasons, "MOST_REASONS", 4):
+        not_asked = "not asked: 90 pairs of a certificate and one of its issuer's name"
+        with index.Index(path) as opened, mock.patch.object(reasons, "MOST_REASONS", 4):
+            size = self.reasons(opened).size(targets[0].issuer)
+            whole = {it.item: self.reasons(opened).alone(it, size).split("; ") for it in targets}
+            cut = {item: [*lines[:4], f".. further {not_asked}"] for item, lines in whole.items()}
+            for front, many, calls, expected in (
+                    (4, 9 * size.steps - 1, 9, cut), (6, 0, 9, cut), (3, 0, 18, whole), (9, 0, 9, whole),
+                    (4, 9 * size.steps, 9, whole)):
+                held = self.reasons(opened)
+                with mock.patch.multiple(reasons, FRONT=front, MANY=many), \
+                        mock.patch.object(held, "together", return_value={}), \
+                        mock.patch.object(held, "reported", wraps=held.reported) as asked:
+                    found = held.of(targets)
+                self.assertEqual({item: it.split("; ") for item, it in found.items()}, expected)
+                self.assertEqual(asked.call_count, calls)
+
+    def test_limit_of_front(self):
+        """No more is tried than a block may have."""
+        path, targets = self.made(9)
+        with index.Index(path) as opened, mock.patch.multiple(reasons, MOST_REASONS=4, FRONT=4, MOST_PAIRS=89):
             held = self.reasons(opened)
-            whole = {it.item: held.alone(it, 90, 9) for it in targets}
-            for front in (4, 6, 3):
-                with mock.patch.object(reasons, "FRONT", front):
-                    found = self.reasons(opened).of(targets)
-                for item, said in found.items():
-                    lines = whole[item].split("; ")
-                    if front > 3:
-                        lines[4:] = [".. further not asked: 90 pairs of a certificate and one of "
-                                     "its issuer's name"]
-                    self.assertEqual(said.split("; "), lines)
+            held.left = 3 * (25 + 4 * len(targets[0].octets) // reasons.OCTETS_OF_PAIR)
+            found = [it.rpartition("; ")[2].startswith(".. further") for it in held.of(targets).values()]
+        self.assertEqual(found, [True] * 3 + [False] * 6)
 
 
 class Shown(unittest.TestCase):

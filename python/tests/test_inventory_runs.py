@@ -20,7 +20,8 @@ from certpath.inventory import (anchors, blocks, databases, files, index, jobs, 
 from certpath.inventory.entries import Entry, Place
 from certpath.items import LIMIT
 
-from .test_inventory import CHAIN, HERE, LEAF, ROOT, ROOT_FILE, TOP, X509_LEAF, Room, answer, sample
+from .test_inventory import (CHAIN, FRONT, HERE, LEAF, PRECERT_LEAF, ROOT, ROOT_FILE, SERVER, TOP,
+                             X509_LEAF, Room, answer, certificate, sample, usage, vector)
 
 
 class Tasks(Room):
@@ -33,7 +34,7 @@ class Tasks(Room):
         held = anchors.read(given.anchors, LIMIT)
         job = work.Job(jobs.completed(given), out)
         jobs.begin(job, out, {}, held)
-        index.create(job.index)
+        index.create(job.index_file)
         return job
 
     def block(self, *names):
@@ -51,10 +52,10 @@ class Tasks(Room):
         self.assertEqual((survey.entries, len(survey.names)), (5, 2))
         self.assertEqual([it.place.offset for it in survey.faults], [0])
         self.assertEqual(survey, work.survey(block, job))
-        index.add_names(job.index, survey.names)
+        index.add_names(job.index_file, survey.names)
         found = work.candidates(block, job).candidates
         self.assertEqual([it.read.row.offset for it in found], [884, 1741, 2554])
-        self.assertEqual(len([*index.add_issuers(job.index, found)]), 3)
+        self.assertEqual(len([*index.add_issuers(job.index_file, found)]), 3)
         part = work.finish(block, job)
         self.assertEqual(part, (5, {"none": 1, "path": 2, "list": 1, "fault": 1}, "", ()))
         rows_there = self.written(job)
@@ -108,11 +109,11 @@ class Tasks(Room):
             index.add_names(os.path.join(self.folder, "none", "index"), ["a"])
 
     def test_faults(self):
-        told = []
-        faults = running.Faults(told.append)
+        shown = []
+        faults = running.Faults(shown.append)
         for number in range(7):
             faults.add(work.Fault(Place("a", number), f"not base64 at octet {number}"))
-        self.assertEqual((faults.end(), len(told), told[-1]), (7, 6, ".. 2 further: not base64 at octet N"))
+        self.assertEqual((faults.end(), len(shown), shown[-1]), (7, 6, ".. 2 further: not base64 at octet N"))
 
 
 class Held:
@@ -155,12 +156,12 @@ class Stopped(BaseException):
 class Runs(Room):
     FILES = ["bundle.der", "fullchain.pem", "leaf.der"]
 
-    def run_with(self, client, names=None, resume=False, **more):
-        self.told, self.out = [], os.path.join(self.folder, "table")
+    def run_with(self, client, paths=None, resume=False, **more):
+        self.shown, self.out = [], os.path.join(self.folder, "table")
         given = {"anchors": ROOT_FILE, "at": datetime(2026, 12, 1), "form": tables.CSV, "blocksize": 1}
-        named = names or [os.path.join(TOP, "samples", it) for it in self.FILES]
+        named = paths or [os.path.join(TOP, "samples", it) for it in self.FILES]
         return running.run(named, self.out, work.Settings(**{**given, **more}), client,
-                           self.told.append, resume)
+                           self.shown.append, resume)
 
     def rows(self):
         found = []
@@ -187,7 +188,7 @@ class Runs(Room):
         self.assertEqual(sorted(os.listdir(self.out)), ["entries", "issuers", "run.json"])
         self.assertEqual([it["outcome"] or it["class"] for it in self.rows()],
                          ["none", "path", "path", "list", "fault", "none"])
-        self.assertEqual([it.partition(": ")[2] for it in self.told], [files.CAUSES["fault"]])
+        self.assertEqual([it.partition(": ")[2] for it in self.shown], [files.CAUSES["fault"]])
 
     def test_record(self):
         done = self.run_with(Here(), vouchers=os.path.join(TOP, "samples", "vouchers.txt"))
@@ -199,6 +200,16 @@ class Runs(Room):
         self.assertEqual((record["anchors"]["sha256"], record["anchors"]["usable"]), (rows.digest(ROOT), 1))
         self.assertEqual((record["status"], record["moment"]), (1, "2026-12-01T00:00:00"))
         self.assertEqual(records.done_of(record), done)
+
+    def test_names(self):
+        """Hosts are in the rows of certificates, and where the program fails that is a fault."""
+        self.run_with(Here(), names=True, why=False)
+        found = [it["names"] for it in self.rows()]
+        self.assertEqual(found, ["www.example.test", "", "", "", "", "www.example.test"])
+        shutil.rmtree(self.out)
+        with mock.patch.object(work, "names_of", side_effect=program.Failed("no answer")):
+            done = self.run_with(Here(), names=True, why=False)
+        self.assertEqual((done.faults, done.kinds["names: no answer"]), (5, 4))
 
     def test_given_vouchers(self):
         whole = self.run_with(Here(), blocksize=1 << 20, why=False,
@@ -214,7 +225,7 @@ class Runs(Room):
     def test_lost_issuers(self):
         done = self.run_with(Here("candidates"))
         self.assertEqual((done.rows, done.issuers, done.faults), (6, 3, 2))
-        self.assertTrue(any("its issuers are left out" in it for it in self.told))
+        self.assertTrue(any("its issuers are left out" in it for it in self.shown))
 
     def test_lost_in_the_second_pass(self):
         done = self.run_with(Here("finish"))
@@ -263,7 +274,7 @@ class Runs(Room):
         self.stop_at("survey")
         for more, differing in (({"tries": 3}, "tries"), ({"at": datetime(2026, 12, 2)}, "at"),
                                 ({"why": False, "weak": True}, "weak, why"),
-                                ({"names": [ROOT_FILE]}, "files"),
+                                ({"paths": [ROOT_FILE]}, "files"), ({"names": True}, "names"),
                                 ({"anchors": os.path.join(TOP, "samples", "leaf.der")}, "anchors"),
                                 ({"vouchers": ROOT_FILE}, "vouchers")):
             with self.assertRaisesRegex(running.Different, f"other {differing}$"):
@@ -307,7 +318,7 @@ class Runs(Room):
                 self.assertEqual(done.outcomes, outcomes)
                 self.assertEqual(done.changed, 2 if pass_name == "candidates" else 1)
                 self.assertEqual(self.record()["status"], 8)
-                self.assertTrue(any("the file changed while it was read" in it for it in self.told))
+                self.assertTrue(any("the file changed while it was read" in it for it in self.shown))
                 said = [it["reasons"] or it["cause"] for it in self.rows() if "changing" in it["file"]]
                 self.assertEqual({*said}, {"the file changed while it was read"})
                 shutil.rmtree(self.out)
@@ -328,14 +339,14 @@ class Runs(Room):
         done = self.run_with(Here(), paths)
         self.assertEqual((done.missing, done.twice), (((2, 3),), ((5, 5),)))
         self.assertEqual([it["log_index"] for it in self.rows()], ["0", "1", "4", "5", "5", "6"])
-        self.assertEqual(self.told, ["entries 2 to 3 of the log: in no file",
+        self.assertEqual(self.shown, ["entries 2 to 3 of the log: in no file",
                                      "entries 5 of the log: in several files"])
         self.assertEqual(self.record()["status"], 1)
 
     def test_refusals(self):
         for more, error in (({"anchors": os.path.join(self.folder, "none")}, OSError),
                             ({"anchors": os.path.join(TOP, "samples", "list.pem")}, anchors.BadAnchors),
-                            ({"names": [os.path.join(self.folder, "none")]}, OSError),
+                            ({"paths": [os.path.join(self.folder, "none")]}, OSError),
                             ({"vouchers": ROOT_FILE}, signatures.BadLine),
                             ({"vouchers": os.path.join(self.folder, "none")}, FileNotFoundError),
                             ({"program": self.folder}, program.Missing)):
@@ -344,14 +355,17 @@ class Runs(Room):
             self.assertFalse(os.path.isdir(self.out) and os.listdir(self.out))
 
     def test_tree_head(self):
-        """Entries in two answers and their tree; then with a hole, another root, and a smaller tree."""
+        """Entries in two answers and their tree; then with a hole, another root, and a smaller tree.
+        Of each answer the record says whether all of its entries are there."""
         entries = [answer(X509_LEAF[:-2] + b"\0\2" + number.to_bytes(2, "big"), CHAIN) for number in range(5)]
         leaves = [trees.leaf_hash(b64decode(it["leaf_input"])) for it in entries]
-        for spoilt, size, root, expected in (
-                (None, 5, leaves, ""), (None, 3, leaves[:3], ""), (None, 0, [], ""),
-                (None, 4, leaves[1:], "the tree of the entries has another root"),
-                (1, 5, leaves, "4 of its 5 entries were read, by their numbers in the log"),
-                (None, 6, leaves + leaves[:1], "5 of its 6 entries were read, by their numbers in the log")):
+        for spoilt, size, root, expected, included in (
+                (None, 5, leaves, "", [True, True]), (None, 3, leaves[:3], "", [False, True]),
+                (None, 0, [], "", [False, False]), (4, 4, leaves[:4], "", [False, True]),
+                (None, 4, leaves[1:], "the tree of the entries has another root", [None, None]),
+                (1, 5, leaves, "4 of its 5 entries were read, by their numbers in the log", [None, None]),
+                (None, 6, leaves + leaves[:1], "5 of its 6 entries were read, by their numbers in the log",
+                 [None, None])):
             given = [{} if number == spoilt else it for number, it in enumerate(entries)]
             names = [self.put(f"log?start={begin}&end={begin + len(part) - 1}",
                               json.dumps({"entries": part}).encode())
@@ -359,9 +373,19 @@ class Runs(Room):
             hashed = trees.root_of(trees.of_leaves(0, root, len(root)), len(root))
             head = self.put("sth.json", json.dumps({"tree_size": size, "sha256_root_hash": b64encode(
                 bytes.fromhex(hashed)).decode()}).encode())
-            done = self.run_with(Here(), names, tree_head=head)
-            self.assertEqual((done.tree, self.record()["status"]), (expected, 1 if expected or spoilt else 0))
+            done, record = self.run_with(Here(), names, tree_head=head), self.record()
+            self.assertEqual((done.tree, record["status"]), (expected, 1 if expected or spoilt else 0))
+            self.assertEqual([(it["block"], it["file"], it["first"], it["entries"]) for it in record["tree"]],
+                             [(0, names[0], 2, 3), (1, names[1], 0, 2)])
+            self.assertEqual([it["included"] for it in record["tree"]], included)
+            beyond = f"; {5 - size} further entries aren't in it" if size < 5 else ""
+            self.assertTrue(self.shown[-1].endswith(
+                (expected or "each of them is there, and the root is equal") + beyond), self.shown)
+            subtrees = [trees.Subtree(**tree) for it in record["tree"] for tree in it["subtrees"]]
+            self.assertEqual(trees.compared(subtrees, trees.TreeHead(size, hashed)), expected)
             shutil.rmtree(self.out)
+        self.run_with(Here())
+        self.assertIsNone(self.record()["tree"])
 
     def test_no_tree_head(self):
         for octets in (b"", b"[]", b'{"tree_size": 1}', b'{"tree_size": 1, "sha256_root_hash": "AAAA"}',
@@ -390,6 +414,22 @@ class Runs(Room):
             with self.assertRaises(writing.CannotWrite):
                 databases.write(self.out, bad)
         self.assertFalse([it for it in os.listdir(self.folder) if it.endswith(".begun")])
+
+    def test_issued(self):
+        """Of precertificates a database has the certificates of their issuer and serial number, and
+        in which fields these differ."""
+        pre, final = certificate(1, usage([SERVER])), certificate(1)
+        later = final.replace(b"\x17\x0d270101", b"\x17\x0d280101")
+        leaves = [FRONT + b"\0\0" + vector(3, it) + b"\0\0" for it in (final, later, certificate(2))]
+        entries = [answer(PRECERT_LEAF, vector(3, pre) + CHAIN), *(answer(it, CHAIN) for it in leaves)]
+        names = [self.put("log.json", json.dumps({"entries": entries}).encode())]
+        self.assertEqual(self.run_with(Here(), names, why=False).faults, 0)
+        path = os.path.join(self.folder, "table.sqlite")
+        databases.write(self.out, path)
+        with closing(sqlite3.connect(path)) as opened:
+            found = opened.execute("SELECT * FROM issued ORDER BY differing").fetchall()
+        digests = [*map(rows.digest, (pre, final, later))]
+        self.assertEqual(found, [(*digests[:2], ""), (digests[0], digests[2], "not_after")])
 
     def test_parquet(self):
         """One file has the rows of all parts, and the record."""

@@ -28,11 +28,14 @@ vouchers = certpath.openssl.vouch(bundle, b"").vouchers
 now = datetime.now(timezone.utc)
 answer = certpath.find(bundle, bytearray(), vouchers, target=0, at=now)
 print(certpath.check(answer), answer.positions, first.kind, several)
+print(certpath.why(bundle, b"", vouchers, 0, now, host="a.test", purpose="serverAuth"))
 certpath.frame("")  # wrong
 certpath.find(bundle, b"", vouchers, target="0", at=now)  # wrong
 certpath.find(bundle, b"", vouchers, target=0, at=None)  # wrong
 certpath.find(bundle, "", vouchers, target=0, at=now)  # wrong
 certpath.check(7)  # wrong
+certpath.path(bundle, b"", vouchers, 0, now, host=7)  # wrong
+certpath.paths(bundle, b"", vouchers, now, host="a.test")  # wrong
 certpath.openssl.vouch(bundle, b"", weak="no")  # wrong
 text: str = bundle[0]  # wrong
 """
@@ -81,6 +84,14 @@ class Hints(unittest.TestCase):
     def test_a_checker_goes_by_them(self):
         wrong = [number for number, line in enumerate(CALLER.splitlines(), 1) if "# wrong" in line]
         self.assertEqual(self.checked(CALLER), wrong)
+
+    @unittest.skipUnless(shutil.which("mypy"), "mypy isn't installed")
+    def test_a_checker_finds_nothing_in_the_package(self):
+        """Its sources, that of the inventory too, whether or not Dask is installed."""
+        with tempfile.TemporaryDirectory() as room:
+            ran = subprocess.run(["mypy", "--cache-dir", room, "--ignore-missing-imports", FOLDER],
+                                 cwd=room, stdin=subprocess.DEVNULL, stdout=subprocess.PIPE, text=True)
+        self.assertEqual((ran.returncode, ran.stdout.count("\n")), (0, 1), ran.stdout)
 
     def checked(self, text):
         """The lines of a caller that mypy finds wrong."""

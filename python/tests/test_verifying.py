@@ -42,6 +42,12 @@ class Verify(unittest.TestCase):
                 self.assertFalse(found)
                 self.assertEqual((found.path, found.anchor), ((), None))
 
+    def test_why(self):
+        """The reasons are those of the host and the purpose that were asked for."""
+        lines = verified(host="other.test", purpose="serverAuth").why().splitlines()
+        self.assertEqual(lines[:4], ["purpose serverAuth", "host other.test", "none", "check yes"])
+        self.assertIn("at 0 doesn't serve other.test: it names www.example.test", lines)
+
     def test_moment(self):
         late = datetime(2099, 1, 1, tzinfo=timezone.utc)
         found = certpath.verify(CHAIN, ROOT, at=late)

@@ -131,8 +131,8 @@ def made(words: argparse.Namespace) -> int:
     settings = Settings(**{it: getattr(words, it) for it in Settings._fields})
     if words.parquet:
         tables.parquet_module()
-    for path in filter(None, (words.sqlite, words.parquet)):
-        if not words.resume:
+    for path in (words.sqlite, words.parquet):
+        if path and not words.resume:
             tested(path)
     with planned(words.files, words.out, settings, words.resume, words.lists) as plan:
         if plan.finished is None:

@@ -19,7 +19,8 @@ class Block(NamedTuple):
 
 def blocks_of(spans: Iterable[Span], blocksize: int) -> List[Block]:
     """Spans in their order, small ones together."""
-    groups, size = [], 0
+    groups: List[List[Span]] = []
+    size = 0
     for span in spans:
         if not groups or size + span.length > blocksize or len(groups[-1]) == MOST_SPANS:
             groups.append([])

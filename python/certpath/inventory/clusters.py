@@ -9,7 +9,7 @@ import os
 import signal
 import tempfile
 from contextlib import contextmanager
-from typing import Callable, Iterator, NamedTuple, Optional
+from typing import Callable, Dict, Iterator, List, NamedTuple, Optional
 
 import dask
 from dask.distributed import Client, Nanny, Scheduler, Security, SpecCluster, Worker
@@ -21,7 +21,8 @@ LOOPBACK = "127.0.0.1"
 TLS = "tls://"
 # Any port of the loopback. Dask's servers listen for HTTP whatever they are asked; without routes
 # they answer each request with 404.
-NO_HTTP = {"distributed.scheduler.http.routes": [], "distributed.worker.http.routes": []}
+NO_HTTP: Dict[str, List[str]] = {"distributed.scheduler.http.routes": [],
+                                 "distributed.worker.http.routes": []}
 ANY_PORT = f"{LOOPBACK}:0"
 # What Dask's processes watch of themselves, that nobody sees here: it took a twentieth of a core.
 UNWATCHED = {"distributed.worker.profile.enabled": False,
@@ -60,12 +61,13 @@ class OwnWorker(Worker):
 
 def cluster_of(workers: int, security: Security) -> SpecCluster:
     """A scheduler in this process and so many processes that work, all on the loopback."""
-    shared = {"host": LOOPBACK, "protocol": TLS, "security": security, "dashboard": False,
-              "dashboard_address": ANY_PORT}
+    shared: Dict[str, object] = {"host": LOOPBACK, "protocol": TLS, "security": security,
+                                 "dashboard": False, "dashboard_address": ANY_PORT}
     options = {**shared, "nthreads": 1, "memory_limit": 1.0 / workers, "worker_class": OwnWorker,
                "silence_logs": logging.CRITICAL}
     worker = {"cls": Nanny, "options": options}
-    scheduler = {"cls": Scheduler, "options": {**shared, "port": 0}}
+    of_scheduler: Dict[str, object] = {**shared, "port": 0}
+    scheduler = {"cls": Scheduler, "options": of_scheduler}
     return SpecCluster(workers={number: worker for number in range(workers)}, worker=worker,
                        scheduler=scheduler, security=security, silence_logs=logging.CRITICAL)
 
@@ -76,7 +78,7 @@ def own_processes(workers: int) -> Iterator[Client]:
     # (what a worker puts on its disk is read back as pickles, so nobody else may write there)
     with tempfile.TemporaryDirectory(prefix="inventory-") as scratch:
         with dask.config.set({**NO_HTTP, **UNWATCHED, "temporary-directory": scratch}), \
-                cluster_of(workers or os.cpu_count(), Security.temporary()) as cluster, \
+                cluster_of(workers or os.cpu_count() or 1, Security.temporary()) as cluster, \
                 Client(cluster) as client:
             yield client
 
@@ -86,7 +88,7 @@ def keys_of(keys: Keys) -> Security:
     given = {"tls_ca_file": keys.authority, "tls_client_cert": keys.certificate,
              "tls_client_key": keys.key}
     security = Security(require_encryption=True, **{it: file for it, file in given.items() if file})
-    if not (security.tls_ca_file and security.tls_client_cert):
+    if not all(getattr(security, it) for it in ("tls_ca_file", "tls_client_cert")):
         raise Refused("tls:// needs --tls-ca-file, --tls-cert and --tls-key")
     for file in filter(None, keys):
         with open(file, "rb"):

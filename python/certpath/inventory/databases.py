@@ -9,6 +9,15 @@ from .jobs import RECORD
 from .work import ENTRIES, ISSUERS
 from .writing import CannotWrite, whole
 
+# The columns of two entries that have to be equal where a certificate was issued for a
+# precertificate: both are of one issuer and serial number, and differ by extensions alone
+# (RFC 6962, 3.1).
+EQUAL = ("subject", "key_sha256", "algorithm", "not_before", "not_after")
+DIFFERING = " || ".join(f"CASE WHEN pre.{it} IS final.{it} THEN '' ELSE '{it} ' END" for it in EQUAL)
+ISSUED = f"""CREATE VIEW issued AS SELECT DISTINCT
+pre.sha256 AS precertificate, final.sha256 AS certificate, trim({DIFFERING}) AS differing
+FROM entries AS pre JOIN entries AS final ON final.serial = pre.serial AND final.issuer = pre.issuer
+WHERE pre.source = 'precert_entry' AND final.source <> 'precert_entry' AND final.class = 'cert'"""
 INDEXED = ("sha256", "subject", "issuer", "serial", "key_sha256", "not_after", "outcome",
            "log_index")
 
@@ -29,6 +38,7 @@ def fill(opened: sqlite3.Connection, out: str):
         opened.executemany(f"INSERT INTO {name} VALUES ({places})", rows(os.path.join(out, name)))
         for it in INDEXED:
             opened.execute(f"CREATE INDEX {name}_{it} ON {name} ({it})")
+    opened.execute(ISSUED)
     opened.execute("CREATE TABLE run (record TEXT)")
     with open(os.path.join(out, RECORD), encoding="utf-8") as file:
         opened.execute("INSERT INTO run VALUES (?)", (file.read(),))

@@ -4,7 +4,7 @@ import hashlib
 import os
 import sqlite3
 from contextlib import closing, contextmanager
-from typing import Iterable, Iterator, List, NamedTuple
+from typing import Dict, Iterable, Iterator, List, NamedTuple
 from urllib.parse import quote
 
 from .rows import Read
@@ -93,7 +93,7 @@ class Index:
 
     def __init__(self, path: str):
         self._opened = sqlite3.connect(f"file:{quote(path)}?mode=ro&immutable=1", uri=True)
-        self._under = {}
+        self._under: Dict[str, List[Issuer]] = {}
 
     def __enter__(self):
         return self

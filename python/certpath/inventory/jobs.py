@@ -7,7 +7,7 @@ import os
 import shutil
 from contextlib import contextmanager
 from datetime import datetime, timezone
-from typing import Iterator, List, NamedTuple, Optional
+from typing import Iterator, List, NamedTuple, Optional, Sequence
 
 from . import anchors, inputs, program, tables, trees
 from .files import Cut, Span
@@ -118,7 +118,7 @@ def begin(job: Job, out: str, words: dict, held: anchors.Anchors) -> str:
     begun = datetime.now(timezone.utc).strftime(MOMENT)
     with whole(job.anchor_file, job.work) as path, open(path, "wb") as file:
         file.write(held.octets)
-    given = {"asked": words, "at": job.settings.at.strftime(MOMENT), "begun": begun}
+    given = {"asked": words, "at": job.at.strftime(MOMENT), "begun": begun}
     store(given, os.path.join(job.work, JOB), job.work)
     return begun
 
@@ -154,7 +154,7 @@ def locked(job: Job) -> Iterator[None]:
 
 @contextmanager
 def planned(names: List[str], out: str, settings: Settings, resume: bool = False,
-            lists: List[str] = ()) -> Iterator[Plan]:
+            lists: Sequence[str] = ()) -> Iterator[Plan]:
     """What is to be done, after all words are tested that can be without reading the files; the
     folder is there, as long as the context lasts, for nobody else.
 

@@ -3,7 +3,7 @@ import sys
 import threading
 import time
 from datetime import datetime, timedelta
-from typing import Callable, Set
+from typing import Callable, Optional, Set
 
 # On a terminal a line is shown again after so many seconds, elsewhere a line is written.
 OFTEN, SELDOM = 1.0, 60.0
@@ -61,7 +61,9 @@ class Progress:
         self.workers, self.stream, self.clock = workers, stream, clock
         self.is_terminal = stream.isatty()
         self.every = OFTEN if self.is_terminal else SELDOM
-        self.now, self.known, self.last = None, set(), clock()
+        self.now: Optional[Pass] = None
+        self.known: Set[str] = set()
+        self.last = clock()
         self.lock, self.ended = threading.RLock(), threading.Event()
         self.thread = threading.Thread(target=self.watch, daemon=True)
 
@@ -76,8 +78,8 @@ class Progress:
         self.clear()
 
     def begin(self, name: str, octets: int) -> Pass:
-        self.now = Pass(name, octets, self.clock)
-        return self.now
+        begun = self.now = Pass(name, octets, self.clock)
+        return begun
 
     def clear(self):
         if self.is_terminal:

@@ -23,7 +23,7 @@ def covered(held: Iterable[Range], asked_up_to: Optional[int] = None) -> Covered
     """Compares the ranges of answers, in any order."""
     missing: List[Range] = []
     twice: List[Range] = []
-    end = None
+    end: Optional[int] = None
     for it in sorted(held):
         if end is not None and it.first > end + 1:
             missing.append(Range(end + 1, it.first - 1))

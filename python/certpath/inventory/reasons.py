@@ -26,15 +26,15 @@ LIST, NO_ISSUER, BOUND = "list", "no issuer", "leads to an anchor"
 OWN = "not usable", NO_ISSUER, "not linked", "no issuer here"
 # How many obstacles of an item are in the table, at most.
 MOST_REASONS = 20
-# `why` goes over all items of a bundle for each pair of a certificate and one of its issuer's name.
-# Where that takes more steps, so many certificates of the name are tried first: they may give all
-# reasons that are in the table.
-MOST_WHOLE, FRONT = 20_000_000, 24
-# A report of more steps isn't asked for, nor any more of a block that has taken so many.
-MOST_STEPS, MOST_OF_BLOCK = 1_200_000_000, 2_400_000_000
-# About how many octets the lines of a pair take, at most: a report is made twice where its room is
-# too small.
-ROOM_OF_PAIR = 100
+# A report has a line for each pair of a certificate and one of its issuer's name, and one of more
+# pairs isn't asked for. Reading so many octets of a bundle takes as long as a pair.
+MOST_PAIRS, OCTETS_OF_PAIR = 1_200_000, 5
+# Where the reports on all targets of a name take more steps, each a pair or such octets, so many
+# certificates of the name are tried first: they may give all reasons that are in the table. Once the
+# reports of a block have taken so many steps, none is asked for any more.
+MANY, FRONT, MOST_OF_BLOCK = 10_000_000, 24, 100_000_000
+# About how many octets the lines of a pair take: a report is made twice where its room is too small.
+ROOM_OF_PAIR = 50
 
 
 class Obstacle(NamedTuple):
@@ -53,7 +53,7 @@ class Few(NamedTuple):
     """The obstacles of one kind that an item has."""
     first: List[str]
     """Lines of so many as may be in the table."""
-    count: int
+    total: int
     """How many there are."""
 
 
@@ -76,7 +76,9 @@ Kinds = Dict[str, Few]
 
 
 def obstacle_of(line: str) -> Obstacle:
-    what, at, anchor, to, said = OBSTACLE.fullmatch(line).groups()
+    found = OBSTACLE.fullmatch(line)
+    assert found is not None
+    what, at, anchor, to, said = found.groups()
     return Obstacle(what, int(at), bool(anchor), None if to is None else int(to), said)
 
 
@@ -93,8 +95,20 @@ def places_of(report: str) -> Dict[Place, Kinds]:
         held = kinds.get(kind, Few([], 0))
         room = MOST_REASONS - len(held.first)
         first = held.first + run[0].split("\n", room + 1)[1:room + 1]
-        kinds[kind] = Few(first, held.count + run[0].count("\n"))
+        kinds[kind] = Few(first, held.total + run[0].count("\n"))
     return places
+
+
+class Size(NamedTuple):
+    """How large a report is."""
+    pairs: int
+    """Of a certificate and one of its issuer's name, about."""
+    steps: int
+    """What it takes, in pairs: these, and the octets that are read."""
+
+
+def size_of(pairs: int, octets: Iterable[bytes]) -> Size:
+    return Size(pairs, pairs + sum(map(len, octets)) // OCTETS_OF_PAIR)
 
 
 class Reported:
@@ -102,7 +116,7 @@ class Reported:
 
     def __init__(self, places: Dict[Place, Kinds]):
         self.places = dict(sorted(places.items()))
-        self.count = sum(it.count for held in places.values() for it in held.values())
+        self.count = sum(it.total for held in places.values() for it in held.values())
 
     def own(self, position: int) -> Kinds:
         """Those of the certificate at a position, but for bounds of path lengths."""
@@ -124,7 +138,7 @@ class Reported:
         if few is None:
             return self
         first = [FRONT_OF_LINE.sub(f"at {position} ", it) for it in few.first]
-        held = {**self.own(position), NO_ISSUER: Few(first, few.count)}
+        held = {**self.own(position), NO_ISSUER: Few(first, few.total)}
         ordered = {it: held[it] for it in OWN if it in held}
         return Reported({**self.places, Place(Part.CERTIFICATES, position): ordered})
 
@@ -135,7 +149,7 @@ class Reported:
         left_out = own.pop(NO_ISSUER, Few([], 0))
         reported = (it for few in chain(own.values(), self.others(position)) for it in few.first)
         lines = [name(obstacle_of(it)) for it in islice(reported, MOST_REASONS)]
-        further = self.count - left_out.count - MOST_REASONS
+        further = self.count - left_out.total - MOST_REASONS
         return "; ".join(lines + [f".. {further} further"] * (further > 0))
 
 
@@ -158,65 +172,73 @@ class Reasons:
     def under(self, name: str, targets: List[Target]) -> Iterator[Tuple[str, str]]:
         """The columns of targets that were issued under one name. Those that may be in each
         other's paths share a bundle, and all of them reach all of it."""
-        above = {it.item for it in self.index.closure([name])}
-        pairs, found = self.pairs(name), {}
-        if pairs * len(above) > MOST_WHOLE:
-            found = dict(self.by_front(name, targets, pairs))
-        within = [it for it in targets if it.item in above and it.item not in found]
+        above, size = {it.item for it in self.index.closure([name])}, self.size(name)
+        within, found = [it for it in targets if it.item in above], {}
         if len(within) > 2:
-            found.update(self.together(name, within, pairs))
+            found = self.together(name, within, size)
+        rest = [it for it in targets if it.item not in found]
+        if size.pairs > MOST_PAIRS or size.steps * len(rest) > MANY:
+            found.update(self.by_front(name, rest, size))
         yield from found.items()
-        for it in targets:
+        for it in rest:
             if it.item not in found:
-                yield it.item, self.alone(it, pairs, len(above | {it.item}))
+                yield it.item, self.alone(it, size)
 
-    def pairs(self, name: str) -> int:
-        """How many pairs `why` looks at, about: each certificate and those of its issuer's name."""
-        names = [name, *(it.issuer for it in self.index.closure([name]))]
-        return sum(len(self.index.under(it)) for it in names)
+    def size(self, name: str) -> Size:
+        """The size of a report on a target that was issued under a name."""
+        above = self.index.closure([name])
+        names = [name, *(it.issuer for it in above)]
+        return size_of(sum(len(self.index.under(it)) for it in names), (it.octets for it in above))
 
-    def by_front(self, name: str, targets: List[Target], pairs: int) -> Iterator[Tuple[str, str]]:
+    def by_front(self, name: str, targets: List[Target], whole: Size) -> Iterator[Tuple[str, str]]:
         """The columns of targets that were issued under a name, each by a shard that has all lists
-        of the name and the first of its certificates, where these give as many reasons as are in
-        the table."""
+        of the name and the first of its certificates, where there are more of these and they give
+        as many reasons as are in the table."""
         under = sorted(self.index.under(name))
         kinds = [*frame(b"".join(it.octets for it in under), self.settings.limit).kinds()]
-        front = [it for it, kind in zip(under, kinds) if kind is Kind.CERTIFICATE][:FRONT]
+        certificates = [it for it, kind in zip(under, kinds) if kind is Kind.CERTIFICATE]
         lists = [it for it, kind in zip(under, kinds) if kind is Kind.LIST]
-        tried = {it.item for it in front}
-        held = {it.item: it.octets for it in sorted(front + lists)}
-        for target in targets:
+        tried = {it.item for it in certificates[:FRONT]}
+        held = {it.item: it.octets for it in sorted(certificates[:FRONT] + lists)}
+        size = size_of((FRONT + 1) ** 2 + len(lists), held.values())
+        for target in targets if len(certificates) > FRONT else ():
+            if not self.may_ask(size):
+                return
             items = {**held, target.item: target.octets}
             shard = Shard([*items], [*items.values()])
-            own = self.reported(shard, target, len(items) ** 2).own(shard.items.index(target.item))
+            own = self.reported(shard, target, size).own(shard.items.index(target.item))
             obstacles = (obstacle_of(it) for few in own.values() for it in few.first)
             found = [it for it in obstacles if it.to is None
                      or not it.is_anchor and shard.items[it.to] in tried][:MOST_REASONS]
             if len(found) == MOST_REASONS:
                 lines = map(self.naming(shard, target.item), found)
-                yield target.item, "; ".join([*lines, f".. further {not_asked(pairs)}"])
+                yield target.item, "; ".join([*lines, f".. further {not_asked(whole)}"])
 
-    def alone(self, target: Target, pairs: int, items: int) -> str:
-        if not self.may_ask(pairs, items):
-            return not_asked(pairs)
+    def alone(self, target: Target, size: Size) -> str:
+        if not self.may_ask(size):
+            return not_asked(size)
         shard = shard_of(self.index, [target])
-        return self.reported(shard, target, pairs).column(
+        return self.reported(shard, target, size).column(
             shard.items.index(target.item), self.naming(shard, target.item))
 
-    def together(self, name: str, targets: List[Target], pairs: int) -> Dict[str, str]:
+    def together(self, name: str, targets: List[Target], size: Size) -> Dict[str, str]:
         """The columns of targets that were issued under a name and share a bundle, by the report
         for one of them, and another one that says of this one what its own leaves out
-        (docs/PROOFS.md has the reason why). None where path lengths matter, which differ by target.
-        """
+        (docs/PROOFS.md has the reason why). None where that is too much, and where path lengths
+        matter, which differ by target."""
+        if not self.may_ask(size):
+            return {}
         shard = shard_of(self.index, targets[:1])
         own = {it.item for it in self.index.under(name)}
         one, other = sorted(targets, key=lambda it: it.item not in own)[:2]
-        is_self_issued = one.item in own
-        if not self.may_ask(pairs if is_self_issued else 2 * pairs, len(shard.items)):
-            return {it.item: not_asked(pairs) for it in targets}
-        beside = Shard([it.item for it in (one, other)], [it.octets for it in (one, other)]) \
-            if is_self_issued else shard
-        reported, of_other = self.reported(shard, one, pairs), self.reported(beside, other, pairs)
+        beside, of_beside = shard, size
+        if one.item in own:
+            beside = Shard([one.item, other.item], [one.octets, other.octets])
+            of_beside = size_of(len(beside.items) ** 2, beside.octets)
+        reported = self.reported(shard, one, size)
+        if not self.may_ask(of_beside):
+            return {}
+        of_other = self.reported(beside, other, of_beside)
         if reported.has_bound or of_other.has_bound:
             return {}
         reported = reported.with_no_issuer(
@@ -224,21 +246,18 @@ class Reasons:
         return {it.item: reported.column(shard.items.index(it.item), self.naming(shard, it.item))
                 for it in targets}
 
-    def may_ask(self, pairs: int, items: int) -> bool:
-        """Whether so much may be asked, and counts it."""
-        steps = pairs * items
-        if steps > min(MOST_STEPS, self.left):
-            return False
-        self.left -= steps
-        return True
+    def may_ask(self, size: Size) -> bool:
+        """Whether a report of a size may be asked for."""
+        return size.pairs <= MOST_PAIRS and size.steps <= self.left
 
-    def reported(self, shard: Shard, target: Target, pairs: int) -> Reported:
+    def reported(self, shard: Shard, target: Target, size: Size) -> Reported:
         """What the library says of a target in a shard."""
+        self.left -= size.steps
         bundle = frame(shard.bundle, self.settings.limit)
         report = reports.report(
             WHY, bundle, self.anchors, text(self.asked.keys, shard.items),
             shard.items.index(target.item), self.settings.at, self.settings.demand_lists,
-            ROOM_OF_PAIR * pairs)
+            ROOM_OF_PAIR * size.pairs)
         if f"\n{YES}\n" not in report:
             raise Failed(f"{WHY}: its check doesn't say yes")
         return Reported(places_of(report))
@@ -250,9 +269,11 @@ class Reasons:
             return "target" if found == target else found
 
         def way(it: Obstacle) -> str:
+            if it.to is None:
+                return ""
             if it.is_anchor:
                 return f" to anchor {self.asked.anchor_items[it.to]}"
-            return "" if it.to is None else f" to {item(it.to)}"
+            return f" to {item(it.to)}"
 
         def line(it: Obstacle) -> str:
             said = REVOKED.sub(lambda read: f"revoked by list {item(int(read[1]))}", it.said)
@@ -261,5 +282,5 @@ class Reasons:
         return line
 
 
-def not_asked(pairs: int) -> str:
-    return f"not asked: {pairs} pairs of a certificate and one of its issuer's name"
+def not_asked(size: Size) -> str:
+    return f"not asked: {size.pairs} pairs of a certificate and one of its issuer's name"

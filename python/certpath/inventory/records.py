@@ -10,6 +10,7 @@ from .blocks import Block
 from .files import digest_of, opened
 from .jobs import MOMENT, RECORD, Plan, State, store
 from .ranges import Range
+from .trees import count_of
 from .work import Survey
 
 DONE, FAULTY, CHANGED = 0, 1, 8
@@ -46,6 +47,18 @@ def inputs(state: State, blocks: List[Block], surveys: List[Survey]) -> Iterator
         yield {"file": span.file, "octets": span.size, "sha256": cut.sha256 or digests[0]}
 
 
+def in_tree(blocks: List[Block], surveys: List[Survey], wrong: str) -> Iterator[dict]:
+    """Of each block and file, whose entries have numbers, which they are, the roots of their
+    subtrees (RFC 6962, 2.1), each of 2^level of them from the first one on, and whether all are in
+    the tree: null where the trees aren't equal, so that nothing is known of one entry."""
+    for block, survey in zip(blocks, surveys):
+        for span, count, trees in zip(block.spans, survey.counts, survey.trees):
+            if span.first is not None:
+                yield {"block": block.number, "file": span.file, "first": span.first,
+                       "entries": count, "included": None if wrong else count_of(trees) == count,
+                       "subtrees": [it._asdict() for it in trees]}
+
+
 def options(plan: Plan) -> dict:
     given = plan.job.settings._asdict()
     return {it: value for it, value in given.items()
@@ -58,7 +71,7 @@ def write(plan: Plan, state: State, blocks: List[Block], surveys: List[Survey], 
     store({
         "status": status_of(done),
         "begun": plan.begun, "ended": datetime.now(timezone.utc).strftime(MOMENT),
-        "versions": versions(given.program), "moment": given.at.strftime(MOMENT),
+        "versions": versions(given.program), "moment": plan.job.at.strftime(MOMENT),
         "options": options(plan),
         "anchors": {"file": given.anchors, "sha256": held.sha256, "items": held.items,
                     "usable": held.usable, "left_out": held.left},
@@ -66,6 +79,7 @@ def write(plan: Plan, state: State, blocks: List[Block], surveys: List[Survey], 
         "vouchers": given.vouchers and {"file": given.vouchers, "sha256": state.vouchers},
         "done": done._asdict(),
         "inputs": [*inputs(state, blocks, surveys)],
+        "tree": plan.head and [*in_tree(blocks, surveys, done.tree)],
     }, os.path.join(plan.job.out, RECORD), plan.job.work)
 
 

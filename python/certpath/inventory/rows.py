@@ -1,10 +1,11 @@
 """Rows: what the proved library says of an entry by itself."""
 from functools import lru_cache
-from typing import Dict, Iterable, Iterator, NamedTuple, Optional, Set
+from typing import Any, Dict, Iterable, Iterator, NamedTuple, Optional, Set
 
 from ..cutting import is_one
 from ..items import Contents, Kind, Name, contents_of, frame
-from ..library import BadName
+from ..library import BadItem, BadName
+from ..serving import allows
 from .entries import CHAIN, Entry
 from .files import digest
 
@@ -13,7 +14,10 @@ WORDS = {Kind.CERTIFICATE: "cert", Kind.LIST: "list", Kind.OTHER: "other"}
 CERT, LIST, OTHER = WORDS.values()
 NAMES_KEPT, KEYS_KEPT = 1 << 16, 1 << 12
 BACKSLASH = "\\"
-WRONG_HASH = "leaf_input: its issuer key hash is of no key of its chain"
+WRONG_HASH = "leaf_input: its issuer key hash is of another key than its issuer's"
+NO_HASH = "extra_data: no issuer with whose key the issuer key hash could be compared"
+# The purpose of certificates that sign precertificates alone (RFC 6962, 3.1), and any purpose.
+PRECERTIFICATES, ANY = "1.3.6.1.4.1.11129.2.4.4", "2.5.29.37.0"
 
 
 class Row(NamedTuple):
@@ -28,6 +32,7 @@ class Row(NamedTuple):
     sha256: str = ""
     subject: str = ""
     issuer: str = ""
+    names: str = ""
     not_before: str = ""
     not_after: str = ""
     serial: str = ""
@@ -82,13 +87,25 @@ def digest_of(name: Optional[bytes]) -> str:
     return "" if name is None else digest(name)
 
 
+@lru_cache(maxsize=KEYS_KEPT)
+def signs_precertificates(octets: bytes) -> bool:
+    """Whether a certificate signs precertificates in the place of their issuer: its extKeyUsage
+    names that purpose, and not any one (RFC 6962, 3.1)."""
+    try:
+        return allows(octets, PRECERTIFICATES) and not allows(octets, ANY)
+    except BadItem:
+        return False
+
+
 def fault_of_hash(entry: Entry) -> str:
     """What is wrong with the issuer key hash of a precertificate (RFC 6962, 3.2): its issuer is the
-    first of its chain, or the second one where the first only signs precertificates (3.1)."""
-    if not (entry.issuer_key_hash and entry.chain):
+    first of its chain, or the second one where the first signs precertificates for it."""
+    if not entry.issuer_key_hash:
         return ""
-    known = [key_digest(it) for it in entry.chain[:2]]
-    return "" if entry.issuer_key_hash.hex() in known else WRONG_HASH
+    issuers = entry.chain[1:] if any(map(signs_precertificates, entry.chain[:1])) else entry.chain
+    if not issuers:
+        return NO_HASH
+    return "" if entry.issuer_key_hash.hex() == key_digest(issuers[0]) else WRONG_HASH
 
 
 def moment(at) -> str:
@@ -102,13 +119,19 @@ def serial(octets: bytes) -> str:
     return digits.zfill(len(digits) + len(digits) % 2)
 
 
+def held(field: Optional[bytes]) -> bytes:
+    """A field that items of this class have."""
+    assert field is not None
+    return field
+
+
 def columns_of(contents: Contents) -> Dict[str, str]:
     """The columns that a certificate or a list has, beside those of each entry."""
-    found = {"issuer": shown(contents.issuer), "algorithm": contents.algorithm.hex(),
+    found = {"issuer": shown(held(contents.issuer)), "algorithm": held(contents.algorithm).hex(),
              "not_before": moment(contents.first), "not_after": moment(contents.last)}
     if contents.kind is Kind.CERTIFICATE:
-        found.update(subject=shown(contents.subject), serial=serial(contents.serial),
-                     key_sha256=digest(contents.key))
+        found.update(subject=shown(held(contents.subject)), serial=serial(held(contents.serial)),
+                     key_sha256=digest(held(contents.key)))
     return found
 
 
@@ -122,7 +145,7 @@ def end_of(octets: bytes, limit: int) -> str:
     return f"not one item: {len(items)} items, end {items.end.word} {items.end.at}"
 
 
-def row_of(entry: Entry, kind: str, **columns: str) -> Row:
+def row_of(entry: Entry, kind: str, **columns: Any) -> Row:
     """The columns that an entry has by itself, and further ones."""
     number = "" if entry.number is None else str(entry.number)
     return Row(*entry.place, number, entry.timestamp, entry.source, len(entry.octets), kind,

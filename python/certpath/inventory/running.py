@@ -2,7 +2,8 @@
 import hashlib
 import re
 from concurrent.futures import CancelledError
-from typing import TYPE_CHECKING, Callable, Dict, Iterable, Iterator, List, NamedTuple, Tuple
+from typing import (TYPE_CHECKING, Callable, Dict, Iterable, Iterator, List, NamedTuple, Optional,
+                    Set, Tuple)
 
 from . import index, jobs, records, signatures, tables, trees, work
 from .blocks import Block, blocks_of
@@ -60,7 +61,8 @@ class Faults:
     """Counts faults, and shows the first of each kind."""
 
     def __init__(self, show: Callable[[str], None]):
-        self.show, self.counts, self.changed = show, {}, 0
+        self.show, self.changed = show, 0
+        self.counts: Dict[str, int] = {}
 
     def add(self, fault: Fault):
         kind = NUMBER.sub("N", fault.cause)
@@ -85,7 +87,7 @@ class Run:
         self.show, self.progress, self.faults = show, progress, Faults(show)
         self.blocks: List[Block] = []
         self.surveys: List[Survey] = []
-        self.unanswered = set()
+        self.unanswered: Set[int] = set()
 
     def results(self, task: Callable, each: Iterable, *rest) -> Iterator[tuple]:
         """What a task gives of each argument, in their order: the argument, the result, and the
@@ -117,10 +119,10 @@ class Run:
 
     def begin(self) -> State:
         """Reads the vouchers and cuts the files, or takes what a run before has found."""
-        index.create(self.job.index)
+        index.create(self.job.index_file)
         vouchers, given = hashlib.sha256(), self.job.settings.vouchers
         if given is not None:
-            index.add_vouchers(self.job.index, signatures.lines_of(given, vouchers.update))
+            index.add_vouchers(self.job.index_file, signatures.lines_of(given, vouchers.update))
         read, state = vouchers.hexdigest() if given is not None else "", self.plan.state
         if state is None:
             state = State(read, self.cut())
@@ -141,7 +143,7 @@ class Run:
             self.surveys.append(found._replace(names=frozenset(), faults=()))
             for fault in found.faults:
                 self.faults.add(fault)
-        index.add_names(self.job.index, names)
+        index.add_names(self.job.index_file, names)
         return sum(it.entries for it in self.surveys)
 
     def candidates(self) -> Iterator[index.Candidate]:
@@ -157,7 +159,7 @@ class Run:
 
     def issuers(self) -> int:
         """Makes the index and the table of issuers, and gives how many there are."""
-        new = [it.read.row for it in index.add_issuers(self.job.index, [*self.candidates()])]
+        new = [it.read.row for it in index.add_issuers(self.job.index_file, [*self.candidates()])]
         form = self.job.settings.form
         path = tables.part(self.job.folder(ISSUERS), 0, form)
         return tables.write(path, new, form, self.job.work)
@@ -165,8 +167,9 @@ class Run:
     def answers(self) -> Part:
         """The second pass: how many rows are there, and with which outcomes. The rows of a shard
         that can't be answered are written without answers."""
-        job = self.job._replace(index_digest=index.digest_of(self.job.index))
-        rows, outcomes = 0, {}
+        job = self.job._replace(index_digest=index.digest_of(self.job.index_file))
+        rows = 0
+        outcomes: Dict[str, int] = {}
         results = self.results(work.finish, self.blocks, job)
         for block, part, error in self.shown("second pass", results, lambda it: it.rows):
             part = work.unanswered(block, job, said_of(error)) if error else part
@@ -182,11 +185,9 @@ class Run:
 
     def ranges(self) -> Tuple[Tuple[Range, ...], Tuple[Range, ...]]:
         """Which entries of the log are in no answer, and which in several."""
-        spans = [it for block in self.blocks for it in block.spans]
-        counts = [it for survey in self.surveys for it in survey.counts]
-        known = [(it, count) for it, count in zip(spans, counts) if it.first is not None]
-        held = [Range(it.first, it.first + count - 1) for it, count in known if count]
-        found = covered(held, max((it.last for it, _ in known), default=None))
+        last = max((it.last for block in self.blocks for it in block.spans if it.last is not None),
+                   default=None)
+        found = covered(self.numbered(), last)
         for word, which in (("in no file", found.missing), ("in several files", found.twice)):
             for it in which[:MOST_SHOWN]:
                 self.show(f"entries {it} of the log: {word}")
@@ -194,14 +195,24 @@ class Run:
                 self.show(f".. {len(which) - MOST_SHOWN} further ranges: {word}")
         return tuple(found.missing), tuple(found.twice)
 
+    def numbered(self) -> Iterator[Range]:
+        """The log's numbers of what each answer holds."""
+        for block, survey in zip(self.blocks, self.surveys):
+            for span, count in zip(block.spans, survey.counts):
+                if span.first is not None and count:
+                    yield Range(span.first, span.first + count - 1)
+
     def tree(self) -> str:
         """Compares the entries with the tree head, if there is one, and says what comes out."""
         head = self.plan.head
         if head is None:
             return ""
-        wrong = trees.compared((it for survey in self.surveys for it in survey.trees), head)
+        found = (it for survey in self.surveys for of_span in survey.trees for it in of_span)
+        wrong = trees.compared(found, head)
+        beyond = sum(max(0, it.last - max(it.first, head.size) + 1) for it in self.numbered())
+        more = f"; {beyond} further entries aren't in it" if beyond else ""
         self.show(f"tree head of {head.size} entries: "
-                  f"{wrong or 'each of them is there, and the root is equal'}")
+                  f"{wrong or 'each of them is there, and the root is equal'}{more}")
         return wrong
 
     def all(self) -> Done:
@@ -243,12 +254,13 @@ def at_front(block: Block, cause: str) -> Fault:
     return Fault(Place(block.spans[0].file, block.spans[0].begin), cause)
 
 
-def passes(plan: Plan, client: 'Client', show: Callable[[str], None] = lambda line: None,
+def passes(plan: Plan, client: Optional['Client'], show: Callable[[str], None] = lambda line: None,
            progress=None) -> Done:
-    """Makes the table that is planned, or what is missing of it. What was kept between the passes
-    is removed, unless `resume` can try something again."""
+    """Makes the table that is planned, or what is missing of it; a table that is finished needs no
+    client. What was kept between the passes is removed, unless `resume` can try something again."""
     if plan.finished is not None:
         return records.done_of(plan.finished)
+    assert client is not None
     amiss = plan.anchors.amiss(plan.job.settings.anchors)
     if amiss:
         show(amiss)

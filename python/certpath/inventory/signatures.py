@@ -4,7 +4,7 @@ from typing import Callable, Dict, Iterator, List
 
 from .. import openssl
 from ..items import Kind, frame
-from ..questions import holders_by_issuer
+from ..questions import holders_by_issuer, signed_at
 from .files import digest
 from .index import Index
 
@@ -42,7 +42,7 @@ def verified(bundle: bytes, anchors: bytes, limit: int, weak: bool,
     keys: Dict[str, List[str]] = {}
     for position, kind in enumerate(items.kinds()):
         if kind is not Kind.OTHER:
-            item = items[position]
+            item = signed_at(items, position)
             tried = judge.judged(item, holders[item.issuer]).tried
             taken = [it.key for it in tried if it.why is None and (weak or not it.weaknesses)]
             keys[digest(item.public_bytes())] = [*dict.fromkeys(map(digest, taken))]

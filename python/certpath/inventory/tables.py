@@ -20,7 +20,7 @@ class NoParquet(ImportError):
 def parquet_module():
     """The module that writes Parquet; NoParquet."""
     try:
-        import pyarrow.parquet
+        import pyarrow.parquet  # type: ignore[import]
     except ImportError as error:
         raise NoParquet(f"no Parquet: {error}; `pip install pyarrow`") from error
     return pyarrow.parquet
@@ -37,9 +37,9 @@ def default_format() -> str:
 
 def value(heading: str, held: Union[str, int, None]) -> Union[str, int, None]:
     """What is in a column of a database or of Parquet; None where the row doesn't have it."""
-    if held in ("", None):
+    if held is None or held == "":
         return None
-    if heading in NUMBERS:
+    if heading in NUMBERS or isinstance(held, int):
         return int(held)
     return held.encode(errors="surrogateescape").decode(errors="backslashreplace")
 
@@ -53,7 +53,7 @@ def write_csv(path: str, rows: Iterable[Row]):
 
 def arrow_table(rows: Sequence[Sequence]):
     """Rows as a table of pyarrow."""
-    import pyarrow
+    import pyarrow  # type: ignore[import]
     fields = [(it, pyarrow.int64() if it in NUMBERS else pyarrow.string()) for it in HEADINGS]
     columns = [[value(it, row[at]) for row in rows] for at, it in enumerate(HEADINGS)]
     arrays = [pyarrow.array(column, kind) for column, (_, kind) in zip(columns, fields)]
@@ -68,7 +68,7 @@ def read_csv(path: str) -> Iterator[Tuple[str, ...]]:
     with open(path, encoding="utf-8", errors="surrogateescape", newline="") as file:
         rows = csv.reader(file)
         next(rows)
-        yield from map(tuple, rows)
+        yield from (tuple(it) for it in rows)
 
 
 def read_parquet(path: str) -> Iterator[Tuple[Union[str, int, None], ...]]:

@@ -85,6 +85,11 @@ def of_leaves(first: int, leaves: Iterable[Optional[str]], size: int) -> List[Su
     return row
 
 
+def count_of(subtrees: Iterable[Subtree]) -> int:
+    """How many entries they have."""
+    return sum(1 << it.level for it in subtrees)
+
+
 def root_of(row: List[Subtree], size: int) -> Optional[str]:
     """The hash of the tree of so many entries, by its subtrees; None where some are missing."""
     at = 0
@@ -110,8 +115,7 @@ def compared(subtrees: Iterable[Subtree], head: TreeHead) -> str:
     root = root_of(row, head.size)
     if root is not None:
         return "" if root == head.root else "the tree of the entries has another root"
-    held = sum(1 << it.level for it in row)
-    return f"{held} of its {head.size} entries were read, by their numbers in the log"
+    return f"{count_of(row)} of its {head.size} entries were read, by their numbers in the log"
 
 
 def read(path: str) -> TreeHead:

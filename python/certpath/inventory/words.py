@@ -46,6 +46,8 @@ def add_judging(made: argparse.ArgumentParser):
                       help="each certificate needs a revocation list that is used")
     made.add_argument("--limit", type=number, default=LIMIT, metavar="N",
                       help="the most content octets of an item")
+    made.add_argument("--names", action="store_true",
+                      help="say which hosts each certificate names, by a run of certpath for each")
     made.add_argument("--no-why", dest="why", action="store_false",
                       help="don't say what stands in the way of a path")
 

@@ -11,6 +11,7 @@ from .anchors import digests_of
 from .blocks import BLOCKSIZE, Block
 from .entries import CHAIN, FAULT, Place
 from .files import Changed, Cut, Span, digest, octets_of, read_octets, spans_of
+from .hosts import names_of
 from .index import Candidate, Index
 from .program import Failed
 from .reasons import Reasons
@@ -37,6 +38,8 @@ class Settings(NamedTuple):
     demand_lists: bool = False
     limit: int = LIMIT
     why: bool = True
+    names: bool = False
+    """Whether the hosts that each certificate names are in the table."""
     blocksize: int = BLOCKSIZE
     tree_head: str = ""
     """The file of a log's tree head, with which the entries are compared; empty for none."""
@@ -58,7 +61,13 @@ class Job(NamedTuple):
     """Of all that is in the index, once it is made."""
 
     @property
-    def index(self) -> str:
+    def at(self) -> datetime:
+        """The moment at which items must be valid."""
+        assert self.settings.at is not None
+        return self.settings.at
+
+    @property
+    def index_file(self) -> str:
         return os.path.join(self.work, "index.sqlite")
 
     @property
@@ -113,7 +122,8 @@ class Survey(NamedTuple):
     """Of the octets of each span."""
     counts: Tuple[int, ...]
     """How many entries of each span have a number in the log."""
-    trees: Tuple[Subtree, ...]
+    trees: Tuple[Tuple[Subtree, ...], ...]
+    """Of each span those of its entries that are compared with a log's tree."""
 
 
 class Found(NamedTuple):
@@ -163,18 +173,32 @@ def fault_row(place: Place, cause: str) -> Read:
     return Read(Row(*place, "", "", "", 0, FAULT, cause=cause))
 
 
-def read_span(span: Span, met: Set[str], limit: int, tree_size: int = 0) -> SpanReads:
+def with_names(found: Read, octets: bytes, program: str) -> Read:
+    """A certificate's row with the hosts that it names."""
+    if found.row.kind != CERT:
+        return found
+    try:
+        return found._replace(row=found.row._replace(names=names_of(octets, program)))
+    except (Failed, OSError) as error:
+        causes = filter(None, (found.row.cause, f"names: {error}"))
+        return found._replace(row=found.row._replace(cause="; ".join(causes)))
+
+
+def read_span(span: Span, met: Set[str], job: Job) -> SpanReads:
     """What stands in a span; one row that says so where it can't be read."""
-    place = Place(span.file, span.begin)
+    given, place = job.settings, Place(span.file, span.begin)
     try:
         octets = octets_of(span)
     except Changed as error:
         return SpanReads("", [fault_row(place, str(error))], True)
     except OSError as error:
         return SpanReads("", [fault_row(place, f"cannot read: {error.strerror}")])
-    entries = [*read_octets(span, octets, limit)]
-    reads = [read(it, limit) for it in with_chains(entries, met)]
-    trees = of_leaves(span.first or 0, (it.leaf_hash for it in entries), tree_size)
+    entries = [*read_octets(span, octets, given.limit)]
+    every = [*with_chains(entries, met)]
+    reads = [read(it, given.limit) for it in every]
+    if given.names:
+        reads = [with_names(it, entry.octets, given.program) for it, entry in zip(reads, every)]
+    trees = of_leaves(span.first or 0, (it.leaf_hash for it in entries), job.tree_size)
     return SpanReads(span.sha256 or digest(octets), reads, False, tuple(trees))
 
 
@@ -189,9 +213,8 @@ def survey_of(kept: Kept) -> Survey:
     rows = [own(it.reads) for it in kept.spans]
     counts = tuple(sum(bool(row.log_index) for row in it) for it in rows)
     names = frozenset(it.issuer for it in kept.reads if it.row.kind == CERT)
-    trees = tuple(tree for it in kept.spans for tree in it.trees)
     return Survey(sum(map(len, rows)), names, faults, tuple(it.sha256 for it in kept.spans), counts,
-                  trees)
+                  tuple(it.trees for it in kept.spans))
 
 
 def survey(block: Block, job: Job) -> Survey:
@@ -202,8 +225,7 @@ def survey(block: Block, job: Job) -> Survey:
         if not kept.lost:
             return survey_of(kept)
     met: Set[str] = set()
-    return keep(block, job, Kept([read_span(it, met, job.settings.limit, job.tree_size)
-                                  for it in block.spans]))
+    return keep(block, job, Kept([read_span(it, met, job) for it in block.spans]))
 
 
 def keep(block: Block, job: Job, kept: Kept) -> Survey:
@@ -266,8 +288,9 @@ def again(block: Block, kept: Kept, job: Job, wanted) -> Iterator[Again]:
 
 def candidates(block: Block, job: Job) -> Found:
     """The certificates and lists of a block under whose name something was issued, each once."""
-    kept, found, changed = saved(block, job), {}, []
-    with Index(job.index) as index:
+    kept, changed = saved(block, job), []
+    found: Dict[str, Candidate] = {}
+    with Index(job.index_file) as index:
         wanted = {it.row.sha256 for it in kept.reads if it.row.kind in (CERT, LIST)
                   and index.issues(it.name)}
     for it in again(block, kept, job, lambda read: read.row.sha256 in wanted):
@@ -302,7 +325,7 @@ def answered(spans: List[Again], job: Job) -> Iterator[Row]:
     """The rows of a block with what is answered of its certificates."""
     targets = {it.row.sha256: Target(it.row.sha256, it.issuer, octets) for span in spans
                for it, octets in zip(span.kept.reads, span.octets or ()) if is_target(it)}
-    with Index(job.index) as index:
+    with Index(job.index_file) as index:
         asked = asked_of(index, [*targets.values()], job)
         found = answers(shard_of(index, [*targets.values()]), asked)
         pathless = [it for it in targets.values()
