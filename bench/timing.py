@@ -9,7 +9,7 @@ import time
 
 TOP = os.path.dirname(os.path.dirname(os.path.abspath(__file__)))
 sys.path.insert(0, os.path.join(TOP, "tools"))
-from program import repo
+from program import programs
 
 SAMPLE = os.path.join(TOP, "samples", "leaf.der")
 COPIES = 100_000
@@ -29,7 +29,7 @@ def timed(words, out=subprocess.DEVNULL):
 
 def built(crate):
     """The path of a crate's program, built from its sources and all below it as they are now; ends the bench if there is none."""
-    return repo.ready(crate)
+    return programs.ready(crate)
 
 
 def yardstick(room):

@@ -31,7 +31,7 @@ HERE = os.path.dirname(os.path.abspath(__file__))
 TOP = os.path.dirname(os.path.dirname(HERE))
 sys.dont_write_bytecode = True
 sys.path[:0] = [HERE, os.path.join(TOP, "tools")]
-from program import repo
+from program import programs
 import graphs
 import judged
 import links
@@ -311,7 +311,7 @@ def main():
     if words.write:
         write_all(families, words.write, words.small)
         return 0
-    program = words.program and os.path.abspath(words.program) or repo.ready("certpath_cli")
+    program = words.program and os.path.abspath(words.program) or programs.ready(programs.CERTPATH)
     bench, failed = Bench(program, words.seconds, words.small), 0
     if not words.brief:
         print(f"| {' | '.join(HEAD)} |\n{'|---' * len(HEAD)}|", flush=True)

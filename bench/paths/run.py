@@ -19,7 +19,7 @@ HERE = os.path.dirname(os.path.abspath(__file__))
 TOP = os.path.dirname(os.path.dirname(HERE))
 sys.dont_write_bytecode = True
 sys.path[:0] = [os.path.join(TOP, "bench", "hostile"), os.path.join(TOP, "tools")]
-from program import repo
+from program import programs
 from family import ITEMS, Files
 from graphs import ANCHOR, COMMON_KEY, LEAF, ROOT, ROOT_KEY, X
 from measure import MEGABYTE, in_child, measured, write_pieces
@@ -181,7 +181,7 @@ def read_words():
 
 def main():
     words = read_words()
-    program = words.program or repo.ready("certpath_cli")
+    program = words.program or programs.ready(programs.CERTPATH)
     is_missed = False
     print("| " + " | ".join(HEAD) + " |\n|" + "---|" * len(HEAD), flush=True)
     for family in FAMILIES:

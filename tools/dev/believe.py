@@ -24,10 +24,10 @@ from program import repo
 PAGE, WIDTH = "docs/TRUST.md", 100
 # The calls of the table at the head of docs/TRUST.md: what is judged, and the readers.
 JUDGED = ["certcheck::check", "certcheck::check_all", "certpath_find::find", "certpath_find::find_all", "certpath_run::run",
-          "certpath_run::run_why", "certpath_run::run_all", "certpath_run::find_evidence", "certpath_recheck::run_recheck",
+          "certpath_run::WhyReport::report", "certpath_run::PathsReport::report", "certpath_run::EvidenceReport::report", "certpath_recheck::run_recheck",
           "certpath_run::run_questions", "cert_questions::questions", "certpath_why::push_why"]
-HEADS = ["certpath_engine::read_words", "certpath_engine::frame", "cert_framing::Bundle::feed", "cert_framing::Bundle::finish",
-         "certcheck::read_tree", "certpath_typed::read_typed", *JUDGED, "certpath_vouchers::read_vouchers",
+HEADS = ["certpath_engine::read_words", "certpath_run::frame", "cert_framing::Bundle::feed", "cert_framing::Bundle::finish",
+         "certcheck::read_tree", "certpath_typed::read_typed", *JUDGED, "cert_vouchers::read_vouchers",
          "certpath_evidence::read_evidence", "x509_certs::X509Certificate::from_der",
          "x509_lists::CertificateRevocationList::from_der", "x509_requests::X509CertificationRequest::from_der",
          "x509_names::X509Name::from_der", "x509_time::ASN1Time::from_der"]
@@ -283,35 +283,31 @@ HEADER = """# What a promise rests on: the pages to believe
 
 For anyone who reviews a contract: how much has to be read to believe it. A contract is proved, so
 its code and proofs needn't be read; its clauses have to be, and the definitions in `specs/` that
-their words name, on to the standard library and the crates of the kit. The table counts these for
-the calls that judge, for the main readers, and for each call of `include/certpath.h`. Which these
-are:
+their words name, on to the standard library and the crates of the kit. Which these are:
 
     $ python3 tools/dev/believe.py certcheck::check | tail -n 1
     {LAST_LINE}
     $ python3 tools/dev/believe.py cert_questions
     {OF_CRATE}
 
-What isn't proved is on no such page: that the scripts and the Python package carry what they are
-given. Octets of files are read by proved code alone, but for what [PROMISES.md
-names](PROMISES.md#what-is-run-and-said-by-no-clause).
-
 The first prints each page of one call, with the definitions on it; `CRATE::Type::function` names a
 function of a type, and a law can be named too. The second prints, for each public call of a crate,
 its own pages and those of others. Types of the sources count beside them: their fields, their
-`Model`, and of a trait what its functions promise.
+`Model`, and of a trait what its functions promise. On no page is what [isn't
+proved](PROMISES.md#what-is-run-and-said-by-no-clause).
 
 """
 
 
 def summary(trusts):
-    """A row for each call."""
-    yield "| call | pages | lines |"
-    yield "|---|---|---|"
+    """A row for each call, below the titles of the columns."""
+    rows = [("call", "pages", "lines")]
     for trust in trusts:
         pages = [page for page in trust.pages if is_page(page)]
         lines, exact = (sum(map(entry, pages)) for entry in (trust.lines, trust.exact))
-        yield f"| `{trust.call}` | {len(pages)} | {lines}{f', {exact} by `exact` alone' if exact else ''} |"
+        rows.append((trust.call, str(len(pages)), f"{lines}{f', {exact} by exact alone' if exact else ''}"))
+    widths = [max(map(len, column)) for column in zip(*rows)]
+    yield from ("    " + "  ".join(cell.ljust(width) for cell, width in zip(row, widths)).rstrip() for row in rows)
 
 
 @functools.cache

@@ -41,7 +41,7 @@ PAGES = {
     "certcheck": Page({"example_path/src/main.rt": ()}, (
         "cert_framing::Bundle::new", "cert_framing::Bundle::feed", "cert_framing::Bundle::finish", "cert_framing::Items::len",
         "cert_framing::Items::get", "certcheck::read_tree", "cert_judge::Vouch::vouches", "cert_judge::Vouch::processes",
-        "certcheck::Vouchers::push", "cert_judge::Policy::new", "certcheck::check")),
+        "cert_vouchers::Vouchers::push", "cert_judge::Policy::new", "certcheck::check", "certcheck::check_read")),
     "certpath_find": Page({"example_path/src/verified.rt": ()}, (
         "certpath_find::find", "certpath_find::judged_items", "certpath_find::find_judged", "cert_judge::Vouch::vouches",
         "cert_judge::Vouch::processes")),
@@ -120,9 +120,9 @@ def faults():
 
 def main():
     for crate in PAGES:
-        page = repo.read(path_of(crate))
+        page = written(crate, repo.read(path_of(crate)))
         with open(os.path.join(repo.TOP, path_of(crate)), "w", encoding="utf-8") as file:
-            file.write(written(crate, page))
+            file.write(page)
 
 
 if __name__ == "__main__":

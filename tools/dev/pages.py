@@ -54,10 +54,6 @@ def code(name):
     return f"`{name}`"
 
 
-def table(heads, rows):
-    return "".join(f"| {' | '.join(row)} |\n" for row in [heads, ["---"] * len(heads), *rows])
-
-
 def sections(octets):
     """The sections of standards that a text cites, each once, in the order in which they are there."""
     found = [f"{match[1] or match[3]}, {match[2] or match[4]}" for match in SECTION.finditer(octets)]
@@ -105,8 +101,9 @@ def extensions():
         reader, path = reader_of(kind)
         relation = re.search(rf"IsOf kinds\.{kind} = Begins (\w+)", parsed)[1]
         identifier = dotted(bytes.fromhex(octets.replace("\\x", "")))
-        rows.append([kind, identifier, section, code(reader), code(path.removeprefix("crates/")), code(f"{homes[relation]}.antt")])
-    return table(["extension", "identifier", "section", "read by", "in", "definition"], sorted(rows, key=lambda row: row[0].lower()))
+        read_in, defined_in = code(path.removeprefix("crates/")), code(f"{homes[relation]}.antt")
+        rows.append(f"- {kind}, {identifier} ({section}): {code(reader)}, in {read_in}; {defined_in}")
+    return "".join(f"{believe.wrapped(row)}\n" for row in sorted(rows, key=str.lower))
 
 
 # ---- crates
@@ -122,17 +119,17 @@ def described(crate):
 LAYERS = (
     ("Headers, devices", "asn1_core asn1_device"),
     ("Elements, identifiers", "asn1_any asn1_oid asn1_unsigned"),
-    ("Values", "asn1_traits asn1_values asn1_strings asn1_times asn1_lists asn1_pairs asn1_tagged asn1_rs"),
+    ("Values", "asn1_traits asn1_values asn1_strings asn1_times asn1_lists asn1_tagged asn1_rs"),
     ("Trees", "der_tree ber_tree der_parser"),
     ("Certificates: parts", "x509_core x509_objects x509_names x509_time x509_items"),
     ("Certificates: extension values", "x509_flags x509_policies x509_general x509_points x509_leaves x509_values x509_timestamps x509_deep"),
     ("Certificates: whole", "x509_ext x509_certs x509_lists x509_requests x509_algorithms x509_loggers x509_validate x509_parser"),
     ("Items, classes, names of hosts and purposes", "cert_framing cert_model host_names purpose_names"),
-    ("Graphs and judging", "cert_graph cert_groups cert_judge cert_purpose"),
-    ("The check", "certcheck cert_reading cert_questions cert_serving cert_reasons"),
+    ("Graphs and judging", "cert_graph cert_judge cert_purpose cert_vouchers"),
+    ("The check", "certcheck cert_questions cert_serving cert_reasons"),
     ("The search", "x509_links certpath_rebuild certpath_typed cert_search certpath_find"),
-    ("The program", "certpath_pem certpath_files certpath_bundle certpath_why certpath_input certpath_vouchers certpath_evidence "
-                    "certpath_moment certpath_sources certpath_recheck certpath_run certpath_engine certpath_cli"),
+    ("The program", "certpath_pem certpath_files certpath_bundle certpath_why certpath_inputs certpath_evidence "
+                    "certpath_recheck certpath_run certpath_engine certpath_cli"),
     ("For other languages", "certpath_c"),
     ("Rows, tests, benches, examples", "hex_rows asn1_rows cert_rows x509_rows check_rows reasons_rows asn1_tests der_tests judge_tests "
                                        "run_tests item_bench judge_bench workload_bench example_certificate example_own_type example_path"),
@@ -194,9 +191,8 @@ INDEX_HEAD = """# From a section of a standard to its code
 
 For anyone who wants to see a rule in the code: each section that definitions of public contracts
 cite, with these pages of `specs/`, and in brackets the first source in `src/` whose contracts name
-it. `python3 tools/dev/pages.py` makes this page of the sources; `tools/dev/pages.py index CRATE`
-prints all pages of a crate, and what each defines. [RULES.md](RULES.md) and
-[RULES_PORTS.md](RULES_PORTS.md) have the rules in words.
+it. `tools/dev/pages.py`, which makes this page, prints all of a crate by `index CRATE`.
+[RULES.md](RULES.md) and [RULES_PORTS.md](RULES_PORTS.md) have the rules in words.
 
 """
 # The standards that have a section of their own; all others come last.

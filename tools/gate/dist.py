@@ -28,16 +28,15 @@ MAKE = "run python3 tools/gate/dist.py make"
 
 def faults():
     """What is wrong with dist/ by the sources, a line each. No program is run."""
-    _, lack = programs.found(programs.CERTPATH)
-    if lack:
-        yield lack.why
+    _, why, _ = programs.found(programs.CERTPATH)
+    if why:
+        yield why
 
 
 def make():
     """Builds the program into dist/, and then the libraries; gives the status."""
     from program import building
-    if not building.build(programs.CERTPATH):
-        return 1
+    building.build(programs.CERTPATH)
     amiss = [*faults()]
     for line in amiss:
         print(f"dist: {line}")

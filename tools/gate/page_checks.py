@@ -16,11 +16,11 @@ PROMISES, PROVED = "docs/PROMISES.md", "## What is proved"
 # Pages for a reader's first minutes.
 PLAIN_PAGES = (README, "docs/CLI.md")
 WALK = "docs/ARCHITECTURE.md"
-WALK_ROW = re.compile(r"(?m)^\| [^|]*\| `([\w/]+\.(?:rt|py))` \| ([^|]*)\|")
+WALK_ROW = re.compile(r"(?m)^- `([\w/]+\.(?:rt|py))`: ((?:`\w+`,\s+)*`\w+`)")
 LINK = re.compile(r"\]\(([^()\s#]*)#([^()\s]+)\)")
 CODE = re.compile(r"`[^`\n]*`")
-# A row of a table that links can name.
-ROW = re.compile(r'(?m)^\| <a id="([\w-]+)"></a>')
+# A row of a table, or an item of a list, that links can name.
+ROW = re.compile(r'(?m)^[|-] <a id="([\w-]+)"></a>')
 
 
 def found_pages():
@@ -150,7 +150,7 @@ def walk_stands():
     """The functions that the walks name are in the files beside them: of crates, and of scripts by their paths from the top."""
     rows = WALK_ROW.findall(repo.read(WALK))
     if not rows:
-        yield f"{WALK}: the table of the walk is gone"
+        yield f"{WALK}: the walk is gone"
     for path, names in rows:
         source = path if path.endswith(".py") else f"crates/{path}"
         code = repo.read(source) if os.path.exists(os.path.join(repo.TOP, source)) else ""

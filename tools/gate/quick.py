@@ -20,6 +20,9 @@ MOST_READS = 24_000_000
 OF_FUNCTION = ("Invariants.antt", "Answers.antt", "Proof.antt")
 BESIDE_SRC = ("args", "stdin", "stdout", "status")
 PAGES = ("README.md", "CALLING.md")
+# Crates, and those on which each doesn't depend, near or far.
+SEARCH = ("cert_search", "x509_links", "certpath_rebuild", "certpath_typed", "certpath_find")
+APART = {"certpath_typed": ("certcheck",), "certpath_find": ("certcheck",), "certcheck": SEARCH, "certpath_recheck": SEARCH}
 LABEL = re.compile(r"(?:^|[^\w/.-])((?:[DTLW]\d{1,2}|R\d{1,2}(?:\.\d+)?|0[1-4], ?\d|document 0[1-4]))(?:\W|$)")
 # What stands in quotes in code: octets and words of a test, and no label.
 QUOTED = re.compile(r"""b?'[^'\n]{1,4}'|"(?:[^"\\\n]|\\.)*\"""")
@@ -180,20 +183,23 @@ def few_ways():
 
 def judge_alone():
     """`certcheck` shares nothing with the search and the typed readers: beside its own crates it stands on parts of `asn1_rs` and `der_parser` alone."""
-    own = {"certcheck", "cert_framing", "cert_graph", "cert_groups", "cert_judge", "cert_model"}
+    own = {"certcheck", "cert_framing", "cert_graph", "cert_judge", "cert_model", "cert_vouchers"}
     for name in sorted({*repo.below(["certcheck"], CRATES)} - own - {*repo.below(["asn1_rs", "der_parser"], CRATES)}):
         yield f"crates.txt: certcheck stands on {name}"
 
 
 def roads_apart():
-    """The search shares no reading with the check: outside tests no source of a `certpath_` crate names `read_tree`, or the check's
-    calls for key identifiers. `certpath_c` hands calls out, and `certpath_why` reports: neither searches."""
+    """The two roads from octets to an answer share no reader of items, by crates.txt alone: the typed readers and the search depend on
+    nothing of the check, the check on nothing of them, and what checks an inventory again on no search. Key identifiers are read out of
+    fields that both have, so the search doesn't call what the check reads them by."""
+    for crate, others in APART.items():
+        for name in sorted({*repo.below([crate], CRATES)} & {*others}):
+            yield f"crates.txt: {crate} depends on {name}"
     for path in FILES:
-        if not re.match(r"crates/certpath_(?!c/|why/)\w+/src/.*\.rt$", path) or re.search(r"/tests?\b", path):
-            continue
-        code = "\n".join(line.split("//")[0] for line in repo.read(path).splitlines())
-        for name in re.findall(r"\b(?:read_tree|authority_key_id|subject_key_id)\b", code):
-            yield f"{path}: it names {name}"
+        if re.match(r"crates/certpath_(?:rebuild|typed|find)/src/.*\.rt$", path):
+            code = "\n".join(line.split("//")[0] for line in repo.read(path).splitlines())
+            for name in re.findall(r"\b(?:authority_key_id|subject_key_id)\b", code):
+                yield f"{path}: it names {name}"
 
 
 def headers_counted():
@@ -219,9 +225,11 @@ def worked_causes():
     """Each worked row that docs/OTHER.md names stands in cert_rows, and is other."""
     lines = repo.read("crates/cert_rows/stdout").splitlines()
     answers = {title.removeprefix("# ").partition(": ")[0]: answer for title, answer in zip(lines, lines[1:])}
-    causes = [line.strip("| ").split(" | ") for line in repo.read("docs/OTHER.md").splitlines() if line.startswith("| ")]
-    for title in (it.strip() for row in causes if len(row) == 4 for it in row[3].split(";")):
-        if title != "worked row" and not answers.get(title, "").endswith(" = other"):
+    named = [" ".join(row.split()) for row in re.findall(r"\*Rows\*:\s+([^.]*)\.", repo.read("docs/OTHER.md"))]
+    if not named:
+        yield "docs/OTHER.md: it names no worked row"
+    for title in (title for row in named for title in row.split("; ")):
+        if not answers.get(title, "").endswith(" = other"):
             yield f"docs/OTHER.md: {title} is no worked row that is other"
 
 

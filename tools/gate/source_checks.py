@@ -8,24 +8,24 @@ from program import repo
 
 
 # The runs of `certpath_run`, and by which call each finds and by which it checks.
-ASKED = [("run", "find_judged", "check"), ("run_why", "find_judged", "check"), ("run_all", "find_all_judged", "check_all"), ("find_evidence", "find_all_judged", "check_all")]
+ASKED = [("PathReport", "find_judged", "check"), ("WhyReport", "find_judged", "check"), ("PathsReport", "find_all_judged", "check_all"), ("EvidenceReport", "find_all_judged", "check_all")]
 # What is made of what a check said: lines of a report.
 TOLD = r"\b(?:report_of|report_of_all|push_check)\(([^;]*)\)\?;"
 
 
 def check_asked():
-    """Each run of `certpath_run` comes to one call of the check in `certcheck`, of what it found, and what that says is what the report is made with."""
-    for run, finds, checks in ASKED:
+    """Each report of `certpath_run` comes to one call of the check in `certcheck`, of what it found, and what that says is what the report is made with."""
+    for report, finds, checks in ASKED:
         check = calls.function(f"certcheck::{checks}")
-        reached = [entry for entry in calls.come_to([calls.function(f"certpath_run::{run}")]) if entry.file.crate == "certpath_run"]
+        reached = [entry for entry in calls.come_to([calls.function(f"certpath_run::{report}::report")]) if entry.file.crate == "certpath_run"]
         callers = [entry for entry in reached if check in calls.called(entry)]
         if [len(re.findall(rf"\b{checks}\(", caller.body)) for caller in callers] != [1]:
-            yield f"crates/certpath_run: one function, which {run} comes to, calls certcheck::{checks} once, and no other does"
+            yield f"crates/certpath_run: one function, which {report} comes to, calls certcheck::{checks} once, and no other does"
             continue
         yield from (f"{callers[0].file.path}: {entry}" for entry in said_of_found(callers[0].body, finds, checks))
         told = [entry for entry in reached for text in re.findall(TOLD, entry.body) if re.search(r"\bsaid\b", text)]
         if not told:
-            yield f"crates/certpath_run: what certcheck::{checks} said is in no report that {run} makes"
+            yield f"crates/certpath_run: what certcheck::{checks} said is in no text of {report}"
 
 
 def said_of_found(body, finds, checks):

@@ -20,7 +20,6 @@ SECTION = re.compile(r"(?ms)^## (?:`([a-z]+)[^`\n]*`|[^`\n]*)\n.*?(?=^## |\Z)")
 CONTENTS = re.compile(r"(?m)^- \[[^\]]*\]\(#[^)]*\)\n")
 PICTURE = re.compile(r"(?m)^!\[[^\]]*\]\([^)]*\)\n")
 FENCE = re.compile(r"(?ms)^```\w*\n(.*?)^```\n")
-ROWS_OF_OTHERS = re.compile(rf"(?m)^\| \[`\./(?:{'|'.join(OTHERS)})`\].*\n")
 
 
 def section_of(page, name):
@@ -38,7 +37,7 @@ def text_of(name):
         page = page.partition("\n")[2]
     if name == "certpath":
         page = SECTION.sub(lambda it: "" if it[1] in OTHERS else it[0], page)
-    page = ROWS_OF_OTHERS.sub("", PICTURE.sub("", CONTENTS.sub("", page)))
+    page = PICTURE.sub("", CONTENTS.sub("", page))
     page = FENCE.sub(lambda it: "".join(f"    {line}\n" for line in it[1].splitlines()), page)
     return installed.renamed(page)
 

@@ -8,6 +8,11 @@ OTHERS = "further reasons (--verbose shows them)"
 MOST_HELD = 65_536
 
 
+def counted(number, word):
+    """So many of what a word names."""
+    return f"{number} {word}" if number == 1 else f"{number} {word}s"
+
+
 class Lines:
     """Lines for standard error that are held and written many at a time."""
 

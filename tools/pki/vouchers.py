@@ -2,14 +2,14 @@
 from typing import NamedTuple
 
 from pki import package
-from program.streams import counted
+from pki.reporting import counted
 from certpath import Kind, Vouchers, holders_by_issuer
 
 
 class Verdict(NamedTuple):
     """The keys that vouch for an item, and what is to be reported of it, none if there is nothing."""
     keys: tuple = ()
-    why: str = None
+    why: "str | None" = None
 
 
 UNREAD = "neither certificate nor list"

@@ -4,7 +4,7 @@ import signal
 import stat
 import sys
 
-from program import programs, repo, streams
+from program import programs, streams
 
 OPTION, UNWRITTEN, SIGNALLED = "--evidence", 7, 128
 SIGNALS = (signal.SIGINT, signal.SIGTERM, signal.SIGHUP)
@@ -32,10 +32,10 @@ def is_replaced(file):
 def run(words):
     """Runs certpath on words that name a file of evidence; gives the status. It becomes certpath if
     the file isn't replaced."""
-    (at, front), program = place_of(words), repo.ready(programs.CERTPATH)
+    at, front = place_of(words)
     file = words[at][len(front):]
     if not is_replaced(file):
-        programs.become(programs.CERTPATH, program, words)
+        programs.become(programs.CERTPATH, words)
     begun = f"{file}.{os.getpid()}.begun"
     signal.signal(signal.SIGCHLD, signal.SIG_DFL)
     watched = {signal.SIGCHLD, *(it for it in SIGNALS if signal.getsignal(it) != signal.SIG_IGN)}
@@ -46,7 +46,7 @@ def run(words):
     if not child:
         signal.pthread_sigmask(signal.SIG_UNBLOCK, watched)
         os.dup2(written, sys.stderr.fileno())
-        programs.become(programs.CERTPATH, program, [*words[:at], front + begun, *words[at + 1:]])
+        programs.become(programs.CERTPATH, [*words[:at], front + begun, *words[at + 1:]])
     status = ended(child, watched)
     os.close(written)
     with open(read, encoding="utf-8", errors="surrogateescape") as errors:

@@ -20,16 +20,14 @@ VERSION_OF_LIBC = re.compile(rb"GLIBC_(\d+(?:\.\d+)*)\0")
 def copied(crate, to):
     """Copies what the crate's program is made of: its crates, their lines of crates.txt, and
     HANDLES; gives how many crates these are."""
-    def left_out(_, names):
-        return {it for it in names if it in LEFT_OUT or not sources.is_source(it)}
-
     crates, lines = repo.below([crate], repo.crates()), repo.lines()
     # (`rt ci` runs at the top of a repository)
     os.makedirs(os.path.join(to, ".git"))
     shutil.copyfile(os.path.join(repo.TOP, "HANDLES"), os.path.join(to, "HANDLES"))
     sources.put(os.path.join(to, "crates.txt"), "".join(f"{lines[it]}\n" for it in crates).encode())
     for it in crates:
-        shutil.copytree(*(os.path.join(top, "crates", it) for top in (repo.TOP, to)), ignore=left_out)
+        shutil.copytree(*(os.path.join(top, "crates", it) for top in (repo.TOP, to)), ignore=lambda _,
+                        names: {it for it in names if it in LEFT_OUT or not sources.is_source(it)})
     return len(crates)
 
 
@@ -79,12 +77,10 @@ def proved(copy):
 
 
 def build(crate):
-    """Proves a crate with all below it and puts its program and the record in place; gives whether
-    that was done, and else says why not."""
-    title = programs.TITLES.get(crate, crate)
+    """Proves a crate with all below it and puts its program and the record in place; else this
+    process ends with a line that says why not."""
     if not shutil.which("rt"):
-        streams.report(f"{title}: rt, the toolchain that builds it, isn't on the path")
-        return False
+        programs.end(crate, "rt, the toolchain that builds it, isn't on the path")
     for it in SIGNALS:
         if signal.getsignal(it) != signal.SIG_IGN:
             signal.signal(it, stop)
@@ -94,11 +90,10 @@ def build(crate):
             # (as root, `rt` runs programs as nobody, who has to reach them)
             os.chmod(top, 0o711)
             count, digest = copied(crate, copy), sources.digest(crate, copy)
-            streams.report(f"{title}: rt ci proves {count} crates, which takes up to an hour")
-            if proved(copy):
-                keep(crate, os.path.join(copy, "crates", crate, "out", crate), digest)
-                return True
-        streams.report(f"{title}: it wasn't built, since rt ci failed")
+            streams.report(f"rt ci proves {crate} and what is below it, {count} crates, which takes "
+                           "up to an hour")
+            if not proved(copy):
+                programs.end(crate, "it wasn't built, since rt ci failed")
+            keep(crate, os.path.join(copy, "crates", crate, "out", crate), digest)
     except OSError as error:
-        streams.report(f"{title}: it can't be built: {error.strerror}: {error.filename}")
-    return False
+        programs.end(crate, f"it can't be built: {error.strerror}: {error.filename}")

@@ -13,7 +13,6 @@ IS_INSTALLED = not os.path.exists(os.path.join(TOP, "crates.txt"))
 FOLDER = os.path.dirname(os.path.dirname(TOP)) if IS_INSTALLED else os.path.join(TOP, "python")
 PROGRAM = os.path.join(FOLDER, "certpath", "certpath")
 RECORD = os.path.join(FOLDER, "certpath", "BUILT")
-REMEDY = "install it anew"
 # The commands of an installation by the scripts of a checkout.
 COMMANDS = {"certpath": "certpath", "verify": "certpath-verify", "vouch": "certpath-vouch",
             "bundle": "certpath-bundle", "inventory": "certpath-inventory"}

@@ -20,22 +20,12 @@ BUILD = "./certpath --build"
 OLDER = f"dist/ is older than the sources: {BUILD} builds it"
 # The statuses where dist/ is older than the sources, and where there is no program to run.
 OUTDATED, NO_PROGRAM = 69, 70
-# The names of programs in messages, if these aren't those of their crates.
-TITLES = {CERTPATH: "certpath"}
-
-
-class Lack:
-    """Why there is no program to run, with what to do, and the status to end with."""
-
-    def __init__(self, why, status=NO_PROGRAM):
-        self.why, self.status = why, status
 
 
 def remedy(crate):
     """What to do if a crate's program can't be run."""
-    if installed.IS_INSTALLED:
-        return installed.REMEDY
-    return f"{BUILD} builds it" if crate == CERTPATH else f"{BUILD} {crate} builds it"
+    named = "" if crate == CERTPATH else f" {crate}"
+    return "install it anew" if installed.IS_INSTALLED else f"{BUILD}{named} builds it"
 
 
 def paths(crate):
@@ -48,28 +38,29 @@ def paths(crate):
 
 def read_record(path):
     """What the lines of a record say, by their words; nothing if it can't be read."""
-    try:
-        return dict(it.split(" ", 1) for it in repo.read(path).splitlines() if " " in it)
-    except (OSError, ValueError):
-        return {}
+    text = sources.octets_if_any(os.path.join(repo.TOP, path)).decode(errors="replace")
+    return dict(it.split(" ", 1) for it in text.splitlines() if " " in it)
 
 
 def sum_of(path):
-    """The SHA-256 of a file in hex digits, none if it can't be read."""
-    try:
-        return sources.sum_of_octets(sources.octets_of(os.path.join(repo.TOP, path)))
-    except OSError:
-        return None
+    """The SHA-256 of a file in hex digits, that of no octets if it can't be read."""
+    return sources.sum_of_octets(sources.octets_if_any(os.path.join(repo.TOP, path)))
+
+
+def end(crate, why, status=NO_PROGRAM):
+    """Says in a line why a crate's program isn't run or built, and ends this process."""
+    streams.report(f"{'certpath' if crate == CERTPATH else crate}: {why}")
+    sys.exit(status)
 
 
 def found(crate):
-    """The path of a crate's program as its sources are now, or none and what is lacking. In an
-    installation it is the one program there."""
+    """The path of a crate's program as its sources are now, none and 0; or else none, why there is
+    none with what to do, and the status to end with. An installation has one program."""
     path, record_path = paths(crate)
     record, status = read_record(record_path), NO_PROGRAM
     if installed.IS_INSTALLED:
         if os.access(path, os.X_OK):
-            return path, None
+            return path, None, 0
         amiss = f"{path} isn't there, or may not be executed"
     elif not record and crate != CERTPATH:
         amiss = "it isn't built yet"
@@ -81,8 +72,17 @@ def found(crate):
     elif sum_of(path) != record["program"]:
         amiss = f"{path} is missing, or was changed: its SHA-256 isn't that of its record"
     else:
-        return os.path.join(repo.TOP, path), None
-    return None, Lack(f"{amiss}: {remedy(crate)}", status)
+        return os.path.join(repo.TOP, path), None, 0
+    return None, f"{amiss}: {remedy(crate)}", status
+
+
+def ready(crate):
+    """The path of a crate's program as its sources are now. If it isn't there, standard error says
+    why and what to do, and this process ends with a status of its own: nothing is built."""
+    path, why, status = found(crate)
+    if why:
+        end(crate, why, status)
+    return path
 
 
 def is_library_old():
@@ -92,20 +92,18 @@ def is_library_old():
 
 def is_outdated():
     """Whether dist/ is older than the sources: its program, or its libraries."""
-    lack = found(CERTPATH)[1]
-    return bool(lack) and lack.status == OUTDATED or is_library_old()
+    return found(CERTPATH)[2] == OUTDATED or is_library_old()
 
 
-def become(crate, path, words):
-    """Becomes the program on the words; ends with status 70 if it can't be started."""
+def become(crate, words):
+    """Becomes a crate's program on the words; ends with status 70 if it can't be started."""
+    path = ready(crate)
     end_by_pipe()
     try:
         os.execv(path, [path, *words])
     except OSError as error:
         needs = read_record(paths(crate)[1]).get("needs")
-        amiss = f"{path} can't be started ({error.strerror}), and needs {needs}"
-        streams.report(f"{TITLES.get(crate, crate)}: {amiss}: {remedy(crate)}")
-        sys.exit(NO_PROGRAM)
+        end(crate, f"{path} can't be started ({error.strerror}), and needs {needs}: {remedy(crate)}")
 
 
 def end_by_interrupt():

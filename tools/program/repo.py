@@ -3,7 +3,6 @@
 `./certpath` imports this before each run: what takes time to import is imported where it is used.
 """
 import os
-import sys
 
 TOP = os.path.dirname(os.path.dirname(os.path.dirname(os.path.abspath(__file__))))
 
@@ -39,20 +38,3 @@ def below(names, listed):
     for name in names:
         take(name)
     return found
-
-
-def ready(crate):
-    """The path of a crate's program as its sources are now. If it isn't there, standard error says
-    why and what to do, and this process ends with a status of its own: nothing is built."""
-    from program import programs
-    path, lack = programs.found(crate)
-    if lack:
-        programs.streams.report(f"{programs.TITLES.get(crate, crate)}: {lack.why}")
-        sys.exit(lack.status)
-    return path
-
-
-def run(crate, words):
-    """Becomes a crate's program on the words."""
-    from program import programs
-    programs.become(crate, ready(crate), words)

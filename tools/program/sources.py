@@ -47,6 +47,14 @@ def octets_of(path):
         return file.read()
 
 
+def octets_if_any(path):
+    """The octets of a file, none if it can't be read."""
+    try:
+        return octets_of(path)
+    except OSError:
+        return b""
+
+
 def sum_of_octets(octets):
     return hashlib.sha256(octets).hexdigest()
 
@@ -57,10 +65,7 @@ def digest(crate, top=repo.TOP):
     rows = (f"{path} {it.st_size} {it.st_mtime_ns} {it.st_ctime_ns} {it.st_ino}" for path, it in files)
     looks = sum_of_octets("\n".join([head, *rows]).encode(errors="surrogateescape"))
     kept = os.path.join(top, KEPT, crate)
-    try:
-        words = octets_of(kept).decode("ascii", "replace").split()
-    except OSError:
-        words = []
+    words = octets_if_any(kept).decode("ascii", "replace").split()
     if len(words) == 2 and words[0] == looks:
         return words[1]
     summed = hashlib.sha256(head.encode())

@@ -7,11 +7,6 @@ if sys.stderr is None:
     sys.stderr = open(os.devnull, "w", encoding="utf-8")
 
 
-def counted(number, word):
-    """So many of what a word names."""
-    return f"{number} {word}" if number == 1 else f"{number} {word}s"
-
-
 def shown(text):
     """A text for a terminal: what isn't printable, such as control characters, is escaped."""
     if text.isprintable():

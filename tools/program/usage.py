@@ -25,8 +25,7 @@ Reads X.509 certificates and revocation lists in DER, and finds certificate path
 usage: certpath COMMAND [WORDS] | help [COMMAND] | --version | --build [CRATE]
 
 Commands:
-  path       prints what each item of a file is, and the first of the shortest valid paths to an
-             anchor
+  path       prints what each item is, and the first of the shortest valid paths to an anchor
   why        prints the same answer, and each reason why there is no path or a list isn't used
   paths      prints the first of the shortest valid paths of every item of a file at once
   recheck    checks what paths found elsewhere, by the evidence that it wrote, without a search
@@ -54,8 +53,7 @@ def main(words):
     try:
         return done(words)
     except OSError as error:
-        streams.report(f"certpath: {error.strerror}: {error.filename}")
-        return programs.NO_PROGRAM
+        programs.end(programs.CERTPATH, f"{error.strerror}: {error.filename}")
 
 
 def done(words):
@@ -86,7 +84,7 @@ def run(words):
     from program import beside
     if words[0] == "paths" and beside.place_of(words):
         return beside.run(words)
-    return repo.run(programs.CERTPATH, words)
+    return programs.become(programs.CERTPATH, words)
 
 
 def refused(why):
@@ -113,7 +111,7 @@ def helped(words):
     if words[0] not in COMMANDS:
         return refused(unknown(words[0]))
     import subprocess
-    own = subprocess.run([repo.ready(programs.CERTPATH), words[0], HELP[1]], stdin=subprocess.DEVNULL,
+    own = subprocess.run([programs.ready(programs.CERTPATH), words[0], HELP[1]], stdin=subprocess.DEVNULL,
                          stdout=subprocess.PIPE, stderr=subprocess.STDOUT, text=True, check=False)
     return printed(f"{own.stdout}\n{ENDS}")
 
@@ -122,9 +120,9 @@ def version():
     """The version, the digest of the sources, and which program runs on them and what built it. In
     an installation the sources are those of the program."""
     path, record_path = programs.paths(programs.CERTPATH)
-    record, (_, lack) = programs.read_record(record_path), programs.found(programs.CERTPATH)
+    record, (_, why, _) = programs.read_record(record_path), programs.found(programs.CERTPATH)
     digest = record.get("sources") if installed.IS_INSTALLED else programs.sources.digest(programs.CERTPATH)
-    program = f"none: {lack.why}" if lack else f"{path}, built by {record.get('kit')}"
+    program = f"none: {why}" if why else f"{path}, built by {record.get('kit')}"
     return f"certpath {VERSION}\nsources {digest}\nprogram {program}\n"
 
 
@@ -137,8 +135,7 @@ def build(names):
     if len(names) > 1 or crate not in repo.crates():
         return refused(f"there is no program {' '.join(names)!r:.{MOST_SHOWN}}")
     from program import building
-    if not building.build(crate):
-        return programs.NO_PROGRAM
+    building.build(crate)
     if not names and programs.is_library_old():
         from gate import library
         if library.make():

@@ -60,9 +60,9 @@ class Trial(unittest.TestCase):
 
     def program(self, crate=programs.CERTPATH):
         """The path of a crate's program, which has to be there for the sources as they are."""
-        path, lack = programs.found(crate)
-        if lack and (RUN["gate"] or crate == programs.CERTPATH):
-            self.fail(lack.why)
-        if lack:
-            self.skipTest(f"{crate}: {lack.why}")
+        path, why, _ = programs.found(crate)
+        if why and (RUN["gate"] or crate == programs.CERTPATH):
+            self.fail(why)
+        if why:
+            self.skipTest(f"{crate}: {why}")
         return path

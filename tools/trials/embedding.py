@@ -11,7 +11,7 @@ from dev import items
 from gate import library
 from install import contents
 from program import repo
-from trials import paths
+from trials import hosts, paths
 from trials.count import Trial, size
 
 # How many changed inputs the calls get under the sanitizers.
@@ -29,7 +29,14 @@ BUNDLE, ANCHORS = os.path.join("samples", "bundle.der"), os.path.join("samples",
 REFUSED = ("an anchor vouches for itself, at the last moment", "an extension that is judged",
            "revoked by a list", "a list that is other revokes nothing", "a later count is taken",
            "the key that is named")
+# A host that is none: the status of the calls, and that of the program.
+BAD_HOST, NOT_ASKED = 9, 2
 HEADERS = "/usr/include/openssl/evp.h"
+# What reports are asked for on the samples: hosts, and purposes as the program takes them.
+HOSTS = ("", "www.example.test", "WWW.EXAMPLE.TEST.", "example.test", "192.0.2.1", "[2001:db8::1]")
+PURPOSES = ("", "serverAuth", "sslclient", "1.3.6.1.5.5.7.3.9", "1.3.6.1.4.1.311.10.3.4", "2.5.29.37.0")
+# Of the chains that the trial hosts.py has, one of so many.
+SAMPLED = 1, 8
 # A common name that would print a line of its own, clear the screen, and turn what follows it.
 FORGED = "a\n1 certificate: CN=forged, O=b\x1b[2J\u202e"
 
@@ -128,6 +135,47 @@ def is_one_line(count, words, which, **how):
               and all(map(str.isprintable, lines)), f"{which}, a forged name:\n{done.stdout!r:.2000}")
 
 
+def printed(command, files, moment, host, purpose):
+    """What the program prints of files, and its status."""
+    words = [] if command == "paths" else ["--target", "0"]
+    words += [f"--host={host}"] if host and command != "paths" else []
+    words += [f"--purpose={purpose}"] if purpose else []
+    done = ran([sys.executable, "-IS", at("certpath"), command, *files, "--at",
+                f"{moment}T00:00:00", *words])
+    return done.returncode, done.stdout
+
+
+def same_reports(count, program, files, moment, host, purpose):
+    """Each call writes what the program prints of the same files, the host and the purpose."""
+    identifier = hosts.purposes.identifier_of(purpose).hex() if purpose else ""
+    for command in ("path", "why", "paths"):
+        status, said = printed(command, files, moment, host, purpose)
+        done = ran([program, command, *files, moment, "0", host, identifier])
+        what = f"{command} for {host!r} and {purpose!r}"
+        if status == NOT_ASKED:
+            count.same(f"{what}, refused", (done.returncode, done.stdout), (BAD_HOST, ""))
+        else:
+            count.same(what, (done.returncode, done.stdout), (0, said))
+
+
+def reports_in_c(count, room):
+    """The reports on the samples, and on chains of the trial hosts.py."""
+    source = os.path.join("tools", "trials", "embedding", "reports.c")
+    program = compiled(count, room, source, SANITIZERS, [at(library.STATIC)])
+    if not program:
+        return
+    files = [at(BUNDLE), at(ANCHORS), at("samples", "vouchers.txt")]
+    for host in HOSTS:
+        for purpose in PURPOSES:
+            same_reports(count, program, files, "2027-01-01", host, purpose)
+    maker = hosts.Maker()
+    for row in [*hosts.host_rows(), *hosts.purpose_rows()][::size(*SAMPLED)]:
+        octets = maker.files(maker.chain(row.chain, row.common_name))
+        files = [made(room, *it) for it in zip(("bundle", "anchors", "vouchers"), octets)]
+        if row.host != "":
+            same_reports(count, program, files, "2026-12-01", row.host or "", row.purpose or "")
+
+
 def c_example(count, room):
     """The example in C, against the shared library: its vouchers are those of the samples, it
     writes none over another file, and names stay on their lines."""
@@ -164,7 +212,8 @@ def page_example(count):
     """The example of the page in Python."""
     block = PAGE_EXAMPLE.search(repo.read("docs/EMBEDDING.md"))[1]
     done = ran([sys.executable, "-c", block], env=with_package())
-    count.row(done.returncode == 0 and "\n(0, 1) 0\nTrue\npath 0 1 anchor 0\ncheck yes\n" in done.stdout,
+    said = "\n(0, 1) 0\nTrue\nhost www.example.test\npath 0 1 anchor 0\ncheck yes\n"
+    count.row(done.returncode == 0 and said in done.stdout,
               f"the example of docs/EMBEDDING.md in Python:\n{done.stdout[-2000:]}")
 
 
@@ -244,6 +293,10 @@ class Embedding(Trial):
     def test_c(self):
         self.need("cc")
         self.in_room(c_programs, size(CHANGED, FEW))
+
+    def test_reports(self):
+        self.need("cc")
+        self.in_room(reports_in_c)
 
     def test_c_example(self):
         self.need("cc")

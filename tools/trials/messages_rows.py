@@ -17,7 +17,7 @@ NO_MEMORY = "import certpath.library as it; it.loaded().certpath_frame = lambda 
 
 def stub(name):
     """Puts a program in the place of certpath."""
-    return f"import os; from program import programs; programs.found = lambda *_: (os.path.abspath('{name}'), None)"
+    return f"import os; from program import programs; programs.found = lambda *_: (os.path.abspath('{name}'), None, 0)"
 
 
 class Row(NamedTuple):

@@ -4,7 +4,7 @@ Python's `ssl`, the package `cryptography` and Go's `pem.Decode`. Each file is a
 docs/DIFFERENCES.md, under the same title: how many items each of them takes.
 
     python3 tools/trials/pem_peers.py            compares with the table
-    python3 tools/trials/pem_peers.py --write    prints the table's rows
+    python3 tools/trials/pem_peers.py --write    writes the table; what isn't installed keeps its column
 """
 import base64
 import os
@@ -26,10 +26,12 @@ except ImportError:
     x509 = None
 
 PAGE = "docs/DIFFERENCES.md"
-HEAD = ("| file | `openssl storeutl` | Python `ssl` | `cryptography` | Go `pem.Decode` "
-        "| `certpath bundle` | why they differ |")
+MARK_BEGIN, MARK_END = "<!-- table: made by tools/trials/pem_peers.py -->\n", "<!-- end of table -->\n"
+TITLES = ("file", "storeutl", "ssl", "cryptography", "Go", "bundle", "left out")
+# Between two columns, and so none within a title.
+GAP = "  "
 GO = shutil.which("go")
-ERROR, ABSENT = "error", None
+ERROR, ABSENT = "-", None
 MARK = b"\xef\xbb\xbf"
 COUNTER = """package main
 
@@ -209,8 +211,7 @@ def of_bundle(path, _):
     ran = subprocess.run([os.path.join(repo.TOP, "bundle"), path], stdin=subprocess.DEVNULL,
                          capture_output=True)
     last = ran.stderr.decode().splitlines()[-1]
-    found = re.fullmatch(r"bundle: (\d+) items? \(.*\), (\d+) left out", last)
-    return found[1] if found[2] == "0" else f"{found[1]}, {found[2]} left out"
+    return re.fullmatch(r"bundle: (\d+) items? \(.*\), (\d+) left out", last).groups()
 
 
 def rows():
@@ -221,14 +222,35 @@ def rows():
             path = os.path.join(room, "file")
             with open(path, "wb") as file:
                 file.write(octets)
-            yield title, [it(path, octets) for it in asked]
+            *others, (taken, left) = [it(path, octets) for it in asked]
+            yield title, [*others, taken, left]
 
 
 def table():
     """The rows of the page's table, by their titles."""
-    lines = repo.read(PAGE).split(HEAD)[1].split("\n")[2:]
-    found = [[it.strip() for it in line.strip("|").split("|")] for line in lines[:lines.index("")]]
-    return {row[0]: row[1:-1] for row in found}
+    lines = repo.read(PAGE).partition(MARK_BEGIN)[2].partition(MARK_END)[0].split("\n")
+    found = [re.split(rf"{GAP}+", line.strip()) for line in lines if line.strip()]
+    return {title: cells for title, *cells in found[1:]}
+
+
+def made():
+    """The table as the page has it."""
+    said = table()
+    lines = [TITLES]
+    for title, found in rows():
+        old = said.get(title, ["?"] * len(found))
+        lines.append((title, *(two if one is ABSENT else one for one, two in zip(found, old))))
+    widths = [max(map(len, column)) for column in zip(*lines)]
+    for line in lines:
+        yield "    " + GAP.join(cell.ljust(width) for cell, width in zip(line, widths)).rstrip()
+
+
+def write():
+    """Writes the table into the page."""
+    before, _, rest = repo.read(PAGE).partition(MARK_BEGIN)
+    text = before + MARK_BEGIN + "\n" + "\n".join(made()) + "\n\n" + MARK_END + rest.partition(MARK_END)[2]
+    with open(os.path.join(repo.TOP, PAGE), "w", encoding="utf-8") as file:
+        file.write(text)
 
 
 def faults():
@@ -245,8 +267,7 @@ def faults():
 
 def main(words):
     if words == ["--write"]:
-        for title, found in rows():
-            print(f"| {title} | {' | '.join(it or '' for it in found)} | |")
+        write()
         return 0
     found = [*faults()]
     for line in found:

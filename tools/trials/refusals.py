@@ -9,7 +9,7 @@ from concurrent.futures import ThreadPoolExecutor
 from typing import NamedTuple
 
 from program import repo
-from program.streams import counted
+from pki.reporting import counted
 from trials.chains import AUTHORITY, ISSUER_ID, NO_AUTHORITY, NO_SIGNER, OF_AUTHORITY, OF_LEAF, OF_ROOT, OWN_ID, SIGNER, Chain
 from trials.count import Trial
 from trials.vouching_pki import Workshop

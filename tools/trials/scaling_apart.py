@@ -1,8 +1,8 @@
 """Tries `certpath.inventory` on a log that is made apart, by the package `cryptography`: RSA and
 elliptic curves, weak keys and digests, crossed authorities, path lengths, revocation lists, copies,
-damaged signatures, precertificates and names that many share. OpenSSL verifies the signatures, here
-in each shard and there by `./vouch` over everything. Each row has to say what `certpath paths`
-says.
+damaged signatures, precertificates, hosts and names that many share. OpenSSL verifies the
+signatures, here in each shard and there by `./vouch` over everything. Each row has to say what
+`certpath paths` says, and which hosts `cryptography` reads.
 
     scaling_apart.py N FOLDER     writes the log, of about N entries, and everything in one file
 
@@ -19,6 +19,7 @@ import sys
 from base64 import b64encode
 from contextlib import closing
 from datetime import datetime
+from ipaddress import ip_address
 from typing import NamedTuple, Optional
 
 ENTRIES, ROOTS, UPPER, LOWER = 1000, 4, 10, 11
@@ -32,7 +33,7 @@ ANSWER, TIMESTAMP = 200, 1_790_000_000_000
 
 
 # The page, and its question for certificates that were issued for precertificates.
-PAGE, QUERY = "docs/SCALE.md", re.compile(r"(?s)SELECT pre\.sha256, .*?;")
+PAGE, QUERY = "docs/SCALE.md", re.compile(r"SELECT .* FROM issued;")
 # What is compared of a row; octets of a block, for so many entries.
 COLUMNS, BLOCKSIZE = ("class", "outcome", "path", "anchor"), 60_000
 
@@ -71,10 +72,10 @@ class Maker:
     def name(self, text):
         return self.x509.Name([self.x509.NameAttribute(self.x509.NameOID.COMMON_NAME, text)])
 
-    def builder(self, subject, key, issuer, signer, length=None, is_authority=False):
+    def builder(self, subject, key, issuer, signer, length=None, is_authority=False, serial=None):
         x509, self.serial = self.x509, self.serial + 1
         made = x509.CertificateBuilder(
-            self.name(issuer), self.name(subject), key.public_key(), self.serial, BEGIN,
+            self.name(issuer), self.name(subject), key.public_key(), serial or self.serial, BEGIN,
             PAST if self.one_in(15) else FUTURE)
         if is_authority:
             made = made.add_extension(x509.BasicConstraints(True, length), True)
@@ -84,8 +85,11 @@ class Maker:
             made = made.add_extension(found, False)
         return made
 
+    def signing(self):
+        return self.hashes.SHA1() if self.one_in(25) else self.hashes.SHA256()
+
     def signed(self, made, signer):
-        return made.sign(signer, self.hashes.SHA1() if self.one_in(25) else self.hashes.SHA256())
+        return made.sign(signer, self.signing())
 
     def certificate(self, subject, key, issuer, signer, length=None, is_authority=False):
         made = self.builder(subject, key, issuer, signer, length, is_authority)
@@ -117,9 +121,11 @@ class Maker:
             issuer = self.chance.randrange(ROOTS, len(self.keys))
             subject = SHARED if self.one_in(50) else f"{it}.example.test"
             signer, key = self.keys[issuer], self.chance.choice(self.keys)
-            made = self.builder(subject, key, f"Authority {issuer}", signer)
+            made = self.naming(self.builder(subject, key, f"Authority {issuer}", signer), subject)
             if self.one_in(6):
-                yield from self.precertificate(made, signer, issuer)
+                other = self.builder(subject, self.chance.choice(self.keys), f"Authority {issuer}",
+                                     signer, serial=self.serial)
+                yield from self.precertificate(made, other if self.one_in(4) else made, signer, issuer)
                 continue
             octets = self.signed(made, signer).public_bytes(self.der)
             damaged = octets[:-1] + bytes([octets[-1] ^ 1])
@@ -130,15 +136,47 @@ class Maker:
             key = self.chance.choice(self.keys)
             yield Made(self.certificate(SHARED, key, SHARED, key))
 
-    def precertificate(self, made, signer, issuer):
-        """A precertificate; in one of two cases the certificate is issued, too."""
-        poisoned = self.signed(made.add_extension(self.x509.PrecertPoison(), True), signer)
-        octets, final = poisoned.public_bytes(self.der), self.signed(made, signer)
+    def naming(self, made, subject):
+        """In two of three cases a subjectAltName is added."""
+        if self.one_in(3):
+            return made
+        address = self.chance.choice(("192.0.2.7", "2001:db8::7"))
+        names = [self.x509.DNSName(subject), self.x509.DNSName(f"*.{subject}"),
+                 self.x509.RFC822Name(f"hostmaster@{subject}"),
+                 self.x509.IPAddress(ip_address(address))][self.chance.randrange(4):]
+        return made.add_extension(self.x509.SubjectAlternativeName(names), False)
+
+    def hosts(self, octets):
+        """The hosts that a certificate names, as cryptography reads them; none of a list."""
+        try:
+            found = self.x509.load_der_x509_certificate(octets).extensions
+            names = found.get_extension_for_class(self.x509.SubjectAlternativeName).value
+        except (ValueError, self.x509.ExtensionNotFound):
+            return ""
+        kinds = self.x509.DNSName, self.x509.IPAddress
+        return ", ".join(str(it.value) for it in names if isinstance(it, kinds))
+
+    def precertificate(self, made, to_issue, signer, issuer):
+        """A precertificate; in one of two cases a certificate is issued, too, which may be one that
+        differs."""
+        digest = self.signing()
+        pre = made.add_extension(self.x509.PrecertPoison(), True).sign(signer, digest)
+        final = to_issue.sign(signer, digest)
+        octets, issued = (it.public_bytes(self.der) for it in (pre, final))
         yield Made(octets, issuer, final.tbs_certificate_bytes)
         if self.one_in(2):
-            issued = final.public_bytes(self.der)
-            self.issued.append([hashlib.sha256(it).hexdigest() for it in (octets, issued)])
+            digests = [hashlib.sha256(it).hexdigest() for it in (octets, issued)]
+            self.issued.append([*digests, self.differing(pre, final)])
             yield Made(issued, issuer)
+
+    def differing(self, pre, final):
+        """Which columns of two certificates of one issuer and serial number differ."""
+        one, other = ((self.public(it.public_key()), it.not_valid_after) for it in (pre, final))
+        columns = zip(("key_sha256", "not_after"), one, other)
+        return " ".join(name for name, its, others in columns if its != others)
+
+    def public(self, key):
+        return key.public_bytes(self.der, self.serialization.PublicFormat.SubjectPublicKeyInfo)
 
     def answer(self, made):
         """An entry of an answer to get-entries (RFC 6962, 3.4 and 4.6), and its chain."""
@@ -146,8 +184,7 @@ class Maker:
         chain = self.first[made.issuer]
         links, extra = vector(vector(chain)), b""
         if made.tbs:
-            key = self.keys[made.issuer].public_key().public_bytes(
-                self.der, self.serialization.PublicFormat.SubjectPublicKeyInfo)
+            key = self.public(self.keys[made.issuer].public_key())
             front, extra = front + hashlib.sha256(key).digest(), vector(made.octets)
         leaf = front + vector(made.tbs or made.octets) + vector(b"", 2)
         fields = {"leaf_input": leaf, "extra_data": extra + links}
@@ -182,7 +219,8 @@ class Maker:
         self.put(folder, BUNDLE, b"".join(everything))
         self.put(folder, ANCHORS, b"".join(roots))
         digests = [[hashlib.sha256(it).hexdigest() for it in some] for some in (everything, roots)]
-        self.put(folder, LOG, json.dumps([files, entries, *digests, self.issued]).encode())
+        hosts = [*map(self.hosts, everything)]
+        self.put(folder, LOG, json.dumps([files, entries, *digests, self.issued, hosts]).encode())
 
     def put(self, folder, name, octets):
         with open(os.path.join(folder, name), "wb") as to:
@@ -208,7 +246,7 @@ def trial(count, interpreter, room, entries=ENTRIES):
     subprocess.run([interpreter, "-W", "ignore", __file__, str(entries), folder], check=True)
     bundle, anchors, vouchers = (os.path.join(folder, it) for it in (BUNDLE, ANCHORS, VOUCHERS))
     with open(os.path.join(folder, LOG), encoding="ascii") as file:
-        files, places, digests, held, issued = json.load(file)
+        files, places, digests, held, issued, hosts = json.load(file)
     with open(vouchers, "wb") as to:
         subprocess.run([os.path.join(repo.TOP, "vouch"), bundle, anchors], check=True, stdout=to,
                        stderr=subprocess.DEVNULL)
@@ -217,16 +255,19 @@ def trial(count, interpreter, room, entries=ENTRIES):
                            stdout=subprocess.PIPE, check=False).stdout.splitlines()
     paths = [os.path.join(folder, it) for it in files]
     log, out = Written(paths, anchors, vouchers, 0, 0), os.path.join(room, "made-apart")
-    words = ["--blocksize", str(BLOCKSIZE * entries // ENTRIES), "--workers", "2"]
+    words = ["--names", "--blocksize", str(BLOCKSIZE * entries // ENTRIES), "--workers", "2"]
     run = Run(interpreter, log, out, *words).wait()
     rows = {(it["file"], int(it["offset"])): it for it in rows_of(run.out)}
     wanted = {(os.path.join(folder, file), offset): expected(lines[position], digests, held)
               for file, offset, position in places}
+    named = {(os.path.join(folder, file), offset): hosts[position] for file, offset, position in places}
     found = {place: tuple(it[name] for name in COLUMNS) for place, it in rows.items()}
     wrong = [it for it in wanted if found.get(it) != wanted[it]]
     count.row(lines[len(digests)] == "end clean" and found.keys() == wanted.keys() and not wrong,
               f"{len(wrong)} of {len(wanted)} rows differ from one run: {wrong[:5]} "
               f"{run.errors[-2000:]}")
+    wrong = [(rows[place]["names"], its) for place, its in named.items() if rows[place]["names"] != its]
+    count.row(len({*named.values()}) > len(named) // 5 and not wrong, f"other hosts: {wrong[:5]}")
     outcomes = [it["outcome"] for it in rows.values()]
     count.row(min(map(outcomes.count, ("path", "none"))) > len(rows) // 5, "too few of an outcome")
     count.row({it["source"] for it in rows.values()} == {"item", "x509_entry", "precert_entry"}
@@ -238,9 +279,10 @@ def trial(count, interpreter, room, entries=ENTRIES):
     with closing(sqlite3.connect(database)) as opened:
         joined = {*opened.execute(QUERY.search(repo.read(PAGE))[0])}
     logged = {it["sha256"] for it in rows.values() if it["source"] == "precert_entry"}
-    wanted = {(pre, final) for pre, final in issued if pre in logged}
-    count.row(len(wanted) > len(rows) // 50 and joined == wanted,
-              f"{len(joined)} certificates issued for precertificates, {len(wanted)} were made")
+    wanted = {tuple(it) for it in issued if it[0] in logged}
+    count.row(len(wanted) > len(rows) // 50 and joined == wanted and {it[2] for it in wanted} > {""},
+              f"{len(joined)} certificates issued for precertificates, {len(wanted)} were made: "
+              f"{[*joined ^ wanted][:3]}")
     return len(rows)
 
 

@@ -129,9 +129,10 @@ def localhosts(path, number):
 
 
 def has_reasons(row, further):
-    """Whether as many reasons stand there as may, each on the certificate itself."""
+    """Whether as many reasons stand there as may, each on the certificate itself, and how many
+    further ones there are."""
     *lines, last = row["reasons"].split("; ")
-    return (len({*lines}) == MOST_REASONS and last == f".. further {further}"
+    return (len({*lines}) == MOST_REASONS and last == f".. {further} further"
             and all(map(NO_VOUCHER.fullmatch, lines)))
 
 
@@ -147,8 +148,8 @@ def one_name(count, interpreter, few, room, number=SAME_NAME):
     after = resource.getrusage(resource.RUSAGE_CHILDREN)
     took = after.ru_utime + after.ru_stime - before.ru_utime - before.ru_stime
     rows = rows_of(run.out)
-    further = (f"not asked: {number * (number + 1)} pairs of a certificate and one of its issuer's "
-               "name")
+    # (each is linked to itself and to no other one, and each but the target is no issuer)
+    further = number * (number - 1) + number - 1 - MOST_REASONS
     wrong = [it for it in rows if it["outcome"] != "none" or not has_reasons(it, further)]
     count.row(len(rows) == number and not wrong,
               f"{len(wrong)} of {len(rows)} rows of one name: {wrong[:1]} {run.errors[-2000:]}")

@@ -10,7 +10,9 @@ from program import repo
 from trials import refusals
 from trials.chains import AUTHORITY, NO_AUTHORITY, NO_SIGNER, OF_AUTHORITY, OF_LEAF, OF_ROOT, OWN_ID, SIGNER, Chain
 
-PAGE, HEAD = "docs/VERIFY.md", "| case | `openssl verify` | `certtool` | `./verify` | what the output names |"
+PAGE, HEAD = "docs/VERIFY.md", re.compile(r"(?m)^    case +openssl +certtool +verify +names$")
+# The standard whose sections the last column has.
+RULES = "RFC 5280, "
 STAMP = "1780272000"
 LONG = {"begin": "20200101000000Z", "end": "20490101000000Z"}
 PAST = {"begin": "20200101000000Z", "end": "20251231235959Z"}
@@ -40,9 +42,9 @@ class Row(NamedTuple):
 
 def table():
     """The rows of the page's table, by their titles."""
-    lines = repo.read(PAGE).split(HEAD)[1].split("\n")[2:]
-    rows = [[it.strip() for it in line.strip("|").split("|")] for line in lines[:lines.index("")]]
-    return {row[0]: Row(*row[1:]) for row in rows}
+    lines = HEAD.split(repo.read(PAGE))[1].split("\n")[1:]
+    rows = [re.split(" {2,}", line.strip()) for line in lines[:lines.index("")]]
+    return {title: Row(*others, f"{RULES}{named}" if named[0].isdigit() else named) for title, *others, named in rows}
 
 
 def of_refusal(title, openssl=(), certtool_has_lists=False):
@@ -94,12 +96,12 @@ CASES = {
     "signed by SHA-1": of_refusal("weak signature"),
     "issuer's name in another string type": of_refusal("name in another string type"),
     "revoked": of_refusal("revoked"),
-    "revoked, `-crl_check`, `--load-crl`": of_refusal("revoked", WITH_LISTS, True),
-    "no list, `--demand-lists`": of_refusal("list demanded"),
-    "revoking list past its next update": of_refusal("list past its next update"),
-    "revoking list past its next update, `-crl_check`, `--load-crl`": of_refusal("list past its next update", WITH_LISTS, True),
-    "revoking list for user certificates alone, `-crl_check`, `--load-crl`": of_refusal("list with a critical extension", WITH_LISTS, True),
-    "issuer with two certificates, the first a dead end": dead_end,
+    "revoked, lists given": of_refusal("revoked", WITH_LISTS, True),
+    "no list, --demand-lists": of_refusal("list demanded"),
+    "revoking list past its update": of_refusal("list past its next update"),
+    "revoking list past its update, lists given": of_refusal("list past its next update", WITH_LISTS, True),
+    "revoking list of users alone, lists given": of_refusal("list with a critical extension", WITH_LISTS, True),
+    "issuer whose first certificate is a dead end": dead_end,
     "anchor that has expired": expired_anchor,
     "anchor that isn't self-signed": middle_anchor,
     "anchor that is no CA": anchor_of_leaf,

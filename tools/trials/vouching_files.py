@@ -6,7 +6,7 @@ import sys
 
 from dev.items import octets
 from pki import package
-from program import repo
+from program import programs, repo
 from trials import bundling
 from trials.bundling import CERTIFICATE, pem
 from trials.elements import parts_of
@@ -48,7 +48,7 @@ def samples(t):
 def paths(t):
     """From PEM files to an answer by the three commands of README.md: where the leaf is kept and where it is revoked, without lists
     where they are demanded, and under another anchor."""
-    program = repo.ready("certpath_cli")
+    program = programs.ready(programs.CERTPATH)
     another = t.shop.openssl("req", "-new", "-x509", "-config", "openssl.cnf", "-key", t.shop.key("other"), "-subj", "/C=CZ/O=Example/CN=Example Root")
     t.shop.keep("another.pem", another)
     rows = (
@@ -172,7 +172,7 @@ def containers(t, chain):
 
 def bundles(t):
     """What ./bundle writes is items to its end, as many as it says."""
-    program = repo.ready("certpath_cli")
+    program = programs.ready(programs.CERTPATH)
     for files, words, *_ in bundling.CASES:
         for file, octets_held in {**{it: held(f"{it}.der") for it in ("leaf", "intermediate", "root", "list")}, **files}.items():
             t.shop.keep(file, octets_held)

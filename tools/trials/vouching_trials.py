@@ -5,7 +5,7 @@ import subprocess
 import sys
 
 from program import repo
-from program.streams import counted
+from pki.reporting import counted
 from trials.vouching_pki import line
 
 # (a busy machine may take a hundred times as long as a free one)

@@ -76,13 +76,13 @@ class Wrapper(Trial):
         record = "".join(f"{it} {said}\n" for it, said in {**its, **changes}.items())
         self.put(programs.SHIPPED_RECORD, record)
 
-    def start(self, *words, kind=None, **how):
+    def start(self, *words, kind=None, stdout=subprocess.PIPE):
         """Starts a script of the copy: with no toolchain, or with one that does as `kind` says."""
         environment = {"PATH": self.tools if kind else "", "TMPDIR": self.temporary, "FAKE_RT": kind or ""}
-        how = {"stdin": subprocess.DEVNULL, "stdout": subprocess.PIPE, **how}
         script = [sys.executable, "-IS", self.place(words[0])]
         return subprocess.Popen([*INTERRUPTIBLE, *script, *words[1:]], cwd=self.copy, text=True,
-                                env=environment, stderr=subprocess.PIPE, **how)
+                                env=environment, stdin=subprocess.DEVNULL, stdout=stdout,
+                                stderr=subprocess.PIPE)
 
     def ran(self, *words, **how):
         """A script's status, its output, and its lines on standard error."""

@@ -13,9 +13,9 @@ class Workspace:
 
     def __init__(self, bundle, anchors, words):
         self.files, self.words, self.lines = {}, words, 0
-        self.program, lack = programs.found(programs.CERTPATH)
-        if lack:
-            raise Fault(lack.status, lack.why)
+        self.program, why, status = programs.found(programs.CERTPATH)
+        if why:
+            raise Fault(status, why)
         self.keep(BUNDLE, bundle.items.data)
         self.keep(ANCHORS, anchors.items.data)
 

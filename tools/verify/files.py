@@ -38,7 +38,7 @@ class LeftOut(NamedTuple):
     if it was none or isn't known, and how many items are before it."""
     where: str
     why: str
-    label: str = None
+    label: "str | None" = None
     before: int = 0
 
     def __str__(self):
@@ -73,7 +73,7 @@ class FileContents(NamedTuple):
     """What a file holds, what was left out of it, and its form in the library's words."""
     items: list
     left_out: list
-    form: str = None
+    form: "str | None" = None
 
 
 def octets_of(file):

@@ -1,7 +1,8 @@
 """What was taken as a target, and what as a helper: further certificates and revocation lists that a path may need."""
 from typing import NamedTuple
 
-from program.streams import counted, shown
+from pki.reporting import counted
+from program.streams import shown
 
 # So many files have a line.
 MOST = 20

@@ -3,8 +3,8 @@ import os
 from itertools import islice
 
 from pki import reading
+from pki.reporting import counted
 from program import programs, repo, streams
-from program.streams import counted
 from verify import (answers, asking, core, demands, faults, files, graph, machine, page, people, roles, signing, spelling, stores, waiting,
                     words)
 from verify.core import Kind

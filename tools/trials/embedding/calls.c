@@ -487,11 +487,12 @@ typedef int32_t (*reporter)(const uint8_t *, size_t, const uint8_t *, size_t, co
 static const struct {
     reporter call;
     const char *of_nothing, *has;
+    int takes_a_host;
 } REPORTS[] = {
     {certpath_path, "end clean\nanchors 0 of 0, clean\nno target\ncheck yes\n",
-     "\npath 0 1 anchor 0\n"},
-    {certpath_why, "no target\ncheck yes\n", "path 0 1 anchor 0\n"},
-    {certpath_paths, "end clean\nanchors 0 of 0, clean\ncheck yes\n", "1 path 1 anchor 0\n"},
+     "\npath 0 1 anchor 0\n", 1},
+    {certpath_why, "no target\ncheck yes\n", "path 0 1 anchor 0\n", 1},
+    {certpath_paths, "end clean\nanchors 0 of 0, clean\ncheck yes\n", "1 path 1 anchor 0\n", 0},
 };
 
 static int32_t told(reporter call, const certpath_settings *settings, const char *vouched,
@@ -538,11 +539,113 @@ static void of_report(reporter call, const char *of_nothing, const char *has)
          "a report of nothing");
 }
 
+/* A host that is none: after the moment, before the vouchers, and not where no host is taken. */
+static void of_bad_hosts(reporter call, int takes_a_host)
+{
+    static unsigned char text[ROOM];
+    certpath_settings settings = IN_2027;
+    certpath_report report;
+    const char *vouched = (const char *)lines;
+    memset(text, KEPT, sizeof text);
+    memset(&report, KEPT, sizeof report);
+    settings.host = (const uint8_t *)"no host";
+    settings.host_length = 7;
+    if (takes_a_host) {
+        tell(told(call, &settings, vouched, lines_length, text, ROOM, &report) == CERTPATH_BAD_HOST
+                 && told(call, &settings, "no digest", 9, NULL, 0, &report) == CERTPATH_BAD_HOST
+                 && is_kept(text, sizeof text) && is_kept(&report, sizeof report),
+             "a report on a host that is none");
+        settings.moment.day = 32;
+        tell(told(call, &settings, vouched, lines_length, text, ROOM, &report)
+                     == CERTPATH_BAD_MOMENT
+                 && is_kept(text, sizeof text) && is_kept(&report, sizeof report),
+             "the moment before the host of a report");
+    } else {
+        tell(told(call, &settings, vouched, lines_length, text, ROOM, &report) == CERTPATH_DONE,
+             "a report that takes no host");
+        text[report.length] = 0;
+        tell(strstr((const char *)text, "host") == NULL, "a report that names no host");
+    }
+}
+
+/* What a report says where a host, a purpose or both are demanded. */
+static void of_demanded(reporter call, int takes_a_host)
+{
+    static const struct {
+        const char *host, *purpose, *named, *answer;
+    } ASKED[] = {
+        {"www.example.test", "", "host www.example.test\n", "path 0 1 anchor 0\n"},
+        {"WWW.example.test.", "", "host WWW.example.test.\n", "path 0 1 anchor 0\n"},
+        {"[2001:db8::1]", "", "host [2001:db8::1]\n", "none\n"},
+        {"", "\x2b\x06\x01\x05\x05\x07\x03\x01", "purpose serverAuth\n", "path 0 1 anchor 0\n"},
+        {"a.test", "\x2b\x06\x01\x05\x05\x07\x03\x09", "purpose OCSPSigning\nhost a.test\n",
+         "none\n"},
+        {"", "\x2a\x03", "purpose 1.2.3\n", "path 0 1 anchor 0\n"},
+        {"", "\x2b\x80\x0a", "purpose 2b 80 0a\n", "path 0 1 anchor 0\n"},
+    };
+    static unsigned char text[ROOM];
+    certpath_settings settings = IN_2027;
+    certpath_report report, again;
+    char named[128];
+    size_t k;
+    for (k = 0; k < sizeof ASKED / sizeof *ASKED; k++) {
+        settings.host = (const uint8_t *)ASKED[k].host;
+        settings.host_length = strlen(ASKED[k].host);
+        settings.purpose = (const uint8_t *)ASKED[k].purpose;
+        settings.purpose_length = strlen(ASKED[k].purpose);
+        memset(text, KEPT, sizeof text);
+        tell(told(call, &settings, (const char *)lines, lines_length, NULL, 0, &report)
+                     == CERTPATH_TOO_SMALL
+                 && told(call, &settings, (const char *)lines, lines_length, text,
+                         report.length - 1, &again) == CERTPATH_TOO_SMALL
+                 && report.length == again.length && is_kept(text, sizeof text),
+             "no room for a report of what is demanded");
+        tell(told(call, &settings, (const char *)lines, lines_length, text, report.length, &again)
+                     == CERTPATH_DONE
+                 && again.length == report.length
+                 && is_kept(text + report.length, sizeof text - report.length),
+             "a report of what is demanded");
+        text[report.length] = 0;
+        if (takes_a_host) {
+            sprintf(named, "%s%s", ASKED[k].named, ASKED[k].answer);
+            tell(strstr((const char *)text, named) != NULL, "what is demanded, and the answer");
+        } else if (settings.host_length == 0) {
+            tell(strstr((const char *)text, ASKED[k].named) != NULL, "the purpose that is demanded");
+        }
+    }
+}
+
+/* A host whose octets are those of the bundle that is read, and the purpose's too. */
+static void of_shared_octets(reporter call)
+{
+    static const char HOST[] = "www.example.test";
+    static unsigned char text[ROOM], other[ROOM];
+    certpath_settings settings = IN_2027;
+    certpath_report report, again;
+    size_t at = 0;
+    while (at + sizeof HOST < bundle_length && memcmp(bundle + at, HOST, sizeof HOST - 1) != 0)
+        at++;
+    settings.host = settings.purpose = (const uint8_t *)HOST;
+    settings.host_length = settings.purpose_length = sizeof HOST - 1;
+    tell(told(call, &settings, (const char *)lines, lines_length, text, ROOM, &report)
+             == CERTPATH_DONE,
+         "one text as host and purpose");
+    settings.host = settings.purpose = bundle + at;
+    tell(told(call, &settings, (const char *)lines, lines_length, other, ROOM, &again)
+                 == CERTPATH_DONE
+             && report.length == again.length && memcmp(text, other, report.length) == 0,
+         "a host within the bundle");
+}
+
 static void of_reports(void)
 {
     size_t k;
-    for (k = 0; k < sizeof REPORTS / sizeof *REPORTS; k++)
+    for (k = 0; k < sizeof REPORTS / sizeof *REPORTS; k++) {
         of_report(REPORTS[k].call, REPORTS[k].of_nothing, REPORTS[k].has);
+        of_bad_hosts(REPORTS[k].call, REPORTS[k].takes_a_host);
+        of_demanded(REPORTS[k].call, REPORTS[k].takes_a_host);
+        of_shared_octets(REPORTS[k].call);
+    }
 }
 
 /* The vouchers as a file: two digests in hex a line. */

@@ -177,8 +177,8 @@ static int32_t find(written *to)
 
 static written found;
 
-/* The same for a host and a purpose, for which each certificate is read. */
-static int32_t serving(written *to)
+/* The settings with a host and a purpose, for which each certificate is read. */
+static certpath_settings serving_settings(void)
 {
     static const char HOST[] = "www.example.test", PURPOSE[] = "\x2b\x06\x01\x05\x05\x07\x03\x01";
     certpath_settings asked = settings;
@@ -186,6 +186,12 @@ static int32_t serving(written *to)
     asked.host_length = sizeof HOST - 1;
     asked.purpose = (const uint8_t *)PURPOSE;
     asked.purpose_length = sizeof PURPOSE - 1;
+    return asked;
+}
+
+static int32_t serving(written *to)
+{
+    certpath_settings asked = serving_settings();
     return certpath_find(bundle, bundle_length, anchors, anchors_length,
                          (const certpath_voucher *)vouchers,
                          vouchers_length / sizeof(certpath_voucher), &asked,
@@ -204,22 +210,47 @@ static int32_t check(written *to)
                           (uint32_t *)to->result);
 }
 
+typedef int32_t (*reporter)(const uint8_t *, size_t, const uint8_t *, size_t, const uint8_t *,
+                            size_t, const certpath_settings *, uint8_t *, size_t,
+                            certpath_report *);
+
+static int32_t report(reporter make, const certpath_settings *asked, written *to)
+{
+    return make(bundle, bundle_length, anchors, anchors_length, lines, lines_length, asked,
+                to->buffer, ROOM, (certpath_report *)to->result);
+}
+
 static int32_t path(written *to)
 {
-    return certpath_path(bundle, bundle_length, anchors, anchors_length, lines, lines_length,
-                         &settings, to->buffer, ROOM, (certpath_report *)to->result);
+    return report(certpath_path, &settings, to);
 }
 
 static int32_t why(written *to)
 {
-    return certpath_why(bundle, bundle_length, anchors, anchors_length, lines, lines_length,
-                        &settings, to->buffer, ROOM, (certpath_report *)to->result);
+    return report(certpath_why, &settings, to);
 }
 
 static int32_t paths(written *to)
 {
-    return certpath_paths(bundle, bundle_length, anchors, anchors_length, lines, lines_length,
-                          &settings, to->buffer, ROOM, (certpath_report *)to->result);
+    return report(certpath_paths, &settings, to);
+}
+
+static int32_t serving_path(written *to)
+{
+    certpath_settings asked = serving_settings();
+    return report(certpath_path, &asked, to);
+}
+
+static int32_t serving_why(written *to)
+{
+    certpath_settings asked = serving_settings();
+    return report(certpath_why, &asked, to);
+}
+
+static int32_t serving_paths(written *to)
+{
+    certpath_settings asked = serving_settings();
+    return report(certpath_paths, &asked, to);
 }
 
 typedef struct {
@@ -235,7 +266,9 @@ static const named OF_AN_ITEM[] = {
 static const named OF_FILES[] = {
     {"frame", frame}, {"load", load},           {"classes", classes}, {"shapes", shapes},
     {"find", find},   {"questions", questions}, {"serving", serving}, {"check", check},
-    {"path", path},   {"why", why},             {"paths", paths}};
+    {"path", path},   {"why", why},             {"paths", paths},
+    {"serving path", serving_path},             {"serving why", serving_why},
+    {"serving paths", serving_paths}};
 
 /* The vouchers as a file: two digests in hex a line. */
 static void write_lines(void)

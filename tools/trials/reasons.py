@@ -1,0 +1,299 @@
+#!/usr/bin/env python3
+"""Asks `certpath why` for reasons: rows whose dates and names are written out, and random bundles
+beside a model that is written apart from the code.
+
+    python3 tools/trials/reasons.py [NUMBER]    makes so many random bundles, 10000 without a number
+"""
+import collections
+import difflib
+import os
+import subprocess
+import sys
+import tempfile
+import time
+import unittest
+from typing import NamedTuple
+
+sys.dont_write_bytecode = True
+sys.path.insert(0, os.path.dirname(os.path.dirname(os.path.abspath(__file__))))
+from trials import paths, reasons_making as making, reasons_model as model
+from trials.count import Trial, size
+from trials.reasons_making import ALGORITHM, KEYS, SIGNATURE
+from trials.synthetic import CONSTRAINTS, USAGE, element, extension, name, number, sequence
+
+# How many random bundles are made: by hand, in the gate, and on a machine without the toolchain.
+MANY, SOME, FEW = 10_000, 500, 50
+SEED, SECONDS = "reasons", 60
+AT = "2025-06-01T00:00:00"
+KEY, YEAR = KEYS[0], ("250101000000Z", "260101000000Z")
+CERTIFICATE_ISSUER, POLICIES = bytes.fromhex("0603551d1d"), bytes.fromhex("0603551d20")
+# `M\xfcller` as a T61String (20), which is no UTF-8, so that the name has no text.
+NO_TEXT = bytes.fromhex("3011310f300d060355040314064dfc6c6c6572")
+CRITICAL, UNCRITICAL = (extension(CERTIFICATE_ISSUER, it, b"\x30\0") for it in (True, False))
+SIGNER, TRAILING_ZERO = bytes.fromhex("03020204"), bytes.fromhex("03020184")
+AUTHORITY = extension(CONSTRAINTS, True, sequence(b"\x01\x01\xff"))
+NO_AUTHORITY = extension(CONSTRAINTS, True, b"\x30\0")
+
+
+class Row(NamedTuple):
+    """Items and anchors, all of which the one key signed, and the report's lines without the
+    check."""
+    title: str
+    items: list
+    anchors: list
+    lines: list
+    status: int = 0
+
+
+def utc(text):
+    return element(0x17, text.encode())
+
+
+def certificate(subject, issuer, validity=YEAR, extensions=()):
+    """A certificate of serial number 1."""
+    version = [element(0xa0, number(2))] * bool(extensions)
+    after = [element(0xa3, sequence(*extensions))] * bool(extensions)
+    first = sequence(*version, number(1), ALGORITHM, issuer, sequence(*map(utc, validity)),
+                     subject, KEY, *after)
+    return sequence(first, ALGORITHM, SIGNATURE)
+
+
+def entry(serial, *extensions):
+    after = [sequence(*extensions)] * bool(extensions)
+    return sequence(number(serial), utc("250101000000Z"), *after)
+
+
+def revocations(updates, entries=(), extensions=(), issuer=name("b")):
+    """A list of the times that are written."""
+    first = sequence(number(1), ALGORITHM, issuer, *updates, *[sequence(*entries)] * bool(entries),
+                     *[element(0xa0, sequence(*extensions))] * bool(extensions))
+    return sequence(first, ALGORITHM, SIGNATURE)
+
+
+LEAF, ANCHOR = certificate(name("a"), name("b")), certificate(name("b"), name("b"))
+FOUND = ["path 0 anchor 0", "at 0 CN=a", "at 0 to anchor 0 linked"]
+
+
+def list_row(title, octets, *reasons):
+    """A list that would revoke the target, and why it isn't used."""
+    return Row(title, [LEAF, octets], [ANCHOR],
+               [*FOUND, "list 1 CN=b", *(f"list 1 not used: {it}" for it in reasons)])
+
+
+def list_rows():
+    updates = [utc(it) for it in YEAR]
+    revoking = [entry(1)]
+    yield list_row("a list without a next update", revocations(updates[:1], revoking),
+                   "no next update")
+    yield list_row("a list of the next month",
+                   revocations([utc("250701000000Z"), utc("250801000000Z")], revoking),
+                   "not current before 2025-07-01T00:00:00")
+    yield list_row("a list of the next second",
+                   revocations([utc("250601000001Z"), utc("250801000000Z")], revoking),
+                   "not current before 2025-06-01T00:00:01")
+    yield list_row("a list of another century",
+                   revocations([element(0x18, b"20510203040506Z")], revoking),
+                   "no next update", "not current before 2051-02-03T04:05:06")
+    yield list_row("a list of the last month",
+                   revocations([utc("250401000000Z"), utc("250501123456Z")], revoking),
+                   "past next update 2025-05-01T12:34:56")
+    yield list_row("a list that ended a second before",
+                   revocations([utc("250401000000Z"), utc("250531235959Z")], revoking),
+                   "past next update 2025-05-31T23:59:59")
+    yield list_row("a list that ends before it begins",
+                   revocations([utc("250701000000Z"), utc("250501000000Z")], revoking),
+                   "not current before 2025-07-01T00:00:00", "past next update 2025-05-01T00:00:00")
+    for title, times in (("begins", ("250601000000Z", "260101000000Z")),
+                         ("ends", ("250101000000Z", "250601000000Z"))):
+        yield Row(f"a list that {title} at the moment",
+                  [LEAF, revocations(map(utc, times), revoking)], [ANCHOR],
+                  ["none", "at 0 CN=a", "at 0 to anchor 0 not linked: revoked by list 1"], 1)
+    yield list_row("a list with critical extensions",
+                   revocations(updates, revoking, [UNCRITICAL, CRITICAL]),
+                   "extension 1 critical 2.5.29.29")
+    yield list_row("entries with critical extensions",
+                   revocations(updates, [entry(1, UNCRITICAL), entry(2, UNCRITICAL, CRITICAL),
+                                         entry(3), entry(1, CRITICAL)]),
+                   "entry 1 has a critical extension", "entry 3 has a critical extension")
+    yield list_row("a list with all of this but a next update",
+                   revocations([utc("250701000000Z")], [entry(1, CRITICAL)], [CRITICAL, CRITICAL]),
+                   "no next update", "not current before 2025-07-01T00:00:00",
+                   "extension 0 critical 2.5.29.29", "extension 1 critical 2.5.29.29",
+                   "entry 0 has a critical extension")
+
+
+def certificate_rows():
+    for title, validity, *reasons in (
+            ("begins a second later", ("250601000001Z", "260101000000Z"),
+             "not valid before 2025-06-01T00:00:01"),
+            ("ended a second before", ("250101000000Z", "250531235959Z"),
+             "expired 2025-05-31T23:59:59"),
+            ("ends before it begins", ("250701000000Z", "250501000000Z"),
+             "not valid before 2025-07-01T00:00:00", "expired 2025-05-01T00:00:00")):
+        yield Row(f"a certificate that {title}", [certificate(name("a"), name("b"), validity)],
+                  [ANCHOR], ["none", "at 0 CN=a", *(f"at 0 not usable: {it}" for it in reasons),
+                             "at 0 to anchor 0 linked"], 1)
+    for title, validity in (("begins", ("250601000000Z", "260101000000Z")),
+                            ("ends", ("250101000000Z", "250601000000Z"))):
+        yield Row(f"a certificate that {title} at the moment",
+                  [certificate(name("a"), name("b"), validity)], [ANCHOR], FOUND)
+
+
+def repeat_rows():
+    """basicConstraints of an issuer that are there twice, once with cA."""
+    for first, second in ((NO_AUTHORITY, AUTHORITY), (AUTHORITY, NO_AUTHORITY)):
+        issuer = certificate(name("b"), name("c"), YEAR, [first, second])
+        yield Row("an issuer that is an authority and none", [LEAF, issuer],
+                  [certificate(name("c"), name("c"))],
+                  ["none", "at 0 CN=a", "at 0 to 1 linked", "at 1 CN=b",
+                   "at 1 not usable: extension 1 repeats 2.5.29.19", "at 1 to anchor 0 linked"], 1)
+
+
+def usage_rows():
+    """keyUsage of an issuer."""
+    for value, reasons, answer in (
+            (SIGNER, [], "path 0 1 anchor 0"),
+            (TRAILING_ZERO, ["not usable: extension 1 keyUsage not well written",
+                             "no issuer: extension 1 keyUsage without keyCertSign"], "none")):
+        issuer = certificate(name("b"), name("c"), YEAR, [AUTHORITY, extension(USAGE, True, value)])
+        yield Row(f"an issuer with keyUsage {value.hex()}", [LEAF, issuer],
+                  [certificate(name("c"), name("c"))],
+                  [answer, "at 0 CN=a", "at 0 to 1 linked", "at 1 CN=b",
+                   *(f"at 1 {it}" for it in reasons), "at 1 to anchor 0 linked"],
+                  int(answer == "none"))
+    yield Row("a target with keyUsage 03020184",
+              [certificate(name("a"), name("b"), YEAR, [extension(USAGE, False, TRAILING_ZERO)])],
+              [ANCHOR],
+              ["none", "at 0 CN=a", "at 0 not usable: extension 0 keyUsage not well written",
+               "at 0 to anchor 0 linked"], 1)
+
+
+def name_rows():
+    shown = "#3011310F300D060355040314064DFC6C6C6572"
+    yield Row("names without a text",
+              [certificate(NO_TEXT, NO_TEXT), revocations([utc("250101000000Z")], (), (), NO_TEXT)],
+              [], ["none", f"at 0 {shown}", "at 0 to 0 linked", f"list 1 {shown}",
+                   "list 1 not used: no next update"], 1)
+    yield Row("a missing issuer without a text", [certificate(name("a"), NO_TEXT)], [ANCHOR],
+              ["none", "at 0 CN=a", f"at 0 no issuer here: {shown}"], 1)
+
+
+def bound_rows():
+    """An issuer with the path length 0, and who is held back from it: neither the target, nor one
+    that issued itself, nor anyone if there is a path."""
+    constraints = extension(CONSTRAINTS, True, bytes.fromhex("30060101ff020100"))
+    limited = certificate(name("b"), name("c"), YEAR, [constraints])
+    ended = certificate(name("a"), name("b"), ("250101000000Z", "250531235959Z"))
+    no_path = ["none", "at 0 CN=a", "at 0 not usable: expired 2025-05-31T23:59:59",
+               "at 0 to 1 linked"]
+    anchors = [certificate(name("c"), name("c"))]
+    yield Row("a path length with the target alone below", [ended, limited], anchors,
+              [*no_path, "at 1 CN=b", "at 1 to anchor 0 linked"], 1)
+    yield Row("a path length with one that issued itself below",
+              [ended, limited, certificate(name("b"), name("b"))], anchors,
+              [*no_path, "at 0 to 2 linked", "at 1 CN=b", "at 1 to anchor 0 linked", "at 2 CN=b",
+               "at 2 no issuer: no authority", "at 2 to 1 linked", "at 2 to 2 linked"], 1)
+    crossed = certificate(name("c"), name("b"), YEAR, [AUTHORITY])
+    links = ["at 1 CN=b", "at 1 to 2 linked", "at 1 to anchor 0 linked", "at 2 CN=c",
+             "at 2 to 1 linked"]
+    yield Row("a path length with another one below", [ended, limited, crossed], anchors,
+              [*no_path, *links, "at 1 leads to an anchor with at most 0 below"], 1)
+    yield Row("a path length that a path keeps", [LEAF, limited, crossed], anchors,
+              ["path 0 1 anchor 0", "at 0 CN=a", "at 0 to 1 linked", *links])
+
+
+class Asking:
+    """Asks the program of files in a folder."""
+
+    def __init__(self, program, folder):
+        self.program, self.folder = program, folder
+
+    def report(self, files, words):
+        """What the program says: its status, its output and its error."""
+        titles = "bundle", "anchors", "vouchers"
+        for title, octets in zip(titles, files):
+            with open(os.path.join(self.folder, title), "wb") as it:
+                it.write(octets)
+        run = subprocess.run([self.program, "why", *titles, *words], cwd=self.folder,
+                             capture_output=True, timeout=SECONDS)
+        return run.returncode, run.stdout.decode(errors="backslashreplace"), run.stderr
+
+
+def text_of(lines):
+    return "".join(f"{it}\n" for it in lines)
+
+
+def try_rows(count, asking):
+    """The rows whose dates and names are written out."""
+    for row in (*list_rows(), *certificate_rows(), *repeat_rows(), *usage_rows(), *name_rows(),
+                *bound_rows()):
+        files = (b"".join(row.items), b"".join(row.anchors),
+                 paths.vouchers((KEY, it) for it in row.items))
+        answer, *lines = row.lines
+        count.same(row.title, asking.report(files, ["--target", "0", "--at", AT]),
+                   (row.status, text_of([answer, "check yes", *lines]), b""))
+
+
+def differences(said, lines):
+    """Where a report differs from the model's, the model's lines with a minus."""
+    return "\n".join(difflib.unified_diff(lines.split("\n"), said.split("\n"), lineterm="", n=1))
+
+
+def try_bundles(count, asking, bundles):
+    """Random bundles; gives how often each kind of line occurred."""
+    kinds = collections.Counter()
+    for k in range(bundles):
+        asked = making.Chance(f"{SEED} {k}").question()
+        lines, status = model.Model(asked).report()
+        kinds.update(it.kind for it in lines)
+        wanted = text_of(it.text for it in lines)
+        words = making.words_of(asked)
+        got, said, error = asking.report(making.files_of(asked), words)
+        count.row((got, said, error) == (status, wanted, b""),
+                  f"bundle {k}, {' '.join(words)}: status {got}, wanted is {status}; {error!r}\n"
+                  f"{differences(said, wanted)}")
+    return kinds
+
+
+class Reasons(Trial):
+    by_hand = MANY
+
+    def setUp(self):
+        folder = tempfile.TemporaryDirectory(prefix="reasons-")
+        self.addCleanup(folder.cleanup)
+        self.asking = Asking(self.program(), folder.name)
+
+    def test_rows(self):
+        try_rows(self, self.asking)
+
+    def test_bundles(self):
+        self.try_bundles(size(SOME, FEW))
+
+    def try_bundles(self, bundles):
+        """Random bundles, among whose lines each kind has to occur if there are enough of them."""
+        kinds = try_bundles(self, self.asking, bundles)
+        if bundles >= SOME:
+            lacking = [it for it in model.KINDS if not kinds[it]]
+            self.same("kinds of lines that didn't occur", lacking, [])
+        self.same("kinds of lines that have no name", {*kinds} - {*model.KINDS}, set())
+        return kinds
+
+    def runTest(self):
+        """Many random bundles, by hand."""
+        try_rows(self, self.asking)
+        begun = time.monotonic()
+        kinds = self.try_bundles(self.by_hand)
+        print(f"{self.by_hand} bundles in {time.monotonic() - begun:.0f} s")
+        for it in model.KINDS:
+            print(f"{kinds[it]:8} {it}")
+
+
+def main(words):
+    if len(words) > 1 or not all(map(str.isdigit, words)):
+        sys.exit(__doc__)
+    Reasons.by_hand = int(words[0]) if words else MANY
+    return 0 if unittest.TextTestRunner().run(Reasons()).wasSuccessful() else 1
+
+
+if __name__ == "__main__":
+    sys.exit(main(sys.argv[1:]))
