@@ -24,7 +24,6 @@ pub use crate::judge::{check, check_read};
 pub use crate::judge_all::check_all;
 pub use crate::reading::TreeReader;
 pub use asn1_core::OutOfMemory;
-pub use cert_vouchers::{RememberedVouchers, Vouchers};
 pub use cert_framing::{
     Bundle, BundleError, End, Items, any_cutting, one_bundle, one_framing, one_item, one_stream,
 };
@@ -36,3 +35,4 @@ pub use cert_model::fields::{
     ListFields, NameFields,
 };
 pub use cert_model::laws::{never_both, one_class, one_spelling, one_spelling_of_lists};
+pub use cert_vouchers::{RememberedVouchers, Vouchers};
