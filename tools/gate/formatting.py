@@ -1,4 +1,5 @@
-"""What changed since the last commit, by git, and isn't laid out as `rt fmt` lays it out: a copy of its crate is laid out, and compared.
+"""What changed within a day, by git, committed or not, and isn't laid out as `rt fmt` lays it out: a copy of its crate is laid out, and
+compared.
 
 If git or `rt` isn't there, nothing is looked at. `rt ci` refuses each file that is out of layout.
 """
@@ -10,18 +11,22 @@ import tempfile
 
 from program import repo, sources
 
-# What `git` prints of sources that changed, and of those that it doesn't know.
-ASKED = (["diff", "--name-only", "--diff-filter=d", "HEAD"], ["ls-files", "--others", "--exclude-standard"])
+# The last commit of the day before, and what `git` prints of sources that it doesn't know.
+BEFORE, UNKNOWN = ["rev-list", "-1", "--before=1 day ago", "HEAD"], ["ls-files", "--others", "--exclude-standard"]
 SOURCE = re.compile(r"crates/(\w+)/(?:src|specs|proofs)/.*\.(?:rt|antt)")
 
 
+def lines_of(*words):
+    """The lines that `git` prints, none if it fails."""
+    ran = subprocess.run(["git", *words], cwd=repo.TOP, stdin=subprocess.DEVNULL, capture_output=True, text=True, errors="replace")
+    return ran.stdout.splitlines()
+
+
 def changed():
-    """The crates with sources that changed since the last commit."""
-    found = []
-    for words in ASKED:
-        ran = subprocess.run(["git", *words, "--", "crates"], cwd=repo.TOP, stdin=subprocess.DEVNULL, capture_output=True, text=True, errors="replace")
-        found += [entry[1] for entry in map(SOURCE.fullmatch, ran.stdout.splitlines()) if entry]
-    return sorted({*found} & {*repo.crates()})
+    """The crates with sources that changed since the last commit of the day before; since the last commit if there is none."""
+    base = "".join(lines_of(*BEFORE)) or "HEAD"
+    found = lines_of("diff", "--name-only", "--diff-filter=d", base, "--", "crates") + lines_of(*UNKNOWN, "--", "crates")
+    return sorted({entry[1] for entry in map(SOURCE.fullmatch, found) if entry} & {*repo.crates()})
 
 
 def copied(room, crate):
