@@ -1,5 +1,5 @@
 #!/usr/bin/env python3
-"""Writes shapes.der, from which `workload_bench` makes its inputs: certificates of common shapes, and the parts of a revocation list.
+"""Writes shapes.der, from which `bench_workload` makes its inputs: certificates of common shapes, and the parts of a revocation list.
 
     bench/shapes.py > bench/shapes.der
 

@@ -28,5 +28,5 @@ def elements(octets):
 if __name__ == "__main__":
     with open(timing.SAMPLE, "rb") as sample:
         wanted = timing.COPIES * elements(sample.read())
-    timing.run("Any::from_der", [timing.built("item_bench"), "elements"],
+    timing.run("Any::from_der", [timing.built("bench_item"), "elements"],
                lambda text, size: text.endswith(f": {wanted} elements in {size} octets\n"), times=2)

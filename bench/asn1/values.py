@@ -1,8 +1,8 @@
 #!/usr/bin/env python3
 """Times reading UTCTimes and writing a sequence of 1,000 numbers of 32 bits.
 
-Prints the nanoseconds that one value takes, the least of five runs. With the path of another build of `item_bench`
-(`crates/item_bench/out/item_bench` of an earlier commit) both are timed in turn, and the ratio to it is printed.
+Prints the nanoseconds that one value takes, the least of five runs. With the path of another build of `bench_item`
+(`crates/bench_item/out/bench_item` of an earlier commit) both are timed in turn, and the ratio to it is printed.
 """
 import os
 import random
@@ -39,7 +39,7 @@ def nanoseconds(programs, name, path):
 
 
 if __name__ == "__main__":
-    programs = [timing.built("item_bench")] + sys.argv[1:2]
+    programs = [timing.built("bench_item")] + sys.argv[1:2]
     with tempfile.TemporaryDirectory() as room:
         for name, make in (("times", utc_times), ("numbers", sequence)):
             path = os.path.join(room, name)

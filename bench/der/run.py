@@ -12,5 +12,5 @@ sys.path.insert(0, os.path.join(os.path.dirname(os.path.abspath(__file__)), os.p
 import timing
 
 if __name__ == "__main__":
-    timing.run("parse_der", [timing.built("item_bench"), "objects"],
+    timing.run("parse_der", [timing.built("bench_item"), "objects"],
                lambda text, size: text.endswith(f"{timing.COPIES} objects in {size} octets\n"), times=3)

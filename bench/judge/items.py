@@ -6,7 +6,7 @@ Every key vouches for everything, at no cost: `Vouchers` would hash the key and 
 by leaving it out. Prints medians of five: milliseconds of the check and of `parse_der` over the same items, and peak resident memory of
 the whole process beside the octets. To reach: at most 2.4 times the time at each doubling (5.76 times from the first to the last) and 12
 times the octets; of the 100,000 equal ones at most 20 times the time of `parse_der`. Exit status 1 if that is missed.
-`items.py small ROOM` writes the small files that the gate's run of `item_bench` reads.
+`items.py small ROOM` writes the small files that the gate's run of `bench_item` reads.
 """
 import os
 import re
@@ -133,7 +133,7 @@ def main():
         write(sys.argv[2], "items.der", b"".join(items("different", 12)))
         write(sys.argv[2], "root.der", certificate("root", "root"))
         return
-    program = timing.built("item_bench")
+    program = timing.built("bench_item")
     missed = False
     with tempfile.TemporaryDirectory() as room:
         for kind in ("different", "equal"):

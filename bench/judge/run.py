@@ -39,7 +39,7 @@ def measured(program, kind, count):
 
 
 def main():
-    program = timing.built("judge_bench")
+    program = timing.built("bench_graph")
     missed = False
     for kind, start in KINDS:
         first = None

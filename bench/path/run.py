@@ -66,7 +66,7 @@ def line(program, room, kind, count):
 
 
 def main():
-    program, missed = timing.built("item_bench"), False
+    program, missed = timing.built("bench_item"), False
     with tempfile.TemporaryDirectory() as room:
         for kind in ("web", "chain", "dead end", "self-issued"):
             rows = [line(program, room, kind, count) for count in COUNTS]

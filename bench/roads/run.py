@@ -66,7 +66,7 @@ def of_one(program, room):
 
 
 def main():
-    program = timing.built("item_bench")
+    program = timing.built("bench_item")
     with tempfile.TemporaryDirectory() as room:
         ratio, growth = of_bundle(program, room), of_one(program, room)
     print(f"read_typed: {ratio:.2f} times X509Certificate::from_der, at most {MOST_OF_TYPED}; {growth:.2f} times at a doubling, at most {MOST_GROWTH}")

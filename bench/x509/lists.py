@@ -48,7 +48,7 @@ def write_list(path, count):
 
 
 def main():
-    program, seconds, is_reached = timing.built("item_bench"), [], True
+    program, seconds, is_reached = timing.built("bench_item"), [], True
     with tempfile.TemporaryDirectory() as room:
         for count in ENTRIES:
             path = os.path.join(room, f"{count}.der")

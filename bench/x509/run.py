@@ -26,7 +26,7 @@ def median(words):
 
 
 def main():
-    program = timing.built("item_bench")
+    program = timing.built("bench_item")
     with open(timing.SAMPLE, "rb") as sample:
         item = sample.read()
     with tempfile.TemporaryDirectory() as room:

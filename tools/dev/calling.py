@@ -29,7 +29,7 @@ PAGES = {
         "asn1_traits::FromDer::from_der", "asn1_traits::FromBer::from_ber", "asn1_traits::read_back",
         "asn1_any::Any::from_der", "asn1_any::Any::from_ber", "asn1_any::cut_elements", "asn1_core::Header::strict",
         "asn1_oid::Oid::from", "asn1_oid::Oid::iter")),
-    "der_parser": Page({"item_bench/src/items.rt": ("after_object",), "workload_bench/src/trees.rt": ("parts_of", "note_object")}, (
+    "der_parser": Page({"bench_item/src/items.rt": ("after_object",), "bench_workload/src/trees.rt": ("parts_of", "note_object")}, (
         "der_tree::parse_der", "der_tree::parse_der_recursive", "der_tree::is_der_object", "ber_tree::parse_ber",
         "der_parser::parse_der_bool", "der_parser::parse_der_u32", "der_parser::parse_der_sequence_of_v",
         "der_parser::parse_der_tagged_explicit_g", "der_tree::BerObject::as_slice", "der_tree::BerObject::to_vec")),

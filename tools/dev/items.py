@@ -1,5 +1,5 @@
 #!/usr/bin/env python3
-"""Writes the items of crates/cert_rows/stdin anew, each by the comment above it.
+"""Writes the items of crates/rows_cert/stdin anew, each by the comment above it.
 
 A comment `# TITLE: KIND PART=TEXT ..` spells the item below it. KIND is `certificate` or `list`, of which only the parts that are named differ from the plain one;
 or `octets TEXT`. A digit, `keys` or a word with commas before KIND is before the item too, with a colon. A text is octets in hex; `TAG(TEXT)` is an element, its length counted; `"LETTERS"` their octets; `TEXT*N` what is before it N times over; `-` nothing.
@@ -11,7 +11,7 @@ import sys
 sys.path.insert(0, os.path.dirname(os.path.dirname(os.path.abspath(__file__))))
 from program import repo
 
-STDIN = "crates/cert_rows/stdin"
+STDIN = "crates/rows_cert/stdin"
 ALGORITHM = "30(06(2a03))"
 DATES = '17("250101000000Z")', '17("260101000000Z")'
 # The parts of a plain item, in the order in which they are written: those of the first part, then those after it.

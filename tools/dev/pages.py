@@ -27,7 +27,7 @@ MOST_NAMED = 2
 NO_RULE = re.compile(r"(?:View|Views|Values|Examples|Told|Held)$")
 SECTION = re.compile(r"(RFC \d+), ((?:appendix )?[A-Z]?[\d.]*\d)|(X\.\d+), (\d[\d.]*\d|\d+)")
 # What runs code, and holds none that others build on.
-TOPS = ("_rows", "_tests", "bench")
+TOPS = ("rows_", "tests_", "bench_")
 EXAMPLES = "example_"
 # The crates that hand on others by name.
 PORTS = ("asn1_rs", "der_parser", "x509_parser")
@@ -76,8 +76,8 @@ def dotted(octets):
 
 def reader_of(kind):
     """The call that reads the value of a kind: its name, and the file that defines it."""
-    group, small = re.search(rf"Kind::{kind} => (\w+)::(\w+)\(", text("crates/x509_deep/src/parse.rt")).groups()
-    helper = f"crates/x509_deep/src/{group}.rt"
+    group, small = re.search(rf"Kind::{kind} => (\w+)::(\w+)\(", text("crates/x509_ext_parse/src/parse.rt")).groups()
+    helper = f"crates/x509_ext_parse/src/{group}.rt"
     body = re.search(rf"pub\(crate\) fn {small}<.*?\n}}\n", text(helper), re.S)[0]
     call = re.search(r"([A-Z]\w+)::from_der\(|(?<![\w.])(?!settled|refused)([a-z]\w+)\((?:alloc, )?value\)", body)
     name = call[1] or call[2]
@@ -85,14 +85,14 @@ def reader_of(kind):
     pattern = rf"(?m)^impl<.*> FromDer<.*> for {name}\b|^impl .*FromDer<.*> for {name}\b" if call[1] else rf"(?m)^pub fn {name}\b"
     for crate in repo.crates():
         for path in sources(crate, "src"):
-            if crate.startswith("x509_") and not crate.endswith(TOPS) and crate != "x509_deep" and re.search(pattern, text(path)):
+            if crate.startswith("x509_") and crate != "x509_ext_parse" and re.search(pattern, text(path)):
                 return f"{name}::from_der" if call[1] else name, path
     raise LookupError(f"{kind}: nothing reads it")
 
 
 def extensions():
-    kinds = text("crates/x509_deep/src/kind.rt")
-    parsed = text("crates/x509_deep/specs/Parsed.antt")
+    kinds = text("crates/x509_ext_parse/src/kind.rt")
+    parsed = text("crates/x509_ext_parse/specs/Parsed.antt")
     homes = {name.strip(): f"{crate}/specs/{page}" for crate, page, names in re.findall(r"use Rattle\.(\w+)\.specs\.(\w+)\.\{([^}]*)\}", parsed)
              for name in names.split(",")}
     rows = []
@@ -122,7 +122,7 @@ LAYERS = (
     ("Values", "asn1_traits asn1_values asn1_strings asn1_times asn1_lists asn1_tagged asn1_rs"),
     ("Trees", "der_tree ber_tree der_parser"),
     ("Certificates: parts", "x509_core x509_objects x509_names x509_time x509_items"),
-    ("Certificates: extension values", "x509_flags x509_policies x509_general x509_points x509_leaves x509_values x509_timestamps x509_deep"),
+    ("Certificates: extension values", "x509_ext_flags x509_ext_policies x509_ext_names x509_ext_points x509_ext_basic x509_ext_types x509_ext_sct x509_ext_parse"),
     ("Certificates: whole", "x509_ext x509_certs x509_lists x509_requests x509_algorithms x509_loggers x509_validate x509_parser"),
     ("Items, classes, names of hosts and purposes", "cert_framing cert_model host_names purpose_names"),
     ("Graphs and judging", "cert_graph cert_judge cert_purpose cert_vouchers"),
@@ -131,8 +131,8 @@ LAYERS = (
     ("The program", "certpath_pem certpath_files certpath_bundle certpath_why certpath_inputs certpath_evidence "
                     "certpath_recheck certpath_run certpath_engine certpath_cli"),
     ("For other languages", "certpath_c"),
-    ("Rows, tests, benches, examples", "hex_rows asn1_rows cert_rows x509_rows check_rows reasons_rows asn1_tests der_tests judge_tests "
-                                       "run_tests item_bench judge_bench workload_bench example_certificate example_own_type example_path"),
+    ("Rows, tests, benches, examples", "rows_hex rows_asn1 rows_cert rows_x509 rows_check rows_reasons tests_asn1 tests_der tests_graph "
+                                       "tests_run bench_graph bench_item bench_workload example_certificate example_own_type example_path"),
 )
 
 
@@ -164,7 +164,7 @@ def crates():
 def believed():
     """Each crate with the pages of its specs/ that its contracts depend on."""
     for crate in repo.crates():
-        pages = [] if crate.endswith(TOPS) or crate.startswith(EXAMPLES) else believe.own_pages(crate)
+        pages = [] if crate.startswith(TOPS) or crate.startswith(EXAMPLES) else believe.own_pages(crate)
         if pages:
             yield crate, pages
 
@@ -181,7 +181,7 @@ def what_of(page):
 def runs(crate):
     """The crates of rows and tests that name a crate, or a port that hands it on; if there are none, those that depend on it and on least."""
     listed = repo.crates()
-    users = [name for name in listed if name.endswith(("_rows", "_tests")) and name != "hex_rows" and crate in repo.below([name], listed)]
+    users = [name for name in listed if name.startswith(("rows_", "tests_")) and name != "rows_hex" and crate in repo.below([name], listed)]
     handed = {crate} | {port for port in PORTS if crate in listed[port]}
     direct = [user for user in users if handed & {*listed[user]}]
     return direct or sorted(users, key=lambda user: len(repo.below([user], listed)))[:2]
@@ -283,7 +283,7 @@ def note_lines(crate):
         said.append(f"[{'w' if said else 'W'}hat to believe](../../docs/TRUST.md)")
     if said:
         lines.append(f"- {', '.join(said)}.")
-    if not crate.endswith(TOPS) and not crate.startswith(EXAMPLES):
+    if not crate.startswith(TOPS) and not crate.startswith(EXAMPLES):
         rows = runs(crate)
         tried = f"- Rows and tests: {linked(rows)}." if rows else "- No crate of rows or tests depends on it."
         if not rows and crate in TRIALS:

@@ -1,5 +1,5 @@
 #!/usr/bin/env python3
-"""Prints what a shared library answers by the calls of include/certpath.h, on the worked cases of crates/check_rows/stdin:
+"""Prints what a shared library answers by the calls of include/certpath.h, on the worked cases of crates/rows_check/stdin:
 
     python3 tools/gate/answers.py FOLDER      FOLDER has a libcertpath.so
 

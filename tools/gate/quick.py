@@ -222,8 +222,8 @@ def short_files():
 
 
 def worked_causes():
-    """Each worked row that docs/OTHER.md names stands in cert_rows, and is other."""
-    lines = repo.read("crates/cert_rows/stdout").splitlines()
+    """Each worked row that docs/OTHER.md names stands in rows_cert, and is other."""
+    lines = repo.read("crates/rows_cert/stdout").splitlines()
     answers = {title.removeprefix("# ").partition(": ")[0]: answer for title, answer in zip(lines, lines[1:])}
     named = [" ".join(row.split()) for row in re.findall(r"\*Rows\*:\s+([^.]*)\.", repo.read("docs/OTHER.md"))]
     if not named:
@@ -234,7 +234,7 @@ def worked_causes():
 
 
 def items_spelled():
-    """Each item of cert_rows is what the comment above it spells."""
+    """Each item of rows_cert is what the comment above it spells."""
     text = repo.read(items.STDIN)
     if items.written(text) != text:
         yield f"{items.STDIN}: an item isn't what the comment above it spells: run tools/dev/items.py"

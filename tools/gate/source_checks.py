@@ -43,7 +43,7 @@ def key_ids_read_apart():
     """`certpath_find` reads key identifiers by the readers of elements, and comes to nothing of `cert_model::parts`, by which the check reads them."""
     source = syntax.file("crates/certpath_find/src/key_ids.rt")
     reached = {f"{entry.file.path} {calls.name_of(entry)}" for entry in calls.come_to(source.functions)}
-    for one in ("crates/asn1_any/src/any.rt Any::from_der", "crates/x509_flags/src/identifier.rt KeyIdentifier::from_der"):
+    for one in ("crates/asn1_any/src/any.rt Any::from_der", "crates/x509_ext_flags/src/identifier.rt KeyIdentifier::from_der"):
         if one not in reached:
             yield f"{source.path}: nothing comes to {one.split()[1]}"
     for element in sorted(entry for entry in reached if entry.startswith("crates/cert_model/src/parts.rt ")):

@@ -38,7 +38,7 @@ Options:
   -h, --help     prints this help; after a command, that of the command
   -V, --version  prints the version, the digest of the sources, and what built the program
   --build        builds dist/ from the sources, prints where the program is, and runs nothing;
-                 with a CRATE the program of that crate, as cert_rows for ./rows
+                 with a CRATE the program of that crate, as rows_cert for ./rows
 
 The word - as a file is standard input. Files of items are DER: of a PEM file frame says end fault 0
 and path finds no certificate in it, and bundle makes a DER file of it.

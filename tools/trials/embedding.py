@@ -23,7 +23,7 @@ WRAPPED = [f"-Wl,--wrap={it}" for it in ("malloc", "realloc", "free")]
 COUNTED = re.compile(r"(\d+) passed, (\d+) failed\s*\Z")
 PAGE_EXAMPLE = re.compile(r"(?ms)^```python\n(.*?)^```$")
 BUNDLE, ANCHORS = os.path.join("samples", "bundle.der"), os.path.join("samples", "root.der")
-# The worked cases of crates/check_rows/stdin on which memory is refused: what they have between
+# The worked cases of crates/rows_check/stdin on which memory is refused: what they have between
 # them is a certificate of version 1 and one of version 3, a list and what is almost one, a path of
 # five, key identifiers and names.
 REFUSED = ("an anchor vouches for itself, at the last moment", "an extension that is judged",

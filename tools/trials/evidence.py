@@ -90,7 +90,7 @@ def of_many(room):
 
 
 def of_cases(room):
-    """The worked cases of crates/check_rows/stdin, as files."""
+    """The worked cases of crates/rows_check/stdin, as files."""
     octets, cases = paths.worked()
     for number, case in enumerate(cases.values()):
         vouching = [(octets[one], octets[other]) for one, other in case.vouching]

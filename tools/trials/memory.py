@@ -23,14 +23,14 @@ SECONDS, RUNS = 60, 4
 OUT_OF_MEMORY = 6, b"", b"out of memory\n"
 # How a program of rows ends over a row.
 ROW_LOST = 1, b"Error: Kind(OutOfMemory)\n"
-# The worked cases of crates/check_rows/stdin that the commands are tried on.
+# The worked cases of crates/rows_check/stdin that the commands are tried on.
 CASES = ("an anchor vouches for itself, at the last moment", "revoked by a list",
          "a list that is other revokes nothing", "a later count is taken", "the key that is named")
-# How rows begin, and the octets of crates/check_rows/stdin that they end with.
+# How rows begin, and the octets of crates/rows_check/stdin that they end with.
 ROWS = {
-    "cert_rows": {"": ("A", "V", "M", "M_loose", "T_names_abcd"),
+    "rows_cert": {"": ("A", "V", "M", "M_loose", "T_names_abcd"),
                   "keys:": ("T_names_abcd", "B_has_abcd")},
-    "x509_rows": {"certificate certificate ": ("A", "V", "V_twice", "T_names_abcd"),
+    "rows_x509": {"certificate certificate ": ("A", "V", "V_twice", "T_names_abcd"),
                   "list list ": ("M", "M_loose"),
                   "validator written ": ("A", "V_twice"),
                   "validator structure ": ("A", "V_twice"),
@@ -40,8 +40,8 @@ ROWS = {
 ALL_KINDS = re.compile(r"(?m)^walk (certificate 308201ca\w+)$")
 # Tests that hold whatever is refused, by the crate; the gate leaves their programs.
 TESTS = {
-    "asn1_tests": ("any::cut_or_want_of_memory",),
-    "run_tests": ("framing::answers_failed_once_memory_was_refused",),
+    "tests_asn1": ("any::cut_or_want_of_memory",),
+    "tests_run": ("framing::answers_failed_once_memory_was_refused",),
 }
 # A test that passed, and one that ended because memory was refused to itself.
 PASSED = re.compile(rb"test result: ok\s*\Z")
@@ -156,8 +156,8 @@ def row_trials(crate, program):
     octets, _ = paths.worked()
     rows = {f"{front}{it}": f"{front}{octets[it].hex()}"
             for front, names in ROWS[crate].items() for it in names}
-    if crate == "x509_rows":
-        stored = ALL_KINDS.findall(repo.read("crates/x509_rows/stdin"))
+    if crate == "rows_x509":
+        stored = ALL_KINDS.findall(repo.read("crates/rows_x509/stdin"))
         rows |= {f"all kinds, {place}": f"certificate {it}" for place, it in enumerate(stored)}
     for title, row in rows.items():
         yield Run(f"{crate}, {title}", [program], (f"{row}\n".encode(),), is_row_right)
@@ -193,5 +193,5 @@ class Memory(Trial):
     def test_tests(self):
         trials = [it for crate in TESTS for it in test_trials(crate)]
         if not trials:
-            self.skipTest("tests of asn1_tests and run_tests with memory refused: no program of them, which ./test with rt leaves")
+            self.skipTest("tests of tests_asn1 and tests_run with memory refused: no program of them, which ./test with rt leaves")
         self.tried(lambda _: trials)

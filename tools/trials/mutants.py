@@ -1,6 +1,6 @@
-"""Puts 2,000 seeded mutants of the items of crates/cert_rows/stdin through both readers of items, and reports each that they class otherwise.
+"""Puts 2,000 seeded mutants of the items of crates/rows_cert/stdin through both readers of items, and reports each that they class otherwise.
 
-`cert_rows` reads each row by trees and by types, and prints `two classes` where they differ. An octet is changed, taken out or put in, or
+`rows_cert` reads each row by trees and by types, and prints `two classes` where they differ. An octet is changed, taken out or put in, or
 octets are repeated; one in four mutants has another such change.
 """
 import random
@@ -32,7 +32,7 @@ def changed(numbers, octets):
 def mutants():
     """The mutants of the items, each a row."""
     numbers = random.Random(1)
-    items = [bytes.fromhex(it) for it in ITEM.findall(repo.read("crates/cert_rows/stdin"))]
+    items = [bytes.fromhex(it) for it in ITEM.findall(repo.read("crates/rows_cert/stdin"))]
     for number in range(MUTANTS):
         octets = changed(numbers, items[number % len(items)])
         yield (changed(numbers, octets) if numbers.randrange(4) == 0 else octets).hex()
@@ -40,7 +40,7 @@ def mutants():
 
 class Mutants(Trial):
     def test_classes(self):
-        program = self.program("cert_rows")
+        program = self.program("rows_cert")
         rows = "".join(f"{it}\n" for it in mutants())
         ran = subprocess.run([program], input=rows, stdout=subprocess.PIPE, text=True, timeout=SECONDS)
         found = re.findall(r"(?m)^([0-9a-f]+) = (.+)$", ran.stdout)

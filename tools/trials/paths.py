@@ -1,11 +1,11 @@
-"""Command lines of `certpath path`, `why`, `paths` and `questions` on worked cases: the cases stand in crates/check_rows/stdin, what is
+"""Command lines of `certpath path`, `why`, `paths` and `questions` on worked cases: the cases stand in crates/rows_check/stdin, what is
 printed of them in a file of tools/ for each command."""
 import hashlib
 import os
 
 from program import repo
 
-CASES = "crates/check_rows/stdin"
+CASES = "crates/rows_check/stdin"
 # What is printed, by the command.
 PRINTED = {"path": "tools/trials/paths.txt", "why": "tools/trials/why.txt", "paths": "tools/trials/all_paths.txt", "questions": "tools/trials/questions.txt"}
 # How the files of bundles are named that `path` is asked about.

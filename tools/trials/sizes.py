@@ -186,13 +186,13 @@ def line_of(answer):
 
 def by_rows(count, large):
     """Two readers of items, and `from_der`, read each extension and each entry."""
-    programs = {it: count.program(it) for it in ("cert_rows", "x509_rows")}
+    programs = {it: count.program(it) for it in ("rows_cert", "rows_x509")}
     for title, item in large.items():
         word, octets = WORDS[item.kind], item.octets.hex()
         written = f"  written {len(item.octets)}, the item\n"
         for crate, row, front, end in (
-                ("cert_rows", octets, f" = {word}\n", written),
-                ("x509_rows", f"{word} {word} {octets}", " = 30 ", "; rest none\n")):
+                ("rows_cert", octets, f" = {word}\n", written),
+                ("rows_x509", f"{word} {word} {octets}", " = 30 ", "; rest none\n")):
             told = printed(programs[crate], row)
             is_right = told.startswith(front) and told.endswith(end)
             count.row(is_right and len(PART.findall(told)) == item.parts,

@@ -13,7 +13,7 @@ from program import programs, repo, sources, usage
 from trials.count import INTERRUPTIBLE, Trial
 
 SECONDS = 120
-CRATES = ("low", f"{programs.CERTPATH}: low", f"{programs.LIBRARY}: low", "cert_rows: low")
+CRATES = ("low", f"{programs.CERTPATH}: low", f"{programs.LIBRARY}: low", "rows_cert: low")
 MAIN = os.path.join("crates", "low", "src", "main.rt")
 STAND_IN, KIT = b'#!/bin/sh\necho "stand-in $*"\n', "the kit of the trials"
 BUILDS, OLDER = "./certpath --build", "dist/ is older than the sources"
@@ -139,7 +139,7 @@ class Wrapper(Trial):
         self.put(MAIN, "// another source\n")
         for words in (FRAME, ("certpath", "help", "path")):
             self.refuses("older", words, 69, OLDER, BUILDS)
-        self.refuses("nothing is built", ["rows", "cert"], 70, f"{BUILDS} cert_rows")
+        self.refuses("nothing is built", ["rows", "cert"], 70, f"{BUILDS} rows_cert")
         self.same("--version", OLDER in self.ran("certpath", "--version")[1], True)
 
     def test_builds(self):
@@ -149,7 +149,7 @@ class Wrapper(Trial):
             status, output, error = self.ran("certpath", "--build", kind=kind)
             self.same(said, (status, output, said in error[-1], self.ran(*FRAME)[0]), (70, "", True, 69))
         for words, path, run in (("--build", programs.SHIPPED, FRAME),
-                                 ("--build cert_rows", "out/programs/cert_rows", ("rows", "cert"))):
+                                 ("--build rows_cert", "out/programs/rows_cert", ("rows", "cert"))):
             status, output, error = self.ran("certpath", *words.split(), kind="builds")
             self.same(words, (status, output, "2 crates" in error[0], len(error)),
                       (0, f"{self.place(path)}\n", True, 2))

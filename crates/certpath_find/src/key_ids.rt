@@ -14,7 +14,7 @@ use cert_model::fields::{CertFields, ExtField};
 use cert_model::identifiers::{AUTHORITY_KEY_IDENTIFIER, SUBJECT_KEY_IDENTIFIER, is_ce};
 use der_tree::{MAX_RECURSION, is_der_object};
 use std::alloc::Global;
-use x509_flags::KeyIdentifier;
+use x509_ext_flags::KeyIdentifier;
 
 /// The identifier octet of a SEQUENCE (X.690, 8.1.2).
 const SEQUENCE: u8 = 0x30;

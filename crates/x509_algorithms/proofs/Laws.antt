@@ -9,9 +9,9 @@ use Rattle.x509_core.specs.Leaves.{Leaf}
 use Rattle.x509_core.specs.Reading.{Reader, content_in, next}
 use Rattle.x509_core.proofs.Grammars.{IsMeaning, IsReading, two, next_reading, content_below}
 use Rattle.x509_core.proofs.LeafLaws.{content_found, content_only}
-use Rattle.x509_flags.specs.Numbers.{IsNumber}
-use Rattle.x509_flags.specs.Reading.{tagged_number_in}
-use Rattle.x509_flags.proofs.Laws.{number_meaning}
+use Rattle.x509_ext_flags.specs.Numbers.{IsNumber}
+use Rattle.x509_ext_flags.specs.Reading.{tagged_number_in}
+use Rattle.x509_ext_flags.proofs.Laws.{number_meaning}
 use Rattle.x509_items.specs.Grammar.{HoldsSequence}
 use Rattle.x509_items.proofs.Readings.{sequence_meaning}
 use Rattle.x509_names.specs.Fields.{Algorithm}

@@ -7,7 +7,7 @@ use Rattle.asn1_any.specs.Cutting.{Piece}
 use Rattle.asn1_tagged.specs.Tagging.{IsTagged, IsExplicit}
 use Rattle.x509_core.specs.Grammar.{Grammar, Header, One}
 use Rattle.x509_core.specs.Leaves.{Leaf, IsOid}
-use Rattle.x509_flags.specs.Numbers.{IsNumber}
+use Rattle.x509_ext_flags.specs.Numbers.{IsNumber}
 use Rattle.x509_names.specs.Fields.{Algorithm}
 use Rattle.x509_names.specs.Names.{AlgorithmIdentifier}
 use Rattle.x509_algorithms.specs.Values as values

@@ -5,7 +5,7 @@ use Rattle.asn1_core.specs.Strict.{Head}
 use Rattle.asn1_any.specs.Cutting.{Piece}
 use Rattle.x509_core.specs.Answers.{Answer, unnamed, ◌>>=◌}
 use Rattle.x509_core.specs.Reading.{Reader, piece_at, front_header_at, content_in, oid_in, next}
-use Rattle.x509_flags.specs.Reading.{tagged_number_in}
+use Rattle.x509_ext_flags.specs.Reading.{tagged_number_in}
 use Rattle.x509_items.specs.Reading.{sequence_of, oid_at}
 use Rattle.x509_names.specs.Fields.{Algorithm}
 use Rattle.x509_names.specs.Reading.{integer_at, algorithm_at}

@@ -13,7 +13,7 @@ use asn1_core::{Err as Refusal, Error, Header, HeaderCount};
 use asn1_traits::FromDer;
 use std::alloc::Global;
 use x509_core::{X509Error, X509Result, front_element, front_header};
-use x509_flags::InhibitAnyPolicy;
+use x509_ext_flags::InhibitAnyPolicy;
 use x509_items::is_of_class;
 use x509_names::AlgorithmIdentifier;
 

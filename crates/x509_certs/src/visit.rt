@@ -4,14 +4,14 @@ use crate::tbs::TbsCertificate;
 use asn1_core::{Err as Refusal, Error};
 use asn1_values::BitString;
 use x509_ext::{UniqueIdentifier, X509Extension, X509Version};
-use x509_names::{AlgorithmIdentifier, SubjectPublicKeyInfo, X509Name};
-use x509_time::Validity;
-use x509_values::{
+use x509_ext_types::{
     AuthorityInfoAccess, AuthorityKeyIdentifier, BasicConstraints, CRLDistributionPoints,
     CertificatePolicies, ExtendedKeyUsage, InhibitAnyPolicy, IssuerAlternativeName, KeyIdentifier,
     KeyUsage, NSCertType, NameConstraints, PolicyConstraints, PolicyMappings,
     SignedCertificateTimestamp, SubjectAlternativeName,
 };
+use x509_names::{AlgorithmIdentifier, SubjectPublicKeyInfo, X509Name};
+use x509_time::Validity;
 
 /// A call of a walk over a certificate, with what it tells: one case for each method of `X509CertificateVisitor`.
 #[derive(Clone, Copy)]

@@ -8,14 +8,14 @@ use crate::visit::{CertVisit, CertVisits};
 use asn1_core::{Err as Refusal, Error};
 use asn1_values::BitString;
 use x509_ext::{UniqueIdentifier, X509Extension, X509Version};
-use x509_names::{AlgorithmIdentifier, SubjectPublicKeyInfo, X509Name};
-use x509_time::Validity;
-use x509_values::{
+use x509_ext_types::{
     AuthorityInfoAccess, AuthorityKeyIdentifier, BasicConstraints, CRLDistributionPoints,
     CertificatePolicies, ExtendedKeyUsage, InhibitAnyPolicy, IssuerAlternativeName, KeyIdentifier,
     KeyUsage, NSCertType, NameConstraints, PolicyConstraints, PolicyMappings,
     SignedCertificateTimestamp, SubjectAlternativeName,
 };
+use x509_names::{AlgorithmIdentifier, SubjectPublicKeyInfo, X509Name};
+use x509_time::Validity;
 
 /// Is told of each part of a certificate by a method of its own; each does nothing where it isn't written.
 ///

@@ -18,9 +18,9 @@ pub use Rattle.x509_items.proofs.HeaderLaws.{front_header_found, front_header_on
 use Rattle.x509_names.specs.Leaves.{IsOid, IsOctets}
 use Rattle.x509_names.specs.Reading.{octets_in, oid_at}
 use Rattle.x509_names.proofs.LeafLaws.{octets_meaning}
-use Rattle.x509_deep.specs.Parsed.{IsParsed}
-use Rattle.x509_deep.specs.Reading.{deeply}
-use Rattle.x509_deep.proofs.Laws.{deep_found, deep_only}
+use Rattle.x509_ext_parse.specs.Parsed.{IsParsed}
+use Rattle.x509_ext_parse.specs.Reading.{deeply}
+use Rattle.x509_ext_parse.proofs.Laws.{deep_found, deep_only}
 use Rattle.x509_ext.specs.Fields.{Extension, ValueMeaning, ValueReading, IsUnparsed, unread, meaning_of, reading_of}
 use Rattle.x509_ext.specs.Extensions.{IsBoolean, or_false, ExtensionParts, X509Extension, ExtensionList, Wrapped, Extensions, absent, there}
 use Rattle.x509_ext.specs.Reading.{boolean_of, boolean_in, critical_by, critical_from, critical_at, extension_in, extension_at, named_extension_at, to_end, extension_list_in, extension_list_at, wrapped_at, extensions_at}

@@ -1,8 +1,8 @@
 -- What the readers of this crate read, without where it lies in memory.
 use Rattle.std.specs.Prelude.{◌≡◌, ℕ, Bool, true, false, List}
-use Rattle.x509_deep.specs.Values.{Parsed, unparsed}
-use Rattle.x509_deep.specs.Parsed.{IsParsed}
-use Rattle.x509_deep.specs.Reading.{deeply}
+use Rattle.x509_ext_parse.specs.Values.{Parsed, unparsed}
+use Rattle.x509_ext_parse.specs.Parsed.{IsParsed}
+use Rattle.x509_ext_parse.specs.Reading.{deeply}
 
 -- Extension (RFC 5280, 4.1 and 4.2): identifier and value are content octets
 pub record Extension : Type 0 where

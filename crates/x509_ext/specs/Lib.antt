@@ -8,4 +8,4 @@ pub mod Texts
 pub mod Values
 pub mod View
 pub use Rattle.x509_core.specs.Fronts
-pub use Rattle.x509_deep.specs.declared.parsed.ParsedExtension.TheVariants as Kinds
+pub use Rattle.x509_ext_parse.specs.declared.parsed.ParsedExtension.TheVariants as Kinds

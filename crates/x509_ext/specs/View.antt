@@ -4,8 +4,8 @@ use Rattle.asn1_core.specs.declared.error.Error.{Error}
 use Rattle.asn1_core.specs.declared.outcome.Err.{Err as Refusal}
 use Rattle.x509_names.specs.Fields.{Bits}
 use Rattle.x509_names.specs.View.{bits_view}
-use Rattle.x509_deep.specs.Cases.{HoldsNoMemory, error_of}
-use Rattle.x509_deep.specs.View.{parsed_view}
+use Rattle.x509_ext_parse.specs.Cases.{HoldsNoMemory, error_of}
+use Rattle.x509_ext_parse.specs.View.{parsed_view}
 use Rattle.x509_ext.specs.Fields.{Extension}
 use Rattle.x509_ext.specs.declared.extension.X509Extension.{X509Extension}
 use Rattle.x509_ext.specs.declared.unique.UniqueIdentifier.{UniqueIdentifier}

@@ -15,7 +15,7 @@ use asn1_core::{Err as Refusal, Error, HeaderCount, OutOfMemory};
 use std::alloc::Global;
 use std::cmp;
 use x509_core::{Parts, X509Error, parts_of, push_in_room, renamed};
-use x509_values::copy_all;
+use x509_ext_types::copy_all;
 
 /// No entry takes fewer octets: it has a header, a serial number and a time of 13 octets or more.
 const LEAST_OCTETS: usize = 16;

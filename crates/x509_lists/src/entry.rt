@@ -24,8 +24,8 @@ use x509_core::{Parts, X509Error, parts_of};
 use x509_ext::{
     ParsedExtension, X509Extension, copy_extensions, extension_list_of, find_extension, next_serial,
 };
+use x509_ext_types::{Copies, ReasonCode, format_serial};
 use x509_time::{ASN1Time, next_time};
-use x509_values::{Copies, ReasonCode, format_serial};
 
 /// The identifier of a reason code, 2.5.29.21.
 const REASON_CODE: &[u8] = b"\x55\x1d\x15";

@@ -8,12 +8,12 @@ use asn1_core::{Err as Refusal, Error};
 use asn1_unsigned::UnsignedBytes;
 use asn1_values::BitString;
 use x509_ext::{X509Extension, X509Version};
-use x509_names::{AlgorithmIdentifier, X509Name};
-use x509_time::ASN1Time;
-use x509_values::{
+use x509_ext_types::{
     AuthorityInfoAccess, AuthorityKeyIdentifier, IssuerAlternativeName, IssuingDistributionPoint,
     ReasonCode, SignedCertificateTimestamp,
 };
+use x509_names::{AlgorithmIdentifier, X509Name};
+use x509_time::ASN1Time;
 
 /// A call of a walk over a list, with what it shows: a case for each method of `CertificateRevocationListVisitor`.
 #[derive(Clone, Copy)]

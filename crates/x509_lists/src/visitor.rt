@@ -10,12 +10,12 @@ use asn1_core::{Err as Refusal, Error};
 use asn1_unsigned::UnsignedBytes;
 use asn1_values::BitString;
 use x509_ext::{X509Extension, X509Version};
-use x509_names::{AlgorithmIdentifier, X509Name};
-use x509_time::ASN1Time;
-use x509_values::{
+use x509_ext_types::{
     AuthorityInfoAccess, AuthorityKeyIdentifier, IssuerAlternativeName, IssuingDistributionPoint,
     ReasonCode, SignedCertificateTimestamp,
 };
+use x509_names::{AlgorithmIdentifier, X509Name};
+use x509_time::ASN1Time;
 
 /// Sees the parts of a list, each by a method of its own; what isn't written does nothing. Extensions are shown twice: by
 /// `visit_extension`, and by the one method of what their values were parsed as.

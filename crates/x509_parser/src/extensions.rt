@@ -1,10 +1,10 @@
 //! Extensions (RFC 5280, 4.2), and the types of what their values hold.
 
 pub use x509_ext::{ParsedExtension, X509Extension, X509ExtensionParser};
-pub use x509_timestamps::{
+pub use x509_ext_sct::{
     parse_ct_signed_certificate_timestamp, parse_ct_signed_certificate_timestamp_list,
 };
-pub use x509_values::{
+pub use x509_ext_types::{
     AccessDescription, AuthorityInfoAccess, AuthorityKeyIdentifier, BasicConstraints,
     CRLDistributionPoint, CRLDistributionPoints, CertificatePolicies, CtExtensions, CtLogID,
     CtVersion, DigitallySigned, DistributionPointName, ExtendedKeyUsage, GeneralName,

@@ -6,8 +6,8 @@ use Rattle.std.specs.Ordering.{nat_cmp, eq_by_cmp}
 use Rattle.std.specs.Cmp.Lexicographic.{slice_cmp}
 use Rattle.asn1_oid.specs.Text.{oid_text}
 use Rattle.std.proofs.lemmas.List.{append-nil}
-use Rattle.x509_policies.specs.Reading.{has}
-use Rattle.x509_policies.proofs.PurposeLaws.{kept_more, by_octets}
+use Rattle.x509_ext_policies.specs.Reading.{has}
+use Rattle.x509_ext_policies.proofs.PurposeLaws.{kept_more, by_octets}
 use Rattle.x509_loggers.specs.Messages.{Message, message, fatal}
 use Rattle.x509_validate.specs.Repeats.{repeat_messages}
 use Rattle.x509_validate.specs.Before.{IsHeld, Left}

@@ -1,11 +1,11 @@
 -- What is said of identifiers that stand twice, and of extensions by their kinds.
 use Rattle.std.specs.Prelude.{ℕ, ◌==◌, ◌&&◌, ◌||◌, not, Bool, true, false, if◌then◌else◌, codes, Option, Some, None, List, [], ◌∷◌, ◌++◌, map}
 use Rattle.asn1_oid.specs.Text.{oid_text}
-use Rattle.x509_policies.specs.Reading.{has}
-use Rattle.x509_general.specs.declared.identifiers.AuthorityKeyIdentifier.{AuthorityKeyIdentifier}
-use Rattle.x509_policies.specs.declared.policies.PolicyInformation.{PolicyInformation}
-use Rattle.x509_deep.specs.declared.parsed.ParsedExtension.{ParsedExtension}
-use Rattle.x509_deep.specs.declared.parsed.ParsedExtension.TheVariants as cases
+use Rattle.x509_ext_policies.specs.Reading.{has}
+use Rattle.x509_ext_names.specs.declared.identifiers.AuthorityKeyIdentifier.{AuthorityKeyIdentifier}
+use Rattle.x509_ext_policies.specs.declared.policies.PolicyInformation.{PolicyInformation}
+use Rattle.x509_ext_parse.specs.declared.parsed.ParsedExtension.{ParsedExtension}
+use Rattle.x509_ext_parse.specs.declared.parsed.ParsedExtension.TheVariants as cases
 use Rattle.x509_ext.specs.declared.extension.X509Extension.{X509Extension}
 use Rattle.x509_loggers.specs.Messages.{Message, message, warning, fault, fatal}
 use Rattle.x509_validate.specs.Extensions.{alternative_messages}

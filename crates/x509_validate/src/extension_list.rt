@@ -13,10 +13,10 @@ use std::alloc::{AllocError, Global};
 use std::collections::BTreeSet;
 use x509_certs::X509Certificate;
 use x509_ext::{ParsedExtension, X509Extension};
-use x509_flags::KeyUsage;
-use x509_general::AuthorityKeyIdentifier;
+use x509_ext_flags::KeyUsage;
+use x509_ext_names::AuthorityKeyIdentifier;
+use x509_ext_policies::PolicyInformation;
 use x509_loggers::{LogError, Logger, Message, Weight, push_text, tell_all};
-use x509_policies::PolicyInformation;
 
 /// Looks at extensions: whether an identifier stands twice, and at what their values are parsed as.
 #[derive(Clone, Copy, Debug)]

@@ -11,7 +11,7 @@ use asn1_core::{Err as Refusal, Error};
 use asn1_oid::Oid;
 use std::alloc::{AllocError, Global};
 use x509_ext::{ParsedExtension, X509Extension};
-use x509_general::GeneralName;
+use x509_ext_names::GeneralName;
 use x509_loggers::{Message, Weight};
 
 fn unsupported(alloc: Global, oid: &Oid<'_>) -> Result<Message, AllocError>

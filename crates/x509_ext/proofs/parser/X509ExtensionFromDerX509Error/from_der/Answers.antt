@@ -3,8 +3,8 @@ use Rattle.asn1_core.proofs.Numbers.{octets_below}
 use Rattle.x509_core.proofs.Public.{gives_found, gives_only}
 use Rattle.x509_core.specs.declared.error.X509Error.TheVariants as errors
 use Rattle.x509_ext.specs.Extensions.{X509Extension}
-use Rattle.x509_deep.specs.Parsed.{IsParsed}
-use Rattle.x509_deep.specs.Reading.{deeply}
+use Rattle.x509_ext_parse.specs.Parsed.{IsParsed}
+use Rattle.x509_ext_parse.specs.Reading.{deeply}
 use Rattle.x509_ext.specs.Reading.{named_extension_at}
 use Rattle.x509_ext.specs.View.{extension_view}
 use Rattle.x509_ext.proofs.ExtensionLaws.{deep_law, named_extension_reading}

@@ -1,0 +1,27 @@
+use Rattle.std.proofs.Common.{arith}
+use Rattle.asn1_core.proofs.Numbers.{octets_below}
+use Rattle.x509_core.proofs.Grammars.{next_reading}
+use Rattle.x509_core.proofs.Public.{gives_found, gives_only}
+use Rattle.x509_core.proofs.FrontLaws.{gives_reads}
+use Rattle.x509_core.specs.Leaves.{Leaf}
+use Rattle.x509_ext_flags.specs.Extensions as grammar
+use Rattle.x509_ext_flags.specs.Numbers.{IsNumber}
+use Rattle.x509_ext_flags.specs.Reading.{tagged_number_in, inhibit_at}
+use Rattle.x509_ext_flags.specs.View.{inhibit_view}
+use Rattle.x509_ext_flags.proofs.Laws.{number_meaning}
+use Rattle.x509_ext_flags.proofs.policy.InhibitAnyPolicyFromDerX509Error.from_der.Goals as goal
+
+pub returns-clause-reads : goal.returns-clause-reads
+returns-clause-reads c =
+    gives_reads (Leaf 2 IsNumber) (tagged_number_in 2) (number_meaning 2) inhibit_view c.args.bytes.now c.inhibit_at_front.result
+    (octets_below c.args.bytes.now (λ k. omega (arith, c.type_inv.bytes k))) c.inhibit_at_front.ensures.exact c.inhibit_at_front.ensures.missing
+
+pub returns-clause-found : goal.returns-clause-found
+returns-clause-found c =
+    gives_found grammar.InhibitAnyPolicy (inhibit_at) (next_reading (Leaf 2 IsNumber) (tagged_number_in 2) (number_meaning 2)) inhibit_view c.args.bytes.now c.inhibit_at_front.result
+    (octets_below c.args.bytes.now (λ k. omega (arith, c.type_inv.bytes k))) c.inhibit_at_front.ensures.exact
+
+pub returns-clause-only : goal.returns-clause-only
+returns-clause-only c =
+    gives_only grammar.InhibitAnyPolicy (inhibit_at) (next_reading (Leaf 2 IsNumber) (tagged_number_in 2) (number_meaning 2)) inhibit_view c.args.bytes.now c.inhibit_at_front.result
+    (octets_below c.args.bytes.now (λ k. omega (arith, c.type_inv.bytes k))) c.inhibit_at_front.ensures.exact

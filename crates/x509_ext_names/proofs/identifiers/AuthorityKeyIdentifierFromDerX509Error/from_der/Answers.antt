@@ -1,0 +1,26 @@
+use Rattle.std.proofs.Common.{arith}
+use Rattle.asn1_core.proofs.Numbers.{octets_below}
+use Rattle.x509_core.proofs.Grammars.{next_reading}
+use Rattle.x509_core.proofs.Public.{gives_found, gives_only}
+use Rattle.x509_core.proofs.FrontLaws.{gives_reads}
+use Rattle.x509_core.specs.Grammar.{Holds}
+use Rattle.x509_ext_names.specs.Extensions as grammar
+use Rattle.x509_ext_names.specs.Reading.{authority_key_in, authority_key_at}
+use Rattle.x509_ext_names.specs.View.{authority_key_view}
+use Rattle.x509_ext_names.proofs.Laws.{authority_key_meaning}
+use Rattle.x509_ext_names.proofs.identifiers.AuthorityKeyIdentifierFromDerX509Error.from_der.Goals as goal
+
+pub returns-clause-reads : goal.returns-clause-reads
+returns-clause-reads c =
+    gives_reads (Holds 16 grammar.AuthorityKeyIdentifierParts) (authority_key_in) (authority_key_meaning) authority_key_view c.args.bytes.now c.authority_key_at_front.result
+    (octets_below c.args.bytes.now (λ k. omega (arith, c.type_inv.bytes k))) c.authority_key_at_front.ensures.exact c.authority_key_at_front.ensures.missing
+
+pub returns-clause-found : goal.returns-clause-found
+returns-clause-found c =
+    gives_found grammar.AuthorityKeyIdentifier (authority_key_at) (next_reading (Holds 16 grammar.AuthorityKeyIdentifierParts) (authority_key_in) (authority_key_meaning)) authority_key_view c.args.bytes.now c.authority_key_at_front.result
+    (octets_below c.args.bytes.now (λ k. omega (arith, c.type_inv.bytes k))) c.authority_key_at_front.ensures.exact
+
+pub returns-clause-only : goal.returns-clause-only
+returns-clause-only c =
+    gives_only grammar.AuthorityKeyIdentifier (authority_key_at) (next_reading (Holds 16 grammar.AuthorityKeyIdentifierParts) (authority_key_in) (authority_key_meaning)) authority_key_view c.args.bytes.now c.authority_key_at_front.result
+    (octets_below c.args.bytes.now (λ k. omega (arith, c.type_inv.bytes k))) c.authority_key_at_front.ensures.exact

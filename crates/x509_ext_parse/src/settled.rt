@@ -1,0 +1,48 @@
+//! What becomes of a reader's answer.
+
+ghost use Rattle.std.specs.Prelude.{◌≢◌, IfOk, OnOk};
+ghost use Rattle.asn1_core.specs.Answers.{TakesNoMemory};
+ghost use Rattle.asn1_core.specs.declared.error.Error.TheVariants as errors;
+ghost use Rattle.x509_core.specs.Fronts.{TakesNoMemory as IsNoFailure};
+ghost use Rattle.x509_ext_parse.specs.Cases.{IsSettled};
+
+use asn1_core::{Err as Refusal, Error, OutOfMemory};
+use x509_core::{X509Error, X509Result};
+
+// The error as one of an element; an error of another part is `BerValueError`.
+fn plain(e: X509Error) -> Error
+    ensures { result ≢ errors.OutOfMemory }
+{
+    match e {
+        X509Error::Der(Error::OutOfMemory) => Error::BerValueError,
+        X509Error::Der(e) => e,
+        _ => Error::BerValueError,
+    }
+}
+
+/// The refusal with its error as one of an element, and want of memory by itself.
+pub(crate) fn refused(refusal: Refusal<X509Error>) -> Result<Refusal<Error>, OutOfMemory>
+    ensures kept { IfOk result TakesNoMemory }
+    ensures octets { OnOk result (IsNoFailure refusal) }
+{
+    match refusal {
+        Refusal::Failure(_) => Err(OutOfMemory),
+        Refusal::Incomplete(needed) => Ok(Refusal::Incomplete(needed)),
+        Refusal::Error(e) => Ok(Refusal::Error(plain(e))),
+    }
+}
+
+/// The same answer, the octets behind a value dropped, an error as one of an element, and want of memory by itself.
+pub(crate) fn settled<'a, T: Drop>(
+    answer: X509Result<'a, T>,
+) -> Result<Result<T, Refusal<Error>>, OutOfMemory>
+    ensures { IsSettled answer.entry result }
+{
+    match answer {
+        Ok((_, value)) => Ok(Ok(value)),
+        Err(refusal) => {
+            let error = refused(refusal)?;
+            Ok(Err(error))
+        }
+    }
+}

@@ -1,0 +1,26 @@
+use Rattle.std.proofs.Common.{arith}
+use Rattle.asn1_core.proofs.Numbers.{octets_below}
+use Rattle.x509_core.proofs.Grammars.{next_reading}
+use Rattle.x509_core.proofs.Public.{gives_found, gives_only}
+use Rattle.x509_core.proofs.FrontLaws.{gives_reads}
+use Rattle.x509_items.specs.Grammar.{HoldsSequence}
+use Rattle.x509_ext_policies.specs.Purposes as grammar
+use Rattle.x509_ext_policies.specs.Reading.{purposes_in, purposes_at}
+use Rattle.x509_ext_policies.specs.View.{purposes_view}
+use Rattle.x509_ext_policies.proofs.PurposeLaws.{purposes_meaning}
+use Rattle.x509_ext_policies.proofs.purposes.ExtendedKeyUsageFromDerX509Error.from_der.Goals as goal
+
+pub returns-clause-reads : goal.returns-clause-reads
+returns-clause-reads c =
+    gives_reads (HoldsSequence grammar.ExtendedKeyUsageParts) (purposes_in) (purposes_meaning) purposes_view c.args.bytes.now c.purposes_at_front.result
+    (octets_below c.args.bytes.now (λ k. omega (arith, c.type_inv.bytes k))) c.purposes_at_front.ensures.exact c.purposes_at_front.ensures.missing
+
+pub returns-clause-found : goal.returns-clause-found
+returns-clause-found c =
+    gives_found grammar.ExtendedKeyUsage (purposes_at) (next_reading (HoldsSequence grammar.ExtendedKeyUsageParts) (purposes_in) (purposes_meaning)) purposes_view c.args.bytes.now c.purposes_at_front.result
+    (octets_below c.args.bytes.now (λ k. omega (arith, c.type_inv.bytes k))) c.purposes_at_front.ensures.exact
+
+pub returns-clause-only : goal.returns-clause-only
+returns-clause-only c =
+    gives_only grammar.ExtendedKeyUsage (purposes_at) (next_reading (HoldsSequence grammar.ExtendedKeyUsageParts) (purposes_in) (purposes_meaning)) purposes_view c.args.bytes.now c.purposes_at_front.result
+    (octets_below c.args.bytes.now (λ k. omega (arith, c.type_inv.bytes k))) c.purposes_at_front.ensures.exact

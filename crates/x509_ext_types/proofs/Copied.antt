@@ -1,0 +1,2 @@
+-- Copies of names stand for the same.
+pub use Rattle.x509_ext_names.proofs.Copied.{same_name}
