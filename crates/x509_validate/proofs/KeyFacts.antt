@@ -5,7 +5,7 @@ use Rattle.x509_names.specs.Fields.{Key, KeyValue}
 use Rattle.x509_names.specs.PublicKeys.{IsKeyValue}
 use Rattle.x509_names.specs.Reading.{key_value_of}
 use Rattle.x509_names.proofs.KeyLaws.{key_found, key_only}
-use Rattle.x509_loggers.specs.Messages.{message, fatal}
+use Rattle.x509_validate.specs.Messages.{message, fatal}
 use Rattle.x509_validate.specs.Keys.{value_messages, read_messages, key_messages, AreKeyMessages, of_value, of_none}
 
 pub read_value : (k : Key) (v : KeyValue) → AllBelowBase 256 k.key.octets → IsKeyValue k.algorithm.identifier k.key.octets v → value_messages v ≡ key_messages k

@@ -1,3 +1,6 @@
+pub mod Told
+pub mod Lines
+pub mod KeptFacts
 pub mod NameLaws
 pub mod KeyFacts
 pub mod Refused

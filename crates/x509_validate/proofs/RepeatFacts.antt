@@ -8,7 +8,7 @@ use Rattle.asn1_oid.specs.Text.{oid_text}
 use Rattle.std.proofs.lemmas.List.{append-nil}
 use Rattle.x509_ext_policies.specs.Reading.{has}
 use Rattle.x509_ext_policies.proofs.PurposeLaws.{kept_more, by_octets}
-use Rattle.x509_loggers.specs.Messages.{Message, message, fatal}
+use Rattle.x509_validate.specs.Messages.{Message, message, fatal}
 use Rattle.x509_validate.specs.Repeats.{repeat_messages}
 use Rattle.x509_validate.specs.Before.{IsHeld, Left}
 

@@ -6,7 +6,7 @@ use Rattle.std.specs.BTreeSet.{BTreeSet}
 use Rattle.std.specs.Ordering.{on, nat_cmp}
 use Rattle.std.specs.Cmp.Lexicographic.{slice_cmp}
 use Rattle.x509_ext_policies.specs.Reading.{has}
-use Rattle.x509_loggers.specs.Messages.{Message}
+use Rattle.x509_validate.specs.Messages.{Message}
 use Rattle.x509_validate.specs.Repeats.{repeat_messages}
 
 -- the set has the octets of these identifiers

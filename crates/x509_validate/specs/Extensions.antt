@@ -11,7 +11,7 @@ use Rattle.x509_ext_names.specs.declared.general_name.GeneralName.TheVariants as
 use Rattle.x509_ext_parse.specs.declared.parsed.ParsedExtension.{ParsedExtension}
 use Rattle.x509_ext_parse.specs.declared.parsed.ParsedExtension.TheVariants as cases
 use Rattle.x509_ext.specs.declared.extension.X509Extension.{X509Extension}
-use Rattle.x509_loggers.specs.Messages.{Message, message, warning, fatal}
+use Rattle.x509_validate.specs.Messages.{Message, message, warning, fatal}
 use Rattle.x509_validate.specs.Names.{is_high}
 
 -- the text of why a value is none of its type

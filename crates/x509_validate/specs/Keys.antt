@@ -3,7 +3,7 @@ use Rattle.std.specs.Prelude.{◌≡◌, ℕ, Option, Some, None, if◌then◌el
 use Rattle.x509_names.specs.Fields.{Key, KeyValue, RsaKey, rsa, ec, dsa, gost, gost_2012, unknown}
 use Rattle.x509_names.specs.PublicKeys.{IsKeyValue}
 use Rattle.x509_names.specs.Reading.{key_value_of}
-use Rattle.x509_loggers.specs.Messages.{Message, message, warning, fatal}
+use Rattle.x509_validate.specs.Messages.{Message, message, warning, fatal}
 use Rattle.x509_validate.specs.Names.{is_high}
 
 -- a warning where a number is negative: the first octet of its content has the highest bit (X.690, 8.3.3)

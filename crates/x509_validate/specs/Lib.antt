@@ -1,3 +1,7 @@
+pub mod Messages
+pub mod Logging
+pub mod Kept
+pub mod View
 pub mod Names
 pub mod Saying
 pub mod Keys

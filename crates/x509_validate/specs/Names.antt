@@ -3,7 +3,7 @@ use Rattle.std.specs.Prelude.{ℕ, Bool, ◌==◌, ◌||◌, ◌&&◌, nat_lt, i
 use Rattle.std.specs.List.{flat_map, list_any}
 use Rattle.asn1_oid.specs.Text.{oid_text}
 use Rattle.x509_names.specs.Fields.{Attribute, Name}
-use Rattle.x509_loggers.specs.Messages.{Message, message, warning}
+use Rattle.x509_validate.specs.Messages.{Message, message, warning}
 
 -- no octet of ASCII
 abbrev pub is_high : ℕ → Bool

@@ -3,7 +3,7 @@ use Rattle.std.specs.Prelude.{ℕ, Bool, ◌==◌, ◌&&◌, not, nat_lt, if◌t
 use Rattle.x509_time.specs.Calls.{is_late}
 use Rattle.x509_time.specs.declared.time.ASN1Time.{ASN1Time}
 use Rattle.x509_time.specs.declared.validity.Validity.{Validity}
-use Rattle.x509_loggers.specs.Messages.{Message, message, warning, fatal}
+use Rattle.x509_validate.specs.Messages.{Message, message, warning, fatal}
 use Rattle.x509_validate.specs.Names.{is_high}
 
 -- versions are 0 to 2 (RFC 5280, 4.1.2.1)

@@ -7,7 +7,7 @@ use Rattle.x509_ext_policies.specs.declared.policies.PolicyInformation.{PolicyIn
 use Rattle.x509_ext_parse.specs.declared.parsed.ParsedExtension.{ParsedExtension}
 use Rattle.x509_ext_parse.specs.declared.parsed.ParsedExtension.TheVariants as cases
 use Rattle.x509_ext.specs.declared.extension.X509Extension.{X509Extension}
-use Rattle.x509_loggers.specs.Messages.{Message, message, warning, fault, fatal}
+use Rattle.x509_validate.specs.Messages.{Message, message, warning, fault, fatal}
 use Rattle.x509_validate.specs.Extensions.{alternative_messages}
 
 -- a message for each identifier that stood before; `kept` are those that stood before, each once

@@ -2,7 +2,7 @@
 use Rattle.std.specs.Prelude.{List, [], ◌∷◌, ◌++◌}
 use Rattle.x509_names.specs.View.{attribute_view}
 use Rattle.x509_names.specs.declared.attribute.AttributeTypeAndValue.{AttributeTypeAndValue}
-use Rattle.x509_loggers.specs.Messages.{Message}
+use Rattle.x509_validate.specs.Messages.{Message}
 use Rattle.x509_validate.specs.Names.{attribute_messages}
 
 abbrev pub said_of_attributes : List AttributeTypeAndValue → List Message

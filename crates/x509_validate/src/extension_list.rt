@@ -1,13 +1,16 @@
 //! Validators of lists of extensions.
 
 ghost use Rattle.std.specs.Prelude.{◌≡◌, ◌++◌, IfOk, IfErr, OnOk, map};
-ghost use Rattle.x509_loggers.specs.Logging.{TakesAll, TakesSome};
-ghost use Rattle.x509_loggers.specs.Messages.{all_pass};
+ghost use Rattle.x509_validate.specs.Logging.{TakesAll, TakesSome};
+ghost use Rattle.x509_validate.specs.Messages.{all_pass};
 ghost use Rattle.x509_validate.specs.Repeats.{critical_messages, half_messages, authority_messages, policy_messages, duplicate_messages, usage_messages, kind_messages, each_kind, list_messages};
-ghost use Rattle.x509_loggers.specs.View.{message_view};
+ghost use Rattle.x509_validate.specs.View.{message_view};
 
 use crate::extensions::push_alternative;
+use crate::logger::{LogError, Logger};
+use crate::message::{Message, Weight, push_text};
 use crate::repeats::push_repeat;
+use crate::telling::tell_all;
 use crate::validator::Validator;
 use std::alloc::{AllocError, Global};
 use std::collections::BTreeSet;
@@ -16,7 +19,6 @@ use x509_ext::{ParsedExtension, X509Extension};
 use x509_ext_flags::KeyUsage;
 use x509_ext_names::AuthorityKeyIdentifier;
 use x509_ext_policies::PolicyInformation;
-use x509_loggers::{LogError, Logger, Message, Weight, push_text, tell_all};
 
 /// Looks at extensions: whether an identifier stands twice, and at what their values are parsed as.
 #[derive(Clone, Copy, Debug)]
@@ -177,7 +179,7 @@ fn push_list(
 
 impl X509ExtensionsValidator {
     /// Tells a logger all that is said of the extensions, as `Validator::validate` does.
-    #[tactic(auto, using(x509_loggers::proofs::Told::untold))]
+    #[tactic(auto, using(crate::proofs::Told::untold))]
     pub fn validate<L: Logger>(
         &self,
         alloc: Global,

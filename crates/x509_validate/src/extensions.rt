@@ -2,17 +2,17 @@
 
 ghost use Rattle.std.specs.Prelude.{◌≡◌, ◌++◌, IfOk, OnOk, map, codes};
 ghost use Rattle.asn1_oid.specs.Text.{oid_text};
-ghost use Rattle.x509_loggers.specs.Messages as messages;
+ghost use Rattle.x509_validate.specs.Messages as messages;
 ghost use Rattle.x509_validate.specs.Extensions.{refused_text, extension_messages, each_extension, text_messages, general_name_messages, general_names_messages, alternative_messages, each_alternative};
-ghost use Rattle.x509_loggers.specs.View.{message_view};
+ghost use Rattle.x509_validate.specs.View.{message_view};
 
+use crate::message::{Message, Weight};
 use crate::name::has_high;
 use asn1_core::{Err as Refusal, Error};
 use asn1_oid::Oid;
 use std::alloc::{AllocError, Global};
 use x509_ext::{ParsedExtension, X509Extension};
 use x509_ext_names::GeneralName;
-use x509_loggers::{Message, Weight};
 
 fn unsupported(alloc: Global, oid: &Oid<'_>) -> Result<Message, AllocError>
     ensures { IfOk result (λ m. message_view m ≡ messages.message messages.warning (codes "Unsupported extension " ++ oid_text oid.now)) }

@@ -3,11 +3,13 @@
 ghost use Rattle.std.specs.Prelude.{◌≡◌, ◌++◌, OnOk, map};
 ghost use Rattle.x509_names.specs.View.{key_view, public_key_view, rsa_view};
 ghost use Rattle.x509_validate.specs.Keys.{sign_messages, rsa_messages, value_messages, key_messages, AreKeyMessages};
-ghost use Rattle.x509_loggers.specs.View.{message_view};
+ghost use Rattle.x509_validate.specs.View.{message_view};
 
+use crate::logger::{LogError, Logger};
+use crate::message::{Message, Weight, push_text};
+use crate::telling::tell_all;
 use crate::validator::Validator;
 use std::alloc::{AllocError, Global};
-use x509_loggers::{LogError, Logger, Message, Weight, push_text, tell_all};
 use x509_names::{PublicKey, RSAPublicKey, SubjectPublicKeyInfo};
 
 /// Looks at keys: `Invalid public key` is fatal where a key's octets are none of its algorithm; warns of keys of unknown algorithms and of
@@ -108,7 +110,7 @@ impl<'a> Validator<'a> for X509PublicKeyValidator {
 
     ghost messages = { λ v key. key_messages (key_view key) };
 
-    #[tactic(auto, using(x509_loggers::proofs::Told::untold))]
+    #[tactic(auto, using(crate::proofs::Told::untold))]
     fn validate<L: Logger>(
         &self,
         alloc: Global,

@@ -4,15 +4,17 @@ ghost use Rattle.std.specs.Prelude.{◌≡◌, ◌++◌, IfOk, OnOk, map, codes}
 ghost use Rattle.std.specs.List.{list_any};
 ghost use Rattle.asn1_oid.specs.Text.{oid_text};
 ghost use Rattle.x509_names.specs.View.{attribute_view, name_view, attributes_in};
-ghost use Rattle.x509_loggers.specs.Messages as messages;
+ghost use Rattle.x509_validate.specs.Messages as messages;
 ghost use Rattle.x509_validate.specs.Names.{is_high, attribute_messages, name_messages};
 ghost use Rattle.x509_validate.specs.Saying.{said_of_attributes};
-ghost use Rattle.x509_loggers.specs.View.{message_view};
+ghost use Rattle.x509_validate.specs.View.{message_view};
 
+use crate::logger::{LogError, Logger};
+use crate::message::{Message, Weight};
+use crate::telling::tell_all;
 use crate::validator::Validator;
 use asn1_oid::Oid;
 use std::alloc::{AllocError, Global};
-use x509_loggers::{LogError, Logger, Message, Weight, tell_all};
 use x509_names::{AttributeTypeAndValue, X509Name};
 
 /// Looks at names: warns of each attribute that is a PrintableString or an IA5String with an octet that is no ASCII (X.680, 41).
@@ -87,7 +89,7 @@ impl<'a> Validator<'a> for X509NameStructureValidator {
 
     ghost messages = { λ v name. name_messages (name_view name) };
 
-    #[tactic(auto, using(x509_loggers::proofs::Told::untold))]
+    #[tactic(auto, using(crate::proofs::Told::untold))]
     fn validate<L: Logger>(
         &self,
         alloc: Global,

@@ -2,10 +2,10 @@
 
 ghost use Rattle.std.specs.Prelude.{◌≡◌, ◌++◌, OnOk, map};
 ghost use Rattle.x509_validate.specs.Parts.{version_messages, serial_messages, time_messages, validity_messages};
-ghost use Rattle.x509_loggers.specs.View.{message_view};
+ghost use Rattle.x509_validate.specs.View.{message_view};
 
+use crate::message::{Message, Weight, push_text};
 use std::alloc::{AllocError, Global};
-use x509_loggers::{Message, Weight, push_text};
 use x509_time::{ASN1Time, Validity};
 
 /// Adds what is said of a version, which counts from 0.

@@ -2,15 +2,15 @@
 
 ghost use Rattle.std.specs.Prelude.{◌≡◌, ◌∷◌, ◌++◌, ℕ, List, IfOk, OnOk, map};
 ghost use Rattle.asn1_oid.specs.Text.{oid_text};
-ghost use Rattle.x509_loggers.specs.Messages as messages;
-ghost use Rattle.x509_loggers.specs.Messages.{Message as Said};
+ghost use Rattle.x509_validate.specs.Messages as messages;
+ghost use Rattle.x509_validate.specs.Messages.{Message as Said};
 ghost use Rattle.x509_validate.specs.Before.{Left};
-ghost use Rattle.x509_loggers.specs.View.{message_view};
+ghost use Rattle.x509_validate.specs.View.{message_view};
 
+use crate::message::{Message, Weight};
 use asn1_oid::Oid;
 use std::alloc::{AllocError, Global};
 use std::collections::BTreeSet;
-use x509_loggers::{Message, Weight};
 
 fn repeat(alloc: Global, text: &str, oid: &Oid<'_>) -> Result<Message, AllocError>
     ensures { IfOk result (λ m. message_view m ≡ messages.message messages.fatal (text.now ++ oid_text oid.now)) }

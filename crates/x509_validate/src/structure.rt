@@ -2,17 +2,19 @@
 
 ghost use Rattle.std.specs.Prelude.{◌≡◌, ◌++◌, OnOk, map};
 ghost use Rattle.x509_validate.specs.Structure.{present, unique_messages, presence_messages, field_messages, further_messages, structure_messages};
-ghost use Rattle.x509_loggers.specs.View.{message_view};
+ghost use Rattle.x509_validate.specs.View.{message_view};
 
 use crate::extensions::{push_alternatives, push_extensions};
 use crate::key::push_key;
+use crate::logger::{LogError, Logger};
+use crate::message::{Message, Weight, push_text};
 use crate::name::push_name;
 use crate::parts::{push_serial, push_validity, push_version};
+use crate::telling::tell_all;
 use crate::validator::Validator;
 use std::alloc::{AllocError, Global};
 use x509_certs::{TbsCertificate, X509Certificate};
 use x509_ext::{UniqueIdentifier, X509Extension};
-use x509_loggers::{LogError, Logger, Message, Weight, push_text, tell_all};
 
 /// Looks at the signed part of a certificate: version, serial number, names, key, times, unique identifiers and extensions.
 #[derive(Clone, Copy, Debug)]
@@ -137,7 +139,7 @@ impl<'a> Validator<'a> for TbsCertificateStructureValidator {
 
     ghost messages = { λ v tbs. structure_messages tbs };
 
-    #[tactic(auto, using(x509_loggers::proofs::Told::untold))]
+    #[tactic(auto, using(crate::proofs::Told::untold))]
     fn validate<L: Logger>(
         &self,
         alloc: Global,

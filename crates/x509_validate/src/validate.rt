@@ -1,15 +1,16 @@
 //! Values that are validated as they are.
 
 ghost use Rattle.std.specs.Prelude.{◌≡◌, List, IfOk, IfErr, OnOk, map, string_bytes};
-ghost use Rattle.x509_loggers.specs.Kept.{warning_texts, error_texts};
-ghost use Rattle.x509_loggers.specs.Logging.{TakesAll, TakesSome};
-ghost use Rattle.x509_loggers.specs.Messages.{Message, all_pass};
+ghost use Rattle.x509_validate.specs.Kept.{warning_texts, error_texts};
+ghost use Rattle.x509_validate.specs.Logging.{TakesAll, TakesSome};
+ghost use Rattle.x509_validate.specs.Messages.{Message, all_pass};
 
+use crate::logger::{LogError, Logger};
 use crate::structure::{TbsCertificateStructureValidator, X509StructureValidator};
 use crate::validator::Validator;
+use crate::vec_logger::VecLogger;
 use std::alloc::Global;
 use x509_certs::{TbsCertificate, X509Certificate};
-use x509_loggers::{LogError, Logger, VecLogger};
 
 /// Says what is amiss with itself.
 pub trait Validate {
@@ -23,7 +24,7 @@ pub trait Validate {
         ensures refused { IfErr result (λ e. TakesSome L.warns L.errs l.old (messages self.now) e l.new) };
 
     /// The answer, the warnings and the errors. It is refused for want of memory alone.
-    #[tactic(auto, using(x509_loggers::proofs::KeptFacts::all_warnings, x509_loggers::proofs::KeptFacts::all_errors, x509_loggers::proofs::KeptFacts::out_of_memory))]
+    #[tactic(auto, using(crate::proofs::KeptFacts::all_warnings, crate::proofs::KeptFacts::all_errors, crate::proofs::KeptFacts::out_of_memory))]
     fn validate_to_vec(&self, alloc: Global) -> Result<(bool, Vec<String>, Vec<String>), LogError>
         ensures answer { IfOk result (λ r. r.0 ≡ all_pass (messages self.now)) }
         ensures warnings { IfOk result (λ r. map string_bytes r.1.items ≡ warning_texts (messages self.now)) }

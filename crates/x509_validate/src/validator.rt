@@ -1,11 +1,11 @@
 //! Validators, and two of them in a chain.
 
 ghost use Rattle.std.specs.Prelude.{◌≡◌, List, IfOk, IfErr, OnOk};
-ghost use Rattle.x509_loggers.specs.Logging.{TakesAll, TakesSome};
-ghost use Rattle.x509_loggers.specs.Messages.{Message, all_pass};
+ghost use Rattle.x509_validate.specs.Logging.{TakesAll, TakesSome};
+ghost use Rattle.x509_validate.specs.Messages.{Message, all_pass};
 
+use crate::logger::{LogError, Logger};
 use std::alloc::Global;
-use x509_loggers::{LogError, Logger};
 
 /// Says what is amiss with a value.
 pub trait Validator<'a>: Sized {
@@ -53,7 +53,7 @@ impl<'a, A: Validator<'a>, B: Validator<'a, Item = A::Item>> Validator<'a>
 
     ghost messages = { λ v item. A.messages v.first item ++ B.messages v.second item };
 
-    #[tactic(auto, using(x509_loggers::proofs::Told::joined, x509_loggers::proofs::Told::first_refused, x509_loggers::proofs::Told::second_refused, x509_loggers::proofs::Told::both_pass))]
+    #[tactic(auto, using(crate::proofs::Told::joined, crate::proofs::Told::first_refused, crate::proofs::Told::second_refused, crate::proofs::Told::both_pass))]
     fn validate<L: Logger>(
         &self,
         alloc: Global,

@@ -2,7 +2,7 @@ use Rattle.std.proofs.Common.{rules, ◌≡◌, ◌∙◌, ◌+◌, ◌∷◌, �
 use Rattle.std.proofs.lemmas.List.{drop_more}
 use Rattle.x509_validate.specs.Before.{Left}
 use Rattle.x509_validate.specs.Repeats.{repeat_messages}
-use Rattle.x509_loggers.specs.View.{message_view}
+use Rattle.x509_validate.specs.View.{message_view}
 use Rattle.x509_validate.proofs.extension_list.push_duplicates.Goals as goal
 
 pub loop-extension-preserved : goal.loop-extension-preserved

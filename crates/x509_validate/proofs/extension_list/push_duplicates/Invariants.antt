@@ -1,5 +1,5 @@
 use Rattle.std.proofs.Common.{◌++◌, [], codes, drop, map}
-use Rattle.x509_loggers.specs.View.{message_view}
+use Rattle.x509_validate.specs.View.{message_view}
 use Rattle.x509_validate.specs.Repeats.{repeat_messages}
 use Rattle.x509_validate.specs.Before.{Left}
 use Rattle.x509_validate.proofs.extension_list.push_duplicates.Given as goal

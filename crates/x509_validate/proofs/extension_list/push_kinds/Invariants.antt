@@ -1,6 +1,6 @@
 -- What was said, and what will be said of the rest, is all.
 use Rattle.std.proofs.Common.{◌≡◌, ◌++◌, drop, map}
-use Rattle.x509_loggers.specs.View.{message_view}
+use Rattle.x509_validate.specs.View.{message_view}
 use Rattle.x509_validate.specs.Repeats.{each_kind}
 use Rattle.x509_validate.proofs.extension_list.push_kinds.Given as goal
 

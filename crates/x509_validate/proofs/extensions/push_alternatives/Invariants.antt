@@ -1,6 +1,6 @@
 -- What was said, and what will be said of the rest, is all.
 use Rattle.std.proofs.Common.{◌≡◌, ◌++◌, drop, map}
-use Rattle.x509_loggers.specs.View.{message_view}
+use Rattle.x509_validate.specs.View.{message_view}
 use Rattle.x509_validate.specs.Extensions.{each_alternative}
 use Rattle.x509_validate.proofs.extensions.push_alternatives.Given as goal
 

@@ -3,7 +3,7 @@ use Rattle.std.specs.Int.Digits.{AllBelowBase}
 use Rattle.std.specs.Prelude.{OnOk}
 use Rattle.asn1_core.proofs.Numbers.{octets_below}
 use Rattle.x509_names.specs.View.{key_view, public_key_view}
-use Rattle.x509_loggers.specs.View.{message_view}
+use Rattle.x509_validate.specs.View.{message_view}
 use Rattle.x509_validate.proofs.KeyFacts.{read_value, read_none}
 use Rattle.x509_validate.proofs.key.push_parsed.Goals as goal
 

@@ -1,6 +1,6 @@
 -- What was said, and what will be said of the attributes that are left, is all.
 use Rattle.std.proofs.Common.{◌≡◌, ◌++◌, length, map}
-use Rattle.x509_loggers.specs.View.{message_view}
+use Rattle.x509_validate.specs.View.{message_view}
 use Rattle.x509_validate.specs.Saying.{said_of_attributes}
 use Rattle.x509_validate.proofs.name.push_attributes.Given as goal
 

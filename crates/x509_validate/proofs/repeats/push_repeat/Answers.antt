@@ -1,6 +1,6 @@
 use Rattle.std.proofs.Common.{rules, ◌≡◌, ◌∙◌, ◌∷◌, sym, subst, map}
 use Rattle.x509_validate.specs.Before.{Left}
-use Rattle.x509_loggers.specs.View.{message_view}
+use Rattle.x509_validate.specs.View.{message_view}
 use Rattle.x509_validate.proofs.RepeatFacts.{anew}
 use Rattle.x509_validate.proofs.repeats.push_repeat.Goals as goal
 

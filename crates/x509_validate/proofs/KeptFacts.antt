@@ -2,12 +2,12 @@
 use Rattle.std.proofs.Common.{◌≡◌, ◌∙◌, ap, sym, inl, inr, ℕ, List, [], ◌∷◌, ◌++◌, append_assoc, map, string_bytes}
 use Rattle.std.specs.Prelude.{Ok, Err}
 use Rattle.std.proofs.lemmas.List.{append-nil}
-use Rattle.x509_loggers.specs.Messages.{Weight, warning, fault, fatal, Message}
-use Rattle.x509_loggers.specs.Logging.{TellsWeight, TakesAll, TakesSome, RefusesNext}
-use Rattle.x509_loggers.specs.Kept.{KeepsWarning, KeepsError, warning_text, error_text, warning_texts, error_texts}
-use Rattle.x509_loggers.specs.declared.vec_logger.VecLogger.{VecLogger}
-use Rattle.x509_loggers.specs.declared.logger.LogError.{LogError}
-use Rattle.x509_loggers.specs.declared.logger.LogError.TheVariants as errors
+use Rattle.x509_validate.specs.Messages.{Weight, warning, fault, fatal, Message}
+use Rattle.x509_validate.specs.Logging.{TellsWeight, TakesAll, TakesSome, RefusesNext}
+use Rattle.x509_validate.specs.Kept.{KeepsWarning, KeepsError, warning_text, error_text, warning_texts, error_texts}
+use Rattle.x509_validate.specs.declared.vec_logger.VecLogger.{VecLogger}
+use Rattle.x509_validate.specs.declared.logger.LogError.{LogError}
+use Rattle.x509_validate.specs.declared.logger.LogError.TheVariants as errors
 
 one_warning : (w : Weight) (text : List ℕ) (old new : VecLogger) → TellsWeight KeepsWarning KeepsError w old text (Ok tt) new
     → map string_bytes new.warnings.items ≡ map string_bytes old.warnings.items ++ warning_text w text

@@ -1,9 +1,9 @@
 -- What the values of this crate's types are.
 use Rattle.std.specs.Prelude.{string_bytes}
-use Rattle.x509_loggers.specs.Messages as messages
-use Rattle.x509_loggers.specs.declared.message.Weight.{Weight}
-use Rattle.x509_loggers.specs.declared.message.Weight.TheVariants as weights
-use Rattle.x509_loggers.specs.declared.message.Message.{Message}
+use Rattle.x509_validate.specs.Messages as messages
+use Rattle.x509_validate.specs.declared.message.Weight.{Weight}
+use Rattle.x509_validate.specs.declared.message.Weight.TheVariants as weights
+use Rattle.x509_validate.specs.declared.message.Message.{Message}
 
 abbrev pub weight_view : Weight → messages.Weight
 weight_view weights.Warning = messages.warning

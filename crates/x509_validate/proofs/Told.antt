@@ -3,12 +3,12 @@ use Rattle.std.proofs.Common.{◌≡◌, ◌∙◌, ap, refl, sym, subst, map, t
 use Rattle.std.specs.List.{FoldsTo, list_all}
 use Rattle.std.proofs.lemmas.List.{append-nil}
 use Rattle.std.proofs.lemmas.List.Folds.{list_all-map, list_all-append}
-use Rattle.x509_loggers.specs.Messages.{Message, passes, all_pass}
-use Rattle.x509_loggers.specs.Logging.{Tells, TellsWeight, Takes, TakesAll, RefusesNext, TakesSome}
-use Rattle.x509_loggers.specs.View.{message_view}
-use Rattle.x509_loggers.specs.declared.logger.LogError.{LogError}
-use Rattle.x509_loggers.specs.declared.logger.LogError.TheVariants as errors
-use Rattle.x509_loggers.specs.declared.message.Message as code
+use Rattle.x509_validate.specs.Messages.{Message, passes, all_pass}
+use Rattle.x509_validate.specs.Logging.{Tells, TellsWeight, Takes, TakesAll, RefusesNext, TakesSome}
+use Rattle.x509_validate.specs.View.{message_view}
+use Rattle.x509_validate.specs.declared.logger.LogError.{LogError}
+use Rattle.x509_validate.specs.declared.logger.LogError.TheVariants as errors
+use Rattle.x509_validate.specs.declared.message.Message as code
 
 pub folds_join : {P A : Type 0} (R : P → A → P → Type 0) (p : P) (xs ys : List A) (q r : P) → FoldsTo R p xs q → FoldsTo R q ys r → FoldsTo R p (xs ++ ys) r
 folds_join R p [] ys q r e s = subst (λ z. FoldsTo R z ys r) (sym e) s

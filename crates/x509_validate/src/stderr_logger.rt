@@ -54,7 +54,7 @@ fn write_line<W: Sink>(writer: &mut W, mark: &[u8], message: &str) -> Result<(),
 
 impl<W: Sink> Logger for StderrLogger<W> {
     ghost use Rattle.std.specs.Prelude.{◌≡◌, codes, ◌++◌};
-    ghost use Rattle.x509_loggers.specs.Kept.{WritesLine};
+    ghost use Rattle.x509_validate.specs.Kept.{WritesLine};
 
     ghost warns = { λ old text answer new. WritesLine (W.contents old.writer) (W.contents new.writer) (W.failures old.writer) (W.failures new.writer) (codes "[W] " ++ text) answer × (W.flushes new.writer ≡ W.flushes old.writer) };
 

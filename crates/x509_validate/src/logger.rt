@@ -1,7 +1,7 @@
 //! Who messages are told to.
 
 ghost use Rattle.std.specs.Prelude.{⊤, ◌≡◌, ℕ, List, Result};
-ghost use Rattle.x509_loggers.specs.declared.logger.LogError.{LogError};
+ghost use Rattle.x509_validate.specs.declared.logger.LogError.{LogError};
 
 use asn1_core::OutOfMemory;
 use std::alloc::AllocError;

@@ -1,9 +1,9 @@
 -- What a logger was told, by a relation of its own.
 use Rattle.std.specs.Prelude.{⊤, ◌≡◌, ◌⊎◌, ℕ, List, [], ◌∷◌, ◌++◌, Result, Ok, Err}
 use Rattle.std.specs.List.{FoldsTo}
-use Rattle.x509_loggers.specs.Messages.{Weight, warning, fault, fatal, Message}
-use Rattle.x509_loggers.specs.declared.logger.LogError.{LogError}
-use Rattle.x509_loggers.specs.declared.logger.LogError.TheVariants as errors
+use Rattle.x509_validate.specs.Messages.{Weight, warning, fault, fatal, Message}
+use Rattle.x509_validate.specs.declared.logger.LogError.{LogError}
+use Rattle.x509_validate.specs.declared.logger.LogError.TheVariants as errors
 
 -- which calls with this text and this answer lead from one state of a logger to another
 abbrev pub Tells : Type 0 → Type 1

@@ -2,9 +2,9 @@
 
 ghost use Rattle.std.specs.Prelude.{◌≡◌, [], ◌∷◌, ◌++◌, OnOk, OnErr, map};
 ghost use Rattle.std.specs.List.{list_all};
-ghost use Rattle.x509_loggers.specs.Messages as messages;
-ghost use Rattle.x509_loggers.specs.Messages.{all_pass};
-ghost use Rattle.x509_loggers.specs.View.{message_view, weight_view};
+ghost use Rattle.x509_validate.specs.Messages as messages;
+ghost use Rattle.x509_validate.specs.Messages.{all_pass};
+ghost use Rattle.x509_validate.specs.View.{message_view, weight_view};
 
 use std::alloc::{AllocError, Global};
 

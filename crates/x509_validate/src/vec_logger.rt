@@ -63,7 +63,7 @@ fn keep(alloc: Global, message: &str, texts: &mut Vec<String>) -> Result<(), All
 }
 
 impl Logger for VecLogger {
-    ghost use Rattle.x509_loggers.specs.Kept.{KeepsWarning, KeepsError};
+    ghost use Rattle.x509_validate.specs.Kept.{KeepsWarning, KeepsError};
 
     ghost warns = { KeepsWarning };
 

@@ -1,9 +1,9 @@
 //! Messages are told to a logger, in their order.
 
 ghost use Rattle.std.specs.Prelude.{◌≡◌, IfOk, IfErr, OnOk, OnErr, Ok, Err, map};
-ghost use Rattle.x509_loggers.specs.Logging.{TellsWeight, TakesAll, TakesSome};
-ghost use Rattle.x509_loggers.specs.Messages as messages;
-ghost use Rattle.x509_loggers.specs.View.{message_view, weight_view};
+ghost use Rattle.x509_validate.specs.Logging.{TellsWeight, TakesAll, TakesSome};
+ghost use Rattle.x509_validate.specs.Messages as messages;
+ghost use Rattle.x509_validate.specs.View.{message_view, weight_view};
 
 use crate::logger::{LogError, Logger};
 use crate::message::{Message, Weight, all_pass};

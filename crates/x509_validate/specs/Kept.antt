@@ -2,11 +2,11 @@
 use Rattle.std.specs.Prelude.{⊤, ◌≡◌, ℕ, ◌+◌, List, [], ◌∷◌, ◌++◌, map, string_bytes, Option, Result, Ok, Err}
 use Rattle.std.specs.Io.KnownBytes.{Appends}
 use Rattle.asn1_device.specs.Counts.{AppendsFront}
-use Rattle.x509_loggers.specs.declared.logger.LogError.{LogError}
-use Rattle.x509_loggers.specs.declared.vec_logger.VecLogger.{VecLogger}
-use Rattle.x509_loggers.specs.Logging.{Tells}
-use Rattle.x509_loggers.specs.Messages.{Weight, warning, fault, fatal, Message}
-use Rattle.x509_loggers.specs.declared.logger.LogError.TheVariants as errors
+use Rattle.x509_validate.specs.declared.logger.LogError.{LogError}
+use Rattle.x509_validate.specs.declared.vec_logger.VecLogger.{VecLogger}
+use Rattle.x509_validate.specs.Logging.{Tells}
+use Rattle.x509_validate.specs.Messages.{Weight, warning, fault, fatal, Message}
+use Rattle.x509_validate.specs.declared.logger.LogError.TheVariants as errors
 
 -- the text came behind those that were kept, or memory ran out and they are as they were
 abbrev pub Keeps : List (List ℕ) → List (List ℕ) → List ℕ → Result ⊤ LogError → Type 0

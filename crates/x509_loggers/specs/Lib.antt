@@ -1,4 +1,0 @@
-pub mod Messages
-pub mod Logging
-pub mod Kept
-pub mod View
