@@ -8,9 +8,9 @@ ghost use Rattle.x509_validate.specs.View.{message_view};
 
 use crate::extensions::push_alternative;
 use crate::logger::{LogError, Logger};
+use crate::logging::log_all;
 use crate::message::{Message, Weight, push_text};
 use crate::repeats::push_repeat;
-use crate::telling::tell_all;
 use crate::validator::Validator;
 use std::alloc::{AllocError, Global};
 use std::collections::BTreeSet;
@@ -192,7 +192,7 @@ impl X509ExtensionsValidator {
     {
         let mut said = Vec::new(alloc);
         match push_list(alloc, extensions, &mut said) {
-            Ok(()) => tell_all(&said, l),
+            Ok(()) => log_all(&said, l),
             Err(_) => Err(LogError::OutOfMemory),
         }
     }

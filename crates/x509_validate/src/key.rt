@@ -6,8 +6,8 @@ ghost use Rattle.x509_validate.specs.Keys.{sign_messages, rsa_messages, value_me
 ghost use Rattle.x509_validate.specs.View.{message_view};
 
 use crate::logger::{LogError, Logger};
+use crate::logging::log_all;
 use crate::message::{Message, Weight, push_text};
-use crate::telling::tell_all;
 use crate::validator::Validator;
 use std::alloc::{AllocError, Global};
 use x509_names::{PublicKey, RSAPublicKey, SubjectPublicKeyInfo};
@@ -119,7 +119,7 @@ impl<'a> Validator<'a> for X509PublicKeyValidator {
     ) -> Result<bool, LogError> {
         let mut said = Vec::new(alloc);
         match push_key(alloc, key, &mut said) {
-            Ok(()) => tell_all(&said, l),
+            Ok(()) => log_all(&said, l),
             Err(_) => Err(LogError::OutOfMemory),
         }
     }

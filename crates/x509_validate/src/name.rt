@@ -10,8 +10,8 @@ ghost use Rattle.x509_validate.specs.Saying.{said_of_attributes};
 ghost use Rattle.x509_validate.specs.View.{message_view};
 
 use crate::logger::{LogError, Logger};
+use crate::logging::log_all;
 use crate::message::{Message, Weight};
-use crate::telling::tell_all;
 use crate::validator::Validator;
 use asn1_oid::Oid;
 use std::alloc::{AllocError, Global};
@@ -98,7 +98,7 @@ impl<'a> Validator<'a> for X509NameStructureValidator {
     ) -> Result<bool, LogError> {
         let mut said = Vec::new(alloc);
         match push_name(alloc, name, &mut said) {
-            Ok(()) => tell_all(&said, l),
+            Ok(()) => log_all(&said, l),
             Err(_) => Err(LogError::OutOfMemory),
         }
     }

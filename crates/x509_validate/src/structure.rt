@@ -7,10 +7,10 @@ ghost use Rattle.x509_validate.specs.View.{message_view};
 use crate::extensions::{push_alternatives, push_extensions};
 use crate::key::push_key;
 use crate::logger::{LogError, Logger};
+use crate::logging::log_all;
 use crate::message::{Message, Weight, push_text};
 use crate::name::push_name;
 use crate::parts::{push_serial, push_validity, push_version};
-use crate::telling::tell_all;
 use crate::validator::Validator;
 use std::alloc::{AllocError, Global};
 use x509_certs::{TbsCertificate, X509Certificate};
@@ -148,7 +148,7 @@ impl<'a> Validator<'a> for TbsCertificateStructureValidator {
     ) -> Result<bool, LogError> {
         let mut said = Vec::new(alloc);
         match push_structure(alloc, tbs, &mut said) {
-            Ok(()) => tell_all(&said, l),
+            Ok(()) => log_all(&said, l),
             Err(_) => Err(LogError::OutOfMemory),
         }
     }
