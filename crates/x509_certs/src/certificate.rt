@@ -1,4 +1,4 @@
-//! `X509Certificate` (RFC 5280, 4.1.1).
+//! `X509Certificate` (RFC 5280, 4.1.1) and its accessors.
 
 ghost use Rattle.std.specs.Prelude.{◌≡◌, ◌+◌, ◌*◌, ◌^◌, ◌<◌, ◌≤◌, length, All, IfOk, map, option_map, string_bytes};
 ghost use Rattle.std.specs.Slice.Iter.{iter_rest};
@@ -27,34 +27,39 @@ use x509_ext::{X509Extension, X509Version};
 use x509_names::{AlgorithmIdentifier, SubjectPublicKeyInfo, X509Name, next_algorithm, next_bits};
 use x509_time::Validity;
 
-/// A certificate. The calls of its signed part are its own too.
+/// An X.509 certificate (RFC 5280, 4.1), borrowed from the octets that it was read from. It has all
+/// methods of [`TbsCertificate`].
 #[derive(Debug, Drop, PartialEq, Eq)]
 pub struct X509Certificate<'a> {
-    /// The signed part.
+    /// The signed part, `tbsCertificate`.
     pub tbs_certificate: TbsCertificate<'a>,
-    /// The algorithm of the signature.
+    /// The algorithm that the signature is made with (RFC 5280, 4.1.1.2).
     pub signature_algorithm: AlgorithmIdentifier<'a>,
-    /// The signature.
+    /// The signature's bits (RFC 5280, 4.1.1.3). No signature is verified.
     pub signature_value: BitString<'a>,
     raw: &'a [u8],
 }
 
 impl<'a> X509Certificate<'a> {
-    /// All octets of the certificate.
+    /// The whole encoding of the certificate, from its header to its last octet.
     pub fn as_raw(&self) -> &'a [u8]
         ensures { result ≡ self.now.raw }
     {
         self.raw
     }
 
-    /// All octets of the certificate.
+    /// The whole encoding of the certificate, from its header to its last octet.
     pub fn as_ref(&self) -> &'a [u8]
         ensures { result ≡ self.now.raw }
     {
         self.raw
     }
 
-    /// A copy: it borrows what the certificate borrows.
+    /// A copy that borrows the same octets as the certificate.
+    ///
+    /// # Errors
+    ///
+    /// Out of memory, for the copied vectors of names and extensions.
     pub fn clone(&self, alloc: Global) -> Result<X509Certificate<'a>, OutOfMemory>
         ensures value { IfOk result (λ copy. certificate_view copy ≡ certificate_view self.now) }
         ensures serial { IfOk result (λ copy. copy.tbs_certificate.serial ≡ self.now.tbs_certificate.serial) }
@@ -70,56 +75,60 @@ impl<'a> X509Certificate<'a> {
         })
     }
 
-    /// The version.
+    /// The version (RFC 5280, 4.1.2.1), `V1` if the field is absent.
     pub fn version(&self) -> X509Version
         ensures { result ≡ self.now.tbs_certificate.version }
     {
         self.tbs_certificate.version()
     }
 
-    /// Whose the key is.
+    /// The subject's name (RFC 5280, 4.1.2.6).
     pub fn subject(&self) -> &X509Name<'a>
         ensures { result.now ≡ self.now.tbs_certificate.subject }
     {
         self.tbs_certificate.subject()
     }
 
-    /// Who signed.
+    /// The issuer's name (RFC 5280, 4.1.2.4). No signature is verified.
     pub fn issuer(&self) -> &X509Name<'a>
         ensures { result.now ≡ self.now.tbs_certificate.issuer }
     {
         self.tbs_certificate.issuer()
     }
 
-    /// When the certificate is valid.
+    /// The validity period (RFC 5280, 4.1.2.5).
     pub fn validity(&self) -> &Validity
         ensures { result.now ≡ self.now.tbs_certificate.validity }
     {
         self.tbs_certificate.validity()
     }
 
-    /// The key.
+    /// The subject's public key and its algorithm (RFC 5280, 4.1.2.7).
     pub fn public_key(&self) -> &SubjectPublicKeyInfo<'a>
         ensures { result.now ≡ self.now.tbs_certificate.subject_pki }
     {
         self.tbs_certificate.public_key()
     }
 
-    /// The extensions, in the order in which they stand.
+    /// The extensions, in the order of the encoding (RFC 5280, 4.2).
     pub fn extensions(&self) -> &[X509Extension<'a>]
         ensures { result.now ≡ self.now.tbs_certificate.extensions.items }
     {
         self.tbs_certificate.extensions()
     }
 
-    /// The extensions, in the order in which they stand.
+    /// The extensions, in the order of the encoding (RFC 5280, 4.2).
     pub fn iter_extensions(&self) -> slice::Iter<'_, X509Extension<'a>>
         ensures { iter_rest result ≡ self.now.tbs_certificate.extensions.items }
     {
         self.tbs_certificate.iter_extensions()
     }
 
-    /// The extension of this identifier; none where none has it, `DuplicateExtensions` where several have.
+    /// The extension with this identifier, or `None` if there is none.
+    ///
+    /// # Errors
+    ///
+    /// `DuplicateExtensions` if several extensions have the identifier (RFC 5280, 4.2).
     pub fn get_extension_unique(
         &self,
         oid: &Oid<'_>,
@@ -129,21 +138,27 @@ impl<'a> X509Certificate<'a> {
         self.tbs_certificate.get_extension_unique(oid)
     }
 
-    /// The first extension of this identifier. Whether others have it too isn't told.
+    /// The first extension with this identifier, or `None`. Later ones with the same identifier
+    /// aren't looked at: `get_extension_unique` reports them.
     pub fn find_extension(&self, oid: &Oid<'_>) -> Option<&X509Extension<'a>>
         ensures { option_map (λ e. e.now) result ≡ first_of (all_of oid.now self.now.tbs_certificate.extensions.items) }
     {
         self.tbs_certificate.find_extension(oid)
     }
 
-    /// The octets of the serial number.
+    /// The content octets of the serial number (RFC 5280, 4.1.2.2), as they are encoded.
     pub fn raw_serial(&self) -> &'a [u8]
         ensures { result ≡ self.now.tbs_certificate.raw_serial }
     {
         self.tbs_certificate.raw_serial()
     }
 
-    /// The octets of the serial number in hexadecimal, with a colon between two.
+    /// The content octets of the serial number as text: two lower-case hexadecimal digits each,
+    /// separated by colons, as `01:02:ff`.
+    ///
+    /// # Errors
+    ///
+    /// Out of memory, for a text of three characters an octet.
     pub fn raw_serial_as_string(&self, alloc: Global) -> Result<String, OutOfMemory>
         ensures { IfOk result (λ text. string_bytes text ≡ serial_text self.now.tbs_certificate.raw_serial.now) }
     {
@@ -161,7 +176,7 @@ fn next_signature<'a>(
     named(next_bits(alloc, parts), X509Error::InvalidSignatureValue)
 }
 
-/// The certificate that an element is, the values of extensions parsed too where `deep` says so.
+/// Reads the certificate in an element; extension values are parsed if `deep` is true.
 #[tactic(auto, unfolding(crate::specs::Reading::certificate_in))]
 pub(crate) fn certificate_of<'a>(
     alloc: Global,

@@ -1,4 +1,4 @@
-//! The calls on certificates that look for one kind of extension (RFC 5280, 4.2.1).
+//! Accessors for one kind of extension (RFC 5280, 4.2.1).
 
 ghost use Rattle.std.specs.Prelude.{◌≡◌};
 ghost use Rattle.x509_ext.specs.Values.{id_ce};
@@ -26,35 +26,37 @@ use x509_ext_types::{
     PolicyConstraints, PolicyMappings, SubjectAlternativeName,
 };
 
-/// 2.5.29.15.
+/// id-ce-keyUsage, 2.5.29.15.
 const KEY_USAGE: &[u8] = b"\x55\x1d\x0f";
 
-/// 2.5.29.17.
+/// id-ce-subjectAltName, 2.5.29.17.
 const SUBJECT_ALTERNATIVE_NAME: &[u8] = b"\x55\x1d\x11";
 
-/// 2.5.29.19.
+/// id-ce-basicConstraints, 2.5.29.19.
 const BASIC_CONSTRAINTS: &[u8] = b"\x55\x1d\x13";
 
-/// 2.5.29.30.
+/// id-ce-nameConstraints, 2.5.29.30.
 const NAME_CONSTRAINTS: &[u8] = b"\x55\x1d\x1e";
 
-/// 2.5.29.33.
+/// id-ce-policyMappings, 2.5.29.33.
 const POLICY_MAPPINGS: &[u8] = b"\x55\x1d\x21";
 
-/// 2.5.29.36.
+/// id-ce-policyConstraints, 2.5.29.36.
 const POLICY_CONSTRAINTS: &[u8] = b"\x55\x1d\x24";
 
-/// 2.5.29.37.
+/// id-ce-extKeyUsage, 2.5.29.37.
 const EXTENDED_KEY_USAGE: &[u8] = b"\x55\x1d\x25";
 
-/// 2.5.29.54.
+/// id-ce-inhibitAnyPolicy, 2.5.29.54.
 const INHIBIT_ANY_POLICY: &[u8] = b"\x55\x1d\x36";
 
 impl<'a> TbsCertificate<'a> {
-    /// Basic constraints, and whether the extension is critical (RFC 5280, 4.2.1.9).
+    /// The basic constraints and the extension's critical flag (RFC 5280, 4.2.1.9). `None` if the
+    /// certificate has no such extension, or its value wasn't parsed as one.
     ///
-    /// None where the certificate has none, or their value was parsed otherwise or not at all; `DuplicateExtensions` where it has
-    /// several.
+    /// # Errors
+    ///
+    /// `DuplicateExtensions` if the extension occurs more than once.
     pub fn basic_constraints(&self) -> Result<Option<BasicExtension<&BasicConstraints>>, X509Error>
         ensures { told_view result ≡ constraints_of self.now.extensions.items }
     {
@@ -70,10 +72,13 @@ impl<'a> TbsCertificate<'a> {
         }
     }
 
-    /// What the key is for, and whether the extension is critical (RFC 5280, 4.2.1.3).
+    /// The key usage and the extension's critical flag (RFC 5280, 4.2.1.3). `None` if the
+    /// certificate has no such extension.
     ///
-    /// None where the certificate has no such extension; `DuplicateExtensions` where it has several; `InvalidExtensions` where the
-    /// value was parsed otherwise or not at all.
+    /// # Errors
+    ///
+    /// `DuplicateExtensions` if the extension occurs more than once; `InvalidExtensions` if its
+    /// value wasn't parsed as one.
     pub fn key_usage(&self) -> Result<Option<BasicExtension<&KeyUsage>>, X509Error>
         ensures { told_view result ≡ value_of (id_ce 15) usage_in self.now.extensions.items }
     {
@@ -89,10 +94,13 @@ impl<'a> TbsCertificate<'a> {
         }
     }
 
-    /// Other names of the subject, and whether the extension is critical (RFC 5280, 4.2.1.6).
+    /// The subject's alternative names and the extension's critical flag (RFC 5280, 4.2.1.6).
+    /// `None` if the certificate has no such extension.
     ///
-    /// None where the certificate has no such extension; `DuplicateExtensions` where it has several; `InvalidExtensions` where the
-    /// value was parsed otherwise or not at all.
+    /// # Errors
+    ///
+    /// `DuplicateExtensions` if the extension occurs more than once; `InvalidExtensions` if its
+    /// value wasn't parsed as one.
     pub fn subject_alternative_name(
         &self,
     ) -> Result<Option<BasicExtension<&SubjectAlternativeName<'a>>>, X509Error>
@@ -110,10 +118,13 @@ impl<'a> TbsCertificate<'a> {
         }
     }
 
-    /// Which names later certificates may have, and whether the extension is critical (RFC 5280, 4.2.1.10).
+    /// The name constraints and the extension's critical flag (RFC 5280, 4.2.1.10). `None` if the
+    /// certificate has no such extension.
     ///
-    /// None where the certificate has no such extension; `DuplicateExtensions` where it has several; `InvalidExtensions` where the
-    /// value was parsed otherwise or not at all.
+    /// # Errors
+    ///
+    /// `DuplicateExtensions` if the extension occurs more than once; `InvalidExtensions` if its
+    /// value wasn't parsed as one.
     pub fn name_constraints(
         &self,
     ) -> Result<Option<BasicExtension<&NameConstraints<'a>>>, X509Error>
@@ -131,10 +142,13 @@ impl<'a> TbsCertificate<'a> {
         }
     }
 
-    /// Which policies stand for others, and whether the extension is critical (RFC 5280, 4.2.1.5).
+    /// The policy mappings and the extension's critical flag (RFC 5280, 4.2.1.5). `None` if the
+    /// certificate has no such extension.
     ///
-    /// None where the certificate has no such extension; `DuplicateExtensions` where it has several; `InvalidExtensions` where the
-    /// value was parsed otherwise or not at all.
+    /// # Errors
+    ///
+    /// `DuplicateExtensions` if the extension occurs more than once; `InvalidExtensions` if its
+    /// value wasn't parsed as one.
     pub fn policy_mappings(&self) -> Result<Option<BasicExtension<&PolicyMappings<'a>>>, X509Error>
         ensures { told_view result ≡ value_of (id_ce 33) mappings_in self.now.extensions.items }
     {
@@ -150,10 +164,13 @@ impl<'a> TbsCertificate<'a> {
         }
     }
 
-    /// What later certificates must tell of policies, and whether the extension is critical (RFC 5280, 4.2.1.11).
+    /// The policy constraints and the extension's critical flag (RFC 5280, 4.2.1.11). `None` if the
+    /// certificate has no such extension.
     ///
-    /// None where the certificate has no such extension; `DuplicateExtensions` where it has several; `InvalidExtensions` where the
-    /// value was parsed otherwise or not at all.
+    /// # Errors
+    ///
+    /// `DuplicateExtensions` if the extension occurs more than once; `InvalidExtensions` if its
+    /// value wasn't parsed as one.
     pub fn policy_constraints(
         &self,
     ) -> Result<Option<BasicExtension<&PolicyConstraints>>, X509Error>
@@ -171,10 +188,13 @@ impl<'a> TbsCertificate<'a> {
         }
     }
 
-    /// Purposes of the key, and whether the extension is critical (RFC 5280, 4.2.1.12).
+    /// The extended key usage and the extension's critical flag (RFC 5280, 4.2.1.12). `None` if the
+    /// certificate has no such extension.
     ///
-    /// None where the certificate has no such extension; `DuplicateExtensions` where it has several; `InvalidExtensions` where the
-    /// value was parsed otherwise or not at all.
+    /// # Errors
+    ///
+    /// `DuplicateExtensions` if the extension occurs more than once; `InvalidExtensions` if its
+    /// value wasn't parsed as one.
     pub fn extended_key_usage(
         &self,
     ) -> Result<Option<BasicExtension<&ExtendedKeyUsage<'a>>>, X509Error>
@@ -192,10 +212,13 @@ impl<'a> TbsCertificate<'a> {
         }
     }
 
-    /// After how many certificates any policy isn't taken any more, and whether the extension is critical (RFC 5280, 4.2.1.14).
+    /// The number of further certificates in which anyPolicy counts, and the extension's critical
+    /// flag (RFC 5280, 4.2.1.14). `None` if the certificate has no such extension.
     ///
-    /// None where the certificate has no such extension; `DuplicateExtensions` where it has several; `InvalidExtensions` where the
-    /// value was parsed otherwise or not at all.
+    /// # Errors
+    ///
+    /// `DuplicateExtensions` if the extension occurs more than once; `InvalidExtensions` if its
+    /// value wasn't parsed as one.
     pub fn inhibit_anypolicy(&self) -> Result<Option<BasicExtension<&InhibitAnyPolicy>>, X509Error>
         ensures { told_view result ≡ value_of (id_ce 54) inhibit_in self.now.extensions.items }
     {
@@ -211,7 +234,8 @@ impl<'a> TbsCertificate<'a> {
         }
     }
 
-    /// Whether basic constraints say that the subject signs certificates; false where they aren't told.
+    /// Whether the basic constraints have `cA` true (RFC 5280, 4.2.1.9); false if there are none,
+    /// several, or none that was parsed.
     pub fn is_ca(&self) -> bool
         ensures { result ≡ says_authority (constraints_of self.now.extensions.items) }
     {
@@ -224,21 +248,35 @@ impl<'a> TbsCertificate<'a> {
 }
 
 impl<'a> X509Certificate<'a> {
-    /// `basic_constraints` of the signed part.
+    /// The basic constraints and their critical flag, as [`TbsCertificate::basic_constraints`]
+    /// reads them.
+    ///
+    /// # Errors
+    ///
+    /// `DuplicateExtensions` if the extension occurs more than once.
     pub fn basic_constraints(&self) -> Result<Option<BasicExtension<&BasicConstraints>>, X509Error>
         ensures { told_view result ≡ constraints_of self.now.tbs_certificate.extensions.items }
     {
         self.tbs_certificate.basic_constraints()
     }
 
-    /// `key_usage` of the signed part.
+    /// The key usage and its critical flag, as [`TbsCertificate::key_usage`] reads them.
+    ///
+    /// # Errors
+    ///
+    /// `DuplicateExtensions` or `InvalidExtensions`, as there.
     pub fn key_usage(&self) -> Result<Option<BasicExtension<&KeyUsage>>, X509Error>
         ensures { told_view result ≡ value_of (id_ce 15) usage_in self.now.tbs_certificate.extensions.items }
     {
         self.tbs_certificate.key_usage()
     }
 
-    /// `subject_alternative_name` of the signed part.
+    /// The subject's alternative names and their critical flag, as
+    /// [`TbsCertificate::subject_alternative_name`] reads them.
+    ///
+    /// # Errors
+    ///
+    /// `DuplicateExtensions` or `InvalidExtensions`, as there.
     pub fn subject_alternative_name(
         &self,
     ) -> Result<Option<BasicExtension<&SubjectAlternativeName<'a>>>, X509Error>
@@ -247,7 +285,12 @@ impl<'a> X509Certificate<'a> {
         self.tbs_certificate.subject_alternative_name()
     }
 
-    /// `name_constraints` of the signed part.
+    /// The name constraints and their critical flag, as [`TbsCertificate::name_constraints`] reads
+    /// them.
+    ///
+    /// # Errors
+    ///
+    /// `DuplicateExtensions` or `InvalidExtensions`, as there.
     pub fn name_constraints(
         &self,
     ) -> Result<Option<BasicExtension<&NameConstraints<'a>>>, X509Error>
@@ -256,14 +299,24 @@ impl<'a> X509Certificate<'a> {
         self.tbs_certificate.name_constraints()
     }
 
-    /// `policy_mappings` of the signed part.
+    /// The policy mappings and their critical flag, as [`TbsCertificate::policy_mappings`] reads
+    /// them.
+    ///
+    /// # Errors
+    ///
+    /// `DuplicateExtensions` or `InvalidExtensions`, as there.
     pub fn policy_mappings(&self) -> Result<Option<BasicExtension<&PolicyMappings<'a>>>, X509Error>
         ensures { told_view result ≡ value_of (id_ce 33) mappings_in self.now.tbs_certificate.extensions.items }
     {
         self.tbs_certificate.policy_mappings()
     }
 
-    /// `policy_constraints` of the signed part.
+    /// The policy constraints and their critical flag, as [`TbsCertificate::policy_constraints`]
+    /// reads them.
+    ///
+    /// # Errors
+    ///
+    /// `DuplicateExtensions` or `InvalidExtensions`, as there.
     pub fn policy_constraints(
         &self,
     ) -> Result<Option<BasicExtension<&PolicyConstraints>>, X509Error>
@@ -272,7 +325,12 @@ impl<'a> X509Certificate<'a> {
         self.tbs_certificate.policy_constraints()
     }
 
-    /// `extended_key_usage` of the signed part.
+    /// The extended key usage and its critical flag, as [`TbsCertificate::extended_key_usage`]
+    /// reads them.
+    ///
+    /// # Errors
+    ///
+    /// `DuplicateExtensions` or `InvalidExtensions`, as there.
     pub fn extended_key_usage(
         &self,
     ) -> Result<Option<BasicExtension<&ExtendedKeyUsage<'a>>>, X509Error>
@@ -281,14 +339,19 @@ impl<'a> X509Certificate<'a> {
         self.tbs_certificate.extended_key_usage()
     }
 
-    /// `inhibit_anypolicy` of the signed part.
+    /// The inhibitAnyPolicy number and its critical flag, as [`TbsCertificate::inhibit_anypolicy`]
+    /// reads them.
+    ///
+    /// # Errors
+    ///
+    /// `DuplicateExtensions` or `InvalidExtensions`, as there.
     pub fn inhibit_anypolicy(&self) -> Result<Option<BasicExtension<&InhibitAnyPolicy>>, X509Error>
         ensures { told_view result ≡ value_of (id_ce 54) inhibit_in self.now.tbs_certificate.extensions.items }
     {
         self.tbs_certificate.inhibit_anypolicy()
     }
 
-    /// `is_ca` of the signed part.
+    /// Whether the basic constraints have `cA` true, as [`TbsCertificate::is_ca`] reads them.
     pub fn is_ca(&self) -> bool
         ensures { result ≡ says_authority (constraints_of self.now.tbs_certificate.extensions.items) }
     {

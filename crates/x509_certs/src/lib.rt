@@ -1,4 +1,5 @@
-//! Certificates (RFC 5280, 4.1), read leniently: the octets that a reader leaves in a container's content are ignored.
+//! Certificates (RFC 5280, 4.1). Reading is lenient: octets that remain in the content of a
+//! SEQUENCE after its known fields are ignored.
 #![tactic(auto)]
 
 mod certificate;

@@ -1,4 +1,4 @@
-//! The parsers of certificates and of their signed parts.
+//! Parsers of certificates and of TBSCertificates.
 
 ghost use Rattle.std.specs.Prelude.{◌≡◌, ◌++◌, ◌+◌, ◌*◌, ◌^◌, ◌<◌, ◌≤◌, ℕ, List, true, length, All, IfOk};
 ghost use Rattle.asn1_core.specs.Counts.{attempts};
@@ -23,14 +23,14 @@ use asn1_traits::{DerMeaning, FromDer};
 use std::alloc::Global;
 use x509_core::{X509Error, X509Result, front_element};
 
-/// A parser of certificates.
+/// A parser of certificates with an option: whether extension values are parsed.
 #[derive(Clone, Copy, Debug)]
 pub struct X509CertificateParser {
     deep_parse_extensions: bool,
 }
 
 impl X509CertificateParser {
-    /// One that parses the values of extensions too.
+    /// A parser that parses extension values as well.
     pub fn new() -> X509CertificateParser
         ensures { result.deep_parse_extensions ≡ true }
     {
@@ -39,7 +39,8 @@ impl X509CertificateParser {
         }
     }
 
-    /// One that parses the values of extensions too, or doesn't.
+    /// The parser with this setting: with `false` each value stays `ParsedExtension::Unparsed`,
+    /// which is faster.
     pub fn with_deep_parse_extensions(self, deep_parse_extensions: bool) -> X509CertificateParser
         ensures { result.deep_parse_extensions ≡ deep_parse_extensions }
     {
@@ -48,14 +49,18 @@ impl X509CertificateParser {
         }
     }
 
-    /// The certificate that begins the octets, behind those after it.
+    /// Reads one certificate from the front of `i` (RFC 5280, 4.1). Returns `(rest, certificate)`.
+    /// A known extension whose value is malformed becomes `ParsedExtension::ParseError`; the
+    /// certificate is still read.
     ///
-    /// By its parts in the order in which they stand: `InvalidVersion`, `InvalidSerial`, `InvalidAlgorithmIdentifier` of an
-    /// algorithm without an identifier, `InvalidDate`, `InvalidSPKI` of a key without bits, `InvalidIssuerUID`,
-    /// `InvalidSubjectUID`, `InvalidExtensions` where a header of another tag number than 3 stands in the place of extensions,
-    /// or what is none, and `InvalidSignatureValue`; `Incomplete` exactly where the octets end within the certificate.
-    /// A value of a known extension that its type refuses is `ParsedExtension::ParseError`, and the certificate is read; want of
-    /// memory within a value is a `Failure` of the whole.
+    /// # Errors
+    ///
+    /// `Incomplete` exactly if `i` ends inside the certificate. Else the error of the first field
+    /// that is wrong: `InvalidVersion`; `InvalidSerial`; `InvalidAlgorithmIdentifier` for an
+    /// algorithm without an identifier; `InvalidDate`; `InvalidSPKI` for a key without bits;
+    /// `InvalidIssuerUID`; `InvalidSubjectUID`; `InvalidExtensions` if anything but extensions
+    /// under tag 3 follows; `InvalidSignatureValue`. Out of memory, also while a value is parsed,
+    /// is a `Failure`.
     pub fn parse<'a>(&self, alloc: Global, i: &'a [u8]) -> X509Result<'a, X509Certificate<'a>>
         ensures exact { Gives (λ r. (certificate_view r.1, r.0.now)) result (certificate_at (reading_of self.now.deep_parse_extensions) i.now) }
         ensures missing { TellsMissing i.now result }
@@ -69,9 +74,13 @@ impl X509CertificateParser {
         certificate_at_front(alloc, i, self.deep_parse_extensions)
     }
 
-    /// The answer of `parse` of a parser without deep parsing, and the header attempts that it took, in the count: at most eight
-    /// for each octet, and at least 17 where there is a certificate. The count is of the certificate's own headers: whatever the
-    /// parser, the values of extensions aren't looked into, and stay `ParsedExtension::Unparsed`.
+    /// Reads one certificate as `parse` does without parsing extension values, and adds to `count`
+    /// the headers that it tried to read: at most eight an octet, and at least 17 if there is a
+    /// certificate. Values stay `ParsedExtension::Unparsed`, whatever the parser's setting.
+    ///
+    /// # Errors
+    ///
+    /// The errors of `parse`.
     pub fn parse_counted<'a>(
         &self,
         alloc: Global,
@@ -105,14 +114,14 @@ impl Default for X509CertificateParser {
     }
 }
 
-/// A parser of the signed parts of certificates.
+/// A parser of TBSCertificates with an option: whether extension values are parsed.
 #[derive(Clone, Copy, Debug)]
 pub struct TbsCertificateParser {
     deep_parse_extensions: bool,
 }
 
 impl TbsCertificateParser {
-    /// One that parses the values of extensions too.
+    /// A parser that parses extension values as well.
     pub fn new() -> TbsCertificateParser
         ensures { result.deep_parse_extensions ≡ true }
     {
@@ -121,7 +130,8 @@ impl TbsCertificateParser {
         }
     }
 
-    /// One that parses the values of extensions too, or doesn't.
+    /// The parser with this setting: with `false` each value stays `ParsedExtension::Unparsed`,
+    /// which is faster.
     pub fn with_deep_parse_extensions(self, deep_parse_extensions: bool) -> TbsCertificateParser
         ensures { result.deep_parse_extensions ≡ deep_parse_extensions }
     {
@@ -130,7 +140,12 @@ impl TbsCertificateParser {
         }
     }
 
-    /// The signed part that begins the octets, behind those after it. It is refused as within a certificate.
+    /// Reads one TBSCertificate from the front of the octets (RFC 5280, 4.1.2). Returns `(rest,
+    /// tbs)`.
+    ///
+    /// # Errors
+    ///
+    /// The errors that `X509CertificateParser::parse` has for this part.
     pub fn parse<'a>(&self, alloc: Global, i: &'a [u8]) -> X509Result<'a, TbsCertificate<'a>>
         ensures exact { Gives (λ r. (tbs_view r.1, r.0.now)) result (tbs_at (reading_of self.now.deep_parse_extensions) i.now) }
         ensures missing { TellsMissing i.now result }
@@ -166,7 +181,12 @@ impl<'b> DerMeaning for X509Certificate<'b> {
 }
 
 impl<'a> FromDer<'a, X509Error> for X509Certificate<'a> {
-    /// The certificate that begins the octets, behind those after it: `parse` of `X509CertificateParser::new()`.
+    /// Reads one certificate, extension values parsed, from the front of `bytes`. Returns `(rest,
+    /// certificate)`.
+    ///
+    /// # Errors
+    ///
+    /// The errors of `X509CertificateParser::parse`.
     fn from_der(alloc: Global, bytes: &'a [u8]) -> X509Result<'a, X509Certificate<'a>>
         ensures reads { Reads (λ given e. e ≡ told given) (Unit {0}) EndsWithinElement (λ i. i.now)
             (λ i v r. grammar.X509Certificate IsParsed i (certificate_view v) r) bytes.now result }
@@ -194,7 +214,12 @@ impl<'b> DerMeaning for TbsCertificate<'b> {
 }
 
 impl<'a> FromDer<'a, X509Error> for TbsCertificate<'a> {
-    /// The signed part that begins the octets, behind those after it: `parse` of `TbsCertificateParser::new()`.
+    /// Reads one TBSCertificate, extension values parsed, from the front of `bytes`. Returns
+    /// `(rest, tbs)`.
+    ///
+    /// # Errors
+    ///
+    /// The errors of `TbsCertificateParser::parse`.
     fn from_der(alloc: Global, bytes: &'a [u8]) -> X509Result<'a, TbsCertificate<'a>>
         ensures reads { Reads (λ given e. e ≡ told given) (Unit {0}) EndsWithinElement (λ i. i.now)
             (λ i v r. grammar.TbsCertificate IsParsed i (tbs_view v) r) bytes.now result }
@@ -211,7 +236,12 @@ impl<'a> FromDer<'a, X509Error> for TbsCertificate<'a> {
     }
 }
 
-/// The certificate that begins the octets, behind those after it: `X509Certificate::from_der`.
+/// Reads one certificate from the front of `i`, as `X509Certificate::from_der`. Returns `(rest,
+/// certificate)`.
+///
+/// # Errors
+///
+/// The errors of `X509CertificateParser::parse`.
 pub fn parse_x509_certificate<'a>(alloc: Global, i: &'a [u8]) -> X509Result<'a, X509Certificate<'a>>
     ensures exact { Gives (λ r. (certificate_view r.1, r.0.now)) result (certificate_at deeply i.now) }
     ensures missing { TellsMissing i.now result }
@@ -225,7 +255,11 @@ pub fn parse_x509_certificate<'a>(alloc: Global, i: &'a [u8]) -> X509Result<'a, 
     X509Certificate::from_der(alloc, i)
 }
 
-/// The same by its older name.
+/// Reads one certificate from the front of `i`; the older name of [`parse_x509_certificate`].
+///
+/// # Errors
+///
+/// The errors of `X509CertificateParser::parse`.
 pub fn parse_x509_der<'a>(alloc: Global, i: &'a [u8]) -> X509Result<'a, X509Certificate<'a>>
     ensures exact { Gives (λ r. (certificate_view r.1, r.0.now)) result (certificate_at deeply i.now) }
     ensures missing { TellsMissing i.now result }

@@ -1,4 +1,4 @@
-//! The signed part of a certificate (RFC 5280, 4.1.2).
+//! `TbsCertificate`, the signed part of a certificate (RFC 5280, 4.1.2).
 
 ghost use Rattle.std.specs.Prelude.{◌≡◌, ◌+◌, ◌*◌, ◌^◌, ◌<◌, ◌≤◌, length, All, IfOk, map, option_map, string_bytes};
 ghost use Rattle.std.specs.Int.Digits.{number_from_digits};
@@ -33,26 +33,27 @@ use x509_names::{
 };
 use x509_time::{Validity, next_validity};
 
-/// The signed part of a certificate.
+/// The signed part of a certificate, `TBSCertificate` (RFC 5280, 4.1.2), borrowed from the octets
+/// that it was read from.
 #[derive(Debug, Drop, PartialEq, Eq)]
 pub struct TbsCertificate<'a> {
-    /// The version, the first one where none is written.
+    /// The version (4.1.2.1), `V1` if the field is absent.
     pub version: X509Version,
-    /// The number that the issuer gave the certificate: its octets without a sign.
+    /// The serial number (4.1.2.2): the content octets of the INTEGER, read as unsigned.
     pub serial: UnsignedBytes<'a>,
-    /// The algorithm of the signature.
+    /// The algorithm that the signature is made with (RFC 5280, 4.1.1.2).
     pub signature: AlgorithmIdentifier<'a>,
-    /// Who signed.
+    /// The issuer's name (RFC 5280, 4.1.2.4). No signature is verified.
     pub issuer: X509Name<'a>,
-    /// When the certificate is valid.
+    /// The validity period (RFC 5280, 4.1.2.5).
     pub validity: Validity,
-    /// Whose the key is.
+    /// The subject's name (RFC 5280, 4.1.2.6).
     pub subject: X509Name<'a>,
-    /// The key.
+    /// The subject's public key and its algorithm (RFC 5280, 4.1.2.7).
     pub subject_pki: SubjectPublicKeyInfo<'a>,
-    /// Which of those with the issuer's name.
+    /// The issuer's unique identifier (4.1.2.8), if there is one.
     pub issuer_uid: Option<UniqueIdentifier<'a>>,
-    /// Which of those with the subject's name.
+    /// The subject's unique identifier (4.1.2.8), if there is one.
     pub subject_uid: Option<UniqueIdentifier<'a>>,
     extensions: Vec<X509Extension<'a>>,
     raw: &'a [u8],
@@ -60,56 +61,60 @@ pub struct TbsCertificate<'a> {
 }
 
 impl<'a> TbsCertificate<'a> {
-    /// The version.
+    /// The version (RFC 5280, 4.1.2.1), `V1` if the field is absent.
     pub fn version(&self) -> X509Version
         ensures { result ≡ self.now.version }
     {
         self.version
     }
 
-    /// Whose the key is.
+    /// The subject's name (RFC 5280, 4.1.2.6).
     pub fn subject(&self) -> &X509Name<'a>
         ensures { result.now ≡ self.now.subject }
     {
         &self.subject
     }
 
-    /// Who signed.
+    /// The issuer's name (RFC 5280, 4.1.2.4). No signature is verified.
     pub fn issuer(&self) -> &X509Name<'a>
         ensures { result.now ≡ self.now.issuer }
     {
         &self.issuer
     }
 
-    /// When the certificate is valid.
+    /// The validity period (RFC 5280, 4.1.2.5).
     pub fn validity(&self) -> &Validity
         ensures { result.now ≡ self.now.validity }
     {
         &self.validity
     }
 
-    /// The key.
+    /// The subject's public key and its algorithm (RFC 5280, 4.1.2.7).
     pub fn public_key(&self) -> &SubjectPublicKeyInfo<'a>
         ensures { result.now ≡ self.now.subject_pki }
     {
         &self.subject_pki
     }
 
-    /// The extensions, in the order in which they stand.
+    /// The extensions, in the order of the encoding (RFC 5280, 4.2).
     pub fn extensions(&self) -> &[X509Extension<'a>]
         ensures { result.now ≡ self.now.extensions.items }
     {
         self.extensions.as_slice()
     }
 
-    /// The extensions, in the order in which they stand.
+    /// The extensions, in the order of the encoding (RFC 5280, 4.2).
     pub fn iter_extensions(&self) -> slice::Iter<'_, X509Extension<'a>>
         ensures { iter_rest result ≡ self.now.extensions.items }
     {
         self.extensions.iter()
     }
 
-    /// The extension of this identifier; none where none has it, `DuplicateExtensions` where several have.
+    /// The extension with this identifier, or `None` if there is none.
+    ///
+    /// # Errors
+    ///
+    /// `DuplicateExtensions` if several extensions have the identifier (RFC 5280, 4.2).
     pub fn get_extension_unique(
         &self,
         oid: &Oid<'_>,
@@ -119,28 +124,38 @@ impl<'a> TbsCertificate<'a> {
         get_extension_unique(self.extensions.as_slice(), oid)
     }
 
-    /// The first extension of this identifier. Whether others have it too isn't told.
+    /// The first extension with this identifier, or `None`. Later ones with the same identifier
+    /// aren't looked at: `get_extension_unique` reports them.
     pub fn find_extension(&self, oid: &Oid<'_>) -> Option<&X509Extension<'a>>
         ensures { option_map (λ e. e.now) result ≡ first_of (all_of oid.now self.now.extensions.items) }
     {
         find_extension(self.extensions.as_slice(), oid)
     }
 
-    /// The octets of the serial number.
+    /// The content octets of the serial number (RFC 5280, 4.1.2.2), as they are encoded.
     pub fn raw_serial(&self) -> &'a [u8]
         ensures { result ≡ self.now.raw_serial }
     {
         self.raw_serial
     }
 
-    /// The octets of the serial number in hexadecimal, with a colon between two.
+    /// The content octets of the serial number as text: two lower-case hexadecimal digits each,
+    /// separated by colons, as `01:02:ff`.
+    ///
+    /// # Errors
+    ///
+    /// Out of memory, for a text of three characters an octet.
     pub fn raw_serial_as_string(&self, alloc: Global) -> Result<String, OutOfMemory>
         ensures { IfOk result (λ text. string_bytes text ≡ serial_text self.now.raw_serial.now) }
     {
         format_serial(alloc, self.raw_serial)
     }
 
-    /// A copy: it borrows what the signed part borrows.
+    /// A copy that borrows the same octets as the signed part.
+    ///
+    /// # Errors
+    ///
+    /// Out of memory, for the copied vectors.
     #[tactic(auto, using(x509_ext_types::proofs::Copied::same_name))]
     pub fn clone(&self, alloc: Global) -> Result<TbsCertificate<'a>, OutOfMemory>
         ensures value { IfOk result (λ copy. tbs_view copy ≡ tbs_view self.now) }
@@ -171,7 +186,7 @@ impl<'a> TbsCertificate<'a> {
         })
     }
 
-    /// The octets that the signature is of.
+    /// The octets that the signature covers: the whole encoding of the signed part.
     pub fn as_ref(&self) -> &'a [u8]
         ensures { result ≡ self.now.raw }
     {
@@ -188,7 +203,7 @@ fn copy_id<'a>(id: &Option<UniqueIdentifier<'a>>) -> Option<UniqueIdentifier<'a>
     }
 }
 
-/// What a signed part begins with.
+/// The first fields: version, serial number and signature algorithm.
 #[derive(Drop)]
 struct Start<'a> {
     version: X509Version,
@@ -197,7 +212,7 @@ struct Start<'a> {
     signature: AlgorithmIdentifier<'a>,
 }
 
-/// Who says whose a key is, and for how long.
+/// The fields from the issuer to the public key.
 #[derive(Drop)]
 struct Binding<'a> {
     issuer: X509Name<'a>,
@@ -206,7 +221,7 @@ struct Binding<'a> {
     subject_pki: SubjectPublicKeyInfo<'a>,
 }
 
-/// What a signed part ends with, none of which has to be there.
+/// The optional last fields: both unique identifiers and the extensions.
 #[derive(Drop)]
 struct End<'a> {
     issuer_uid: Option<UniqueIdentifier<'a>>,
@@ -214,7 +229,7 @@ struct End<'a> {
     extensions: Vec<X509Extension<'a>>,
 }
 
-/// The parts that a signed part begins with, at the front.
+/// Reads the version, the serial number and the signature algorithm.
 #[tactic(auto, unfolding(crate::specs::Reading::start_at))]
 fn next_start<'a>(
     alloc: Global,
@@ -241,7 +256,7 @@ fn next_start<'a>(
     })
 }
 
-/// The issuer, the validity, the subject and its key, at the front.
+/// Reads the issuer, the validity, the subject and its public key.
 #[tactic(auto, unfolding(crate::specs::Reading::binding_at))]
 fn next_binding<'a>(
     alloc: Global,
@@ -270,7 +285,7 @@ fn next_binding<'a>(
     })
 }
 
-/// What is left of a signed part, the values of extensions parsed too where `deep` says so.
+/// Reads the unique identifiers and the extensions, whose values are parsed if `deep` is true.
 #[tactic(auto, unfolding(crate::specs::Reading::end_at))]
 fn next_end<'a>(
     alloc: Global,
@@ -294,7 +309,7 @@ fn next_end<'a>(
     })
 }
 
-/// The signed part that an element is, the values of extensions parsed too where `deep` says so.
+/// Reads the signed part in an element; extension values are parsed if `deep` is true.
 pub(crate) fn tbs_of<'a>(
     alloc: Global,
     element: Element<'a>,
@@ -329,7 +344,7 @@ pub(crate) fn tbs_of<'a>(
     })
 }
 
-/// The signed part at the front, read so too.
+/// Reads the signed part at the front; extension values are parsed if `deep` is true.
 pub(crate) fn next_tbs<'a>(
     alloc: Global,
     parts: &mut Parts<'a>,

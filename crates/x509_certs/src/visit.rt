@@ -1,4 +1,4 @@
-//! The calls that a walk over a certificate makes.
+//! `CertVisit`, a step of a walk over a certificate, and the trait that takes such steps.
 
 use crate::tbs::TbsCertificate;
 use asn1_core::{Err as Refusal, Error};
@@ -13,87 +13,89 @@ use x509_ext_types::{
 use x509_names::{AlgorithmIdentifier, SubjectPublicKeyInfo, X509Name};
 use x509_time::Validity;
 
-/// A call of a walk over a certificate, with what it tells: one case for each method of `X509CertificateVisitor`.
+/// A step of a walk over a certificate with the part that it is about: a variant for each method of
+/// `X509CertificateVisitor`.
 #[derive(Clone, Copy)]
 pub enum CertVisit<'v, 'a> {
-    /// The signed part, before its own.
+    /// The signed part, before its fields.
     VisitTbsCertificate(&'v TbsCertificate<'a>),
-    /// The version.
+    /// The version (RFC 5280, 4.1.2.1), `V1` if the field is absent.
     VisitVersion(&'v X509Version),
-    /// The octets of the serial number.
+    /// The content octets of the serial number (RFC 5280, 4.1.2.2), as they are encoded.
     VisitSerialNumber(&'v [u8]),
-    /// The algorithm of the signature, as the signed part tells it.
+    /// The algorithm in the signed part (RFC 5280, 4.1.2.3).
     VisitTbsSignatureAlgorithm(&'v AlgorithmIdentifier<'a>),
-    /// Who signed.
+    /// The issuer's name (RFC 5280, 4.1.2.4). No signature is verified.
     VisitIssuer(&'v X509Name<'a>),
-    /// When the certificate is valid.
+    /// The validity period (RFC 5280, 4.1.2.5).
     VisitValidity(&'v Validity),
-    /// Whose the key is.
+    /// The subject's name (RFC 5280, 4.1.2.6).
     VisitSubject(&'v X509Name<'a>),
-    /// The key.
+    /// The subject's public key and its algorithm (RFC 5280, 4.1.2.7).
     VisitSubjectPublicKeyInfo(&'v SubjectPublicKeyInfo<'a>),
-    /// Which of those with the issuer's name, if it is told.
+    /// The issuer's unique identifier (RFC 5280, 4.1.2.8), or `None`.
     VisitIssuerUniqueId(Option<&'v UniqueIdentifier<'a>>),
-    /// Which of those with the subject's name, if it is told.
+    /// The subject's unique identifier (RFC 5280, 4.1.2.8), or `None`.
     VisitSubjectUniqueId(Option<&'v UniqueIdentifier<'a>>),
-    /// All extensions, before each of them.
+    /// All extensions, before the steps for each of them.
     PreVisitExtensions(&'v [X509Extension<'a>]),
-    /// An extension, of whatever kind.
+    /// One extension, before the step for its kind.
     VisitExtension(&'v X509Extension<'a>),
-    /// RFC 5280, 4.2.1.1.
+    /// An authorityKeyIdentifier (RFC 5280, 4.2.1.1).
     VisitExtensionAki(&'v AuthorityKeyIdentifier<'a>),
-    /// RFC 5280, 4.2.1.2.
+    /// A subjectKeyIdentifier (RFC 5280, 4.2.1.2).
     VisitExtensionSki(&'v KeyIdentifier<'a>),
-    /// RFC 5280, 4.2.1.3.
+    /// A keyUsage (RFC 5280, 4.2.1.3).
     VisitExtensionKeyUsage(&'v KeyUsage),
-    /// RFC 5280, 4.2.1.4.
+    /// A certificatePolicies (RFC 5280, 4.2.1.4).
     VisitExtensionCertificatePolicies(&'v CertificatePolicies<'a>),
-    /// RFC 5280, 4.2.1.5.
+    /// A policyMappings (RFC 5280, 4.2.1.5).
     VisitExtensionPolicyMappings(&'v PolicyMappings<'a>),
-    /// RFC 5280, 4.2.1.6.
+    /// A subjectAltName (RFC 5280, 4.2.1.6).
     VisitExtensionSubjectAlternativeName(&'v SubjectAlternativeName<'a>),
-    /// RFC 5280, 4.2.1.7.
+    /// An issuerAltName (RFC 5280, 4.2.1.7).
     VisitExtensionIssuerAlternativeName(&'v IssuerAlternativeName<'a>),
-    /// RFC 5280, 4.2.1.9.
+    /// A basicConstraints (RFC 5280, 4.2.1.9).
     VisitExtensionBasicConstraints(&'v BasicConstraints),
-    /// RFC 5280, 4.2.1.10.
+    /// A nameConstraints (RFC 5280, 4.2.1.10).
     VisitExtensionNameConstraints(&'v NameConstraints<'a>),
-    /// RFC 5280, 4.2.1.11.
+    /// A policyConstraints (RFC 5280, 4.2.1.11).
     VisitExtensionPolicyConstraints(&'v PolicyConstraints),
-    /// RFC 5280, 4.2.1.12.
+    /// An extKeyUsage (RFC 5280, 4.2.1.12).
     VisitExtensionExtendedKeyUsage(&'v ExtendedKeyUsage<'a>),
-    /// RFC 5280, 4.2.1.13.
+    /// A cRLDistributionPoints (RFC 5280, 4.2.1.13).
     VisitExtensionCrlDistributionPoints(&'v CRLDistributionPoints<'a>),
-    /// RFC 5280, 4.2.1.14.
+    /// An inhibitAnyPolicy (RFC 5280, 4.2.1.14).
     VisitExtensionInhibitAnypolicy(&'v InhibitAnyPolicy),
-    /// RFC 5280, 4.2.2.1.
+    /// An authorityInfoAccess (RFC 5280, 4.2.2.1).
     VisitExtensionAuthorityInformationAccess(&'v AuthorityInfoAccess<'a>),
-    /// Netscape's type of a certificate.
+    /// A Netscape certificate type.
     VisitExtensionNscertType(&'v NSCertType),
-    /// Netscape's comment.
+    /// A Netscape comment.
     VisitExtensionNscertComment(&'v str),
-    /// RFC 6962, 3.3.
+    /// A list of signed certificate timestamps (RFC 6962, 3.3).
     VisitExtensionSct(&'v [SignedCertificateTimestamp<'a>]),
-    /// An extension whose identifier is known and whose value is none of its type, and why.
+    /// An extension with a known identifier and a malformed value, and the error.
     VisitExtensionParseError(&'v X509Extension<'a>, &'v Refusal<Error>),
-    /// An extension whose value has no call of its own, or wasn't looked into.
+    /// An extension of another kind, or whose value wasn't parsed.
     VisitExtensionUnknown(&'v X509Extension<'a>),
-    /// All extensions, after each of them.
+    /// All extensions, after the steps for each of them.
     PostVisitExtensions(&'v [X509Extension<'a>]),
-    /// The algorithm of the signature, as it is told beside the signature.
+    /// The algorithm beside the signature (RFC 5280, 4.1.1.2).
     VisitSignatureAlgorithm(&'v AlgorithmIdentifier<'a>),
-    /// The signature.
+    /// The signature's bits (RFC 5280, 4.1.1.3). No signature is verified.
     VisitSignatureValue(&'v BitString<'a>),
 }
 
-/// Is told of each part of a certificate by one call.
+/// Takes the steps of a walk over a certificate, one a part. Implement it to see all steps by one
+/// method; [`X509CertificateVisitor`] has a method for each kind.
 pub trait CertVisits {
     ghost use Rattle.x509_certs.specs.Visits.{Call, call_of};
 
-    /// Which calls lead from one state to another. A fixed relation of the type.
+    /// The relation of states before and after a step. It depends on the type alone.
     ghost sees: { Self → Call → Self → Type 0 };
 
-    /// Takes a call.
+    /// Takes one step.
     fn visit(&mut self, call: CertVisit<'_, '_>)
         ensures { sees self.old (call_of call.entry) self.new };
 }

@@ -1,4 +1,4 @@
-//! Visitors of certificates.
+//! `X509CertificateVisitor`, a method for each part of a certificate, and `walk`.
 
 ghost use Rattle.std.specs.Prelude.{⊤};
 
@@ -17,11 +17,13 @@ use x509_ext_types::{
 use x509_names::{AlgorithmIdentifier, SubjectPublicKeyInfo, X509Name};
 use x509_time::Validity;
 
-/// Is told of each part of a certificate by a method of its own; each does nothing where it isn't written.
+/// Takes the parts of a certificate, each by its own method. A method that isn't implemented does
+/// nothing.
 ///
-/// The methods are called in the order of `calls_of_certificate`. The calls of `walk_visits` are the same, and are promised there.
+/// The order is that of `calls_of_certificate`; the contract of `walk_visits` fixes it for
+/// [`CertVisits`].
 pub trait X509CertificateVisitor {
-    /// Walks over a certificate.
+    /// Calls the methods for each part of a certificate, in the order of the encoding.
     final fn walk(&mut self, x509: &X509Certificate<'_>)
     where
         Self: Sized,
@@ -32,111 +34,111 @@ pub trait X509CertificateVisitor {
     /// The signed part, before its own parts.
     fn visit_tbs_certificate(&mut self, _tbs: &TbsCertificate<'_>) {}
 
-    /// The version.
+    /// The version (RFC 5280, 4.1.2.1), `V1` if the field is absent.
     fn visit_version(&mut self, _version: &X509Version) {}
 
-    /// The octets of the serial number.
+    /// The content octets of the serial number (RFC 5280, 4.1.2.2), as they are encoded.
     fn visit_serial_number(&mut self, _serial: &[u8]) {}
 
-    /// The algorithm of the signature, as the signed part tells it.
+    /// The algorithm in the signed part (RFC 5280, 4.1.2.3).
     fn visit_tbs_signature_algorithm(&mut self, _algorithm: &AlgorithmIdentifier<'_>) {}
 
-    /// Who signed.
+    /// The issuer's name (RFC 5280, 4.1.2.4). No signature is verified.
     fn visit_issuer(&mut self, _name: &X509Name<'_>) {}
 
-    /// When the certificate is valid.
+    /// The validity period (RFC 5280, 4.1.2.5).
     fn visit_validity(&mut self, _validity: &Validity) {}
 
-    /// Whose the key is.
+    /// The subject's name (RFC 5280, 4.1.2.6).
     fn visit_subject(&mut self, _name: &X509Name<'_>) {}
 
-    /// The key.
+    /// The subject's public key and its algorithm (RFC 5280, 4.1.2.7).
     fn visit_subject_public_key_info(&mut self, _key: &SubjectPublicKeyInfo<'_>) {}
 
-    /// Which of those with the issuer's name, if it is told.
+    /// The issuer's unique identifier (RFC 5280, 4.1.2.8), or `None`.
     fn visit_issuer_unique_id(&mut self, _id: Option<&UniqueIdentifier<'_>>) {}
 
-    /// Which of those with the subject's name, if it is told.
+    /// The subject's unique identifier (RFC 5280, 4.1.2.8), or `None`.
     fn visit_subject_unique_id(&mut self, _id: Option<&UniqueIdentifier<'_>>) {}
 
-    /// All extensions, before each of them.
+    /// All extensions, before the steps for each of them.
     fn pre_visit_extensions(&mut self, _extensions: &[X509Extension<'_>]) {}
 
-    /// An extension, of whatever kind; a call by its kind follows.
+    /// One extension; the method for its kind is called next.
     fn visit_extension(&mut self, _extension: &X509Extension<'_>) {}
 
-    /// RFC 5280, 4.2.1.1.
+    /// An authorityKeyIdentifier (RFC 5280, 4.2.1.1).
     fn visit_extension_aki(&mut self, _aki: &AuthorityKeyIdentifier<'_>) {}
 
-    /// RFC 5280, 4.2.1.2.
+    /// A subjectKeyIdentifier (RFC 5280, 4.2.1.2).
     fn visit_extension_ski(&mut self, _id: &KeyIdentifier<'_>) {}
 
-    /// RFC 5280, 4.2.1.3.
+    /// A keyUsage (RFC 5280, 4.2.1.3).
     fn visit_extension_key_usage(&mut self, _usage: &KeyUsage) {}
 
-    /// RFC 5280, 4.2.1.4.
+    /// A certificatePolicies (RFC 5280, 4.2.1.4).
     fn visit_extension_certificate_policies(&mut self, _policies: &CertificatePolicies<'_>) {}
 
-    /// RFC 5280, 4.2.1.5.
+    /// A policyMappings (RFC 5280, 4.2.1.5).
     fn visit_extension_policy_mappings(&mut self, _mappings: &PolicyMappings<'_>) {}
 
-    /// RFC 5280, 4.2.1.6.
+    /// A subjectAltName (RFC 5280, 4.2.1.6).
     fn visit_extension_subject_alternative_name(&mut self, _names: &SubjectAlternativeName<'_>) {}
 
-    /// RFC 5280, 4.2.1.7.
+    /// An issuerAltName (RFC 5280, 4.2.1.7).
     fn visit_extension_issuer_alternative_name(&mut self, _names: &IssuerAlternativeName<'_>) {}
 
-    /// RFC 5280, 4.2.1.9.
+    /// A basicConstraints (RFC 5280, 4.2.1.9).
     fn visit_extension_basic_constraints(&mut self, _constraints: &BasicConstraints) {}
 
-    /// RFC 5280, 4.2.1.10.
+    /// A nameConstraints (RFC 5280, 4.2.1.10).
     fn visit_extension_name_constraints(&mut self, _constraints: &NameConstraints<'_>) {}
 
-    /// RFC 5280, 4.2.1.11.
+    /// A policyConstraints (RFC 5280, 4.2.1.11).
     fn visit_extension_policy_constraints(&mut self, _constraints: &PolicyConstraints) {}
 
-    /// RFC 5280, 4.2.1.12.
+    /// An extKeyUsage (RFC 5280, 4.2.1.12).
     fn visit_extension_extended_key_usage(&mut self, _usage: &ExtendedKeyUsage<'_>) {}
 
-    /// RFC 5280, 4.2.1.13.
+    /// A cRLDistributionPoints (RFC 5280, 4.2.1.13).
     fn visit_extension_crl_distribution_points(&mut self, _points: &CRLDistributionPoints<'_>) {}
 
-    /// RFC 5280, 4.2.1.14.
+    /// An inhibitAnyPolicy (RFC 5280, 4.2.1.14).
     fn visit_extension_inhibit_anypolicy(&mut self, _policy: &InhibitAnyPolicy) {}
 
-    /// RFC 5280, 4.2.2.1.
+    /// An authorityInfoAccess (RFC 5280, 4.2.2.1).
     fn visit_extension_authority_information_access(&mut self, _info: &AuthorityInfoAccess<'_>) {}
 
-    /// Netscape's type of a certificate.
+    /// A Netscape certificate type.
     fn visit_extension_nscert_type(&mut self, _kind: &NSCertType) {}
 
-    /// Netscape's comment.
+    /// A Netscape comment.
     fn visit_extension_nscert_comment(&mut self, _comment: &str) {}
 
-    /// RFC 6962, 3.3.
+    /// A list of signed certificate timestamps (RFC 6962, 3.3).
     fn visit_extension_sct(&mut self, _timestamps: &[SignedCertificateTimestamp<'_>]) {}
 
-    /// An extension whose identifier is known and whose value is none of its type, and why.
+    /// An extension with a known identifier and a malformed value, and the error.
     fn visit_extension_parse_error(
         &mut self,
         _extension: &X509Extension<'_>,
         _error: &Refusal<Error>,
     ) {}
 
-    /// An extension whose value has no method of its own, or wasn't looked into.
+    /// An extension of another kind, or whose value wasn't parsed.
     fn visit_extension_unknown(&mut self, _extension: &X509Extension<'_>) {}
 
-    /// All extensions, after each of them.
+    /// All extensions, after the steps for each of them.
     fn post_visit_extensions(&mut self, _extensions: &[X509Extension<'_>]) {}
 
-    /// The algorithm of the signature, as it is told beside the signature.
+    /// The algorithm beside the signature (RFC 5280, 4.1.1.2).
     fn visit_signature_algorithm(&mut self, _algorithm: &AlgorithmIdentifier<'_>) {}
 
-    /// The signature.
+    /// The signature's bits (RFC 5280, 4.1.1.3). No signature is verified.
     fn visit_signature_value(&mut self, _signature: &BitString<'_>) {}
 }
 
-/// Calls a visitor's methods.
+/// Adapts a visitor with methods to the trait that takes steps.
 #[derive(Drop)]
 struct Methods<'m, V> {
     visitor: &'m mut V,
@@ -232,7 +234,7 @@ impl<'m, V: X509CertificateVisitor> CertVisits for Methods<'m, V> {
 }
 
 impl<'a> TbsCertificate<'a> {
-    /// Calls a visitor's methods on the parts, in the order of `walk_visits`.
+    /// Calls the visitor's methods for each part, in the order of the encoding.
     pub fn walk<V: X509CertificateVisitor>(&self, visitor: &mut V) {
         let mut methods = Methods { visitor };
         self.walk_visits(&mut methods);
@@ -240,7 +242,7 @@ impl<'a> TbsCertificate<'a> {
 }
 
 impl<'a> X509Certificate<'a> {
-    /// Calls a visitor's methods on the parts, in the order of `walk_visits`.
+    /// Calls the visitor's methods for each part, in the order of the encoding.
     pub fn walk<V: X509CertificateVisitor>(&self, visitor: &mut V) {
         let mut methods = Methods { visitor };
         self.walk_visits(&mut methods);

@@ -1,4 +1,4 @@
-//! Walks over certificates: each part is told by a call, in a fixed order.
+//! Walks over certificates: a step for each part, in the order of the encoding.
 
 ghost use Rattle.std.specs.Prelude.{◌≡◌};
 ghost use Rattle.std.specs.List.{FoldsTo};
@@ -9,7 +9,7 @@ use crate::tbs::TbsCertificate;
 use crate::visit::{CertVisit, CertVisits};
 use x509_ext::{ParsedExtension, X509Extension};
 
-/// The call by what the extension's value was parsed as.
+/// The step for the kind of value that the extension was parsed as.
 fn visit_by_kind<'v, 'a>(extension: &'v X509Extension<'a>) -> CertVisit<'v, 'a>
     ensures { call_of result ≡ call_by_kind extension.now extension.now.parsed_extension }
 {
@@ -71,7 +71,8 @@ fn walk_extensions<V: CertVisits>(extensions: &[X509Extension<'_>], visits: &mut
 }
 
 impl<'a> TbsCertificate<'a> {
-    /// Tells the parts one after the other, each extension twice: as it stands, and then by its kind.
+    /// Takes a step for each part of the signed part; for each extension two: one for the
+    /// extension, then one for its kind.
     #[tactic(auto, using(crate::proofs::Seen::seen_then))]
     pub fn walk_visits<V: CertVisits>(&self, visits: &mut V)
         ensures { FoldsTo V.sees visits.old (calls_of_tbs self.now) visits.new }
@@ -92,7 +93,8 @@ impl<'a> TbsCertificate<'a> {
 }
 
 impl<'a> X509Certificate<'a> {
-    /// Tells the signed part, then its parts, then the algorithm and the signature.
+    /// Takes a step for the signed part, those of its parts, and those for the signature algorithm
+    /// and the signature.
     pub fn walk_visits<V: CertVisits>(&self, visits: &mut V)
         ensures { FoldsTo V.sees visits.old (calls_of_certificate self.now) visits.new }
     {

@@ -1,4 +1,4 @@
-//! The entries of a list, one after the other (RFC 5280, 5.1.2.6).
+//! Readers of `revokedCertificates` (RFC 5280, 5.1.2.6).
 
 ghost use Rattle.std.specs.Prelude.{◌≡◌, ◌+◌, ◌*◌, ◌^◌, ◌<◌, ◌≤◌, length, All, IfOk, map};
 ghost use Rattle.asn1_core.specs.Counts.{attempts};
@@ -17,10 +17,11 @@ use std::cmp;
 use x509_core::{Parts, X509Error, parts_of, push_in_room, renamed};
 use x509_ext_types::copy_all;
 
-/// No entry takes fewer octets: it has a header, a serial number and a time of 13 octets or more.
+/// The fewest octets of an entry: a header, a serial number, and a time of at least 13 octets. It
+/// bounds the room that is reserved.
 const LEAST_OCTETS: usize = 16;
 
-/// As many entries as begin there, the values of their extensions parsed too where `deep` says so.
+/// Reads entries from the front until none begins; extension values are parsed if `deep` is true.
 fn each_entry<'a>(
     alloc: Global,
     parts: &mut Parts<'a>,
@@ -52,7 +53,7 @@ fn each_entry<'a>(
     Ok(entries)
 }
 
-/// The entries that an element holds, to its end, read so too.
+/// Reads the entries in an element to its end; extension values are parsed if `deep` is true.
 #[tactic(auto, unfolding(crate::specs::Reading::entries_in))]
 fn entries_of<'a>(
     alloc: Global,
@@ -76,8 +77,13 @@ fn entries_of<'a>(
     }
 }
 
-/// The entries at the front, read so too, none where no SEQUENCE is next. One that holds anything but entries is refused by
-/// `InvalidExtensions`: extensions, which alone may stand there too, have another tag number.
+/// Reads the entries at the front, or none if no SEQUENCE is next; extension values are parsed if
+/// `deep` is true.
+///
+/// # Errors
+///
+/// `InvalidExtensions` for a SEQUENCE that holds anything but entries: only extensions may follow
+/// there, and they have another tag.
 #[tactic(auto, unfolding(crate::specs::Reading::entries_at))]
 pub(crate) fn next_entries<'a>(
     alloc: Global,
@@ -109,7 +115,11 @@ pub(crate) fn next_entries<'a>(
     }
 }
 
-/// Copies of entries, in the same order.
+/// Copies the entries in order.
+///
+/// # Errors
+///
+/// Out of memory.
 pub(crate) fn copy_entries<'a>(
     alloc: Global,
     entries: &[RevokedCertificate<'a>],

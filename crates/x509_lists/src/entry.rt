@@ -1,4 +1,4 @@
-//! `RevokedCertificate`, an entry of a list (RFC 5280, 5.1.2.6 and 5.3).
+//! `RevokedCertificate`, an entry of a revocation list (RFC 5280, 5.1.2.6 and 5.3).
 
 ghost use Rattle.std.specs.Prelude.{◌≡◌, ◌+◌, ◌*◌, ◌^◌, ◌<◌, ◌≤◌, length, All, IfOk, map, option_map, string_bytes};
 ghost use Rattle.std.specs.Slice.Iter.{iter_rest};
@@ -27,68 +27,75 @@ use x509_ext::{
 use x509_ext_types::{Copies, ReasonCode, format_serial};
 use x509_time::{ASN1Time, next_time};
 
-/// The identifier of a reason code, 2.5.29.21.
+/// id-ce-cRLReasons, 2.5.29.21.
 const REASON_CODE: &[u8] = b"\x55\x1d\x15";
 
-/// The identifier of an invalidity date, 2.5.29.24.
+/// id-ce-invalidityDate, 2.5.29.24.
 const INVALIDITY_DATE: &[u8] = b"\x55\x1d\x18";
 
-/// A certificate that was revoked.
+/// An entry of a revocation list: a revoked certificate (RFC 5280, 5.1.2.6), borrowed from the
+/// octets that it was read from.
 #[derive(Debug, Drop, PartialEq, Eq)]
 pub struct RevokedCertificate<'a> {
-    /// Its serial number: its octets without a sign.
+    /// The certificate's serial number: the content octets of the INTEGER, read as unsigned.
     pub user_certificate: UnsignedBytes<'a>,
-    /// When it was revoked.
+    /// The date of revocation.
     pub revocation_date: ASN1Time,
     extensions: Vec<X509Extension<'a>>,
     raw_serial: &'a [u8],
 }
 
 impl<'a> RevokedCertificate<'a> {
-    /// The serial number.
+    /// The revoked certificate's serial number.
     pub fn serial(&self) -> &UnsignedBytes<'a>
         ensures { result.now ≡ self.now.user_certificate }
     {
         &self.user_certificate
     }
 
-    /// The extensions, in the order in which they stand.
+    /// The extensions, in the order of the encoding (RFC 5280, 5.2).
     pub fn extensions(&self) -> &[X509Extension<'a>]
         ensures { result.now ≡ self.now.extensions.items }
     {
         self.extensions.as_slice()
     }
 
-    /// The extensions, in the order in which they stand.
+    /// The extensions, in the order of the encoding (RFC 5280, 5.2).
     pub fn iter_extensions(&self) -> slice::Iter<'_, X509Extension<'a>>
         ensures { iter_rest result ≡ self.now.extensions.items }
     {
         self.extensions.iter()
     }
 
-    /// The first extension of this identifier. Whether others have it too isn't told.
+    /// The first extension with this identifier, or `None`. Later ones with the same identifier
+    /// aren't looked at: `get_extension_unique` reports them.
     pub fn find_extension(&self, oid: &Oid<'_>) -> Option<&X509Extension<'a>>
         ensures { option_map (λ e. e.now) result ≡ first_of (all_of oid.now self.now.extensions.items) }
     {
         find_extension(self.extensions.as_slice(), oid)
     }
 
-    /// The octets of the serial number.
+    /// The content octets of the entry's serial number (RFC 5280, 5.1.2.6), as they are encoded.
     pub fn raw_serial(&self) -> &'a [u8]
         ensures { result ≡ self.now.raw_serial }
     {
         self.raw_serial
     }
 
-    /// The octets of the serial number in hexadecimal, with a colon between two.
+    /// The content octets of the serial number as text: two lower-case hexadecimal digits each,
+    /// separated by colons, as `01:02:ff`.
+    ///
+    /// # Errors
+    ///
+    /// Out of memory, for a text of three characters an octet.
     pub fn raw_serial_as_string(&self, alloc: Global) -> Result<String, OutOfMemory>
         ensures { IfOk result (λ text. string_bytes text ≡ serial_text self.now.raw_serial.now) }
     {
         format_serial(alloc, self.raw_serial)
     }
 
-    /// Why the certificate was revoked, behind whether the extension that says so is critical: of the first extension of this
-    /// identifier, where its value was parsed as a reason (RFC 5280, 5.3.1).
+    /// The extension's critical flag and the reason of revocation (RFC 5280, 5.3.1). `None` if
+    /// there is no reasonCode, or the first one wasn't parsed as a reason.
     pub fn reason_code(&self) -> Option<(bool, ReasonCode)>
         ensures { result ≡ reason_code_of self.now.extensions.items }
     {
@@ -99,8 +106,8 @@ impl<'a> RevokedCertificate<'a> {
         }
     }
 
-    /// Since when the certificate is thought to be invalid, behind whether the extension that says so is critical: of the first
-    /// extension of this identifier, where its value was parsed as a time (RFC 5280, 5.3.2).
+    /// The extension's critical flag and the invalidity date (RFC 5280, 5.3.2). `None` if there is
+    /// no invalidityDate, or the first one wasn't parsed as a time.
     pub fn invalidity_date(&self) -> Option<(bool, ASN1Time)>
         ensures { result ≡ invalidity_date_of self.now.extensions.items }
     {
@@ -111,7 +118,11 @@ impl<'a> RevokedCertificate<'a> {
         }
     }
 
-    /// A copy: it borrows what the entry borrows.
+    /// A copy that borrows the same octets as the entry.
+    ///
+    /// # Errors
+    ///
+    /// Out of memory, for the copied vector of extensions.
     pub fn clone(&self, alloc: Global) -> Result<RevokedCertificate<'a>, OutOfMemory>
         ensures value { IfOk result (λ copy. entry_view copy ≡ entry_view self.now) }
         ensures serial { IfOk result (λ copy. copy.user_certificate ≡ self.now.user_certificate) }
@@ -144,8 +155,8 @@ impl<'a> Copies for RevokedCertificate<'a> {
     }
 }
 
-/// The extensions of an entry at the front, their values parsed too where `deep` says so; none, and nothing read, where they aren't
-/// there or can't be read.
+/// Reads the extensions of an entry; values are parsed if `deep` is true. Absent or malformed ones
+/// give none, and nothing is read.
 #[tactic(auto, unfolding(crate::specs::Reading::entry_extensions_at))]
 fn entry_extensions<'a>(
     alloc: Global,
@@ -174,7 +185,7 @@ fn entry_extensions<'a>(
     }
 }
 
-/// The entry that an element is, the values of its extensions parsed too where `deep` says so.
+/// Reads the entry in an element; extension values are parsed if `deep` is true.
 #[tactic(auto, unfolding(crate::specs::Reading::entry_in))]
 pub(crate) fn entry_of<'a>(
     alloc: Global,

@@ -1,5 +1,6 @@
-//! Certificate revocation lists (RFC 5280, 5.1), read leniently: the octets that a reader leaves in a container's content are
-//! ignored. The values of extensions, of lists and of entries, are parsed by their types, except where a parser is told not to.
+//! Certificate revocation lists (RFC 5280, 5.1). Reading is lenient: octets that remain in the
+//! content of a SEQUENCE after its known fields are ignored. Extension values of lists and entries
+//! are parsed unless the parser is set not to.
 #![tactic(auto)]
 
 mod entries;

@@ -1,4 +1,4 @@
-//! `CertificateRevocationList` (RFC 5280, 5.1.1).
+//! `CertificateRevocationList` (RFC 5280, 5.1.1) and its accessors.
 
 ghost use Rattle.std.specs.Prelude.{◌≡◌, ◌+◌, ◌*◌, ◌^◌, ◌<◌, ◌≤◌, length, All, IfOk, map, option_map};
 ghost use Rattle.std.specs.Slice.Iter.{iter_rest};
@@ -28,66 +28,67 @@ use x509_ext::{ParsedExtension, X509Extension, X509Version};
 use x509_names::{AlgorithmIdentifier, X509Name, next_algorithm, next_bits};
 use x509_time::ASN1Time;
 
-/// The identifier of a list's number, 2.5.29.20.
+/// id-ce-cRLNumber, 2.5.29.20.
 const CRL_NUMBER: &[u8] = b"\x55\x1d\x14";
 
-/// A certificate revocation list.
+/// A certificate revocation list (RFC 5280, 5.1), borrowed from the octets that it was read from.
 #[derive(Debug, Drop)]
 pub struct CertificateRevocationList<'a> {
-    /// The signed part.
+    /// The signed part, `tbsCertList`.
     pub tbs_cert_list: TbsCertList<'a>,
-    /// The algorithm of the signature.
+    /// The algorithm that the signature is made with (RFC 5280, 5.1.1.2).
     pub signature_algorithm: AlgorithmIdentifier<'a>,
-    /// The signature.
+    /// The signature's bits (RFC 5280, 5.1.1.3). No signature is verified.
     pub signature_value: BitString<'a>,
     raw: &'a [u8],
 }
 
 impl<'a> CertificateRevocationList<'a> {
-    /// The version, where one is written.
+    /// The version (RFC 5280, 5.1.2.1), or `None` if the field is absent.
     pub fn version(&self) -> Option<X509Version>
         ensures { result ≡ self.now.tbs_cert_list.version }
     {
         self.tbs_cert_list.version
     }
 
-    /// Who signed.
+    /// The issuer's name (RFC 5280, 5.1.2.3). No signature is verified.
     pub fn issuer(&self) -> &X509Name<'a>
         ensures { result.now ≡ self.now.tbs_cert_list.issuer }
     {
         &self.tbs_cert_list.issuer
     }
 
-    /// When the list was issued.
+    /// The issue date, `thisUpdate` (RFC 5280, 5.1.2.4).
     pub fn last_update(&self) -> ASN1Time
         ensures { result ≡ self.now.tbs_cert_list.this_update }
     {
         self.tbs_cert_list.this_update
     }
 
-    /// By when the next list is issued, where that is told.
+    /// The date by which the next list is issued, `nextUpdate` (RFC 5280, 5.1.2.5), or `None` if
+    /// the field is absent.
     pub fn next_update(&self) -> Option<ASN1Time>
         ensures { result ≡ self.now.tbs_cert_list.next_update }
     {
         self.tbs_cert_list.next_update
     }
 
-    /// The certificates that were revoked, in the order in which they stand.
+    /// The entries, in the order of the encoding (RFC 5280, 5.1.2.6).
     pub fn iter_revoked_certificates(&self) -> slice::Iter<'_, RevokedCertificate<'a>>
         ensures { iter_rest result ≡ self.now.tbs_cert_list.revoked_certificates.items }
     {
         self.tbs_cert_list.revoked_certificates.iter()
     }
 
-    /// The extensions, in the order in which they stand.
+    /// The extensions, in the order of the encoding (RFC 5280, 5.2).
     pub fn extensions(&self) -> &[X509Extension<'a>]
         ensures { result.now ≡ self.now.tbs_cert_list.extensions.items }
     {
         self.tbs_cert_list.extensions()
     }
 
-    /// The number of the list: of the first extension of this identifier, where its value was parsed as a number (RFC 5280,
-    /// 5.2.3).
+    /// The CRL number (RFC 5280, 5.2.3). `None` if there is no cRLNumber, or the first one wasn't
+    /// parsed as a number.
     pub fn crl_number(&self) -> Option<&UnsignedBytes<'a>>
         ensures { option_map (λ n. n.now) result ≡ crl_number_of self.now.tbs_cert_list.extensions.items }
     {
@@ -98,21 +99,25 @@ impl<'a> CertificateRevocationList<'a> {
         }
     }
 
-    /// All octets of the list.
+    /// The whole encoding of the list, from its header to its last octet.
     pub fn as_raw(&self) -> &'a [u8]
         ensures { result ≡ self.now.raw }
     {
         self.raw
     }
 
-    /// All octets of the list.
+    /// The whole encoding of the list, from its header to its last octet.
     pub fn as_ref(&self) -> &'a [u8]
         ensures { result ≡ self.now.raw }
     {
         self.raw
     }
 
-    /// A copy: it borrows what the list borrows.
+    /// A copy that borrows the same octets as the list.
+    ///
+    /// # Errors
+    ///
+    /// Out of memory, for the copied vectors of entries and extensions.
     pub fn clone(&self, alloc: Global) -> Result<CertificateRevocationList<'a>, OutOfMemory>
         ensures value { IfOk result (λ copy. list_view copy ≡ list_view self.now) }
         ensures serials { IfOk result (λ copy. map (λ e. e.user_certificate) copy.tbs_cert_list.revoked_certificates.items ≡ map (λ e. e.user_certificate) self.now.tbs_cert_list.revoked_certificates.items) }
@@ -140,7 +145,7 @@ fn next_signature<'a>(
     named(next_bits(alloc, parts), X509Error::InvalidSignatureValue)
 }
 
-/// The list that an element is, the values of extensions parsed too where `deep` says so.
+/// Reads the list in an element; extension values are parsed if `deep` is true.
 #[tactic(auto, unfolding(crate::specs::Reading::list_in))]
 pub(crate) fn list_of<'a>(
     alloc: Global,

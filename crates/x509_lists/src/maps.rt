@@ -1,4 +1,4 @@
-//! Extensions of lists and of entries by their identifiers.
+//! Maps from identifiers to the extensions of lists and entries.
 
 ghost use Rattle.std.specs.Prelude.{◌≡◌, ℕ, List, IfOk, OnOk, IfErr, option_map};
 ghost use Rattle.x509_core.specs.declared.error.X509Error.TheVariants.{DuplicateExtensions};
@@ -14,8 +14,12 @@ use x509_core::X509Error;
 use x509_ext::{X509Extension, extensions_map};
 
 impl<'a> TbsCertList<'a> {
-    /// The extensions by their identifiers, as `find_extension` finds them; `DuplicateExtensions` where two have the same one. The
-    /// keys ascend by their content octets, and n extensions take time in n log n.
+    /// A map from each identifier to its extension, sorted by the identifiers' content octets.
+    /// Takes n log n time for n extensions.
+    ///
+    /// # Errors
+    ///
+    /// `DuplicateExtensions` if two have the same identifier (RFC 5280, 5.2); out of memory.
     pub fn extensions_map(
         &self,
         alloc: Global,
@@ -29,7 +33,13 @@ impl<'a> TbsCertList<'a> {
 }
 
 impl<'a> RevokedCertificate<'a> {
-    /// The extensions by their identifiers, likewise.
+    /// A map from each identifier to its extension, sorted by the identifiers' content octets.
+    /// Takes n log n time for n extensions.
+    ///
+    /// # Errors
+    ///
+    /// `DuplicateExtensions` if two have the same identifier (RFC 5280, 5.2); out of
+    /// memory.
     pub fn extensions_map(
         &self,
         alloc: Global,

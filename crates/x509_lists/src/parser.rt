@@ -1,4 +1,4 @@
-//! The parser of revocation lists, and the readers of lists, signed parts and entries.
+//! The parser of revocation lists, and readers of lists, TBSCertLists and entries.
 
 ghost use Rattle.std.specs.Prelude.{◌≡◌, ◌++◌, ◌+◌, ◌*◌, ◌^◌, ◌<◌, ◌≤◌, ℕ, List, true, length, All, IfOk};
 ghost use Rattle.asn1_core.specs.Counts.{attempts};
@@ -25,14 +25,14 @@ use std::alloc::Global;
 use x509_core::{X509Error, X509Result};
 use x509_names::whole_element;
 
-/// A parser of revocation lists.
+/// A parser of revocation lists with an option: whether extension values are parsed.
 #[derive(Clone, Copy, Debug)]
 pub struct CertificateRevocationListParser {
     deep_parse_extensions: bool,
 }
 
 impl CertificateRevocationListParser {
-    /// One that parses the values of extensions too.
+    /// A parser that parses extension values as well.
     pub fn new() -> CertificateRevocationListParser
         ensures { result.deep_parse_extensions ≡ true }
     {
@@ -41,7 +41,8 @@ impl CertificateRevocationListParser {
         }
     }
 
-    /// One that parses the values of extensions too, or doesn't.
+    /// The parser with this setting: with `false` each value stays `ParsedExtension::Unparsed`,
+    /// which is faster.
     pub fn with_deep_parse_extensions(
         self,
         deep_parse_extensions: bool,
@@ -53,14 +54,16 @@ impl CertificateRevocationListParser {
         }
     }
 
-    /// The list that begins the octets, behind those after it.
+    /// Reads one revocation list from the front of `i` (RFC 5280, 5.1). Returns `(rest, list)`. A
+    /// known extension whose value is malformed becomes `ParsedExtension::ParseError`, and
+    /// malformed extensions of an entry are ignored; the list is still read.
     ///
-    /// By its parts in the order in which they stand: `InvalidAlgorithmIdentifier` of an algorithm without an identifier,
-    /// `InvalidDate` of what is no time, `InvalidExtensions` where a header of another tag number than 0 stands in the place of
-    /// extensions, or what is none, and `InvalidSignatureValue`. Entries that are none stand in that place, so they are
-    /// `InvalidExtensions` too; an entry's extensions that are none are passed over. `Incomplete` exactly where the octets end
-    /// within the list. A value of a known extension that its type refuses, of the list or of an entry, is
-    /// `ParsedExtension::ParseError`, and the list is read; want of memory within a value is a `Failure` of the whole.
+    /// # Errors
+    ///
+    /// `Incomplete` exactly if `i` ends inside the list. Else the error of the first field that is
+    /// wrong: `InvalidAlgorithmIdentifier` for an algorithm without an identifier; `InvalidDate`;
+    /// `InvalidExtensions` if anything but entries, and then extensions under tag 0, follows the
+    /// dates; `InvalidSignatureValue`. Out of memory, also while a value is parsed, is a `Failure`.
     pub fn parse<'a>(
         &self,
         alloc: Global,
@@ -79,9 +82,13 @@ impl CertificateRevocationListParser {
         list_at_front(alloc, i, self.deep_parse_extensions)
     }
 
-    /// The answer of `parse` of a parser without deep parsing, and the header attempts that it took, in the count: at most eight
-    /// for each octet, and at least nine where there is a list. The count is of the list's own headers: whatever the parser, the
-    /// values of extensions aren't looked into, and stay `ParsedExtension::Unparsed`.
+    /// Reads one list as `parse` does without parsing extension values, and adds to `count` the
+    /// headers that it tried to read: at most eight an octet, and at least nine if there is a list.
+    /// Values stay `ParsedExtension::Unparsed`, whatever the parser's setting.
+    ///
+    /// # Errors
+    ///
+    /// The errors of `parse`.
     pub fn parse_counted<'a>(
         &self,
         alloc: Global,
@@ -127,7 +134,11 @@ impl<'b> DerMeaning for CertificateRevocationList<'b> {
 }
 
 impl<'a> FromDer<'a, X509Error> for CertificateRevocationList<'a> {
-    /// The list that begins the octets, behind those after it: `parse` of `CertificateRevocationListParser::new()`.
+    /// Reads one list, extension values parsed, from the front of `bytes`. Returns `(rest, list)`.
+    ///
+    /// # Errors
+    ///
+    /// The errors of `CertificateRevocationListParser::parse`.
     fn from_der(alloc: Global, bytes: &'a [u8]) -> X509Result<'a, CertificateRevocationList<'a>>
         ensures reads { Reads (λ given e. e ≡ told given) (Unit {0}) EndsWithinElement (λ i. i.now)
             (λ i v r. grammar.CertificateRevocationList IsParsed i (list_view v) r) bytes.now result }
@@ -156,7 +167,11 @@ impl<'b> DerMeaning for TbsCertList<'b> {
 }
 
 impl<'a> FromDer<'a, X509Error> for TbsCertList<'a> {
-    /// The signed part that begins the octets, behind those after it. It is refused as within a list.
+    /// Reads one TBSCertList from the front of `bytes` (RFC 5280, 5.1.2). Returns `(rest, tbs)`.
+    ///
+    /// # Errors
+    ///
+    /// The errors that `CertificateRevocationListParser::parse` has for this part.
     fn from_der(alloc: Global, bytes: &'a [u8]) -> X509Result<'a, TbsCertList<'a>>
         ensures reads { Reads (λ given e. e ≡ told given) (Unit {0}) EndsWithinElement (λ i. i.now)
             (λ i v r. grammar.TbsCertList IsParsed i (tbs_view v) r) bytes.now result }
@@ -185,8 +200,13 @@ impl<'b> DerMeaning for RevokedCertificate<'b> {
 }
 
 impl<'a> FromDer<'a, X509Error> for RevokedCertificate<'a> {
-    /// The entry that begins the octets, behind those after it. `InvalidSerial` where it has no serial number, `InvalidDate`
-    /// where no time stands behind that; extensions that are none are passed over.
+    /// Reads one entry from the front of `bytes` (RFC 5280, 5.1.2.6). Returns `(rest, entry)`.
+    /// Malformed extensions are ignored.
+    ///
+    /// # Errors
+    ///
+    /// `InvalidSerial` without a serial number; `InvalidDate` without a time after it; `Incomplete`
+    /// if `bytes` ends inside the entry.
     fn from_der(alloc: Global, bytes: &'a [u8]) -> X509Result<'a, RevokedCertificate<'a>>
         ensures reads { Reads (λ given e. e ≡ told given) (Unit {0}) EndsWithinElement (λ i. i.now)
             (λ i v r. grammar.RevokedCertificate IsParsed i (entry_view v) r) bytes.now result }
@@ -202,7 +222,12 @@ impl<'a> FromDer<'a, X509Error> for RevokedCertificate<'a> {
     }
 }
 
-/// The list that begins the octets, behind those after it: `CertificateRevocationList::from_der`.
+/// Reads one list from the front of `i`, as `CertificateRevocationList::from_der`. Returns `(rest,
+/// list)`.
+///
+/// # Errors
+///
+/// The errors of `CertificateRevocationListParser::parse`.
 pub fn parse_x509_crl<'a>(
     alloc: Global,
     i: &'a [u8],
@@ -220,7 +245,11 @@ pub fn parse_x509_crl<'a>(
     CertificateRevocationList::from_der(alloc, i)
 }
 
-/// The same by its older name.
+/// Reads one list from the front of `i`; the older name of [`parse_x509_crl`].
+///
+/// # Errors
+///
+/// The errors of `CertificateRevocationListParser::parse`.
 pub fn parse_crl_der<'a>(
     alloc: Global,
     i: &'a [u8],

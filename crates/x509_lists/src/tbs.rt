@@ -1,4 +1,4 @@
-//! The signed part of a revocation list (RFC 5280, 5.1.2).
+//! `TbsCertList`, the signed part of a revocation list (RFC 5280, 5.1.2).
 
 ghost use Rattle.std.specs.Prelude.{◌≡◌, ◌+◌, ◌*◌, ◌^◌, ◌<◌, ◌≤◌, length, All, IfOk, map, option_map};
 ghost use Rattle.std.specs.Slice.Iter.{iter_rest};
@@ -26,55 +26,62 @@ use x509_ext::{
 use x509_names::{AlgorithmIdentifier, X509Name, next_algorithm, next_name};
 use x509_time::{ASN1Time, next_time, next_update};
 
-/// The signed part of a revocation list.
+/// The signed part of a revocation list, `TBSCertList` (RFC 5280, 5.1.2), borrowed from the octets
+/// that it was read from.
 #[derive(Debug, Drop, PartialEq, Eq)]
 pub struct TbsCertList<'a> {
-    /// The version, where one is written.
+    /// The version (RFC 5280, 5.1.2.1), or `None` if the field is absent.
     pub version: Option<X509Version>,
-    /// The algorithm of the signature.
+    /// The algorithm that the signature is made with (RFC 5280, 5.1.1.2).
     pub signature: AlgorithmIdentifier<'a>,
-    /// Who signed.
+    /// The issuer's name (RFC 5280, 5.1.2.3). No signature is verified.
     pub issuer: X509Name<'a>,
-    /// When the list was issued.
+    /// The issue date, `thisUpdate` (RFC 5280, 5.1.2.4).
     pub this_update: ASN1Time,
-    /// By when the next list is issued, where that is told.
+    /// The date by which the next list is issued, `nextUpdate` (RFC 5280, 5.1.2.5), or `None` if
+    /// the field is absent.
     pub next_update: Option<ASN1Time>,
-    /// The certificates that were revoked, in the order in which they stand.
+    /// The entries, in the order of the encoding (RFC 5280, 5.1.2.6).
     pub revoked_certificates: Vec<RevokedCertificate<'a>>,
     extensions: Vec<X509Extension<'a>>,
     raw: &'a [u8],
 }
 
 impl<'a> TbsCertList<'a> {
-    /// The extensions, in the order in which they stand.
+    /// The extensions, in the order of the encoding (RFC 5280, 5.2).
     pub fn extensions(&self) -> &[X509Extension<'a>]
         ensures { result.now ≡ self.now.extensions.items }
     {
         self.extensions.as_slice()
     }
 
-    /// The extensions, in the order in which they stand.
+    /// The extensions, in the order of the encoding (RFC 5280, 5.2).
     pub fn iter_extensions(&self) -> slice::Iter<'_, X509Extension<'a>>
         ensures { iter_rest result ≡ self.now.extensions.items }
     {
         self.extensions.iter()
     }
 
-    /// The first extension of this identifier. Whether others have it too isn't told.
+    /// The first extension with this identifier, or `None`. Later ones with the same identifier
+    /// aren't looked at: `get_extension_unique` reports them.
     pub fn find_extension(&self, oid: &Oid<'_>) -> Option<&X509Extension<'a>>
         ensures { option_map (λ e. e.now) result ≡ first_of (all_of oid.now self.now.extensions.items) }
     {
         find_extension(self.extensions.as_slice(), oid)
     }
 
-    /// The octets that the signature is of.
+    /// The octets that the signature covers: the whole encoding of the signed part.
     pub fn as_ref(&self) -> &'a [u8]
         ensures { result ≡ self.now.raw }
     {
         self.raw
     }
 
-    /// A copy: it borrows what the signed part borrows.
+    /// A copy that borrows the same octets as the signed part.
+    ///
+    /// # Errors
+    ///
+    /// Out of memory, for the copied vectors.
     #[tactic(auto, using(x509_ext_types::proofs::Copied::same_name))]
     pub fn clone(&self, alloc: Global) -> Result<TbsCertList<'a>, OutOfMemory>
         ensures value { IfOk result (λ copy. tbs_view copy ≡ tbs_view self.now) }
@@ -99,7 +106,7 @@ impl<'a> TbsCertList<'a> {
     }
 }
 
-/// The version at the front; none, and nothing read, where none is there.
+/// Reads the version, or `None` without reading if there is none.
 #[tactic(auto, unfolding(crate::specs::Reading::version_at))]
 fn next_version(parts: &mut Parts<'_>) -> Option<X509Version>
     ensures read { (option_map (λ v. v.0) result, parts.new.octets) ≡ version_at parts.old.octets }
@@ -112,7 +119,7 @@ fn next_version(parts: &mut Parts<'_>) -> Option<X509Version>
     Some(version)
 }
 
-/// Who signed, and how.
+/// The fields before the dates: version, signature algorithm and issuer.
 #[derive(Drop)]
 struct Signer<'a> {
     version: Option<X509Version>,
@@ -120,21 +127,21 @@ struct Signer<'a> {
     issuer: X509Name<'a>,
 }
 
-/// When the list was issued, and by when the next one is.
+/// The dates: `thisUpdate` and `nextUpdate`.
 #[derive(Clone, Copy)]
 struct Dates {
     this_update: ASN1Time,
     next_update: Option<ASN1Time>,
 }
 
-/// What was revoked, and the extensions behind that.
+/// The fields after the dates: entries and extensions.
 #[derive(Drop)]
 struct Revoked<'a> {
     entries: Vec<RevokedCertificate<'a>>,
     extensions: Vec<X509Extension<'a>>,
 }
 
-/// What stands before the dates.
+/// Reads the version, the signature algorithm and the issuer.
 #[tactic(auto, unfolding(crate::specs::Steps::signer_at))]
 fn next_signer<'a>(
     alloc: Global,
@@ -159,7 +166,7 @@ fn next_signer<'a>(
     })
 }
 
-/// Both dates.
+/// Reads `thisUpdate` and `nextUpdate`.
 #[tactic(auto, unfolding(crate::specs::Steps::dates_at))]
 fn next_dates(parts: &mut Parts<'_>, count: &mut HeaderCount) -> Result<Dates, Refusal<X509Error>>
     requires { attempts count.old + 1 < 2 ^ 128 }
@@ -182,7 +189,7 @@ fn next_dates(parts: &mut Parts<'_>, count: &mut HeaderCount) -> Result<Dates, R
     }
 }
 
-/// What stands behind the dates, to the end.
+/// Reads the entries and the extensions, to the end.
 #[tactic(auto, unfolding(crate::specs::Steps::revoked_at))]
 fn revoked_of<'a>(
     alloc: Global,
@@ -206,7 +213,7 @@ fn revoked_of<'a>(
     })
 }
 
-/// The signed part of these octets and parts.
+/// Joins the fields of a signed part with its octets.
 fn joined<'a>(
     raw: &'a [u8],
     signer: Signer<'a>,
@@ -227,7 +234,8 @@ fn joined<'a>(
     }
 }
 
-/// The signed part of these octets whose content the parts are, read so too.
+/// Reads the fields of the signed part with these octets; extension values are parsed if `deep` is
+/// true.
 fn signed_of<'a>(
     alloc: Global,
     raw: &'a [u8],
@@ -256,7 +264,7 @@ fn signed_of<'a>(
     }
 }
 
-/// The signed part that an element is, the values of extensions parsed too where `deep` says so.
+/// Reads the signed part in an element; extension values are parsed if `deep` is true.
 pub(crate) fn tbs_of<'a>(
     alloc: Global,
     element: Element<'a>,
@@ -278,7 +286,7 @@ pub(crate) fn tbs_of<'a>(
     }
 }
 
-/// The signed part at the front, read so too.
+/// Reads the signed part at the front; extension values are parsed if `deep` is true.
 pub(crate) fn next_tbs<'a>(
     alloc: Global,
     parts: &mut Parts<'a>,

@@ -1,4 +1,4 @@
-//! `ListVisit`, a call of a walk over a list, and who sees such calls.
+//! `ListVisit`, a step of a walk over a revocation list, and the trait that takes such steps.
 
 ghost use Rattle.x509_lists.specs.Visits.{Call, call_of};
 
@@ -15,63 +15,66 @@ use x509_ext_types::{
 use x509_names::{AlgorithmIdentifier, X509Name};
 use x509_time::ASN1Time;
 
-/// A call of a walk over a list, with what it shows: a case for each method of `CertificateRevocationListVisitor`.
+/// A step of a walk over a list with the part that it is about: a variant for each method of
+/// `CertificateRevocationListVisitor`.
 #[derive(Clone, Copy)]
 pub enum ListVisit<'v, 'a> {
-    /// The signed part, before what it holds.
+    /// The signed part, before its fields.
     VisitTbsCertList(&'v TbsCertList<'a>),
-    /// The version, where one is written.
+    /// The version (RFC 5280, 5.1.2.1), or `None` if the field is absent.
     VisitVersion(Option<&'v X509Version>),
-    /// The algorithm that the signed part names.
+    /// The algorithm in the signed part (RFC 5280, 5.1.2.2).
     VisitTbsSignatureAlgorithm(&'v AlgorithmIdentifier<'a>),
-    /// Who signed.
+    /// The issuer's name (RFC 5280, 5.1.2.3). No signature is verified.
     VisitIssuer(&'v X509Name<'a>),
-    /// When the list was issued.
+    /// The issue date, `thisUpdate` (RFC 5280, 5.1.2.4).
     VisitThisUpdate(&'v ASN1Time),
-    /// By when the next list is issued, where that is told.
+    /// The date by which the next list is issued, `nextUpdate` (RFC 5280, 5.1.2.5), or `None` if
+    /// the field is absent.
     VisitNextUpdate(Option<&'v ASN1Time>),
-    /// All entries.
+    /// All entries, before the steps for each of them.
     VisitRevokedCertificates(&'v [RevokedCertificate<'a>]),
-    /// One entry. Its extensions have no calls of their own.
+    /// One entry. Its extensions have no steps of their own.
     VisitRevokedCertificate(&'v RevokedCertificate<'a>),
-    /// All extensions, before each.
+    /// All extensions, before those for each of them.
     PreVisitExtensions(&'v [X509Extension<'a>]),
-    /// One extension.
+    /// One extension, before the step for its kind.
     VisitExtension(&'v X509Extension<'a>),
-    /// All extensions, behind each.
+    /// All extensions, after those for each of them.
     PostVisitExtensions(&'v [X509Extension<'a>]),
-    /// RFC 5280, 5.2.1.
+    /// An authorityKeyIdentifier (RFC 5280, 5.2.1).
     VisitExtensionAki(&'v AuthorityKeyIdentifier<'a>),
-    /// RFC 5280, 5.2.2.
+    /// An issuerAltName (RFC 5280, 5.2.2).
     VisitExtensionIssuerAlternativeName(&'v IssuerAlternativeName<'a>),
-    /// RFC 5280, 5.2.3.
+    /// A cRLNumber (RFC 5280, 5.2.3).
     VisitExtensionCrlNumber(&'v UnsignedBytes<'a>),
-    /// RFC 5280, 5.2.5.
+    /// An issuingDistributionPoint (RFC 5280, 5.2.5).
     VisitExtensionIssuingDistributionPoint(&'v IssuingDistributionPoint<'a>),
-    /// RFC 5280, 5.2.7.
+    /// An authorityInfoAccess (RFC 5280, 5.2.7).
     VisitExtensionAuthorityInformationAccess(&'v AuthorityInfoAccess<'a>),
-    /// RFC 5280, 5.3.1.
+    /// A reasonCode (RFC 5280, 5.3.1).
     VisitExtensionReasonCode(&'v ReasonCode),
-    /// RFC 5280, 5.3.2.
+    /// An invalidityDate (RFC 5280, 5.3.2).
     VisitExtensionInvalidityDate(&'v ASN1Time),
-    /// RFC 6962, 3.3.
+    /// A list of signed certificate timestamps (RFC 6962, 3.3).
     VisitExtensionSct(&'v [SignedCertificateTimestamp<'a>]),
-    /// An extension whose value was parsed as none of these, or wasn't parsed.
+    /// An extension of another kind, or whose value wasn't parsed.
     VisitExtensionUnknown(&'v X509Extension<'a>),
-    /// An extension whose value is none of its type, and why.
+    /// An extension with a known identifier and a malformed value, and the error.
     VisitExtensionParseError(&'v X509Extension<'a>, &'v Refusal<Error>),
-    /// The algorithm of the signature.
+    /// The algorithm that the signature is made with (RFC 5280, 5.1.1.2).
     VisitSignatureAlgorithm(&'v AlgorithmIdentifier<'a>),
-    /// The signature.
+    /// The signature's bits (RFC 5280, 5.1.1.3). No signature is verified.
     VisitSignatureValue(&'v BitString<'a>),
 }
 
-/// Sees the parts of a list, one call for each.
+/// Takes the steps of a walk over a list, one a part. Implement it to see all steps by one method;
+/// [`CertificateRevocationListVisitor`] has a method for each kind.
 pub trait ListVisits {
-    /// Which calls lead from one state to another. A fixed relation of the type.
+    /// The relation of states before and after a step. It depends on the type alone.
     ghost sees: { Self → Call → Self → Type 0 };
 
-    /// Sees a part.
+    /// Takes one step.
     fn visit(&mut self, call: ListVisit<'_, '_>)
         ensures { sees self.old (call_of call.entry) self.new };
 }

@@ -1,4 +1,4 @@
-//! Who sees the parts of a list (RFC 5280, 5.1), by a method for each.
+//! `CertificateRevocationListVisitor`, a method for each part of a list, and `walk`.
 
 ghost use Rattle.std.specs.Prelude.{⊤};
 
@@ -17,10 +17,11 @@ use x509_ext_types::{
 use x509_names::{AlgorithmIdentifier, X509Name};
 use x509_time::ASN1Time;
 
-/// Sees the parts of a list, each by a method of its own; what isn't written does nothing. Extensions are shown twice: by
-/// `visit_extension`, and by the one method of what their values were parsed as.
+/// Takes the parts of a list, each by its own method. A method that isn't implemented does nothing.
+///
+/// For each extension two methods are called: `visit_extension`, then the method for its kind.
 pub trait CertificateRevocationListVisitor {
-    /// Walks over a list.
+    /// Calls the methods for each part of a list, in the order of the encoding.
     final fn walk(&mut self, crl: &CertificateRevocationList<'_>)
     where
         Self: Sized,
@@ -28,73 +29,74 @@ pub trait CertificateRevocationListVisitor {
         crl.walk(self);
     }
 
-    /// The signed part, before what it holds.
+    /// The signed part, before its fields.
     fn visit_tbs_cert_list(&mut self, _tbs: &TbsCertList<'_>) {}
 
-    /// The algorithm of the signature.
+    /// The algorithm that the signature is made with (RFC 5280, 5.1.1.2).
     fn visit_signature_algorithm(&mut self, _algorithm: &AlgorithmIdentifier<'_>) {}
 
-    /// The signature.
+    /// The signature's bits (RFC 5280, 5.1.1.3). No signature is verified.
     fn visit_signature_value(&mut self, _signature: &BitString<'_>) {}
 
-    /// The version, where one is written.
+    /// The version (RFC 5280, 5.1.2.1), or `None` if the field is absent.
     fn visit_version(&mut self, _version: Option<&X509Version>) {}
 
-    /// The algorithm that the signed part names.
+    /// The algorithm in the signed part (RFC 5280, 5.1.2.2).
     fn visit_tbs_signature_algorithm(&mut self, _algorithm: &AlgorithmIdentifier<'_>) {}
 
-    /// Who signed.
+    /// The issuer's name (RFC 5280, 5.1.2.3). No signature is verified.
     fn visit_issuer(&mut self, _name: &X509Name<'_>) {}
 
-    /// When the list was issued.
+    /// The issue date, `thisUpdate` (RFC 5280, 5.1.2.4).
     fn visit_this_update(&mut self, _time: &ASN1Time) {}
 
-    /// By when the next list is issued, where that is told.
+    /// The date by which the next list is issued, `nextUpdate` (RFC 5280, 5.1.2.5), or `None` if
+    /// the field is absent.
     fn visit_next_update(&mut self, _time: Option<&ASN1Time>) {}
 
-    /// All entries, before each.
+    /// All entries, before the calls for each of them.
     fn visit_revoked_certificates(&mut self, _certificates: &[RevokedCertificate<'_>]) {}
 
-    /// One entry. Its extensions have no calls of their own.
+    /// One entry. Its extensions have no steps of their own.
     fn visit_revoked_certificate(&mut self, _certificate: &RevokedCertificate<'_>) {}
 
-    /// All extensions, before each.
+    /// All extensions, before those for each of them.
     fn pre_visit_extensions(&mut self, _extensions: &[X509Extension<'_>]) {}
 
-    /// One extension, whatever its value.
+    /// One extension; the method for its kind is called next.
     fn visit_extension(&mut self, _extension: &X509Extension<'_>) {}
 
-    /// All extensions, behind each.
+    /// All extensions, after those for each of them.
     fn post_visit_extensions(&mut self, _extensions: &[X509Extension<'_>]) {}
 
-    /// RFC 5280, 5.2.1.
+    /// An authorityKeyIdentifier (RFC 5280, 5.2.1).
     fn visit_extension_aki(&mut self, _aki: &AuthorityKeyIdentifier<'_>) {}
 
-    /// RFC 5280, 5.2.2.
+    /// An issuerAltName (RFC 5280, 5.2.2).
     fn visit_extension_issuer_alternative_name(&mut self, _ian: &IssuerAlternativeName<'_>) {}
 
-    /// RFC 5280, 5.2.3.
+    /// A cRLNumber (RFC 5280, 5.2.3).
     fn visit_extension_crl_number(&mut self, _number: &UnsignedBytes<'_>) {}
 
-    /// RFC 5280, 5.2.5.
+    /// An issuingDistributionPoint (RFC 5280, 5.2.5).
     fn visit_extension_issuing_distribution_point(&mut self, _dp: &IssuingDistributionPoint<'_>) {}
 
-    /// RFC 5280, 5.2.7.
+    /// An authorityInfoAccess (RFC 5280, 5.2.7).
     fn visit_extension_authority_information_access(&mut self, _info: &AuthorityInfoAccess<'_>) {}
 
-    /// RFC 5280, 5.3.1.
+    /// A reasonCode (RFC 5280, 5.3.1).
     fn visit_extension_reason_code(&mut self, _code: &ReasonCode) {}
 
-    /// RFC 5280, 5.3.2.
+    /// An invalidityDate (RFC 5280, 5.3.2).
     fn visit_extension_invalidity_date(&mut self, _time: &ASN1Time) {}
 
-    /// RFC 6962, 3.3.
+    /// A list of signed certificate timestamps (RFC 6962, 3.3).
     fn visit_extension_sct(&mut self, _sct: &[SignedCertificateTimestamp<'_>]) {}
 
-    /// An extension whose value was parsed as none of these, or wasn't parsed.
+    /// An extension of another kind, or whose value wasn't parsed.
     fn visit_extension_unknown(&mut self, _ext: &X509Extension<'_>) {}
 
-    /// An extension whose value is none of its type, and why.
+    /// An extension with a known identifier and a malformed value, and the error.
     fn visit_extension_parse_error(
         &mut self,
         _extension: &X509Extension<'_>,

@@ -27,7 +27,7 @@ fn walk_entries<V: ListVisits>(entries: &[RevokedCertificate<'_>], visits: &mut 
     walk_each_entry(entries, visits);
 }
 
-/// The call by what the extension's value was parsed as.
+/// The step for the kind of value that the extension was parsed as.
 fn visit_by_kind<'v, 'a>(extension: &'v X509Extension<'a>) -> ListVisit<'v, 'a>
     ensures { call_of result ≡ call_by_kind extension.now extension.now.parsed_extension }
 {
