@@ -1,4 +1,4 @@
-//! The elements of a content that are still ahead of its reader.
+//! The elements of a content that a reader hasn't reached yet.
 
 ghost use Rattle.std.specs.Prelude.{◌≡◌, ◌+◌, ◌^◌, ◌<◌, ◌≤◌, ◌∷◌, List, [], length, Some, IfOk, IfSome, IfNone};
 ghost use Rattle.asn1_any.specs.declared.cut.Element.{Element as Cut};
@@ -9,8 +9,8 @@ use asn1_any::{Element, cut_elements_counted, first_element_counted};
 use asn1_core::{HeaderCount, OutOfMemory};
 use std::alloc::Global;
 
-/// Elements in their order. The first three are held in the value itself, since most contents have no more; a vector has the
-/// others.
+/// Elements in order. The first three are held inline, since most contents have no more; a vector
+/// holds the others.
 #[derive(Drop)]
 pub(crate) struct Ahead<'a> {
     front: Option<Element<'a>>,
@@ -44,8 +44,12 @@ fn few<'a>(
 }
 
 impl<'a> Ahead<'a> {
-    /// The elements of a content: a header is tried for each of them, and one at octets that none begins. Memory is taken for
-    /// those after the third.
+    /// Cuts a content into its elements. Tries one header for each of them, and one more at octets
+    /// that begin none. Takes memory for those after the third.
+    ///
+    /// # Errors
+    ///
+    /// Out of memory.
     #[inline(always)]
     #[tactic(auto, unfolding(crate::specs::Parts::ahead_of))]
     pub(crate) fn cut(
@@ -81,7 +85,7 @@ impl<'a> Ahead<'a> {
         })
     }
 
-    /// The first of the elements: one of those held here, or the vector's next, which stays in its place.
+    /// The first element, or `None`.
     #[inline(always)]
     #[tactic(auto, unfolding(crate::specs::Parts::ahead_of))]
     pub(crate) fn front(&self) -> Option<Element<'a>>
@@ -97,7 +101,7 @@ impl<'a> Ahead<'a> {
         None
     }
 
-    /// Passes over the first of the elements.
+    /// Drops the first element.
     #[inline(always)]
     #[tactic(auto, unfolding(crate::specs::Parts::ahead_of))]
     pub(crate) fn pass(&mut self)
@@ -112,7 +116,7 @@ impl<'a> Ahead<'a> {
         }
     }
 
-    /// How many elements there are.
+    /// The number of elements.
     #[tactic(auto, unfolding(crate::specs::Parts::ahead_of))]
     pub(crate) fn len(&self) -> usize
         ensures { result ≡ length (ahead_of self.now) }

@@ -1,4 +1,4 @@
-//! Single elements: the outermost one, a header alone, and what an element of a tag number holds.
+//! Readers of single elements: headers, whole elements, and contents by tag number.
 
 ghost use Rattle.std.specs.Prelude.{◌≡◌, ◌+◌, ◌^◌, ◌<◌, ◌≤◌, length, IfOk, IfErr};
 ghost use Rattle.asn1_core.specs.Counts.{attempts};
@@ -18,7 +18,7 @@ use asn1_core::{Err as Refusal, Error, Header, HeaderCount, Tag};
 use asn1_oid::Oid;
 use std::alloc::Global;
 
-/// The header that begins the octets, behind those after it.
+/// Reads one header from the front. Returns `(rest, header)`.
 #[tactic(auto, unfolding(crate::specs::Reading::front_header_at))]
 pub fn front_header<'a>(
     i: &'a [u8],
@@ -37,7 +37,11 @@ pub fn front_header<'a>(
     }
 }
 
-/// The element that begins the octets, behind those after it: `Incomplete` exactly where the octets end within it.
+/// Reads one element from the front. Returns `(rest, element)`.
+///
+/// # Errors
+///
+/// `Incomplete` exactly if the octets end inside the element.
 #[tactic(auto, unfolding(crate::specs::Reading::piece_at))]
 pub fn front_element<'a>(
     i: &'a [u8],
@@ -61,7 +65,11 @@ pub fn front_element<'a>(
     }
 }
 
-/// The parts of an element of this tag number.
+/// Cuts the content of an element of this tag number into its parts.
+///
+/// # Errors
+///
+/// `Der(UnexpectedTag)` for another tag number; out of memory.
 #[inline(always)]
 pub fn parts_of<'a>(
     alloc: Global,
@@ -87,7 +95,7 @@ pub fn parts_of<'a>(
     }
 }
 
-/// The elements of a content.
+/// Cuts a content into its elements.
 #[inline(always)]
 pub fn cut_all<'a>(
     alloc: Global,
@@ -106,7 +114,7 @@ pub fn cut_all<'a>(
     }
 }
 
-/// The same refusal by this error, unless memory ran out.
+/// Replaces the error of a refusal by `name`; out of memory is kept.
 pub fn renamed(refusal: Refusal<X509Error>, name: X509Error) -> Refusal<X509Error>
     requires { IsName name }
     ensures { result ≡ renamed refusal name }
@@ -117,7 +125,7 @@ pub fn renamed(refusal: Refusal<X509Error>, name: X509Error) -> Refusal<X509Erro
     }
 }
 
-/// The content of a primitive element of this tag number, whatever its class.
+/// The content octets of a primitive element of this tag number, of any class.
 pub fn leaf_of<'a>(tag: u32, any: Any<'a>) -> Result<&'a [u8], Refusal<X509Error>>
     ensures read { Gives (λ c. c.now) result (leaf_in tag (any_of any.entry)) }
     ensures memory { IfErr result TakesNoMemory }
@@ -128,7 +136,7 @@ pub fn leaf_of<'a>(tag: u32, any: Any<'a>) -> Result<&'a [u8], Refusal<X509Error
     Ok(any.content)
 }
 
-/// An OBJECT IDENTIFIER.
+/// The OBJECT IDENTIFIER in an element.
 pub fn oid_of<'a>(element: Element<'a>) -> Result<Oid<'a>, Refusal<X509Error>>
     ensures read { Gives (λ o. o) result (oid_in (any_of element.entry.any)) }
     ensures memory { IfErr result TakesNoMemory }
@@ -137,7 +145,7 @@ pub fn oid_of<'a>(element: Element<'a>) -> Result<Oid<'a>, Refusal<X509Error>>
     Ok(Oid::new(content))
 }
 
-/// The same refusal by this error, unless memory ran out.
+/// Replaces the error of a refusal by `name`; out of memory is kept.
 pub fn named<T: Drop>(
     answer: Result<T, Refusal<X509Error>>,
     name: X509Error,

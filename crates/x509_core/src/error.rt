@@ -1,39 +1,39 @@
-//! Why octets are no certificate, list or request, or none of their parts.
+//! `X509Error`, the errors of the readers of certificates, revocation lists and requests.
 
 use asn1_core::{Err as Refusal, Error, ErrorKind, IResult, OutOfMemory};
 use std::alloc::{AllocError, AllocFailed};
 use std::{error, fmt};
 
-/// Why octets are refused.
+/// The errors of the readers of certificates, revocation lists and requests.
 #[derive(Clone, Copy, Debug, PartialEq, Eq)]
 pub enum X509Error {
-    /// No other case tells the fault.
+    /// A fault that has no variant of its own.
     Generic,
-    /// The version is no number of 32 bits (RFC 5280, 4.1.2.1).
+    /// The version isn't an INTEGER of 32 bits (RFC 5280, 4.1.2.1).
     InvalidVersion,
-    /// The serial number is no INTEGER (RFC 5280, 4.1.2.2).
+    /// The serial number isn't an INTEGER (RFC 5280, 4.1.2.2).
     InvalidSerial,
     /// An algorithm has no identifier (RFC 5280, 4.1.1.2).
     InvalidAlgorithmIdentifier,
     /// An attribute of a name has no type or no value (RFC 5280, 4.1.2.4).
     InvalidX509Name,
-    /// The octets are no date and time that there is (RFC 5280, 4.1.2.5).
+    /// A time is malformed, or no date of the calendar (RFC 5280, 4.1.2.5).
     InvalidDate,
     /// The key has no bits (RFC 5280, 4.1.2.7).
     InvalidSPKI,
-    /// The subject's unique identifier is no bit string (RFC 5280, 4.1.2.8).
+    /// The subject's unique identifier isn't a BIT STRING (RFC 5280, 4.1.2.8).
     InvalidSubjectUID,
-    /// The issuer's unique identifier is no bit string (RFC 5280, 4.1.2.8).
+    /// The issuer's unique identifier isn't a BIT STRING (RFC 5280, 4.1.2.8).
     InvalidIssuerUID,
-    /// An extension, or what they stand in, is malformed (RFC 5280, 4.1.2.9).
+    /// An extension, or the field of extensions, is malformed (RFC 5280, 4.1.2.9).
     InvalidExtensions,
-    /// A request's attribute, or what they stand in, is malformed (RFC 2986, 4.1).
+    /// An attribute of a request, or the field of attributes, is malformed (RFC 2986, 4.1).
     InvalidAttributes,
-    /// Two extensions have one identifier (RFC 5280, 4.2).
+    /// Two extensions have the same identifier (RFC 5280, 4.2).
     DuplicateExtensions,
-    /// Two attributes have one identifier.
+    /// Two attributes have the same identifier.
     DuplicateAttributes,
-    /// The signature is no bit string (RFC 5280, 4.1.1.3).
+    /// The signature isn't a BIT STRING (RFC 5280, 4.1.1.3).
     InvalidSignatureValue,
     /// The signed part is malformed.
     InvalidTbsCertificate,
@@ -41,24 +41,24 @@ pub enum X509Error {
     InvalidUserCertificate,
     /// The certificate is malformed.
     InvalidCertificate,
-    /// A signature isn't that of the key.
+    /// A signature doesn't verify. No reader returns it: signatures aren't computed here.
     SignatureVerificationError,
-    /// The signature's algorithm isn't known.
+    /// The signature's algorithm is unknown.
     SignatureUnsupportedAlgorithm,
     /// A number is negative, empty or too large.
     InvalidNumber,
-    /// An element is malformed.
+    /// An element is malformed; the error of `asn1_core`.
     Der(Error),
-    /// A general reader failed.
+    /// A general parser failed.
     NomError(ErrorKind),
     /// Memory ran out.
     OutOfMemory,
 }
 
-/// The octets after what was read, and the value; or why there is none.
+/// The result of a reader: `(rest, value)`, or a refusal.
 pub type X509Result<'a, T> = IResult<&'a [u8], T, X509Error>;
 
-/// An error prints what is wrong, in words.
+/// Writes the error in words, as x509-parser does.
 impl fmt::Display for X509Error {
     ghost use Rattle.std.specs.Prelude.{Some};
     ghost use Rattle.x509_core.specs.Errors.{x509_text};
@@ -98,7 +98,7 @@ impl fmt::Display for X509Error {
 
 impl error::Error for X509Error {}
 
-/// Want of memory stays want of memory.
+/// Out of memory stays out of memory; any other error becomes `Der`.
 impl From<Error> for X509Error {
     ghost use Rattle.std.specs.Prelude.{◌≡◌};
     ghost use Rattle.x509_core.specs.Errors.{told};
@@ -124,7 +124,7 @@ impl From<ErrorKind> for X509Error {
     }
 }
 
-/// Missing octets become an error of an element.
+/// `Incomplete` becomes `Der(..)`; out of memory is kept.
 impl From<Refusal<Error>> for X509Error {
     ghost use Rattle.std.specs.Prelude.{◌≡◌};
     ghost use Rattle.x509_core.specs.Errors.{told_refusal};
@@ -140,7 +140,7 @@ impl From<Refusal<Error>> for X509Error {
     }
 }
 
-/// Missing octets become an error of an element; an error stays as it is.
+/// `Incomplete` becomes `Der(..)`; an error is kept.
 impl From<Refusal<X509Error>> for X509Error {
     ghost use Rattle.std.specs.Prelude.{◌≡◌};
     ghost use Rattle.x509_core.specs.Errors.{held_error};

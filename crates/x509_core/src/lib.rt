@@ -1,5 +1,5 @@
-//! What the readers of certificates, revocation lists and requests stand on: why they refuse, a content that was cut into its
-//! elements, and single elements.
+//! What the readers of certificates, revocation lists and requests share: their errors, a content
+//! cut into its elements, and readers of single elements.
 #![tactic(auto)]
 
 mod ahead;

@@ -1,4 +1,4 @@
-//! A content that was cut into its elements, read from its front.
+//! `Parts`, a content that was cut into its elements and is read from its front.
 
 ghost use Rattle.std.specs.Prelude.{◌≡◌, ◌+◌, ◌*◌, ◌^◌, ◌<◌, ◌≤◌, ◌-◌, List, ℕ, length, IfOk, IfErr, IfSome, option_map, Some, Ok};
 ghost use Rattle.asn1_core.specs.Counts.{attempts};
@@ -16,7 +16,7 @@ use asn1_core::{Err as Refusal, Error, HeaderCount, OutOfMemory};
 use std::alloc::Global;
 use std::marker::Model;
 
-/// The octets that are left of a content, and the elements that stand in them.
+/// The unread octets of a content, cut into elements.
 #[derive(Drop)]
 pub struct Parts<'a> {
     left: &'a [u8],
@@ -35,8 +35,12 @@ impl<'a> Model for Parts<'a> {
 }
 
 impl<'a> Parts<'a> {
-    /// All of a content, cut into its elements: a header is tried for each of them, and one at octets that none begins. Memory is
-    /// taken where there are more than three.
+    /// Cuts a whole content into elements. Tries one header for each of them, and one more at
+    /// octets that begin none. Takes memory for more than three.
+    ///
+    /// # Errors
+    ///
+    /// Out of memory.
     #[inline(always)]
     pub fn cut(
         alloc: Global,
@@ -56,8 +60,11 @@ impl<'a> Parts<'a> {
         })
     }
 
-    /// The element at the front, and on behind it. Where none is there the refusal is an error, whatever the octets are, and
-    /// nothing is changed.
+    /// Takes the element at the front.
+    ///
+    /// # Errors
+    ///
+    /// An `Error`, never `Incomplete`, if no element begins there; nothing changes then.
     #[tactic(auto, unfolding(crate::specs::Reading::piece_at))]
     #[inline(always)]
     pub fn next(&mut self) -> Result<Element<'a>, Refusal<X509Error>>
@@ -78,7 +85,7 @@ impl<'a> Parts<'a> {
         Ok(element)
     }
 
-    /// The element at the front, left where it is.
+    /// The element at the front, without taking it.
     #[tactic(auto, unfolding(crate::specs::Reading::piece_at))]
     #[inline(always)]
     pub fn first(&self) -> Option<Element<'a>>
@@ -93,7 +100,7 @@ impl<'a> Parts<'a> {
         }
     }
 
-    /// On behind the element that `first` told.
+    /// Drops the element that `first` returned.
     #[inline(always)]
     pub fn advance(&mut self)
         requires { 0 < self.old.elements }
@@ -110,7 +117,7 @@ impl<'a> Parts<'a> {
         self.ahead.pass();
     }
 
-    /// How many elements stand in the octets that are left.
+    /// The number of elements that are left.
     pub fn elements(&self) -> usize
         ensures { result ≡ self.now.elements }
     {

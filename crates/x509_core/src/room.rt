@@ -1,14 +1,17 @@
-//! Room in vectors that are about to be filled.
+//! Pushing into a vector with room for several values at once.
 
 ghost use Rattle.std.specs.Prelude.{◌≡◌, ◌≤◌, ◌∷◌, ◌++◌, [], if◌then◌else◌, vec_len, vec_capacity, is_ok, IfErr, OnErr};
 
 use std::alloc::AllocFailed;
 
-/// Adds a value to a vector. Before the first one memory is asked for `room` of them, so a vector takes none before there is a
-/// value to hold, and isn't moved while no more are added.
+/// Adds a value to a vector. The first push reserves room for `room` values, so an empty vector
+/// takes no memory, and it isn't moved until more are added.
 ///
-/// Where memory for `room` values is refused, the vector grows as `Vec::push` grows it. `AllocFailed` comes only where that is
-/// refused too; it hands the value back, and the vector holds what it held before.
+/// If that room is refused, the vector grows as by `Vec::push`.
+///
+/// # Errors
+///
+/// `AllocFailed` if that is refused too: it returns the value, and the vector is unchanged.
 #[inline(always)]
 pub fn push_in_room<T>(values: &mut Vec<T>, value: T, room: usize) -> Result<(), AllocFailed<T>>
     ensures items { values.new.items ≡ (if is_ok result then values.old.items ++ value ∷ [] else values.old.items) }

@@ -22,17 +22,18 @@ use asn1_traits::{DerMeaning, FromDer};
 use std::alloc::Global;
 use x509_core::{Parts, X509Error, X509Result, front_element, named, parts_of};
 
-/// An algorithm, and its parameters where an octet is left behind its identifier.
+/// An algorithm and its optional parameters (RFC 5280, 4.1.1.2), borrowed from the octets that it
+/// was read from. Parameters are present if any octet follows the identifier.
 #[derive(Debug, Drop, PartialEq, Eq)]
 pub struct AlgorithmIdentifier<'a> {
-    /// Which algorithm it is.
+    /// The identifier of the algorithm.
     pub algorithm: Oid<'a>,
-    /// An element whose meaning the algorithm tells.
+    /// The parameters: an element whose meaning depends on the algorithm.
     pub parameters: Option<Any<'a>>,
 }
 
 impl<'a> AlgorithmIdentifier<'a> {
-    /// The algorithm of this identifier and these parameters.
+    /// Makes an algorithm from its identifier and parameters.
     pub fn new(algorithm: Oid<'a>, parameters: Option<Any<'a>>) -> AlgorithmIdentifier<'a>
         ensures { result ≡ record { algorithm = algorithm.entry; parameters = parameters.entry } }
     {
@@ -42,21 +43,25 @@ impl<'a> AlgorithmIdentifier<'a> {
         }
     }
 
-    /// The identifier.
+    /// The identifier of the algorithm.
     pub fn oid(&self) -> &Oid<'a>
         ensures { result.now ≡ self.now.algorithm }
     {
         &self.algorithm
     }
 
-    /// The parameters.
+    /// The parameters, or `None` if there are none.
     pub fn parameters(&self) -> Option<&Any<'a>>
         ensures { option_map (λ p. p.now) result ≡ self.now.parameters }
     {
         self.parameters.as_ref()
     }
 
-    /// A copy: it borrows what the algorithm borrows.
+    /// A copy that borrows the same octets as the algorithm.
+    ///
+    /// # Errors
+    ///
+    /// Out of memory.
     pub fn clone(&self, alloc: Global) -> Result<AlgorithmIdentifier<'a>, OutOfMemory>
         ensures { IfOk result (λ copy. copy ≡ self.now) }
     {
@@ -78,7 +83,11 @@ fn next_parameters<'a>(parts: &mut Parts<'a>) -> Result<Option<Any<'a>>, Refusal
     Ok(Some(element.any))
 }
 
-/// The algorithm that an element is.
+/// Reads the AlgorithmIdentifier in an element.
+///
+/// # Errors
+///
+/// `InvalidAlgorithmIdentifier` without an identifier; out of memory.
 #[tactic(auto, unfolding(crate::specs::Reading::algorithm_in))]
 pub fn algorithm_of<'a>(
     alloc: Global,
@@ -100,7 +109,11 @@ pub fn algorithm_of<'a>(
     })
 }
 
-/// An algorithm at the front.
+/// Reads an AlgorithmIdentifier from the front of `parts`.
+///
+/// # Errors
+///
+/// `InvalidAlgorithmIdentifier` without an identifier; out of memory.
 pub fn next_algorithm<'a>(
     alloc: Global,
     parts: &mut Parts<'a>,
@@ -129,7 +142,13 @@ impl<'b> DerMeaning for AlgorithmIdentifier<'b> {
 }
 
 impl<'a> FromDer<'a, X509Error> for AlgorithmIdentifier<'a> {
-    /// The algorithm that begins the octets, behind those after it. `InvalidAlgorithmIdentifier` where it has no identifier.
+    /// Reads one AlgorithmIdentifier from the front of `bytes` (RFC 5280, 4.1.1.2). Returns `(rest,
+    /// algorithm)`.
+    ///
+    /// # Errors
+    ///
+    /// `Incomplete` if `bytes` ends inside the element; `InvalidAlgorithmIdentifier` without an
+    /// identifier.
     fn from_der(alloc: Global, bytes: &'a [u8]) -> X509Result<'a, AlgorithmIdentifier<'a>>
         ensures reads { Reads (λ given e. e ≡ told given) (Unit {0}) EndsWithinElement (λ i. i.now)
             (λ i v r. grammar.AlgorithmIdentifier i (algorithm_view v) r) bytes.now result }

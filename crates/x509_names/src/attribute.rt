@@ -25,7 +25,7 @@ use asn1_traits::{DerMeaning, FromDer};
 use std::alloc::Global;
 use x509_core::{Parts, X509Error, X509Result, front_element, named, parts_of};
 
-/// An attribute of a name: its type and its value.
+/// An attribute of a name: its type and its value (RFC 5280, 4.1.2.4).
 #[derive(Debug, Drop, PartialEq, Eq)]
 pub struct AttributeTypeAndValue<'a> {
     attr_type: Oid<'a>,
@@ -33,7 +33,7 @@ pub struct AttributeTypeAndValue<'a> {
 }
 
 impl<'a> AttributeTypeAndValue<'a> {
-    /// The attribute of this type and this value.
+    /// Makes an attribute from its type and value.
     pub fn new(attr_type: Oid<'a>, attr_value: Any<'a>) -> AttributeTypeAndValue<'a>
         ensures { result ≡ record { attr_type = attr_type.entry; attr_value = attr_value.entry } }
     {
@@ -43,24 +43,26 @@ impl<'a> AttributeTypeAndValue<'a> {
         }
     }
 
-    /// The type.
+    /// The attribute's type.
     pub fn attr_type(&self) -> &Oid<'a>
         ensures { result.now ≡ self.now.attr_type }
     {
         &self.attr_type
     }
 
-    /// The value, an element of any type.
+    /// The attribute's value, an element of any type.
     pub fn attr_value(&self) -> &Any<'a>
         ensures { result.now ≡ self.now.attr_value }
     {
         &self.attr_value
     }
 
-    /// The value as text, where it is a UTF8String, NumericString, PrintableString or IA5String: its octets have to be UTF-8,
-    /// and nothing is asked of the type's own characters.
+    /// The value as text, of a UTF8String, NumericString, PrintableString or IA5String. The octets
+    /// must be UTF-8; the alphabet of the string type isn't checked.
     ///
-    /// `Der(UnexpectedTag)` where the value has another tag number, `InvalidAttributes` where it is no UTF-8.
+    /// # Errors
+    ///
+    /// `Der(UnexpectedTag)` for another tag; `InvalidAttributes` if the octets aren't UTF-8.
     pub fn as_str(&self) -> Result<&'a str, X509Error>
         ensures text { IfOk result (λ text. IsText (any_of self.now.attr_value) text.now) }
         ensures only { (text : List ℕ) → IsText (any_of self.now.attr_value) text → IsOkAnd result (λ t. t.now ≡ text) }
@@ -75,14 +77,18 @@ impl<'a> AttributeTypeAndValue<'a> {
         }
     }
 
-    /// The value's content octets.
+    /// The content octets of the value.
     pub fn as_slice(&self) -> &'a [u8]
         ensures { result ≡ self.now.attr_value.content }
     {
         self.attr_value.as_bytes()
     }
 
-    /// A copy: it borrows what the attribute borrows.
+    /// A copy that borrows the same octets as the attribute.
+    ///
+    /// # Errors
+    ///
+    /// Out of memory.
     pub fn clone(&self, alloc: Global) -> Result<AttributeTypeAndValue<'a>, OutOfMemory>
         ensures { IfOk result (λ copy. copy ≡ self.now) }
     {
@@ -100,7 +106,7 @@ fn next_value<'a>(parts: &mut Parts<'a>) -> Result<Element<'a>, Refusal<X509Erro
     named(parts.next(), X509Error::InvalidX509Name)
 }
 
-/// The attribute that an element is.
+/// Reads the attribute in an element.
 #[tactic(auto, unfolding(crate::specs::Reading::attribute_in))]
 pub fn attribute_of<'a>(
     alloc: Global,
@@ -132,7 +138,13 @@ impl<'b> DerMeaning for AttributeTypeAndValue<'b> {
 }
 
 impl<'a> FromDer<'a, X509Error> for AttributeTypeAndValue<'a> {
-    /// The attribute that begins the octets, behind those after it. `InvalidX509Name` where it has no type or no value.
+    /// Reads one attribute from the front of `bytes` (RFC 5280, 4.1.2.4). Returns `(rest,
+    /// attribute)`.
+    ///
+    /// # Errors
+    ///
+    /// `Incomplete` if `bytes` ends inside the element; `InvalidX509Name` without a type or a
+    /// value.
     fn from_der(alloc: Global, bytes: &'a [u8]) -> X509Result<'a, AttributeTypeAndValue<'a>>
         ensures reads { Reads (λ given e. e ≡ told given) (Unit {0}) EndsWithinElement (λ i. i.now)
             (λ i v r. grammar.AttributeTypeAndValue i (attribute_view v) r) bytes.now result }

@@ -1,4 +1,4 @@
-//! The attributes of a name, one after the other.
+//! Iterators over the attributes of a name.
 
 ghost use Rattle.std.specs.Prelude.{◌≡◌, []};
 ghost use Rattle.std.specs.Iterator.{YieldsFirstRef, item_count};
@@ -10,7 +10,7 @@ use crate::relative::RelativeDistinguishedName;
 use std::marker::Model;
 use std::slice;
 
-/// The attributes of a name's sets, seen as the list of those that are left.
+/// An iterator over the attributes of all sets of a name, in the order of the encoding.
 #[derive(Drop)]
 pub struct Attributes<'n, 'a> {
     set: slice::Iter<'n, AttributeTypeAndValue<'a>>,
@@ -38,7 +38,7 @@ impl<'n, 'a> Attributes<'n, 'a> {
         }
     }
 
-    /// Those whose type has these octets.
+    /// Restricts the iterator to attributes whose type has these content octets.
     pub(crate) fn of_type(self, identifier: &'n [u8]) -> AttributesOf<'n, 'a>
         ensures { result ≡ filter (has_type identifier.now) self.entry }
     {
@@ -73,7 +73,7 @@ impl<'n, 'a> Iterator for Attributes<'n, 'a> {
     }
 }
 
-/// The attributes of one type, seen as the list of those that are left.
+/// An iterator over the attributes of one type, in the order of the encoding.
 #[derive(Drop)]
 pub struct AttributesOf<'n, 'a> {
     attributes: Attributes<'n, 'a>,

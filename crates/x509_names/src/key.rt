@@ -25,20 +25,25 @@ use asn1_values::BitString;
 use std::alloc::Global;
 use x509_core::{Parts, X509Error, X509Result, front_element, named, parts_of};
 
-/// A key with its algorithm.
+/// A public key with its algorithm (RFC 5280, 4.1.2.7), borrowed from the octets that it was read
+/// from.
 #[derive(Debug, Drop, PartialEq, Eq)]
 pub struct SubjectPublicKeyInfo<'a> {
-    /// The algorithm that the key is for.
+    /// The algorithm that the key is used with.
     pub algorithm: AlgorithmIdentifier<'a>,
-    /// The key's bits.
+    /// The bits of the key, as the algorithm defines them.
     pub subject_public_key: BitString<'a>,
-    /// The octets of the key and its algorithm, up to where the bits end.
+    /// The encoding of algorithm and key, up to the end of the bits.
     pub raw: &'a [u8],
 }
 
 impl<'a> SubjectPublicKeyInfo<'a> {
-    /// What the key's octets are, by the identifier of its algorithm; octets after the value are ignored, and an unknown
-    /// algorithm's are told as they stand. `InvalidSPKI` where they are none.
+    /// Parses the key's octets by the identifier of its algorithm. Octets after the value are
+    /// ignored; those of an unknown algorithm are returned unparsed.
+    ///
+    /// # Errors
+    ///
+    /// `InvalidSPKI` if the octets are no key of the algorithm.
     pub fn parsed(&self) -> Result<PublicKey<'a>, X509Error>
         ensures found { IfOk result (λ k. IsKeyValue self.now.algorithm.algorithm self.now.subject_public_key.content.now (public_key_view k)) }
         ensures only { (v : KeyValue) → IsKeyValue self.now.algorithm.algorithm self.now.subject_public_key.content.now v
@@ -52,7 +57,11 @@ impl<'a> SubjectPublicKeyInfo<'a> {
         }
     }
 
-    /// A copy: it borrows what the key borrows.
+    /// A copy that borrows the same octets as the key.
+    ///
+    /// # Errors
+    ///
+    /// Out of memory.
     pub fn clone(&self, alloc: Global) -> Result<SubjectPublicKeyInfo<'a>, OutOfMemory>
         ensures { IfOk result (λ copy. copy ≡ self.now) }
     {
@@ -75,7 +84,7 @@ fn next_key_bits<'a>(
     named(next_bits(alloc, parts), X509Error::InvalidSPKI)
 }
 
-/// The key that an element is.
+/// Reads the SubjectPublicKeyInfo in an element.
 #[tactic(auto, unfolding(crate::specs::Reading::key_in))]
 pub fn key_of<'a>(
     alloc: Global,
@@ -100,7 +109,7 @@ pub fn key_of<'a>(
     })
 }
 
-/// A key at the front.
+/// Reads a SubjectPublicKeyInfo from the front of `parts`.
 pub fn next_key<'a>(
     alloc: Global,
     parts: &mut Parts<'a>,
@@ -129,8 +138,13 @@ impl<'b> DerMeaning for SubjectPublicKeyInfo<'b> {
 }
 
 impl<'a> FromDer<'a, X509Error> for SubjectPublicKeyInfo<'a> {
-    /// The key that begins the octets, behind those after it. `InvalidAlgorithmIdentifier` where its algorithm has no
-    /// identifier, `InvalidSPKI` where it has no bits.
+    /// Reads one SubjectPublicKeyInfo from the front of `bytes` (RFC 5280, 4.1.2.7). Returns
+    /// `(rest, key)`.
+    ///
+    /// # Errors
+    ///
+    /// `Incomplete` if `bytes` ends inside the element; `InvalidAlgorithmIdentifier` without an
+    /// identifier of the algorithm; `InvalidSPKI` without bits.
     fn from_der(alloc: Global, bytes: &'a [u8]) -> X509Result<'a, SubjectPublicKeyInfo<'a>>
         ensures reads { Reads (λ given e. e ≡ told given) (Unit {0}) EndsWithinElement (λ i. i.now)
             (λ i v r. grammar.SubjectPublicKeyInfo i (key_view v) r) bytes.now result }

@@ -1,4 +1,4 @@
-//! How the types of attributes are named.
+//! Labels of attribute types, as `CN`.
 
 ghost use Rattle.std.specs.Prelude.{◌≡◌, option_map};
 ghost use Rattle.x509_names.specs.NameTexts.{known_label};
@@ -44,17 +44,17 @@ const DSA: &[u8] = b"\x2a\x86\x48\xce\x38\x04\x01";
 // 1.2.840.113549.1.1.8
 const MGF1: &[u8] = b"\x2a\x86\x48\x86\xf7\x0d\x01\x01\x08";
 
-/// What tells the names of types.
+/// Where the labels of attribute types are looked up.
 #[derive(Clone, Copy)]
 pub(crate) enum Labels<'n> {
-    /// The registry that `oid_registry` hands out, without a registry at hand.
+    /// In the identifiers of `oid_registry`, without building that registry.
     Known,
-    /// A registry.
+    /// In a registry of the caller.
     Of(&'n OidRegistry),
 }
 
 impl<'n> Labels<'n> {
-    /// The abbreviation of the type, else its short name.
+    /// The abbreviation of the type, else its short name, else `None`.
     pub(crate) fn label(self, oid: &Oid<'_>) -> Option<&'static str>
         ensures { option_map (λ s. s.now) result ≡ label_of self.entry oid.now }
     {

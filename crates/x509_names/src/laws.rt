@@ -1,11 +1,12 @@
-//! Laws of names and keys, for proofs.
+//! Laws of the readers of names and keys. Each is a function without an effect; its contract is the
+//! law.
 
 ghost use Rattle.std.specs.Prelude.{◌≡◌, ◌++◌, ℕ, List, []};
 ghost use Rattle.x509_names.specs.Examples as examples;
 ghost use Rattle.x509_names.specs.Names as grammar;
 ghost use Rattle.x509_names.specs.PublicKeys as keys;
 
-/// What some octets are, whatever comes after them.
+/// Worked octets and what is read from them, whatever octets follow.
 pub fn worked_items()
     ensures algorithm { (rest : List ℕ) → grammar.AlgorithmIdentifier (examples.algorithm_octets ++ rest) examples.algorithm rest }
     ensures key { (rest : List ℕ) → grammar.SubjectPublicKeyInfo (examples.key_octets ++ rest) examples.key rest }

@@ -1,4 +1,4 @@
-//! Single elements at the front of a cut content: identifiers and bit strings.
+//! Readers of single elements: identifiers and bit strings.
 
 ghost use Rattle.std.specs.Prelude.{◌≡◌, ◌+◌, ◌≤◌, length, IfOk, IfErr};
 ghost use Rattle.asn1_any.specs.Views.{any_of};
@@ -15,7 +15,7 @@ use asn1_values::BitString;
 use std::alloc::Global;
 use x509_core::{Parts, X509Error, leaf_of, oid_of};
 
-/// The content of an OCTET STRING.
+/// The content octets of an OCTET STRING.
 pub(crate) fn octets_of<'a>(any: Any<'a>) -> Result<&'a [u8], Refusal<X509Error>>
     ensures read { Gives (λ c. c.now) result (octets_in (any_of any.entry)) }
     ensures memory { IfErr result TakesNoMemory }
@@ -23,7 +23,7 @@ pub(crate) fn octets_of<'a>(any: Any<'a>) -> Result<&'a [u8], Refusal<X509Error>
     leaf_of(4, any)
 }
 
-/// The content of an INTEGER, in the fewest octets (X.690, 8.3.2).
+/// The content octets of an INTEGER in its shortest form (X.690, 8.3.2).
 pub(crate) fn integer_of<'a>(any: Any<'a>) -> Result<&'a [u8], Refusal<X509Error>>
     ensures read { Gives (λ c. c.now) result (integer_in (any_of any.entry)) }
     ensures memory { IfErr result TakesNoMemory }
@@ -35,7 +35,7 @@ pub(crate) fn integer_of<'a>(any: Any<'a>) -> Result<&'a [u8], Refusal<X509Error
     }
 }
 
-/// The bits of a content, as DER has them (X.690, 8.6 and 11.2).
+/// The bits of a BIT STRING's content in DER (X.690, 8.6 and 11.2): unused bits are zero.
 #[tactic(auto, unfolding(crate::specs::Reading::bits_of))]
 pub fn bits_within<'a>(
     alloc: Global,
@@ -53,7 +53,7 @@ pub fn bits_within<'a>(
     }
 }
 
-/// An OBJECT IDENTIFIER at the front.
+/// Reads an OBJECT IDENTIFIER from the front of `parts`.
 pub fn next_oid<'a>(parts: &mut Parts<'a>) -> Result<Oid<'a>, Refusal<X509Error>>
     ensures read { Gives (λ o. (o, parts.new.octets)) result (oid_at parts.old.octets) }
     ensures memory { IfErr result TakesNoMemory }
@@ -64,7 +64,7 @@ pub fn next_oid<'a>(parts: &mut Parts<'a>) -> Result<Oid<'a>, Refusal<X509Error>
     oid_of(element)
 }
 
-/// A BIT STRING at the front.
+/// Reads a BIT STRING from the front of `parts`.
 pub fn next_bits<'a>(
     alloc: Global,
     parts: &mut Parts<'a>,

@@ -1,5 +1,6 @@
-//! Algorithms, names and keys of certificates (RFC 5280, 4.1.1.2, 4.1.2.4 and 4.1.2.7), read leniently: the octets that a
-//! reader leaves in a container's content are ignored, and neither class nor constructed bit of a container is looked at.
+//! Algorithms, names and keys of certificates (RFC 5280, 4.1.1.2, 4.1.2.4 and 4.1.2.7). Reading is
+//! lenient: octets that remain in the content of a SEQUENCE or SET are ignored, and so are the
+//! class and the constructed bit of its tag.
 #![tactic(auto)]
 
 mod algorithm;

@@ -29,7 +29,8 @@ use std::alloc::Global;
 use std::slice;
 use x509_core::{Parts, X509Error, X509Result, front_element, parts_of};
 
-/// A name: sets of attributes, in the order in which they stand.
+/// A distinguished name: a sequence of sets of attributes (RFC 5280, 4.1.2.4), borrowed from the
+/// octets that it was read from.
 #[derive(Debug, Drop, PartialEq, Eq)]
 pub struct X509Name<'a> {
     rdn_seq: Vec<RelativeDistinguishedName<'a>>,
@@ -37,14 +38,18 @@ pub struct X509Name<'a> {
 }
 
 impl<'a> X509Name<'a> {
-    /// The name of these sets, read from these octets.
+    /// Makes a name from its sets and the octets that `as_raw` returns.
     pub fn new(rdn_seq: Vec<RelativeDistinguishedName<'a>>, raw: &'a [u8]) -> X509Name<'a>
         ensures { result ≡ record { rdn_seq = rdn_seq.entry; raw = raw.entry } }
     {
         X509Name { rdn_seq, raw }
     }
 
-    /// The name of the sets that an iterator gives, read from no octets.
+    /// Makes a name from the sets of an iterator; `as_raw` returns no octets.
+    ///
+    /// # Errors
+    ///
+    /// Out of memory.
     pub fn try_from_iter<I: Iterator<Item = RelativeDistinguishedName<'a>> + Drop>(
         alloc: Global,
         sets: I,
@@ -61,84 +66,84 @@ impl<'a> X509Name<'a> {
         Ok(X509Name { rdn_seq, raw: &[] })
     }
 
-    /// The octets of the name, up to where its sets end.
+    /// The encoding of the name, up to the end of its sets.
     pub fn as_raw(&self) -> &'a [u8]
         ensures { result ≡ self.now.raw }
     {
         self.raw
     }
 
-    /// The sets.
+    /// An iterator over the relative distinguished names, in the order of the encoding.
     pub fn iter(&self) -> slice::Iter<'_, RelativeDistinguishedName<'a>>
         ensures { iter_rest result ≡ self.now.rdn_seq.items }
     {
         self.rdn_seq.iter()
     }
 
-    /// The sets.
+    /// An iterator over the relative distinguished names, in the order of the encoding.
     pub fn iter_rdn(&self) -> slice::Iter<'_, RelativeDistinguishedName<'a>>
         ensures { iter_rest result ≡ self.now.rdn_seq.items }
     {
         self.rdn_seq.iter()
     }
 
-    /// The attributes of all sets.
+    /// An iterator over the attributes of all sets, in the order of the encoding.
     pub fn iter_attributes(&self) -> Attributes<'_, 'a>
         ensures { result ≡ attributes_in self.now.rdn_seq.items }
     {
         Attributes::new(self.rdn_seq.as_slice())
     }
 
-    /// The attributes of this type.
+    /// An iterator over the attributes of this type.
     pub fn iter_by_oid<'n>(&'n self, oid: &'n Oid<'_>) -> AttributesOf<'n, 'a>
         ensures { result ≡ filter (has_type oid.now) (attributes_in self.now.rdn_seq.items) }
     {
         self.iter_attributes().of_type(oid.as_bytes())
     }
 
-    /// The attributes of type commonName (2.5.4.3).
+    /// An iterator over the attributes of type commonName (2.5.4.3).
     pub fn iter_common_name(&self) -> AttributesOf<'_, 'a>
         ensures { result ≡ filter (has_type common_name_id) (attributes_in self.now.rdn_seq.items) }
     {
         self.iter_attributes().of_type(b"\x55\x04\x03")
     }
 
-    /// The attributes of type countryName (2.5.4.6).
+    /// An iterator over the attributes of type countryName (2.5.4.6).
     pub fn iter_country(&self) -> AttributesOf<'_, 'a>
         ensures { result ≡ filter (has_type country_id) (attributes_in self.now.rdn_seq.items) }
     {
         self.iter_attributes().of_type(b"\x55\x04\x06")
     }
 
-    /// The attributes of type organizationName (2.5.4.10).
+    /// An iterator over the attributes of type organizationName (2.5.4.10).
     pub fn iter_organization(&self) -> AttributesOf<'_, 'a>
         ensures { result ≡ filter (has_type organization_id) (attributes_in self.now.rdn_seq.items) }
     {
         self.iter_attributes().of_type(b"\x55\x04\x0a")
     }
 
-    /// The attributes of type organizationalUnitName (2.5.4.11).
+    /// An iterator over the attributes of type organizationalUnitName (2.5.4.11).
     pub fn iter_organizational_unit(&self) -> AttributesOf<'_, 'a>
         ensures { result ≡ filter (has_type organizational_unit_id) (attributes_in self.now.rdn_seq.items) }
     {
         self.iter_attributes().of_type(b"\x55\x04\x0b")
     }
 
-    /// The attributes of type stateOrProvinceName (2.5.4.8).
+    /// An iterator over the attributes of type stateOrProvinceName (2.5.4.8).
     pub fn iter_state_or_province(&self) -> AttributesOf<'_, 'a>
         ensures { result ≡ filter (has_type state_or_province_id) (attributes_in self.now.rdn_seq.items) }
     {
         self.iter_attributes().of_type(b"\x55\x04\x08")
     }
 
-    /// The attributes of type localityName (2.5.4.7).
+    /// An iterator over the attributes of type localityName (2.5.4.7).
     pub fn iter_locality(&self) -> AttributesOf<'_, 'a>
         ensures { result ≡ filter (has_type locality_id) (attributes_in self.now.rdn_seq.items) }
     {
         self.iter_attributes().of_type(b"\x55\x04\x07")
     }
 
-    /// The attributes of type emailAddress (1.2.840.113549.1.9.1).
+    /// An iterator over the attributes of type emailAddress (1.2.840.113549.1.9.1).
     pub fn iter_email(&self) -> AttributesOf<'_, 'a>
         ensures { result ≡ filter (has_type email_id) (attributes_in self.now.rdn_seq.items) }
     {
@@ -146,7 +151,11 @@ impl<'a> X509Name<'a> {
             .of_type(b"\x2a\x86\x48\x86\xf7\x0d\x01\x09\x01")
     }
 
-    /// A copy: it borrows what the name borrows.
+    /// A copy that borrows the same octets as the name.
+    ///
+    /// # Errors
+    ///
+    /// Out of memory, for the copied vectors.
     pub fn clone(&self, alloc: Global) -> Result<X509Name<'a>, OutOfMemory>
         ensures sets { IfOk result (λ copy. map attributes_of_set copy.rdn_seq.items ≡ map attributes_of_set self.now.rdn_seq.items) }
         ensures raw { IfOk result (λ copy. copy.raw ≡ self.now.raw) }
@@ -162,7 +171,7 @@ impl<'a> X509Name<'a> {
     }
 }
 
-/// The sets of a name.
+/// Takes the sets out of a name.
 impl<'a> From<X509Name<'a>> for Vec<RelativeDistinguishedName<'a>> {
     ghost use Rattle.std.specs.Prelude.{◌≡◌};
 
@@ -173,7 +182,7 @@ impl<'a> From<X509Name<'a>> for Vec<RelativeDistinguishedName<'a>> {
     }
 }
 
-/// As many sets as begin there.
+/// Reads sets of attributes until none begins.
 fn relative_names_of<'a>(
     alloc: Global,
     parts: &mut Parts<'a>,
@@ -201,7 +210,7 @@ fn relative_names_of<'a>(
     Ok(sets)
 }
 
-/// The name that an element is: as many sets as begin its content.
+/// Reads the name in an element: sets of attributes until none begins.
 #[tactic(auto, unfolding(crate::specs::Reading::name_in))]
 pub fn name_of<'a>(
     alloc: Global,
@@ -220,7 +229,7 @@ pub fn name_of<'a>(
     Ok(X509Name { rdn_seq, raw })
 }
 
-/// A name at the front.
+/// Reads a name from the front of `parts`.
 pub fn next_name<'a>(
     alloc: Global,
     parts: &mut Parts<'a>,
@@ -248,7 +257,13 @@ impl<'b> DerMeaning for X509Name<'b> {
 }
 
 impl<'a> FromDer<'a, X509Error> for X509Name<'a> {
-    /// The name that begins the octets, behind those after it. What is no set of attributes ends the name.
+    /// Reads one name from the front of `bytes` (RFC 5280, 4.1.2.4). Returns `(rest, name)`. What
+    /// is no set of attributes ends the name.
+    ///
+    /// # Errors
+    ///
+    /// `Incomplete` if `bytes` ends inside the element; an `Error` if its tag number isn't 16; out
+    /// of memory.
     fn from_der(alloc: Global, bytes: &'a [u8]) -> X509Result<'a, X509Name<'a>>
         ensures reads { Reads (λ given e. e ≡ told given) (Unit {0}) EndsWithinElement (λ i. i.now)
             (λ i v r. grammar.X509Name i (name_view v) r) bytes.now result }

@@ -23,43 +23,43 @@ use asn1_values::Integer;
 use std::alloc::Global;
 use x509_core::{X509Error, X509Result, front_element};
 
-/// 1.2.840.113549.1.1.1
+/// rsaEncryption, 1.2.840.113549.1.1.1.
 const RSA_ENCRYPTION: &[u8] = b"\x2a\x86\x48\x86\xf7\x0d\x01\x01\x01";
 
-/// 1.2.840.10045.2.1
+/// id-ecPublicKey, 1.2.840.10045.2.1.
 const EC_PUBLIC_KEY: &[u8] = b"\x2a\x86\x48\xce\x3d\x02\x01";
 
-/// 1.2.840.10040.4.1
+/// id-dsa, 1.2.840.10040.4.1.
 const DSA: &[u8] = b"\x2a\x86\x48\xce\x38\x04\x01";
 
-/// 1.2.643.2.2.19
+/// id-GostR3410-2001, 1.2.643.2.2.19.
 const GOST_R3410_2001: &[u8] = b"\x2a\x85\x03\x02\x02\x13";
 
-/// 1.2.643.7.1.1.1.1
+/// id-tc26-gost3410-12-256, 1.2.643.7.1.1.1.1.
 const GOST_R3410_2012_256: &[u8] = b"\x2a\x85\x03\x07\x01\x01\x01\x01";
 
-/// 1.2.643.7.1.1.1.2
+/// id-tc26-gost3410-12-512, 1.2.643.7.1.1.1.2.
 const GOST_R3410_2012_512: &[u8] = b"\x2a\x85\x03\x07\x01\x01\x01\x02";
 
-/// What a key's octets are.
+/// A public key by the kind of its algorithm.
 #[derive(Debug, Drop, PartialEq, Eq)]
 pub enum PublicKey<'a> {
-    /// RFC 3279, 2.3.1.
+    /// An RSA key (RFC 3279, 2.3.1).
     RSA(RSAPublicKey<'a>),
-    /// RFC 5480, 2.2.
+    /// A point of an elliptic curve (RFC 5480, 2.2).
     EC(ECPoint<'a>),
-    /// The content of an INTEGER (RFC 3279, 2.3.2).
+    /// A DSA key: the content octets of an INTEGER (RFC 3279, 2.3.2).
     DSA(&'a [u8]),
-    /// The content of an OCTET STRING (RFC 4491, 2.3.2).
+    /// A GOST R 34.10-2001 key: the content octets of an OCTET STRING (RFC 4491, 2.3.2).
     GostR3410(&'a [u8]),
-    /// The content of an OCTET STRING (RFC 9215, 4).
+    /// A GOST R 34.10-2012 key: the content octets of an OCTET STRING (RFC 9215, 4).
     GostR3410_2012(&'a [u8]),
-    /// The octets of a key of another algorithm.
+    /// The octets of a key of another algorithm, unparsed.
     Unknown(&'a [u8]),
 }
 
 impl<'a> PublicKey<'a> {
-    /// The key's size in bits, or 0 where its kind tells none. A size past 64 bits is told as the greatest number of them.
+    /// The key's size in bits, or 0 for kinds without one. It saturates at the greatest `usize`.
     pub fn key_size(&self) -> usize
         ensures { result ≡ key_bits (public_key_view self.now) }
     {
@@ -77,14 +77,19 @@ impl<'a> PublicKey<'a> {
 /// An RSA key (RFC 3279, 2.3.1).
 #[derive(Debug, Drop, PartialEq, Eq)]
 pub struct RSAPublicKey<'a> {
-    /// The content of the modulus: 00 first where its highest bit is set.
+    /// The content octets of the modulus; the first is 00 if the highest bit of the number is set.
     pub modulus: &'a [u8],
-    /// The content of the exponent, likewise.
+    /// The content octets of the public exponent; the first is 00 if the highest bit of the number
+    /// is set.
     pub exponent: &'a [u8],
 }
 
 impl<'a> RSAPublicKey<'a> {
-    /// The exponent as a number: `InvalidNumber` where it is empty, negative or longer than 8 octets.
+    /// The public exponent as a number.
+    ///
+    /// # Errors
+    ///
+    /// `InvalidNumber` if it is empty, negative, or longer than 8 octets.
     pub fn try_exponent(&self) -> Result<u64, X509Error>
         ensures found { IfOk result (λ n. IsExponent self.now.exponent.now n) }
         ensures only { (n : ℕ) → IsExponent self.now.exponent.now n → result ≡ Ok n }
@@ -96,7 +101,8 @@ impl<'a> RSAPublicKey<'a> {
         }
     }
 
-    /// 8 bits for each octet of the modulus but the first; 0 where the modulus is empty or negative.
+    /// The size in bits: 8 for each octet of the modulus but the first; 0 if the modulus is empty
+    /// or negative.
     pub fn key_size(&self) -> usize
         ensures { result ≡ rsa_bits self.now.modulus.now }
     {
@@ -113,7 +119,7 @@ impl<'a> RSAPublicKey<'a> {
     }
 }
 
-/// The number of a content of at most 8 octets, where there is one that isn't negative.
+/// The number of at most 8 content octets, or `None` if it is empty or negative.
 fn exponent_of(content: &[u8]) -> Option<u64>
     ensures found { IfSome result (IsExponent content.now) }
     ensures only { (n : ℕ) → IsExponent content.now n → result ≡ Some n }
@@ -127,21 +133,22 @@ fn exponent_of(content: &[u8]) -> Option<u64>
     }
 }
 
-/// A point of an elliptic curve, as its octets (SEC 1, 2.3.3).
+/// A point of an elliptic curve, as octets (SEC 1, 2.3.3).
 #[derive(Debug, Drop, PartialEq, Eq)]
 pub struct ECPoint<'a> {
     content: &'a [u8],
 }
 
 impl<'a> ECPoint<'a> {
-    /// The octets.
+    /// The octets of the point.
     pub fn data(&self) -> &'a [u8]
         ensures { result ≡ self.now.content }
     {
         self.content
     }
 
-    /// The size of a coordinate in bits: half of the octets behind 04, all of those behind 02 or 03, else 0.
+    /// The size of a coordinate in bits: of half of the octets after 04, or of all octets after 02
+    /// or 03; else 0.
     pub fn key_size(&self) -> usize
         ensures { result ≡ ec_bits self.now.content.now }
     {
@@ -170,7 +177,7 @@ impl<'a> From<&'a [u8]> for ECPoint<'a> {
     }
 }
 
-/// The INTEGER that begins the octets, as its content, behind the octets after it.
+/// Reads an INTEGER from the front. Returns `(rest, content)`.
 fn front_integer<'a>(i: &'a [u8]) -> Result<(&'a [u8], &'a [u8]), Refusal<X509Error>>
     ensures read { Gives (λ r. (r.1.now, r.0.now)) result (integer_at i.now) }
     ensures memory { IfErr result TakesNoMemory }
@@ -181,7 +188,7 @@ fn front_integer<'a>(i: &'a [u8]) -> Result<(&'a [u8], &'a [u8]), Refusal<X509Er
     Ok((rest, content))
 }
 
-/// The OCTET STRING that begins the octets, as its content, behind the octets after it.
+/// Reads an OCTET STRING from the front. Returns `(rest, content)`.
 fn front_octets<'a>(i: &'a [u8]) -> Result<(&'a [u8], &'a [u8]), Refusal<X509Error>>
     ensures read { Gives (λ r. (r.1.now, r.0.now)) result (octets_at i.now) }
     ensures memory { IfErr result TakesNoMemory }
@@ -192,7 +199,7 @@ fn front_octets<'a>(i: &'a [u8]) -> Result<(&'a [u8], &'a [u8]), Refusal<X509Err
     Ok((rest, content))
 }
 
-/// The key that an element is.
+/// Reads the RSA key in an element.
 #[tactic(auto, unfolding(crate::specs::Reading::rsa_key_in))]
 fn rsa_key_of<'a>(element: Element<'a>) -> Result<RSAPublicKey<'a>, Refusal<X509Error>>
     ensures read { Gives rsa_view result (rsa_key_in (any_of element.entry.any)) }
@@ -206,7 +213,7 @@ fn rsa_key_of<'a>(element: Element<'a>) -> Result<RSAPublicKey<'a>, Refusal<X509
     Ok(RSAPublicKey { modulus, exponent })
 }
 
-/// The key that begins the octets, behind those after it.
+/// Reads an RSA key from the front. Returns `(rest, key)`.
 fn front_rsa_key<'a>(i: &'a [u8]) -> Result<(&'a [u8], RSAPublicKey<'a>), Refusal<X509Error>>
     ensures read { Gives (λ r. (rsa_view r.1, r.0.now)) result (next (λ p. rsa_key_in p.element) i.now) }
     ensures memory { IfErr result TakesNoMemory }
@@ -236,8 +243,12 @@ impl<'b> DerMeaning for RSAPublicKey<'b> {
 }
 
 impl<'a> FromDer<'a, X509Error> for RSAPublicKey<'a> {
-    /// The key that begins the octets, behind those after it. Every refusal is `InvalidSPKI`, of octets that end within a key
-    /// too. It takes no memory.
+    /// Reads one RSAPublicKey from the front of `bytes` (RFC 3279, 2.3.1). Returns `(rest, key)`.
+    /// Takes no memory.
+    ///
+    /// # Errors
+    ///
+    /// `InvalidSPKI` for everything else, also if `bytes` ends inside the key.
     fn from_der(_alloc: Global, bytes: &'a [u8]) -> X509Result<'a, RSAPublicKey<'a>>
         ensures reads { Reads (λ given e. e ≡ told given) ⊥ (λ _ _. ⊥) (λ i. i.now)
             (λ i v r. grammar.RSAPublicKey i (rsa_view v) r) bytes.now result }
@@ -251,7 +262,8 @@ impl<'a> FromDer<'a, X509Error> for RSAPublicKey<'a> {
     }
 }
 
-/// What the octets of a key are, by the octets of its algorithm's identifier.
+/// Parses the octets of a key by the content octets of its algorithm's identifier; `None` if they
+/// are no such key.
 pub(crate) fn key_value<'a>(identifier: &[u8], octets: &'a [u8]) -> Option<PublicKey<'a>>
     ensures found { IfSome result (λ k. grammar.IsKeyValue identifier.now octets.now (public_key_view k)) }
     ensures only { (v : KeyValue) → grammar.IsKeyValue identifier.now octets.now v → IsSomeAnd result (λ k. public_key_view k ≡ v) }

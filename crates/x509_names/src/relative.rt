@@ -25,21 +25,26 @@ use std::alloc::Global;
 use std::{cmp, slice};
 use x509_core::{Parts, X509Error, X509Result, front_element, parts_of, push_in_room};
 
-/// A set of attributes, in the order in which they were read: one or more in one that was read.
+/// A relative distinguished name: a set of attributes in the order of the encoding (RFC 5280,
+/// 4.1.2.4). One that was read has at least one.
 #[derive(Debug, Drop, PartialEq, Eq)]
 pub struct RelativeDistinguishedName<'a> {
     set: Vec<AttributeTypeAndValue<'a>>,
 }
 
 impl<'a> RelativeDistinguishedName<'a> {
-    /// The set of these attributes.
+    /// Makes a set from its attributes.
     pub fn new(set: Vec<AttributeTypeAndValue<'a>>) -> RelativeDistinguishedName<'a>
         ensures { result ≡ record { set = set.entry } }
     {
         RelativeDistinguishedName { set }
     }
 
-    /// The set of the attributes that an iterator gives.
+    /// Makes a set from the attributes of an iterator.
+    ///
+    /// # Errors
+    ///
+    /// Out of memory.
     pub fn try_from_iter<I: Iterator<Item = AttributeTypeAndValue<'a>> + Drop>(
         alloc: Global,
         attributes: I,
@@ -55,14 +60,18 @@ impl<'a> RelativeDistinguishedName<'a> {
         Ok(RelativeDistinguishedName { set })
     }
 
-    /// The attributes.
+    /// An iterator over the attributes, in the order of the encoding.
     pub fn iter(&self) -> slice::Iter<'_, AttributeTypeAndValue<'a>>
         ensures { iter_rest result ≡ self.now.set.items }
     {
         self.set.iter()
     }
 
-    /// A copy: it borrows what the set borrows.
+    /// A copy that borrows the same octets as the set.
+    ///
+    /// # Errors
+    ///
+    /// Out of memory, for the copied vector.
     pub fn clone(&self, alloc: Global) -> Result<RelativeDistinguishedName<'a>, OutOfMemory>
         ensures { IfOk result (λ copy. copy.set.items ≡ self.now.set.items) }
     {
@@ -74,10 +83,10 @@ impl<'a> RelativeDistinguishedName<'a> {
     }
 }
 
-/// For how many attributes memory is taken at once, at most. Nearly every set has one.
+/// The most attributes that room is reserved for at once. Nearly every set has one.
 const MOST_ROOM: usize = 4;
 
-/// As many attributes as begin there.
+/// Reads attributes until none begins.
 fn attributes_of<'a>(
     alloc: Global,
     parts: &mut Parts<'a>,
@@ -106,7 +115,7 @@ fn attributes_of<'a>(
     Ok(attributes)
 }
 
-/// The set that an element is: as many attributes as begin its content, and one at least.
+/// Reads the set in an element: attributes until none begins, at least one.
 #[tactic(auto, unfolding(crate::specs::Reading::relative_name_in))]
 pub fn relative_name_of<'a>(
     alloc: Global,
@@ -137,7 +146,13 @@ impl<'b> DerMeaning for RelativeDistinguishedName<'b> {
 }
 
 impl<'a> FromDer<'a, X509Error> for RelativeDistinguishedName<'a> {
-    /// The set that begins the octets, behind those after it. An attribute that is none ends the set.
+    /// Reads one relative distinguished name from the front of `bytes` (RFC 5280, 4.1.2.4). Returns
+    /// `(rest, set)`. What is no attribute ends the set.
+    ///
+    /// # Errors
+    ///
+    /// `Incomplete` if `bytes` ends inside the element; an `Error` if its tag number isn't 17, or
+    /// no attribute begins its content; out of memory.
     fn from_der(alloc: Global, bytes: &'a [u8]) -> X509Result<'a, RelativeDistinguishedName<'a>>
         ensures reads { Reads (λ given e. e ≡ told given) (Unit {0}) EndsWithinElement (λ i. i.now)
             (λ i v r. grammar.RelativeDistinguishedName i (set_view v) r) bytes.now result }

@@ -1,4 +1,4 @@
-//! Names as text.
+//! Names as text, as x509-parser writes them.
 
 ghost use Rattle.std.specs.Prelude.{◌≡◌, ◌||◌, ◌∷◌, [], Some, map};
 ghost use Rattle.std.specs.Fmt.{DisplaysOnOk};
@@ -123,9 +123,12 @@ fn write_type<W: fmt::Write>(
     }
 }
 
-/// The attributes as `CN=Some name`, joined by ` + ` in a set and by `, ` between sets, the types named as `oid2abbrev` names
-/// them by the registry that `oid_registry` hands out, else as `OID(1.2.3)`. `<X509Error: Invalid X.509 name>` where a value
-/// can't be shown: one of a type of text that is no UTF-8, or a BMPString that is no UTF-16.
+/// Writes attributes as `CN=Some name`, joined by ` + ` within a set and by `, ` between sets.
+/// Types have the abbreviations of `oid2abbrev` by the registry of `oid_registry`, else
+/// `OID(1.2.3)`.
+///
+/// Writes `<X509Error: Invalid X.509 name>` if a value can't be shown: a text that isn't UTF-8, or
+/// a BMPString that isn't UTF-16. Values aren't escaped, so don't compare names by this text.
 impl<'a> fmt::Display for X509Name<'a> {
     ghost use Rattle.std.specs.Prelude.{Some};
     ghost use Rattle.x509_names.specs.NameTexts.{shown_name};
@@ -163,10 +166,12 @@ impl<'n, 'a> fmt::Display for Registered<'n, 'a> {
 }
 
 impl<'a> X509Name<'a> {
-    /// The text, as `C=FR, O=Some organization, CN=Some name + CN=Other name`, the types named as `oid2abbrev` names them by this
-    /// registry, else as `OID(1.2.3)`.
+    /// The name as text, as `C=FR, O=Some organization, CN=Some name + CN=Other name`. Types have
+    /// the abbreviations of `oid2abbrev` by this registry, else `OID(1.2.3)`.
     ///
-    /// `InvalidAttributes` where a value can't be shown, `OutOfMemory` where memory ran out.
+    /// # Errors
+    ///
+    /// `InvalidAttributes` if a value can't be shown; `OutOfMemory`.
     pub fn to_string_with_registry(
         &self,
         alloc: Global,

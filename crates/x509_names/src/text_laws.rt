@@ -1,4 +1,4 @@
-//! What is so of texts.
+//! Laws of the texts of names. Each is a function without an effect; its contract is the law.
 
 ghost use Rattle.std.specs.Prelude.{◌≡◌, ℕ, List, codes};
 ghost use Rattle.x509_names.specs.Fields.{Name};
@@ -8,7 +8,7 @@ ghost use Rattle.x509_objects.specs.Registry.{entry_of, abbreviated};
 ghost use Rattle.x509_objects.specs.Table.{known_entry};
 ghost use Rattle.x509_objects.specs.declared.registry.OidRegistry.{OidRegistry};
 
-/// Worked names and their texts.
+/// Worked names and the texts that they have.
 pub fn worked_texts()
     ensures row { shown_name examples.row ≡ codes "C=FR, ST=Some-State, O=Internet Widgits Pty Ltd, CN=Test1 + CN=Test2" }
     ensures wide { shown_name examples.wide ≡ codes "CN=Az" }
@@ -17,7 +17,8 @@ pub fn worked_texts()
     ensures fault { shown_name examples.fault ≡ codes "<X509Error: Invalid X.509 name>" }
 {}
 
-/// A name's text by the registry that `oid_registry` hands out is the one that it shows.
+/// `to_string_with_registry` with the registry of `oid_registry` gives the text that `Display`
+/// writes.
 pub fn known_registry()
     ensures { (r : OidRegistry) → ((id : List ℕ) → entry_of r id ≡ known_entry id) → (n : Name)
         → name_text (abbreviated r) n ≡ name_text known_label n }

@@ -1,4 +1,4 @@
-//! The values of attributes as text.
+//! Values of attributes as text.
 
 ghost use Rattle.std.specs.Prelude.{◌≡◌, Some, is_some, option_map};
 ghost use Rattle.std.specs.Fmt.{DisplaysOnOk};
@@ -12,7 +12,8 @@ use asn1_strings::WideForm;
 use asn1_strings::wide_forms::{BmpString, Utf16};
 use std::{fmt, str};
 
-/// Whether the value can be shown.
+/// Whether the value can be shown: a text that is UTF-8, a BMPString that is UTF-16, or another
+/// type.
 pub(crate) fn is_shown(value: &Any<'_>) -> bool
     ensures { result ≡ is_some (value_text (any_of value.now)) }
 {
@@ -26,7 +27,7 @@ pub(crate) fn is_shown(value: &Any<'_>) -> bool
     true
 }
 
-/// Writes the value, and nothing of one that can't be shown.
+/// Writes the value; nothing if it can't be shown.
 pub(crate) fn write_value<W: fmt::Write>(value: &Any<'_>, f: &mut fmt::Formatter<W>) -> fmt::Result
     ensures { DisplaysOnOk W.write_str_gives f.old result (Some (value_piece (any_of value.now))) f.new }
 {
