@@ -1,4 +1,4 @@
-//! The value of an ECDSA signature (RFC 3279, 2.2.3).
+//! `EcdsaSigValue`, the value of an ECDSA signature (RFC 3279, 2.2.3).
 
 ghost use Rattle.std.specs.Prelude.{◌≡◌, ◌<◌, ℕ, List, length, IfOk, IfErr};
 ghost use Rattle.asn1_any.specs.CutViews.{piece_of};
@@ -23,12 +23,12 @@ use std::alloc::Global;
 use x509_core::{X509Error, X509Result, front_element, leaf_of};
 use x509_items::sequence_content;
 
-/// The two numbers of a signature.
+/// The value of an ECDSA signature: two INTEGERs (RFC 3279, 2.2.3).
 #[derive(Debug, Drop, PartialEq, Eq)]
 pub struct EcdsaSigValue<'a> {
-    /// The first.
+    /// The number r.
     pub r: Integer<'a>,
-    /// The second.
+    /// The number s.
     pub s: Integer<'a>,
 }
 
@@ -79,8 +79,13 @@ impl<'b> DerMeaning for EcdsaSigValue<'b> {
 }
 
 impl<'a> FromDer<'a, X509Error> for EcdsaSigValue<'a> {
-    /// The value that begins the octets, behind those after it: a constructed universal SEQUENCE of two numbers of any sign. What is
-    /// left of its content is ignored. It takes no memory.
+    /// Reads one value from the front: a constructed universal SEQUENCE of two INTEGERs of any
+    /// sign. Returns `(rest, value)`. Octets that remain in its content are ignored. Takes no
+    /// memory.
+    ///
+    /// # Errors
+    ///
+    /// `Incomplete` if the octets end inside the element; an `Error` if they are no such value.
     fn from_der(_alloc: Global, bytes: &'a [u8]) -> X509Result<'a, EcdsaSigValue<'a>>
         ensures reads { Reads (λ given e. e ≡ told given) (Unit {0}) EndsWithinElement (λ i. i.now)
             (λ i v r. grammar.EcdsaSigValue i (ecdsa_view v) r) bytes.now result }

@@ -1,4 +1,5 @@
-//! Algorithms of signatures with their parameters, and signature values (RFC 3279, 2.2; RFC 8017, A.2), read leniently.
+//! Signature algorithms with their parameters, and signature values (RFC 3279, 2.2; RFC 8017, A.2).
+//! Reading is lenient.
 #![tactic(auto)]
 
 mod ecdsa;

@@ -1,4 +1,4 @@
-//! The mask generation function of RSA parameters (RFC 8017, appendix B.2), and what else they tell by default.
+//! The mask generation function of RSA parameters (RFC 8017, appendix B.2), and their defaults.
 
 ghost use Rattle.std.specs.Prelude.{◌≡◌, ℕ, List, Some, IfOk, IfErr, IsOkAnd, IfSome, IsSomeAnd, option_map};
 ghost use Rattle.x509_core.specs.Answers.{ElseMemory};
@@ -15,23 +15,23 @@ use x509_core::{X509Error, X509Result};
 use x509_items::first_oid;
 use x509_names::AlgorithmIdentifier;
 
-/// 1.2.840.113549.1.1.8
+/// id-mgf1, 1.2.840.113549.1.1.8.
 const MGF1: &[u8] = b"\x2a\x86\x48\x86\xf7\x0d\x01\x01\x08";
 
-/// 1.3.14.3.2.26
+/// id-sha1, 1.3.14.3.2.26.
 const SHA1: &[u8] = b"\x2b\x0e\x03\x02\x1a";
 
-/// A mask generation function, and the hash that it uses.
+/// A mask generation function and the hash that it uses.
 #[derive(Debug, Drop, PartialEq, Eq)]
 pub struct MaskGenAlgorithm<'a, 'b> {
-    /// The function's identifier.
+    /// The identifier of the function.
     pub mgf: Oid<'a>,
-    /// The hash's identifier.
+    /// The identifier of the hash.
     pub hash: Oid<'b>,
 }
 
 impl<'a, 'b> MaskGenAlgorithm<'a, 'b> {
-    /// This function with this hash.
+    /// Joins a function and a hash.
     pub fn new(mgf: Oid<'a>, hash: Oid<'b>) -> MaskGenAlgorithm<'a, 'b>
         ensures { result ≡ record { mgf = mgf.entry; hash = hash.entry } }
     {
@@ -39,7 +39,7 @@ impl<'a, 'b> MaskGenAlgorithm<'a, 'b> {
     }
 }
 
-/// The identifier of the algorithm, or SHA-1's where there is none.
+/// The identifier of the algorithm, SHA-1 by default.
 pub(crate) fn hash_identifier<'b>(algorithm: &'b Option<AlgorithmIdentifier<'_>>) -> Oid<'b>
     ensures { result ≡ hash_of (option_map algorithm_view algorithm.now) }
 {
@@ -49,7 +49,8 @@ pub(crate) fn hash_identifier<'b>(algorithm: &'b Option<AlgorithmIdentifier<'_>>
     }
 }
 
-/// The OBJECT IDENTIFIER that begins the content of parameters, behind the octets after it.
+/// Reads the OBJECT IDENTIFIER at the front of the content of parameters. Returns `(rest,
+/// identifier)`.
 fn oid_within<'a>(content: &'a [u8]) -> X509Result<'a, Oid<'a>>
     ensures memory { IfErr result TakesNoMemory }
     ensures found { IfOk result (λ r. One IsOid content.now r.1 r.0.now) }
@@ -88,7 +89,7 @@ fn told_mask<'a, 'b>(
     }
 }
 
-/// The function that the algorithm tells with its parameters, or MGF1 with SHA-1 where there is none.
+/// The function with its hash, from the algorithm and its parameters; MGF1 with SHA-1 by default.
 pub(crate) fn mask_of<'a, 'b>(
     algorithm: &'b Option<AlgorithmIdentifier<'a>>,
 ) -> Result<MaskGenAlgorithm<'b, 'a>, X509Error>

@@ -1,4 +1,4 @@
-//! Parameters of RSAES-OAEP (RFC 8017, A.2.1).
+//! `RsaAesOaepParams`, parameters of RSAES-OAEP (RFC 8017, A.2.1).
 
 ghost use Rattle.std.specs.Prelude.{◌≡◌, ◌<◌, ℕ, List, length, None, IfOk, IfErr, IsOkAnd, option_map};
 ghost use Rattle.asn1_any.specs.CutViews.{piece_of};
@@ -27,10 +27,10 @@ use x509_core::{X509Error, X509Result, front_element};
 use x509_items::content_of;
 use x509_names::AlgorithmIdentifier;
 
-/// 1.2.840.113549.1.1.9
+/// id-pSpecified, 1.2.840.113549.1.1.9.
 const P_SPECIFIED: &[u8] = b"\x2a\x86\x48\x86\xf7\x0d\x01\x01\x09";
 
-/// Parameters of RSAES-OAEP. What isn't told has the default of RFC 8017, A.2.1.
+/// Parameters of RSAES-OAEP. Absent fields have the defaults of RFC 8017, A.2.1.
 #[derive(Debug, Drop, PartialEq, Eq)]
 pub struct RsaAesOaepParams<'a> {
     hash_alg: Option<AlgorithmIdentifier<'a>>,
@@ -39,15 +39,18 @@ pub struct RsaAesOaepParams<'a> {
 }
 
 impl<'a> RsaAesOaepParams<'a> {
-    /// The source of the label where none is told: pSpecified, 1.2.840.113549.1.1.9, without parameters.
+    /// The default source of the label: id-pSpecified without parameters.
     pub fn empty() -> AlgorithmIdentifier<'static>
         ensures { algorithm_view result ≡ source_of None }
     {
         AlgorithmIdentifier::new(Oid::new(P_SPECIFIED), None)
     }
 
-    /// The parameters that an element of tag number 16 holds, whatever its class and its constructed bit. `OutOfMemory` where memory
-    /// ran out, else an error of an element or of an algorithm.
+    /// Reads the parameters in an element of tag number 16, of any class and constructed bit.
+    ///
+    /// # Errors
+    ///
+    /// `OutOfMemory`, or the error of an element or an algorithm.
     pub fn try_from(alloc: Global, any: Any<'a>) -> Result<RsaAesOaepParams<'a>, X509Error>
         ensures found { IfOk result (λ p. grammar.OaepOf (any_of any.entry) (oaep_view p)) }
         ensures only { (v : values.RsaAesOaepParams) → grammar.OaepOf (any_of any.entry) v
@@ -62,31 +65,33 @@ impl<'a> RsaAesOaepParams<'a> {
         }
     }
 
-    /// The hash algorithm, where it is told.
+    /// The hash algorithm, or `None` for the default.
     pub fn hash_algorithm(&self) -> Option<&AlgorithmIdentifier<'a>>
         ensures { option_map (λ a. a.now) result ≡ self.now.hash_alg }
     {
         self.hash_alg.as_ref()
     }
 
-    /// The identifier of the hash algorithm: SHA-1's where none is told.
+    /// The identifier of the hash algorithm, SHA-1 by default.
     pub fn hash_algorithm_oid(&self) -> Oid<'_>
         ensures { result ≡ hash_of (oaep_view self.now).hash_alg }
     {
         hash_identifier(&self.hash_alg)
     }
 
-    /// The algorithm of the mask, where it is told.
+    /// The algorithm of the mask generation function, or `None` for the default.
     pub fn mask_gen_algorithm_raw(&self) -> Option<&AlgorithmIdentifier<'a>>
         ensures { option_map (λ a. a.now) result ≡ self.now.mask_gen_alg }
     {
         self.mask_gen_alg.as_ref()
     }
 
-    /// The function of the mask, and its hash: MGF1 with SHA-1 where none is told.
+    /// The mask generation function and its hash, MGF1 with SHA-1 by default.
     ///
-    /// `InvalidAlgorithmIdentifier` where the content of the function's parameters begins with no OBJECT IDENTIFIER, or there are
-    /// none.
+    /// # Errors
+    ///
+    /// `InvalidAlgorithmIdentifier` if the function has no parameters, or their content begins with
+    /// no OBJECT IDENTIFIER.
     pub fn mask_gen_algorithm(&self) -> Result<MaskGenAlgorithm<'_, 'a>, X509Error>
         ensures found { IfOk result (λ m. IsMaskGen (oaep_view self.now).mask_gen_alg (mask_view m)) }
         ensures only { (v : values.MaskGenAlgorithm) → IsMaskGen (oaep_view self.now).mask_gen_alg v
@@ -96,7 +101,7 @@ impl<'a> RsaAesOaepParams<'a> {
         mask_of(&self.mask_gen_alg)
     }
 
-    /// The source of the label: `empty` where none is told.
+    /// The source of the label, `empty` by default.
     pub fn p_source_alg(&self) -> AlgorithmIdentifier<'_>
         ensures { algorithm_view result ≡ source_of (oaep_view self.now).p_source_alg }
     {
@@ -126,7 +131,7 @@ fn parts<'a>(alloc: Global, i: &'a [u8]) -> X509Result<'a, RsaAesOaepParams<'a>>
     ))
 }
 
-/// The parameters that a content begins with, behind what is left of it.
+/// Reads the parameters from the front of a content. Returns `(rest, parameters)`.
 fn held<'a>(alloc: Global, content: &'a [u8]) -> X509Result<'a, RsaAesOaepParams<'a>>
     ensures found { IfOk result (λ r. grammar.OaepParts content.now (oaep_view r.1) r.0.now) }
     ensures only { (v : values.RsaAesOaepParams) (left : List ℕ) → grammar.OaepParts content.now v left
@@ -135,7 +140,7 @@ fn held<'a>(alloc: Global, content: &'a [u8]) -> X509Result<'a, RsaAesOaepParams
     parts(alloc, content)
 }
 
-/// The parameters that an element of tag number 16 holds.
+/// Reads the parameters in an element of tag number 16.
 fn oaep_of<'a>(alloc: Global, any: Any<'a>) -> Result<RsaAesOaepParams<'a>, Refusal<X509Error>>
     ensures { Gives oaep_view result (parameters_of oaep_parts_at (any_of any.entry)) }
 {
@@ -167,7 +172,13 @@ impl<'b> DerMeaning for RsaAesOaepParams<'b> {
 }
 
 impl<'a> FromDer<'a, X509Error> for RsaAesOaepParams<'a> {
-    /// The parameters that begin the octets, behind those after them: a constructed element of tag number 16, whatever its class.
+    /// Reads parameters from the front: a constructed element of tag number 16, of any class.
+    /// Returns `(rest, parameters)`.
+    ///
+    /// # Errors
+    ///
+    /// `Incomplete` if the octets end inside the element; else the error of an element or an
+    /// algorithm; out of memory.
     fn from_der(alloc: Global, bytes: &'a [u8]) -> X509Result<'a, RsaAesOaepParams<'a>>
         ensures reads { Reads (λ given e. e ≡ told given) (Unit {0}) EndsWithinElement (λ i. i.now)
             (λ i v r. grammar.RsaAesOaepParams i (oaep_view v) r) bytes.now result }

@@ -1,4 +1,4 @@
-//! Parameters of RSASSA-PSS (RFC 8017, A.2.3).
+//! `RsaSsaPssParams`, parameters of RSASSA-PSS (RFC 8017, A.2.3).
 
 ghost use Rattle.std.specs.Prelude.{◌≡◌, ◌<◌, ℕ, List, length, IfOk, IfErr, IsOkAnd, option_map};
 ghost use Rattle.asn1_any.specs.CutViews.{piece_of};
@@ -27,7 +27,7 @@ use x509_core::{X509Error, X509Result, front_element};
 use x509_items::content_of;
 use x509_names::AlgorithmIdentifier;
 
-/// Parameters of RSASSA-PSS. What isn't told has the default of RFC 8017, A.2.3.
+/// Parameters of RSASSA-PSS. Absent fields have the defaults of RFC 8017, A.2.3.
 #[derive(Debug, Drop, PartialEq, Eq)]
 pub struct RsaSsaPssParams<'a> {
     hash_alg: Option<AlgorithmIdentifier<'a>>,
@@ -37,8 +37,11 @@ pub struct RsaSsaPssParams<'a> {
 }
 
 impl<'a> RsaSsaPssParams<'a> {
-    /// The parameters that an element of tag number 16 holds, whatever its class and its constructed bit. `OutOfMemory` where memory
-    /// ran out, else an error of an element or of an algorithm.
+    /// Reads the parameters in an element of tag number 16, of any class and constructed bit.
+    ///
+    /// # Errors
+    ///
+    /// `OutOfMemory`, or the error of an element or an algorithm.
     pub fn try_from(alloc: Global, any: Any<'a>) -> Result<RsaSsaPssParams<'a>, X509Error>
         ensures found { IfOk result (λ p. grammar.PssOf (any_of any.entry) (pss_view p)) }
         ensures only { (v : values.RsaSsaPssParams) → grammar.PssOf (any_of any.entry) v
@@ -53,31 +56,33 @@ impl<'a> RsaSsaPssParams<'a> {
         }
     }
 
-    /// The hash algorithm, where it is told.
+    /// The hash algorithm, or `None` for the default.
     pub fn hash_algorithm(&self) -> Option<&AlgorithmIdentifier<'a>>
         ensures { option_map (λ a. a.now) result ≡ self.now.hash_alg }
     {
         self.hash_alg.as_ref()
     }
 
-    /// The identifier of the hash algorithm: SHA-1's where none is told.
+    /// The identifier of the hash algorithm, SHA-1 by default.
     pub fn hash_algorithm_oid(&self) -> Oid<'_>
         ensures { result ≡ hash_of (pss_view self.now).hash_alg }
     {
         hash_identifier(&self.hash_alg)
     }
 
-    /// The algorithm of the mask, where it is told.
+    /// The algorithm of the mask generation function, or `None` for the default.
     pub fn mask_gen_algorithm_raw(&self) -> Option<&AlgorithmIdentifier<'a>>
         ensures { option_map (λ a. a.now) result ≡ self.now.mask_gen_algorithm }
     {
         self.mask_gen_algorithm.as_ref()
     }
 
-    /// The function of the mask, and its hash: MGF1 with SHA-1 where none is told.
+    /// The mask generation function and its hash, MGF1 with SHA-1 by default.
     ///
-    /// `InvalidAlgorithmIdentifier` where the content of the function's parameters begins with no OBJECT IDENTIFIER, or there are
-    /// none.
+    /// # Errors
+    ///
+    /// `InvalidAlgorithmIdentifier` if the function has no parameters, or their content begins with
+    /// no OBJECT IDENTIFIER.
     pub fn mask_gen_algorithm(&self) -> Result<MaskGenAlgorithm<'_, 'a>, X509Error>
         ensures found { IfOk result (λ m. IsMaskGen (pss_view self.now).mask_gen_algorithm (mask_view m)) }
         ensures only { (v : values.MaskGenAlgorithm) → IsMaskGen (pss_view self.now).mask_gen_algorithm v
@@ -87,14 +92,14 @@ impl<'a> RsaSsaPssParams<'a> {
         mask_of(&self.mask_gen_algorithm)
     }
 
-    /// How long the salt is, in octets: 20 where nothing is told.
+    /// The length of the salt in octets, 20 by default.
     pub fn salt_length(&self) -> u32
         ensures { result ≡ salt_length_of (pss_view self.now) }
     {
         self.salt_length.unwrap_or(20)
     }
 
-    /// The trailer field: 1 where nothing is told.
+    /// The trailer field, 1 by default.
     pub fn trailer_field(&self) -> u32
         ensures { result ≡ trailer_field_of (pss_view self.now) }
     {
@@ -121,7 +126,7 @@ fn parts<'a>(alloc: Global, i: &'a [u8]) -> X509Result<'a, RsaSsaPssParams<'a>>
     ))
 }
 
-/// The parameters that a content begins with, behind what is left of it.
+/// Reads the parameters from the front of a content. Returns `(rest, parameters)`.
 fn held<'a>(alloc: Global, content: &'a [u8]) -> X509Result<'a, RsaSsaPssParams<'a>>
     ensures found { IfOk result (λ r. grammar.PssParts content.now (pss_view r.1) r.0.now) }
     ensures only { (v : values.RsaSsaPssParams) (left : List ℕ) → grammar.PssParts content.now v left
@@ -130,7 +135,7 @@ fn held<'a>(alloc: Global, content: &'a [u8]) -> X509Result<'a, RsaSsaPssParams<
     parts(alloc, content)
 }
 
-/// The parameters that an element of tag number 16 holds.
+/// Reads the parameters in an element of tag number 16.
 fn pss_of<'a>(alloc: Global, any: Any<'a>) -> Result<RsaSsaPssParams<'a>, Refusal<X509Error>>
     ensures { Gives pss_view result (parameters_of pss_parts_at (any_of any.entry)) }
 {
@@ -162,7 +167,13 @@ impl<'b> DerMeaning for RsaSsaPssParams<'b> {
 }
 
 impl<'a> FromDer<'a, X509Error> for RsaSsaPssParams<'a> {
-    /// The parameters that begin the octets, behind those after them: a constructed element of tag number 16, whatever its class.
+    /// Reads parameters from the front: a constructed element of tag number 16, of any class.
+    /// Returns `(rest, parameters)`.
+    ///
+    /// # Errors
+    ///
+    /// `Incomplete` if the octets end inside the element; else the error of an element or an
+    /// algorithm; out of memory.
     fn from_der(alloc: Global, bytes: &'a [u8]) -> X509Result<'a, RsaSsaPssParams<'a>>
         ensures reads { Reads (λ given e. e ≡ told given) (Unit {0}) EndsWithinElement (λ i. i.now)
             (λ i v r. grammar.RsaSsaPssParams i (pss_view v) r) bytes.now result }

@@ -1,4 +1,5 @@
-//! What an algorithm of signatures is (RFC 3279, 2.2; RFC 8017, appendix C; RFC 8410, 3).
+//! `SignatureAlgorithm`, the kinds of signature algorithms (RFC 3279, 2.2; RFC 8017, appendix C;
+//! RFC 8410, 3).
 
 ghost use Rattle.std.specs.Prelude.{◌≡◌, IfOk, IfErr, IfSome, IsSomeAnd};
 ghost use Rattle.asn1_any.specs.Views.{any_of};
@@ -17,29 +18,29 @@ use std::alloc::Global;
 use x509_core::X509Error;
 use x509_names::AlgorithmIdentifier;
 
-/// 1.2.840.113549.1.1
+/// pkcs-1, 1.2.840.113549.1.1.
 const PKCS_1: &[u8] = b"\x2a\x86\x48\x86\xf7\x0d\x01\x01";
 
-/// 1.2.840.113549.1.1.10
+/// id-RSASSA-PSS, 1.2.840.113549.1.1.10.
 const RSASSA_PSS: &[u8] = b"\x2a\x86\x48\x86\xf7\x0d\x01\x01\x0a";
 
-/// 1.2.840.10045.4
+/// ansi-X9-62 signatures, 1.2.840.10045.4.
 const ANSI_X962_SIGNATURES: &[u8] = b"\x2a\x86\x48\xce\x3d\x04";
 
-/// 1.2.840.10040.4
+/// X9.57 algorithms, 1.2.840.10040.4.
 const X9_57: &[u8] = b"\x2a\x86\x48\xce\x38\x04";
 
-/// 1.3.101.112
+/// id-Ed25519, 1.3.101.112.
 const ED25519: &[u8] = b"\x2b\x65\x70";
 
-/// What an algorithm of signatures is.
+/// A kind of signature algorithm.
 #[derive(Debug, Drop, PartialEq, Eq)]
 pub enum SignatureAlgorithm<'a> {
-    /// RSASSA-PKCS1-v1_5 with a hash, and whatever else stands under PKCS #1.
+    /// RSASSA-PKCS1-v1_5 with a hash, and any other identifier below pkcs-1.
     RSA,
     /// RSASSA-PSS (RFC 8017, 8.1).
     RSASSA_PSS(RsaSsaPssParams<'a>),
-    /// RSAES-OAEP (RFC 8017, 7.1): no algorithm of signatures, so `try_from` never answers it.
+    /// RSAES-OAEP (RFC 8017, 7.1). It doesn't sign, and `try_from` never returns it.
     RSAAES_OAEP(RsaAesOaepParams<'a>),
     /// DSA with a hash (RFC 3279, 2.2.2).
     DSA,
@@ -50,10 +51,12 @@ pub enum SignatureAlgorithm<'a> {
 }
 
 impl<'a> SignatureAlgorithm<'a> {
-    /// What the algorithm is, by its identifier, and for RSASSA-PSS by its parameters too.
+    /// The kind of an algorithm, by its identifier and, for RSASSA-PSS, by its parameters.
     ///
-    /// `InvalidSignatureValue` where the identifier isn't known, and for RSASSA-PSS without parameters or with some that can't be
-    /// read; `OutOfMemory` where memory ran out as they were.
+    /// # Errors
+    ///
+    /// `InvalidSignatureValue` for an unknown identifier, and for RSASSA-PSS without parameters or
+    /// with malformed ones; `OutOfMemory` while these are read.
     pub fn try_from(
         alloc: Global,
         algorithm: &AlgorithmIdentifier<'a>,
@@ -73,7 +76,7 @@ impl<'a> SignatureAlgorithm<'a> {
     }
 }
 
-/// What an identifier is by itself.
+/// The kind of an identifier without parameters.
 fn plain_kind<'a>(identifier: &Oid<'_>) -> Option<SignatureAlgorithm<'a>>
     ensures found { IfSome result (λ s. IsPlain identifier.now (signature_view s)) }
     ensures only { (v : values.SignatureAlgorithm) → IsPlain identifier.now v → IsSomeAnd result (λ s. signature_view s ≡ v) }
@@ -96,7 +99,8 @@ fn plain_kind<'a>(identifier: &Oid<'_>) -> Option<SignatureAlgorithm<'a>>
     None
 }
 
-/// The parameters of RSASSA-PSS, where the algorithm is that one and has some that can be read.
+/// The kind RSASSA-PSS with its parameters; `None` for another algorithm, or if they are absent or
+/// malformed.
 fn pss_kind<'a>(
     alloc: Global,
     algorithm: &AlgorithmIdentifier<'a>,
@@ -114,7 +118,7 @@ fn pss_kind<'a>(
     readable(alloc, any)
 }
 
-/// The parameters that the element holds.
+/// Reads the parameters in an element.
 fn readable<'a>(alloc: Global, any: Any<'a>) -> Result<RsaSsaPssParams<'a>, X509Error>
     ensures found { IfOk result (λ p. PssOf (any_of any.entry) (pss_view p)) }
     ensures only { (v : values.RsaSsaPssParams) → PssOf (any_of any.entry) v → OkElseMemory result (λ p. pss_view p ≡ v) }
@@ -126,7 +130,7 @@ fn readable<'a>(alloc: Global, any: Any<'a>) -> Result<RsaSsaPssParams<'a>, X509
     }
 }
 
-/// Want of memory as it is, and `InvalidSignatureValue` for other errors.
+/// `InvalidSignatureValue` in place of any error but out of memory.
 fn unreadable(e: X509Error) -> X509Error
     ensures memory { e ≡ X509Error.OutOfMemory → result ≡ X509Error.OutOfMemory }
     ensures refused { IsOrMemory X509Error.InvalidSignatureValue result }

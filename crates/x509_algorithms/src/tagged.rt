@@ -1,4 +1,4 @@
-//! Parts of parameters that are told by their tag numbers, and may be absent.
+//! Optional fields of parameters, by their tag numbers.
 
 ghost use Rattle.std.specs.Prelude.{◌≡◌, option_map};
 ghost use Rattle.asn1_any.specs.Views.{any_of};
@@ -17,8 +17,8 @@ use x509_ext_flags::InhibitAnyPolicy;
 use x509_items::is_of_class;
 use x509_names::AlgorithmIdentifier;
 
-/// The content of an element of the context class and this tag number at the front, behind the octets after it; none where no octet is
-/// left, or an element of another tag number is next.
+/// Reads the content of a context-specific element of this tag number. Returns `(rest, content)`;
+/// `None` if no octet is left, or an element of another tag number is next.
 #[tactic(auto, unfolding(crate::specs::Reading::tagged_content))]
 fn content_at_front<'a>(tag: u32, i: &'a [u8]) -> X509Result<'a, Option<&'a [u8]>>
     ensures { Gives (λ r. (option_map (λ c. c.now) r.1, r.0.now)) result (tagged_content tag i.now) }
@@ -52,7 +52,7 @@ fn inner_algorithm<'a>(
     }
 }
 
-/// An algorithm under this tag number, behind the octets after it, or none.
+/// Reads an optional algorithm under this tag number. Returns `(rest, algorithm)`.
 pub(crate) fn next_algorithm<'a>(
     alloc: Global,
     tag: u32,
@@ -65,7 +65,7 @@ pub(crate) fn next_algorithm<'a>(
     Ok((rest, algorithm))
 }
 
-/// The content of a constructed element of the context class and this tag number.
+/// The content of a constructed, context-specific element of this tag number.
 fn explicit_of<'a>(tag: u32, any: Any<'a>) -> Result<&'a [u8], Refusal<X509Error>>
     ensures { Gives (λ c. c.now) result (explicit_in tag (any_of any.entry)) }
 {
@@ -75,7 +75,7 @@ fn explicit_of<'a>(tag: u32, any: Any<'a>) -> Result<&'a [u8], Refusal<X509Error
     Err(Refusal::Error(X509Error::Der(Error::InvalidTag)))
 }
 
-/// The same of the element whose header was looked at; none where that is of another tag number.
+/// Reads the content of the element with this header; `None` if it has another tag number.
 fn content_behind<'a>(tag: u32, i: &'a [u8], header: Header) -> X509Result<'a, Option<&'a [u8]>>
     ensures { Gives (λ r. (option_map (λ c. c.now) r.1, r.0.now)) result (explicit_behind tag i.now (head_of header)) }
 {
@@ -115,7 +115,7 @@ fn inner_number<'a>(
     }
 }
 
-/// A number of 32 bits under this explicit tag, behind the octets after it, or none.
+/// Reads an optional unsigned number of 32 bits under this explicit tag. Returns `(rest, number)`.
 pub(crate) fn next_number<'a>(alloc: Global, tag: u32, i: &'a [u8]) -> X509Result<'a, Option<u32>>
     ensures { Gives (λ r. (r.1, r.0.now)) result (explicit_by tag number_at i.now) }
 {

@@ -1,4 +1,4 @@
-//! What some octets and algorithms are.
+//! Laws of algorithms. Each is a function without an effect; its contract is the law.
 
 ghost use Rattle.std.specs.Prelude.{◌≡◌, ◌++◌, ℕ, List, Some};
 ghost use Rattle.std.specs.Int.Digits.{AllBelowBase};
@@ -16,7 +16,8 @@ pub fn worked_parameters()
     ensures oaep { (rest : List ℕ) → RsaAesOaepParams (examples.nothing_octets ++ rest) examples.no_oaep rest }
 {}
 
-/// What some algorithms are, RSAES-OAEP as RSA and RSASSA-PSS with parameters alone; Ed448 isn't known.
+/// Worked algorithms and their kinds: RSAES-OAEP counts as RSA, RSASSA-PSS needs parameters, Ed448
+/// is unknown.
 pub fn worked_algorithms()
     ensures rsa { IsSignature (examples.bare examples.sha256_with_rsa) values.rsa }
     ensures oaep { IsSignature (examples.bare examples.rsaes_oaep) values.rsa }
@@ -28,7 +29,7 @@ pub fn worked_algorithms()
     ensures ed448 { (v : values.SignatureAlgorithm) → IsSignature (examples.bare examples.ed448) v → ⊥ }
 {}
 
-/// An algorithm is one thing at most.
+/// An algorithm has at most one kind.
 pub fn one_signature()
     ensures { (a : Algorithm) (v w : values.SignatureAlgorithm) → ((e : Element) → a.parameters ≡ Some e → AllBelowBase 256 e.content)
         → IsSignature a v → IsSignature a w → v ≡ w }

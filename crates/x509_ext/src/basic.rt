@@ -1,18 +1,19 @@
-//! An extension that was looked up.
+//! `BasicExtension`, the result of looking an extension up.
 
 ghost use Rattle.std.specs.Prelude.{◌≡◌};
 
-/// A parsed value, and whether its extension is critical.
+/// A parsed value with the critical flag of its extension.
 #[derive(Debug, Drop, PartialEq, Eq)]
 pub struct BasicExtension<T> {
-    /// Whether whoever doesn't know the extension has to refuse what it stands in.
+    /// The critical flag: whoever doesn't process the extension must reject the certificate or list
+    /// (RFC 5280, 4.2).
     pub critical: bool,
-    /// The value.
+    /// The parsed value.
     pub value: T,
 }
 
 impl<T> BasicExtension<T> {
-    /// This value of an extension that is critical or not.
+    /// Joins a flag and a value.
     pub fn new(critical: bool, value: T) -> BasicExtension<T>
         ensures { result ≡ record { critical = critical; value = value } }
     {

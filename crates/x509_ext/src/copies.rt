@@ -1,4 +1,4 @@
-//! Copies of extensions.
+//! Copies of vectors of extensions.
 
 ghost use Rattle.std.specs.Prelude.{◌≡◌, IfOk, map};
 ghost use Rattle.x509_ext.specs.View.{extension_view, extension_error};
@@ -8,7 +8,11 @@ use asn1_core::OutOfMemory;
 use std::alloc::Global;
 use x509_items::copy_all;
 
-/// Copies of extensions, in the same order: each borrows what the extension borrows.
+/// Copies extensions in order; each copy borrows the same octets.
+///
+/// # Errors
+///
+/// Out of memory.
 pub fn copy_extensions<'a>(
     alloc: Global,
     extensions: &[X509Extension<'a>],

@@ -1,4 +1,4 @@
-//! `X509Extension` by its envelope (RFC 5280, 4.1 and 4.2).
+//! `X509Extension` (RFC 5280, 4.1 and 4.2).
 
 ghost use Rattle.std.specs.Prelude.{◌≡◌, ◌+◌, ◌^◌, ◌<◌, ◌≤◌, length, IfOk};
 ghost use Rattle.asn1_core.specs.Counts.{attempts};
@@ -21,20 +21,21 @@ use x509_ext_parse::{ParsedExtension, parse_extension};
 use x509_items::Copies;
 use x509_names::next_oid;
 
-/// An extension.
+/// An extension (RFC 5280, 4.2), borrowed from the octets that it was read from.
 #[derive(Debug, Drop, PartialEq, Eq)]
 pub struct X509Extension<'a> {
-    /// What the extension is.
+    /// The identifier of the extension, `extnID`.
     pub oid: Oid<'a>,
-    /// Whether whoever doesn't know the extension has to refuse what it stands in.
+    /// The critical flag: whoever doesn't process the extension must reject the certificate or list
+    /// (RFC 5280, 4.2).
     pub critical: bool,
-    /// The octets of the value.
+    /// The content of `extnValue`: the encoding of the value.
     pub value: &'a [u8],
     parsed_extension: ParsedExtension<'a>,
 }
 
 impl<'a> X509Extension<'a> {
-    /// The extension of these parts.
+    /// Makes an extension from its parts.
     pub fn new(
         oid: Oid<'a>,
         critical: bool,
@@ -51,7 +52,11 @@ impl<'a> X509Extension<'a> {
         }
     }
 
-    /// A copy: it borrows what the extension borrows.
+    /// A copy that borrows the same octets as the extension.
+    ///
+    /// # Errors
+    ///
+    /// Out of memory, for the vectors of a parsed value.
     pub fn clone(&self, alloc: Global) -> Result<X509Extension<'a>, OutOfMemory>
         ensures value { IfOk result (λ copy. extension_view copy ≡ extension_view self.now) }
         ensures error { IfOk result (λ copy. extension_error copy ≡ extension_error self.now) }
@@ -66,7 +71,7 @@ impl<'a> X509Extension<'a> {
         })
     }
 
-    /// What the value was parsed as.
+    /// The parsed value; `ParsedExtension::Unparsed` if the parser was set not to parse values.
     pub fn parsed_extension(&self) -> &ParsedExtension<'a>
         ensures { result.now ≡ self.now.parsed_extension }
     {
@@ -102,7 +107,7 @@ fn boolean_of(any: Any<'_>) -> Option<bool>
     }
 }
 
-/// A BOOLEAN at the front, or false and nothing read.
+/// Reads a BOOLEAN; `false`, without reading, if none is next.
 #[tactic(auto, unfolding(crate::specs::Reading::critical_at))]
 fn next_critical(parts: &mut Parts<'_>) -> bool
     ensures read { (result, parts.new.octets) ≡ critical_at parts.old.octets }
@@ -142,7 +147,12 @@ fn parsed_value<'a>(
     }
 }
 
-/// The extension that an element is, its value parsed too where `deep` says so. Headers within the value aren't counted.
+/// Reads the extension in an element; its value is parsed if `deep` is true. Headers within the
+/// value aren't counted.
+///
+/// # Errors
+///
+/// `InvalidExtensions`; out of memory.
 #[tactic(auto, unfolding(crate::specs::Reading::extension_in))]
 pub fn extension_of<'a>(
     alloc: Global,

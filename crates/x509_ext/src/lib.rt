@@ -1,6 +1,6 @@
-//! Extensions, and the other parts that certificates, revocation lists and requests share (RFC 5280, 4.1 and 4.2), read
-//! leniently. Each reader of extensions is told whether it looks into their values: where it doesn't, they are
-//! `ParsedExtension::Unparsed`.
+//! Extensions, and the other parts that certificates, revocation lists and requests share (RFC
+//! 5280, 4.1 and 4.2). Reading is lenient. Each reader of extensions has a parameter `deep`; with
+//! `false` values stay `ParsedExtension::Unparsed`.
 #![tactic(auto)]
 
 mod basic;

@@ -1,4 +1,4 @@
-//! Extensions one after the other, and where they stand in certificates and lists (RFC 5280, 4.1.2.9 and 5.1.2.7).
+//! Readers of the `extensions` field of certificates and lists (RFC 5280, 4.1.2.9 and 5.1.2.7).
 
 ghost use Rattle.std.specs.Prelude.{◌≡◌, ◌+◌, ◌*◌, ◌^◌, ◌<◌, ◌≤◌, length, All, IfOk, map};
 ghost use Rattle.asn1_core.specs.Counts.{attempts};
@@ -16,11 +16,11 @@ use std::alloc::Global;
 use std::cmp;
 use x509_core::{Parts, X509Error, cut_all, front_header, parts_of, push_in_room, renamed};
 
-/// For how many extensions memory is taken at once, at most.
+/// The most extensions that room is reserved for at once.
 const MOST_ROOM: usize = 16;
 
-/// As many extensions as begin there, their values parsed too if `deep` says so. If an element is no extension, the room
-/// that was taken for the elements after it is given back.
+/// Reads extensions until none begins; values are parsed if `deep` is true. Room that was reserved
+/// for elements that are no extensions is given back.
 pub fn each_extension<'a>(
     alloc: Global,
     parts: &mut Parts<'a>,
@@ -54,7 +54,7 @@ pub fn each_extension<'a>(
     Ok(extensions)
 }
 
-/// The extensions that an element holds, to its end, their values parsed too where `deep` says so.
+/// Reads the extensions in an element, to its end; values are parsed if `deep` is true.
 #[tactic(auto, unfolding(crate::specs::Reading::extension_list_in))]
 pub fn extension_list_of<'a>(
     alloc: Global,
@@ -77,7 +77,7 @@ pub fn extension_list_of<'a>(
     }
 }
 
-/// The one list of extensions that is left, to the end.
+/// Reads one list of extensions, to the end.
 #[tactic(auto, unfolding(crate::specs::Reading::extension_list_at))]
 fn last_list<'a>(
     alloc: Global,
@@ -100,7 +100,7 @@ fn last_list<'a>(
     }
 }
 
-/// A list of extensions, to the end.
+/// Reads a list of extensions, to the end.
 fn all_extensions<'a>(
     alloc: Global,
     octets: &'a [u8],
@@ -117,8 +117,12 @@ fn all_extensions<'a>(
     last_list(alloc, &mut parts, deep, count)
 }
 
-/// Extensions under this tag number, to the end, their values parsed too where `deep` says so; none where no octet is left. The
-/// wrapper's length isn't used.
+/// Reads the extensions under this tag number, to the end; values are parsed if `deep` is true. No
+/// octets give no extensions. The length of the wrapper isn't used.
+///
+/// # Errors
+///
+/// `InvalidExtensions` for anything else; out of memory.
 pub fn extensions_of<'a>(
     alloc: Global,
     tag: u32,

@@ -1,4 +1,4 @@
-//! The extension of an identifier among several.
+//! Looking extensions up by their identifiers.
 
 ghost use Rattle.std.specs.Prelude.{◌≡◌, option_map};
 ghost use Rattle.x509_ext.specs.Lookup.{all_of, first_of, only_of, seen};
@@ -7,7 +7,11 @@ use crate::extension::X509Extension;
 use asn1_oid::Oid;
 use x509_core::X509Error;
 
-/// The extension of this identifier; none where none has it, `DuplicateExtensions` where several have.
+/// The extension with this identifier, or `None` if there is none.
+///
+/// # Errors
+///
+/// `DuplicateExtensions` if several extensions have the identifier (RFC 5280, 4.2).
 pub fn get_extension_unique<'n, 'a>(
     extensions: &'n [X509Extension<'a>],
     oid: &Oid<'_>,
@@ -26,7 +30,7 @@ pub fn get_extension_unique<'n, 'a>(
     Ok(None)
 }
 
-/// The first extension of this identifier.
+/// The first extension with this identifier, or `None`.
 pub fn find_extension<'n, 'a>(
     extensions: &'n [X509Extension<'a>],
     oid: &Oid<'_>,

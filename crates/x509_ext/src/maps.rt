@@ -1,4 +1,4 @@
-//! Extensions by their identifiers.
+//! Maps from identifiers to extensions.
 
 ghost use Rattle.std.specs.Prelude.{◌≡◌, ℕ, List, IfOk, OnOk, IfErr, option_map};
 ghost use Rattle.x509_core.specs.declared.error.X509Error.TheVariants.{DuplicateExtensions};
@@ -12,8 +12,12 @@ use std::alloc::Global;
 use std::collections::BTreeMap;
 use x509_core::X509Error;
 
-/// The extensions by their identifiers, as `find_extension` finds them; `DuplicateExtensions` where two have the same one. The keys
-/// ascend by their content octets, and n extensions take time in n log n.
+/// A map from each identifier to its extension, sorted by the identifiers' content octets. Takes n
+/// log n time for n extensions.
+///
+/// # Errors
+///
+/// `DuplicateExtensions` if two have the same identifier (RFC 5280, 5.2); out of memory.
 pub fn extensions_map<'n, 'a>(
     alloc: Global,
     extensions: &'n [X509Extension<'a>],

@@ -1,4 +1,4 @@
-//! Values by identifier, of each identifier one.
+//! A map that keeps the first value of each identifier.
 
 ghost use Rattle.std.specs.Prelude.{◌≡◌, ℕ, List, not, IfOk, OnOk, OnErr, is_some, Some, None, if◌then◌else◌, bytes_eq};
 ghost use Rattle.x509_ext.specs.Maps.{held_at, first_or};
@@ -7,8 +7,12 @@ use asn1_core::OutOfMemory;
 use asn1_oid::Oid;
 use std::collections::BTreeMap;
 
-/// Adds a value, and tells whether its identifier had none before: where it had one, that one stays. It takes time in the logarithm
-/// of how many there are.
+/// Inserts a value if its identifier has none yet; returns whether it was inserted. Takes log n
+/// time for n values.
+///
+/// # Errors
+///
+/// Out of memory.
 pub fn add_once<'a, T: Drop>(
     values: &mut BTreeMap<Oid<'a>, T>,
     oid: Oid<'a>,

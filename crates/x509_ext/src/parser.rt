@@ -1,4 +1,4 @@
-//! The parser of extensions.
+//! `X509ExtensionParser`, the parser of extensions.
 
 ghost use Rattle.std.specs.Prelude.{◌≡◌, ℕ, List, true, IfOk, IfErr};
 ghost use Rattle.asn1_traits.specs.Reads.{Reads};
@@ -20,14 +20,14 @@ use asn1_traits::{DerMeaning, FromDer};
 use std::alloc::Global;
 use x509_core::{X509Error, X509Result, front_element, renamed};
 
-/// A parser of extensions.
+/// A parser of extensions with an option: whether values are parsed.
 #[derive(Clone, Copy, Debug)]
 pub struct X509ExtensionParser {
     deep_parse_extensions: bool,
 }
 
 impl X509ExtensionParser {
-    /// One that parses values too.
+    /// A parser that parses values as well.
     pub fn new() -> X509ExtensionParser
         ensures { result.deep_parse_extensions ≡ true }
     {
@@ -36,7 +36,7 @@ impl X509ExtensionParser {
         }
     }
 
-    /// One that parses values too, or doesn't.
+    /// The parser with this setting: with `false` the value stays `ParsedExtension::Unparsed`.
     pub fn with_deep_parse_extensions(self, deep_parse_extensions: bool) -> X509ExtensionParser
         ensures { result.deep_parse_extensions ≡ deep_parse_extensions }
     {
@@ -45,10 +45,13 @@ impl X509ExtensionParser {
         }
     }
 
-    /// The extension that begins the octets, behind those after it. `InvalidExtensions` of all others, cut ones too.
+    /// Reads one extension from the front of `i` (RFC 5280, 4.2). Returns `(rest, extension)`. A
+    /// known extension whose value is malformed becomes `ParsedExtension::ParseError`.
     ///
-    /// A value of a known identifier that its type refuses is `ParsedExtension::ParseError`, and the extension is read; want of
-    /// memory within a value is a `Failure` of the whole. A parser without deep parsing leaves `ParsedExtension::Unparsed`.
+    /// # Errors
+    ///
+    /// `InvalidExtensions` for everything else, also if `i` ends inside the extension. Out of
+    /// memory, also while a value is parsed, is a `Failure`.
     pub fn parse<'a>(&self, alloc: Global, i: &'a [u8]) -> X509Result<'a, X509Extension<'a>>
         ensures exact { Gives (λ r. (extension_view r.1, r.0.now)) result (named_extension_at (reading_of self.now.deep_parse_extensions) i.now) }
         ensures refused { IfErr result (IsOnly errors.InvalidExtensions) }
@@ -82,7 +85,12 @@ impl<'b> DerMeaning for X509Extension<'b> {
 }
 
 impl<'a> FromDer<'a, X509Error> for X509Extension<'a> {
-    /// The extension that begins the octets, behind those after it: `parse` of `X509ExtensionParser::new()`.
+    /// Reads one extension, its value parsed, from the front of `bytes`. Returns `(rest,
+    /// extension)`.
+    ///
+    /// # Errors
+    ///
+    /// The errors of `X509ExtensionParser::parse`.
     fn from_der(alloc: Global, bytes: &'a [u8]) -> X509Result<'a, X509Extension<'a>>
         ensures reads { Reads (λ given e. e ≡ told given) (Unit {0}) (λ _ _. ⊥) (λ i. i.now)
             (λ i v r. grammar.X509Extension IsParsed i (extension_view v) r) bytes.now result }

@@ -1,4 +1,4 @@
-//! CertificateSerialNumber (RFC 5280, 4.1.2.2).
+//! `CertificateSerialNumber` (RFC 5280, 4.1.2.2).
 
 ghost use Rattle.std.specs.Prelude.{◌≡◌, ◌+◌, ◌≤◌, length, IfOk, IfErr};
 ghost use Rattle.asn1_core.specs.declared.outcome.Err.TheVariants as refusals;
@@ -23,7 +23,12 @@ fn any_serial<'a>(parts: &mut Parts<'a>) -> Result<&'a [u8], Refusal<X509Error>>
     Ok(element.any.content)
 }
 
-/// The octets of a serial number at the front: those of any element of tag number 2. `InvalidSerial` where none is there.
+/// Reads the content octets of a serial number from the front: those of any element of tag number
+/// 2.
+///
+/// # Errors
+///
+/// `InvalidSerial` if there is none.
 pub fn next_serial<'a>(parts: &mut Parts<'a>) -> Result<&'a [u8], Refusal<X509Error>>
     ensures read { Gives (λ v. (v.now, parts.new.octets)) result (naming InvalidSerial (serial_at parts.old.octets)) }
     ensures refused { IfErr result (λ e. e ≡ refusals.Error InvalidSerial) }

@@ -19,7 +19,7 @@ use std::alloc::Global;
 use x509_core::{Parts, X509Error, front_header, named};
 use x509_names::bits_within;
 
-/// Bits that tell a name from the same name of somebody else.
+/// Bits that distinguish subjects or issuers of the same name (RFC 5280, 4.1.2.8).
 #[derive(Clone, Debug, Drop, PartialEq, Eq)]
 pub struct UniqueIdentifier<'a>(pub BitString<'a>);
 
@@ -74,8 +74,12 @@ fn next_id<'a>(
     Ok(Some(id))
 }
 
-/// The unique identifier of the issuer at the front, under tag number 1. None where no octet is left, or a header of another tag
-/// number is next; `InvalidIssuerUID` of anything else that is none.
+/// Reads the issuer's unique identifier, under tag number 1. `None` if no octet is left, or a
+/// header of another tag number is next.
+///
+/// # Errors
+///
+/// `InvalidIssuerUID` for anything else.
 pub fn next_issuer_id<'a>(
     alloc: Global,
     parts: &mut Parts<'a>,
@@ -91,8 +95,12 @@ pub fn next_issuer_id<'a>(
     named(next_id(alloc, 1, parts, count), X509Error::InvalidIssuerUID)
 }
 
-/// The unique identifier of the subject at the front, under tag number 2. None where no octet is left, or a header of another
-/// tag number is next; `InvalidSubjectUID` of anything else that is none.
+/// Reads the subject's unique identifier, under tag number 2. `None` if no octet is left, or a
+/// header of another tag number is next.
+///
+/// # Errors
+///
+/// `InvalidSubjectUID` for anything else.
 pub fn next_subject_id<'a>(
     alloc: Global,
     parts: &mut Parts<'a>,

@@ -1,4 +1,4 @@
-//! Version (RFC 5280, 4.1.2.1).
+//! `X509Version` (RFC 5280, 4.1.2.1).
 
 ghost use Rattle.std.specs.Prelude.{◌≡◌, ◌==◌, ◌+◌, ◌^◌, ◌<◌, ◌≤◌, ℕ, List, length, IfOk, IfErr, IsOkAnd, option_map};
 ghost use Rattle.asn1_core.specs.Counts.{attempts};
@@ -21,22 +21,24 @@ use std::fmt;
 use x509_core::{Parts, X509Error, X509Result, cut_all, named};
 use x509_ext_flags::number_of;
 
-/// The version of a certificate, list or request, as it is written: counted from 0.
+/// The version of a certificate, list or request, as it is encoded: 0 is version 1.
 #[derive(Clone, Copy, Debug, PartialEq, Eq)]
 pub struct X509Version(pub u32);
 
 impl X509Version {
-    /// The first, of certificates without identifiers of names and without extensions; written as 0 or left out (RFC 5280, 4.1.2.1).
+    /// Version 1, encoded as 0 or left out: certificates without unique identifiers and extensions
+    /// (RFC 5280, 4.1.2.1).
     pub const V1: X509Version = X509Version(0);
 
-    /// The second, of certificates with identifiers of names, and of revocation lists; written as 1.
+    /// Version 2, encoded as 1: certificates with unique identifiers (RFC 5280, 4.1.2.1), and
+    /// revocation lists (5.1.2.1).
     pub const V2: X509Version = X509Version(1);
 
-    /// The third, of certificates with extensions; written as 2.
+    /// Version 3, encoded as 2: certificates with extensions (RFC 5280, 4.1.2.1).
     pub const V3: X509Version = X509Version(2);
 }
 
-/// The name of the version, or its number as `X509Version(3)`.
+/// Writes `V1`, `V2` or `V3`, else the number as `X509Version(3)`.
 impl fmt::Display for X509Version {
     ghost use Rattle.std.specs.Prelude.{Some};
     ghost use Rattle.x509_ext.specs.Texts.{version_text};
@@ -53,7 +55,7 @@ impl fmt::Display for X509Version {
     }
 }
 
-/// Whether the class is the context-specific one.
+/// Whether the class is context-specific.
 pub(crate) fn is_context(class: Class) -> bool
     ensures { result ≡ (class_number class == 2) }
 {
@@ -65,7 +67,7 @@ pub(crate) fn is_context(class: Class) -> bool
     }
 }
 
-/// The version that an element is: an INTEGER of 32 bits without a sign, in the fewest octets.
+/// The version in an element: an unsigned INTEGER of 32 bits in its shortest form; else `None`.
 #[tactic(auto, unfolding(crate::specs::Reading::version_in))]
 pub fn version_of(any: Any<'_>) -> Option<X509Version>
     ensures { option_map (λ v. v.0) result ≡ version_in (any_of any.entry) }
@@ -77,7 +79,7 @@ pub fn version_of(any: Any<'_>) -> Option<X509Version>
     Some(X509Version(number))
 }
 
-/// The version that a context-specific element holds.
+/// The version in a context-specific element.
 #[tactic(auto, unfolding(crate::specs::Reading::tagged_version_in))]
 fn tagged_version_of(
     alloc: Global,
@@ -127,8 +129,12 @@ fn any_version(
     tagged_version_of(alloc, element, count)
 }
 
-/// The version of a certificate at the front: the first one where no octet is left, or a whole element of another tag number
-/// than 0 is next. `InvalidVersion` of anything else that holds none.
+/// Reads the version of a certificate. `V1`, without reading, if no octet is left or a whole
+/// element of another tag number than 0 is next.
+///
+/// # Errors
+///
+/// `InvalidVersion` for anything else.
 pub fn next_version(
     alloc: Global,
     parts: &mut Parts<'_>,
@@ -154,7 +160,11 @@ impl DerMeaning for X509Version {
 }
 
 impl<'a> FromDer<'a, X509Error> for X509Version {
-    /// The version that begins the octets, behind those after it. `InvalidVersion` of all others, cut ones too.
+    /// Reads one version from the front of `bytes`. Returns `(rest, version)`.
+    ///
+    /// # Errors
+    ///
+    /// `InvalidVersion` for everything else, also if `bytes` ends inside the element.
     fn from_der(_alloc: Global, bytes: &'a [u8]) -> X509Result<'a, X509Version>
         ensures reads { Reads (λ given e. e ≡ told given) ⊥ (λ _ _. ⊥) (λ i. i.now)
             (λ i v r. grammar.X509Version i v.0 r) bytes.now result }

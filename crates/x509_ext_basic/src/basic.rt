@@ -1,4 +1,4 @@
-//! Whether the subject may issue certificates (RFC 5280, 4.2.1.9).
+//! `BasicConstraints` (RFC 5280, 4.2.1.9).
 
 ghost use Rattle.std.specs.Prelude.{◌≡◌, ◌<◌, ◌∷◌, ℕ, List, [], length, option_map, Ok, Err, IfOk, IfErr};
 ghost use Rattle.asn1_any.specs.Views.{any_of};
@@ -28,12 +28,14 @@ use std::alloc::Global;
 use x509_core::{X509Error, X509Result, front_element};
 use x509_ext_flags::number_of;
 
-/// Whether the subject may issue certificates, and how many may stand between its own and the last (RFC 5280, 4.2.1.9).
+/// A basicConstraints: whether the subject is an authority, and how long paths below it may be (RFC
+/// 5280, 4.2.1.9).
 #[derive(Clone, Debug, Drop, PartialEq, Eq)]
 pub struct BasicConstraints {
-    /// Whether it may.
+    /// `cA`: whether the subject may issue certificates.
     pub ca: bool,
-    /// How many may stand between, self-issued ones not counted; none where there is no limit.
+    /// `pathLenConstraint`: the most certificates that aren't self-issued between this one and the
+    /// last; `None` for no limit.
     pub path_len_constraint: Option<u32>,
 }
 
@@ -152,11 +154,15 @@ impl DerMeaning for BasicConstraints {
 }
 
 impl<'a> FromDer<'a, X509Error> for BasicConstraints {
-    /// The constraints that begin the octets, behind those after them: a constructed element of tag number 16 that holds nothing, a
-    /// BOOLEAN, a number below 2^32 (INTEGER or ENUMERATED), or both in this order, each as DER spells it (X.690, 8 and 10.1).
+    /// Reads one basicConstraints from the front of `bytes`. Returns `(rest, constraints)`. It is a
+    /// constructed element of tag number 16 that holds nothing, a BOOLEAN, a number below 2^32
+    /// (INTEGER or ENUMERATED), or both in this order, each in DER (X.690, 8 and 10.1).
     ///
-    /// `Incomplete` exactly where the octets end within the element. Where such an element holds something else: `InvalidTag` if it
-    /// is one element, `InvalidLength` if several, or octets that begin with none. Else another `Error` of an element.
+    /// # Errors
+    ///
+    /// `Incomplete` exactly if `bytes` ends inside the element. If such an element holds something
+    /// else: `InvalidTag` if that is one element, `InvalidLength` if it is several, or octets that
+    /// begin none. Else another `Error` of an element.
     fn from_der(_alloc: Global, bytes: &'a [u8]) -> X509Result<'a, BasicConstraints>
         ensures reads { Reads (λ given e. e ≡ told given) (Unit {0}) EndsWithinElement (λ i. i.now)
             (λ i v r. grammar.BasicConstraints i (basic_constraints_view v) r) bytes.now result }

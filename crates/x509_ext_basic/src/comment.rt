@@ -1,4 +1,4 @@
-//! Netscape's comment on a certificate.
+//! Netscape comments.
 
 ghost use Rattle.std.specs.Prelude.{◌≡◌, ◌<◌, ℕ, List, length, IfOk, IfErr};
 ghost use Rattle.asn1_any.specs.Views.{any_of};
@@ -61,8 +61,12 @@ fn comment_at_front<'a>(i: &'a [u8]) -> X509Result<'a, &'a str>
     }
 }
 
-/// The comment that begins the octets, behind those after it: an IA5String; where none begins them, for whatever reason, all octets
-/// are the comment, if they are UTF-8, and none is left. `Error` where they aren't.
+/// Reads one Netscape comment from the front of `i`: an IA5String. Returns `(rest, comment)`. If
+/// there is no IA5String, all octets are the comment, and no rest is left.
+///
+/// # Errors
+///
+/// An `Error` if the octets aren't UTF-8 then.
 pub fn netscape_comment<'a>(i: &'a [u8]) -> X509Result<'a, &'a str>
     ensures exact { Gives (λ r. (r.1.now, r.0.now)) result (comment_at i.now) }
     ensures memory { IfErr result TakesNoMemory }

@@ -1,4 +1,4 @@
-//! Since when a key may be known to others (RFC 5280, 5.3.2).
+//! The reader of invalidityDate (RFC 5280, 5.3.2).
 
 ghost use Rattle.std.specs.Prelude.{◌≡◌, ◌<◌, ℕ, List, length, option_map, IfOk, IfErr};
 ghost use Rattle.asn1_any.specs.Views.{any_of};
@@ -48,10 +48,13 @@ fn date_at_front<'a>(i: &'a [u8]) -> X509Result<'a, ASN1Time>
     }
 }
 
-/// The date that begins the octets, behind those after it: a GeneralizedTime of DER whose date the calendar has (X.690, 11.7). What
-/// is handed out counts as GeneralizedTime from the year 2050 on, else as UTCTime.
+/// Reads one invalidityDate from the front of `i`: a GeneralizedTime in DER with a date of the
+/// calendar (X.690, 11.7). Returns `(rest, date)`; the date counts as GeneralizedTime from the year
+/// 2050 on, else as UTCTime.
 ///
-/// `Incomplete` exactly where the octets end within the element; else an `Error` of an element.
+/// # Errors
+///
+/// `Incomplete` exactly if `i` ends inside the element; else an `Error` of an element.
 pub fn invalidity_date<'a>(i: &'a [u8]) -> X509Result<'a, ASN1Time>
     ensures exact { Gives (λ r. (time_view r.1, r.0.now)) result (date_at i.now) }
     ensures missing { TellsMissing i.now result }

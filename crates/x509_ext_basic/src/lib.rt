@@ -1,5 +1,6 @@
-//! Extension values of one element that stand for a number, a reason, a time, a text or what a subject may issue (RFC 5280, 4.2.1.9,
-//! 5.2.3, 5.3.1 and 5.3.2), and their readers. Classes aren't looked at, and octets behind a value are left.
+//! Basic constraints, CRL numbers, reasons, invalidity dates and comments (RFC 5280, 4.2.1.9,
+//! 5.2.3, 5.3.1 and 5.3.2), with their readers. Classes are ignored, and octets after a value are
+//! left.
 #![tactic(auto)]
 
 mod basic;

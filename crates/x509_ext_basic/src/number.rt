@@ -1,4 +1,4 @@
-//! The number of a revocation list (RFC 5280, 5.2.3 and 5.2.4).
+//! The reader of CRL numbers (RFC 5280, 5.2.3 and 5.2.4).
 
 ghost use Rattle.std.specs.Prelude.{◌≡◌, ◌<◌, ◌++◌, ℕ, List, [], ◌∷◌, length, option_map, IfOk, IfErr};
 ghost use Rattle.asn1_any.specs.Views.{any_of};
@@ -63,10 +63,13 @@ fn number_at_front<'a>(i: &'a [u8]) -> X509Result<'a, UnsignedBytes<'a>>
     }
 }
 
-/// The number that begins the octets, behind those after it: an INTEGER of any size that isn't negative, in the fewest octets. So
-/// are the numbers of lists and of the lists that a delta is to (RFC 5280, 5.2.3 and 5.2.4).
+/// Reads one CRL number from the front of `i`: a non-negative INTEGER of any size in its shortest
+/// form. Returns `(rest, number)`. Base CRL numbers of delta lists are read so too (RFC 5280, 5.2.3
+/// and 5.2.4).
 ///
-/// `Incomplete` exactly where the octets end within the element; else an `Error` of an element.
+/// # Errors
+///
+/// `Incomplete` exactly if `i` ends inside the element; else an `Error` of an element.
 pub fn crl_number<'a>(i: &'a [u8]) -> X509Result<'a, UnsignedBytes<'a>>
     ensures exact { Gives (λ r. (number_of r.1, r.0.now)) result (number_at i.now) }
     ensures missing { TellsMissing i.now result }

@@ -1,4 +1,4 @@
-//! Why a certificate was revoked (RFC 5280, 5.3.1).
+//! `ReasonCode`, a reason of revocation (RFC 5280, 5.3.1), and its reader.
 
 ghost use Rattle.std.specs.Prelude.{◌≡◌, ◌<◌, ℕ, List, length, Err, IfOk, IfErr};
 ghost use Rattle.asn1_any.specs.Views.{any_of};
@@ -57,11 +57,13 @@ fn reason_at_front<'a>(i: &'a [u8]) -> X509Result<'a, ReasonCode>
     }
 }
 
-/// The reason that begins the octets, behind those after it: an ENUMERATED to 10, in the fewest octets; 7 is taken too, though it
-/// has no name.
+/// Reads one reason from the front of `i`: an ENUMERATED of at most 10 in its shortest form, also
+/// 7, which has no name. Returns `(rest, reason)`.
 ///
-/// `Incomplete` exactly where the octets end within the element; `BerValueError` where a primitive element of tag number 10 isn't
-/// so; else another `Error` of an element.
+/// # Errors
+///
+/// `Incomplete` exactly if `i` ends inside the element; `BerValueError` for a primitive element of
+/// tag number 10 with another content; else another `Error` of an element.
 pub fn reason_code<'a>(i: &'a [u8]) -> X509Result<'a, ReasonCode>
     ensures exact { Gives (λ r. (reason_view r.1, r.0.now)) result (reason_at i.now) }
     ensures missing { TellsMissing i.now result }

@@ -1,4 +1,4 @@
-//! Flags of bit strings (X.690, 8.6).
+//! Flags in bit strings (X.690, 8.6).
 
 ghost use Rattle.std.specs.Prelude.{◌≡◌, ◌<◌, ◌≤◌, ◌^◌};
 ghost use Rattle.asn1_values.specs.Bits.{bit_at};
@@ -13,7 +13,7 @@ use asn1_traits::DerLeaf;
 use asn1_values::BitString;
 use x509_core::X509Error;
 
-/// Bit `index` of the flags, the lowest being bit 0.
+/// Bit `index` of the flags; bit 0 is the lowest.
 pub fn flag_at(flags: u16, index: u32) -> bool
     requires { index < 16 }
     ensures { result ≡ bit_of flags index }
@@ -54,8 +54,12 @@ fn weight_of(octets: &[u8], width: u32) -> u16
     flags
 }
 
-/// The first `width` bits of the content of a BIT STRING, as DER has them (X.690, 8.6 and 11.2): bit i of the string is bit i
-/// of the number, and further bits drop out.
+/// The first `width` bits of a BIT STRING's content in DER (X.690, 8.6 and 11.2): bit i of the
+/// string becomes bit i of the number. Further bits are dropped.
+///
+/// # Errors
+///
+/// An `Error` if the content isn't DER.
 pub fn bits_of(content: &[u8], width: u32) -> Result<u16, Refusal<X509Error>>
     requires { width ≤ 16 }
     ensures read { Gives (λ flags. flags) result (flags_in width content.now) }

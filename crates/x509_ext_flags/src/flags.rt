@@ -1,4 +1,4 @@
-//! Sets of bits: what a key is for (RFC 5280, 4.2.1.3), reasons (RFC 5280, 4.2.1.13) and Netscape's types.
+//! `KeyUsage` (RFC 5280, 4.2.1.3), `ReasonFlags` (RFC 5280, 4.2.1.13) and `NSCertType`.
 
 ghost use Rattle.std.specs.Prelude.{◌≡◌, ◌<◌, ℕ, List, length, IfOk, IfErr};
 ghost use Rattle.asn1_any.specs.CutViews.{piece_of};
@@ -21,82 +21,82 @@ use asn1_traits::{DerMeaning, FromDer};
 use std::alloc::Global;
 use x509_core::{X509Error, X509Result, front_element, leaf_of};
 
-/// What a key is for (RFC 5280, 4.2.1.3): bit i of the flags is bit i of the bit string.
+/// A keyUsage (RFC 5280, 4.2.1.3): bit i of the flags is bit i of the BIT STRING.
 #[derive(Clone, Copy, Debug, PartialEq, Eq)]
 pub struct KeyUsage {
-    /// The flags.
+    /// The flags, of which bit 0 is the lowest.
     pub flags: u16,
 }
 
-/// Reasons of revocation (RFC 5280, 4.2.1.13): bit i of the flags is bit i of the bit string.
+/// Reasons of revocation (RFC 5280, 4.2.1.13): bit i of the flags is bit i of the BIT STRING.
 #[derive(Clone, Debug, Drop, PartialEq, Eq)]
 pub struct ReasonFlags {
-    /// The flags.
+    /// The flags, of which bit 0 is the lowest.
     pub flags: u16,
 }
 
-/// What a certificate is for, by Netscape's extension: bit i of the flags is bit i of the bit string.
+/// A Netscape certificate type: bit i of the flags is bit i of the BIT STRING.
 #[derive(Clone, Copy, Debug, PartialEq, Eq)]
 pub struct NSCertType(pub(crate) u8);
 
 impl KeyUsage {
-    /// To verify signatures, but on certificates and revocation lists.
+    /// digitalSignature (0): verifying signatures other than on certificates and revocation lists.
     pub fn digital_signature(&self) -> bool
         ensures { result ≡ bit_of self.now.flags 0 }
     {
         flag_at(self.flags, 0)
     }
 
-    /// To verify signatures that their maker is not to deny.
+    /// nonRepudiation (1): verifying signatures that the signer shall not be able to deny.
     pub fn non_repudiation(&self) -> bool
         ensures { result ≡ bit_of self.now.flags 1 }
     {
         flag_at(self.flags, 1)
     }
 
-    /// To encipher keys.
+    /// keyEncipherment (2): enciphering keys.
     pub fn key_encipherment(&self) -> bool
         ensures { result ≡ bit_of self.now.flags 2 }
     {
         flag_at(self.flags, 2)
     }
 
-    /// To encipher data.
+    /// dataEncipherment (3): enciphering data.
     pub fn data_encipherment(&self) -> bool
         ensures { result ≡ bit_of self.now.flags 3 }
     {
         flag_at(self.flags, 3)
     }
 
-    /// To agree on keys.
+    /// keyAgreement (4): agreeing on keys.
     pub fn key_agreement(&self) -> bool
         ensures { result ≡ bit_of self.now.flags 4 }
     {
         flag_at(self.flags, 4)
     }
 
-    /// To verify signatures on certificates.
+    /// keyCertSign (5): verifying signatures on certificates.
     pub fn key_cert_sign(&self) -> bool
         ensures { result ≡ bit_of self.now.flags 5 }
     {
         flag_at(self.flags, 5)
     }
 
-    /// To verify signatures on revocation lists.
+    /// cRLSign (6): verifying signatures on revocation lists.
     pub fn crl_sign(&self) -> bool
         ensures { result ≡ bit_of self.now.flags 6 }
     {
         flag_at(self.flags, 6)
     }
 
-    /// While keys are agreed on: to encipher alone.
+    /// encipherOnly (7): with keyAgreement, only enciphering.
     pub fn encipher_only(&self) -> bool
         ensures { result ≡ bit_of self.now.flags 7 }
     {
         flag_at(self.flags, 7)
     }
 
-    /// While keys are agreed on: to decipher alone.
+    /// decipherOnly (8): with keyAgreement, only deciphering.
     pub fn decipher_only(&self) -> bool
         ensures { result ≡ bit_of self.now.flags 8 }
     {
@@ -105,56 +105,56 @@ impl KeyUsage {
 }
 
 impl ReasonFlags {
-    /// The subject's key may be known to others.
+    /// keyCompromise (1): the subject's private key may be compromised.
     pub fn key_compromise(&self) -> bool
         ensures { result ≡ bit_of self.now.flags 1 }
     {
         flag_at(self.flags, 1)
     }
 
-    /// The issuer's key may be known to others.
+    /// cACompromise (2): the issuer's private key may be compromised.
     pub fn ca_compromise(&self) -> bool
         ensures { result ≡ bit_of self.now.flags 2 }
     {
         flag_at(self.flags, 2)
     }
 
-    /// What the certificate says of the subject has changed.
+    /// affiliationChanged (3): the subject's name or other data have changed.
     pub fn affilation_changed(&self) -> bool
         ensures { result ≡ bit_of self.now.flags 3 }
     {
         flag_at(self.flags, 3)
     }
 
-    /// Another certificate stands for this one.
+    /// superseded (4): another certificate has replaced this one.
     pub fn superseded(&self) -> bool
         ensures { result ≡ bit_of self.now.flags 4 }
     {
         flag_at(self.flags, 4)
     }
 
-    /// The certificate is no longer needed.
+    /// cessationOfOperation (5): the certificate is no longer needed.
     pub fn cessation_of_operation(&self) -> bool
         ensures { result ≡ bit_of self.now.flags 5 }
     {
         flag_at(self.flags, 5)
     }
 
-    /// The certificate is suspended.
+    /// certificateHold (6): the certificate is on hold.
     pub fn certificate_hold(&self) -> bool
         ensures { result ≡ bit_of self.now.flags 6 }
     {
         flag_at(self.flags, 6)
     }
 
-    /// What the certificate allows is allowed no longer.
+    /// privilegeWithdrawn (7): a privilege in the certificate was withdrawn.
     pub fn privelege_withdrawn(&self) -> bool
         ensures { result ≡ bit_of self.now.flags 7 }
     {
         flag_at(self.flags, 7)
     }
 
-    /// The key of an attribute authority may be known to others.
+    /// aACompromise (8): the key of an attribute authority may be compromised.
     pub fn aa_compromise(&self) -> bool
         ensures { result ≡ bit_of self.now.flags 8 }
     {
@@ -163,49 +163,49 @@ impl ReasonFlags {
 }
 
 impl NSCertType {
-    /// A client that shows who it is.
+    /// Authentication of an SSL client (0).
     pub fn ssl_client(&self) -> bool
         ensures { result ≡ bit_of self.now.0 0 }
     {
         flag_at(u16::from(self.0), 0)
     }
 
-    /// A server that shows who it is.
+    /// Authentication of an SSL server (1).
     pub fn ssl_server(&self) -> bool
         ensures { result ≡ bit_of self.now.0 1 }
     {
         flag_at(u16::from(self.0), 1)
     }
 
-    /// Electronic mail.
+    /// S/MIME (2).
     pub fn smime(&self) -> bool
         ensures { result ≡ bit_of self.now.0 2 }
     {
         flag_at(u16::from(self.0), 2)
     }
 
-    /// To sign what is run.
+    /// Signing of objects, such as applets (3).
     pub fn object_signing(&self) -> bool
         ensures { result ≡ bit_of self.now.0 3 }
     {
         flag_at(u16::from(self.0), 3)
     }
 
-    /// To issue certificates of servers and clients.
+    /// An authority for SSL certificates (5).
     pub fn ssl_ca(&self) -> bool
         ensures { result ≡ bit_of self.now.0 5 }
     {
         flag_at(u16::from(self.0), 5)
     }
 
-    /// To issue certificates for electronic mail.
+    /// An authority for S/MIME certificates (6).
     pub fn smime_ca(&self) -> bool
         ensures { result ≡ bit_of self.now.0 6 }
     {
         flag_at(u16::from(self.0), 6)
     }
 
-    /// To issue certificates that sign what is run.
+    /// An authority for certificates that sign objects (7).
     pub fn object_signing_ca(&self) -> bool
         ensures { result ≡ bit_of self.now.0 7 }
     {
@@ -213,7 +213,7 @@ impl NSCertType {
     }
 }
 
-/// The flags of a primitive element of this tag number: the first sixteen bits.
+/// The first sixteen bits of a primitive element of this tag number.
 fn sixteen_of(tag: u32, any: Any<'_>) -> Result<u16, Refusal<X509Error>>
     ensures read { Gives (λ flags. flags) result (element_flags tag (any_of any.entry)) }
     ensures memory { IfErr result TakesNoMemory }
@@ -230,7 +230,7 @@ fn usage_of(any: Any<'_>) -> Result<KeyUsage, Refusal<X509Error>>
     Ok(KeyUsage { flags })
 }
 
-/// The reasons of a primitive element of this tag number.
+/// The reasons in a primitive element of this tag number.
 pub fn reasons_of(tag: u32, any: Any<'_>) -> Result<ReasonFlags, Refusal<X509Error>>
     ensures read { Gives reasons_view result (element_flags tag (any_of any.entry)) }
     ensures memory { IfErr result TakesNoMemory }
@@ -262,7 +262,12 @@ impl DerMeaning for KeyUsage {
 }
 
 impl<'a> FromDer<'a, X509Error> for KeyUsage {
-    /// The flags of the BIT STRING that begins the octets, behind those after it. Bits behind the sixteenth drop out.
+    /// Reads one keyUsage from the front of `bytes`. Returns `(rest, usage)`. Bits after the
+    /// sixteenth are dropped.
+    ///
+    /// # Errors
+    ///
+    /// `Incomplete` if `bytes` ends inside the element; an `Error` if it isn't a BIT STRING in DER.
     fn from_der(_alloc: Global, bytes: &'a [u8]) -> X509Result<'a, KeyUsage>
         ensures reads { Reads (λ given e. e ≡ told given) (Unit {0}) EndsWithinElement (λ i. i.now)
             (λ i v r. grammar.KeyUsage i (usage_view v) r) bytes.now result }
@@ -301,7 +306,12 @@ impl DerMeaning for NSCertType {
 }
 
 impl<'a> FromDer<'a, X509Error> for NSCertType {
-    /// The flags of the BIT STRING that begins the octets, behind those after it: it has one octet of bits.
+    /// Reads one Netscape certificate type from the front of `bytes`: a BIT STRING of one octet of
+    /// bits. Returns `(rest, type)`.
+    ///
+    /// # Errors
+    ///
+    /// `Incomplete` if `bytes` ends inside the element; an `Error` if it is anything else.
     fn from_der(_alloc: Global, bytes: &'a [u8]) -> X509Result<'a, NSCertType>
         ensures reads { Reads (λ given e. e ≡ told given) (Unit {0}) EndsWithinElement (λ i. i.now)
             (λ i v r. grammar.NetscapeType i (netscape_view v) r) bytes.now result }

@@ -1,4 +1,4 @@
-//! Which key it is (RFC 5280, 4.2.1.2).
+//! `KeyIdentifier` (RFC 5280, 4.2.1.2).
 
 ghost use Rattle.std.specs.Prelude.{◌≡◌, ◌<◌, ℕ, List, length, IfOk, IfErr};
 ghost use Rattle.asn1_any.specs.CutViews.{piece_of};
@@ -22,11 +22,11 @@ use std::fmt;
 use x509_core::{X509Error, X509Result, front_element, leaf_of};
 use x509_items::write_octets;
 
-/// The octets by which a key is told from others (RFC 5280, 4.2.1.2).
+/// A key identifier: octets that identify a key (RFC 5280, 4.2.1.2).
 #[derive(Clone, Debug, Drop, PartialEq, Eq)]
 pub struct KeyIdentifier<'a>(pub &'a [u8]);
 
-/// The octets in hexadecimal, two lower-case digits each, with a colon between two: `ab:cd`.
+/// Writes the octets in hexadecimal, two lower-case digits each, separated by colons: `ab:cd`.
 impl<'a> fmt::Display for KeyIdentifier<'a> {
     ghost use Rattle.std.specs.Prelude.{Some};
     ghost use Rattle.x509_ext_flags.specs.Texts.{serial_text};
@@ -57,7 +57,12 @@ impl<'b> DerMeaning for KeyIdentifier<'b> {
 }
 
 impl<'a> FromDer<'a, X509Error> for KeyIdentifier<'a> {
-    /// The OCTET STRING that begins the octets, behind those after it.
+    /// Reads one key identifier, an OCTET STRING, from the front of `bytes`. Returns `(rest,
+    /// identifier)`.
+    ///
+    /// # Errors
+    ///
+    /// `Incomplete` if `bytes` ends inside the element; an `Error` if it isn't an OCTET STRING.
     fn from_der(_alloc: Global, bytes: &'a [u8]) -> X509Result<'a, KeyIdentifier<'a>>
         ensures reads { Reads (λ given e. e ≡ told given) (Unit {0}) EndsWithinElement (λ i. i.now)
             (λ i v r. grammar.KeyIdentifier i (key_identifier_view v) r) bytes.now result }

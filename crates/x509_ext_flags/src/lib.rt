@@ -1,5 +1,6 @@
-//! Extension values that are a flag, a number, octets or several of these (RFC 5280, 4.2 and 5.3), and their readers. What is
-//! left of the content of a SEQUENCE is ignored, and classes aren't looked at, but where a type says so.
+//! Extension values that are flags, numbers or octets (RFC 5280, 4.2 and 5.3), and their readers.
+//! Unless a type says otherwise, octets that remain in the content of a SEQUENCE are ignored, and
+//! so are classes.
 #![tactic(auto)]
 
 mod bits;

@@ -1,4 +1,4 @@
-//! The names of flags that are set.
+//! Names of flags.
 
 ghost use Rattle.std.specs.Prelude.{◌≡◌, ◌≤◌, ◌||◌, Some};
 ghost use Rattle.std.specs.Fmt.{DisplaysOnOk};
@@ -8,14 +8,14 @@ use crate::bits::flag_at;
 use crate::flags::{KeyUsage, NSCertType, ReasonFlags};
 use std::fmt;
 
-/// A set of flags that have names.
+/// A set of flags with names.
 pub(crate) trait FlagNames {
     ghost use Rattle.std.specs.Prelude.{◌≡◌, List, ℕ};
 
-    /// The name of a flag, by its bit.
+    /// The name of a flag by its bit.
     ghost name_of: { ℕ → List ℕ };
 
-    /// The name of a flag, by its bit.
+    /// The name of a flag by its bit.
     fn name(bit: u32) -> &'static str
         ensures { result.now ≡ name_of bit };
 }
@@ -106,7 +106,7 @@ fn either(a: bool, b: bool) -> bool
     a || b
 }
 
-/// Writes the names of the flags that are set, in the order of their bits, of the first `width` ones.
+/// Writes the names of the flags among the first `width` that are set, in the order of their bits.
 pub(crate) fn write_names<T: FlagNames, W: fmt::Write>(
     flags: u16,
     width: u32,
@@ -126,7 +126,8 @@ pub(crate) fn write_names<T: FlagNames, W: fmt::Write>(
     Ok(())
 }
 
-/// The names of the bits that are set, joined by `, `, as `Digital Signature, Key Encipherment`; bits from the tenth on have none.
+/// Writes the names of the bits that are set, as `Digital Signature, Key Encipherment`; bits from
+/// the tenth on have no name.
 impl fmt::Display for KeyUsage {
     ghost use Rattle.std.specs.Prelude.{Some};
     ghost use Rattle.x509_ext_flags.specs.Texts.{usage_text};
@@ -138,7 +139,8 @@ impl fmt::Display for KeyUsage {
     }
 }
 
-/// The names of the bits that are set, joined by `, `, as `Key Compromise`; bits from the tenth on have none.
+/// Writes the names of the bits that are set, as `Key Compromise`; bits from the tenth on have no
+/// name.
 impl fmt::Display for ReasonFlags {
     ghost use Rattle.std.specs.Prelude.{Some};
     ghost use Rattle.x509_ext_flags.specs.Texts.{reasons_text};
@@ -150,7 +152,7 @@ impl fmt::Display for ReasonFlags {
     }
 }
 
-/// The names of the bits that are set, joined by `, `, as `SSL Server`.
+/// Writes the names of the bits that are set, as `SSL Server`.
 impl fmt::Display for NSCertType {
     ghost use Rattle.std.specs.Prelude.{Some};
     ghost use Rattle.x509_ext_flags.specs.Texts.{netscape_text};

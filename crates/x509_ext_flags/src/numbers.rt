@@ -1,4 +1,4 @@
-//! Numbers of 32 bits.
+//! Unsigned numbers of 32 bits.
 
 ghost use Rattle.std.specs.Prelude.{◌≡◌};
 ghost use Rattle.x509_ext_flags.specs.Reading.{number_in};
@@ -6,7 +6,8 @@ ghost use Rattle.x509_ext_flags.specs.Reading.{number_in};
 use asn1_traits::check_shortest;
 use asn1_values::Integer;
 
-/// The number of a content of 32 bits without a sign, in the fewest octets (X.690, 8.3).
+/// The unsigned number of 32 bits with this content, in its shortest form (X.690, 8.3); else
+/// `None`.
 #[tactic(auto, unfolding(crate::specs::Reading::number_in))]
 pub fn number_of(content: &[u8]) -> Option<u32>
     ensures { result ≡ number_in content.now }

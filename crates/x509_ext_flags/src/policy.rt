@@ -1,4 +1,4 @@
-//! From where on policies count (RFC 5280, 4.2.1.11 and 4.2.1.14).
+//! `PolicyConstraints` (RFC 5280, 4.2.1.11) and `InhibitAnyPolicy` (RFC 5280, 4.2.1.14).
 
 ghost use Rattle.std.specs.Prelude.{◌≡◌, ◌<◌, ℕ, List, length, IfOk, IfErr};
 ghost use Rattle.asn1_any.specs.CutViews.{piece_of};
@@ -27,19 +27,20 @@ use std::alloc::Global;
 use x509_core::{X509Error, X509Result, front_element, leaf_of};
 use x509_items::{content_of, optional};
 
-/// From where on certificates have to name a policy, and may map none (RFC 5280, 4.2.1.11).
+/// A policyConstraints: from where on a policy is required, and mapping is forbidden (RFC 5280,
+/// 4.2.1.11).
 #[derive(Clone, Debug, Drop, PartialEq, Eq)]
 pub struct PolicyConstraints {
-    /// Behind so many certificates one has to be named.
+    /// After so many certificates an acceptable policy is required; `None` for never.
     pub require_explicit_policy: Option<u32>,
-    /// Behind so many certificates none may be mapped.
+    /// After so many certificates policy mapping is forbidden; `None` for never.
     pub inhibit_policy_mapping: Option<u32>,
 }
 
-/// From where on the policy of any kind counts for none (RFC 5280, 4.2.1.14).
+/// An inhibitAnyPolicy: from where on anyPolicy no longer counts (RFC 5280, 4.2.1.14).
 #[derive(Clone, Debug, Drop, PartialEq, Eq)]
 pub struct InhibitAnyPolicy {
-    /// Behind so many certificates.
+    /// The number of certificates after which anyPolicy no longer counts.
     pub skip_certs: u32,
 }
 
@@ -116,7 +117,12 @@ impl DerMeaning for PolicyConstraints {
 }
 
 impl<'a> FromDer<'a, X509Error> for PolicyConstraints {
-    /// The constraints that begin the octets, behind those after them. What is left of their content is refused.
+    /// Reads one policyConstraints from the front of `bytes`. Returns `(rest, constraints)`.
+    ///
+    /// # Errors
+    ///
+    /// `Incomplete` if `bytes` ends inside the element; an `Error` if it is malformed, also if
+    /// octets remain in its content.
     fn from_der(_alloc: Global, bytes: &'a [u8]) -> X509Result<'a, PolicyConstraints>
         ensures reads { Reads (λ given e. e ≡ told given) (Unit {0}) EndsWithinElement (λ i. i.now)
             (λ i v r. grammar.PolicyConstraints i (policy_constraints_view v) r) bytes.now result }
@@ -153,7 +159,12 @@ impl DerMeaning for InhibitAnyPolicy {
 }
 
 impl<'a> FromDer<'a, X509Error> for InhibitAnyPolicy {
-    /// The number that begins the octets, behind those after it: an INTEGER of 32 bits without a sign, in the fewest octets.
+    /// Reads one inhibitAnyPolicy from the front of `bytes`: an unsigned INTEGER of 32 bits in its
+    /// shortest form. Returns `(rest, number)`.
+    ///
+    /// # Errors
+    ///
+    /// `Incomplete` if `bytes` ends inside the element; an `Error` if it is anything else.
     fn from_der(_alloc: Global, bytes: &'a [u8]) -> X509Result<'a, InhibitAnyPolicy>
         ensures reads { Reads (λ given e. e ≡ told given) (Unit {0}) EndsWithinElement (λ i. i.now)
             (λ i v r. grammar.InhibitAnyPolicy i (inhibit_view v) r) bytes.now result }

@@ -1,40 +1,41 @@
-//! Why a certificate was revoked (RFC 5280, 5.3.1).
+//! `ReasonCode`, a reason of revocation (RFC 5280, 5.3.1), and its reader.
 
 use std::fmt;
 
-/// Why a certificate was revoked.
+/// A reason of revocation (RFC 5280, 5.3.1).
 #[derive(Clone, Copy, Debug, PartialEq, Eq)]
 pub struct ReasonCode(pub u8);
 
 impl ReasonCode {
-    /// No reason is told.
+    /// unspecified (0).
     pub const Unspecified: ReasonCode = ReasonCode(0);
 
-    /// The subject's key is known to others, or may be.
+    /// keyCompromise (1): the subject's private key is compromised, or suspected to be.
     pub const KeyCompromise: ReasonCode = ReasonCode(1);
 
-    /// The key of the authority that the certificate is of is known to others, or may be.
+    /// cACompromise (2): the issuer's private key is compromised, or suspected to be.
     pub const CACompromise: ReasonCode = ReasonCode(2);
 
-    /// The subject's name or another part has changed; no key is in doubt.
+    /// affiliationChanged (3): the subject's name or other data have changed; no key is suspected.
     pub const AffiliationChanged: ReasonCode = ReasonCode(3);
 
-    /// Another certificate has taken its place; no key is in doubt.
+    /// superseded (4): another certificate has replaced this one; no key is suspected.
     pub const Superseded: ReasonCode = ReasonCode(4);
 
-    /// The certificate is no longer needed; no key is in doubt.
+    /// cessationOfOperation (5): the certificate is no longer needed; no key is suspected.
     pub const CessationOfOperation: ReasonCode = ReasonCode(5);
 
-    /// The certificate is on hold: it may be taken back from the list.
+    /// certificateHold (6): the certificate is on hold and may leave the list again.
     pub const CertificateHold: ReasonCode = ReasonCode(6);
 
-    /// A list of changes takes the certificate back, which was on hold or has ended.
+    /// removeFromCRL (8): in a delta list, the certificate leaves the list, since its hold has
+    /// ended or it has expired.
     pub const RemoveFromCRL: ReasonCode = ReasonCode(8);
 
-    /// What the certificate entitled to was withdrawn.
+    /// privilegeWithdrawn (9): a privilege in the certificate was withdrawn.
     pub const PrivilegeWithdrawn: ReasonCode = ReasonCode(9);
 
-    /// The key of an authority on attributes is known to others, or may be.
+    /// aACompromise (10): the key of an attribute authority is compromised, or suspected to be.
     pub const AACompromise: ReasonCode = ReasonCode(10);
 }
 
@@ -43,13 +44,13 @@ impl Default for ReasonCode {
 
     ghost is_default = { λ reason. reason.0 ≡ 0 };
 
-    /// No reason is told.
+    /// unspecified (0).
     fn default() -> ReasonCode {
         ReasonCode::Unspecified
     }
 }
 
-/// The name of the reason, or its number as `ReasonCode(7)`.
+/// Writes the name of the reason, or its number as `ReasonCode(7)`.
 impl fmt::Display for ReasonCode {
     ghost use Rattle.std.specs.Prelude.{Some};
     ghost use Rattle.x509_ext_flags.specs.Texts.{reason_text};

@@ -1,4 +1,4 @@
-//! Where further information is to be had (RFC 5280, 4.2.2).
+//! `AuthorityInfoAccess` and `SubjectInfoAccess` (RFC 5280, 4.2.2).
 
 ghost use Rattle.std.specs.Prelude.{◌≡◌, ◌<◌, ℕ, List, length, IfOk, IfErr};
 ghost use Rattle.asn1_any.specs.CutViews.{piece_of};
@@ -24,17 +24,17 @@ use std::alloc::Global;
 use x509_core::{X509Error, X509Result, front_element};
 use x509_items::{Begins, Copies, all, content_of, copy_all, first_oid, taken, told};
 
-/// How, and where, some information is to be had.
+/// An access description: the kind of some information or service, and its location.
 #[derive(Debug, Drop, PartialEq, Eq)]
 pub struct AccessDescription<'a> {
-    /// What the information is.
+    /// The access method: the kind of information or service.
     pub access_method: Oid<'a>,
-    /// Where it is.
+    /// Its location.
     pub access_location: GeneralName<'a>,
 }
 
 impl<'a> AccessDescription<'a> {
-    /// This information in this place.
+    /// Joins a method and a location.
     pub fn new(access_method: Oid<'a>, access_location: GeneralName<'a>) -> AccessDescription<'a>
         ensures { result ≡ record { access_method = access_method.entry; access_location = access_location.entry } }
     {
@@ -45,22 +45,26 @@ impl<'a> AccessDescription<'a> {
     }
 }
 
-/// Where information on the issuer is to be had (RFC 5280, 4.2.2.1).
+/// An authorityInfoAccess: where information on the issuer is found (RFC 5280, 4.2.2.1).
 #[derive(Debug, Drop, PartialEq, Eq)]
 pub struct AuthorityInfoAccess<'a> {
-    /// The places.
+    /// The access descriptions, in the order of the encoding.
     pub accessdescs: Vec<AccessDescription<'a>>,
 }
 
-/// Where information on the subject is to be had (RFC 5280, 4.2.2.2).
+/// A subjectInfoAccess: where information on the subject is found (RFC 5280, 4.2.2.2).
 #[derive(Debug, Drop, PartialEq, Eq)]
 pub struct SubjectInfoAccess<'a> {
-    /// The places.
+    /// The access descriptions, in the order of the encoding.
     pub accessdescs: Vec<AccessDescription<'a>>,
 }
 
 impl<'a> AccessDescription<'a> {
-    /// A copy: it borrows what the description borrows.
+    /// A copy that borrows the same octets as the description.
+    ///
+    /// # Errors
+    ///
+    /// Out of memory, for a copied name.
     pub fn clone(&self, alloc: Global) -> Result<AccessDescription<'a>, OutOfMemory>
         ensures { IfOk result (λ copy. access_view copy ≡ access_view self.now) }
     {
@@ -87,7 +91,11 @@ impl<'a> Copies for AccessDescription<'a> {
 }
 
 impl<'a> AuthorityInfoAccess<'a> {
-    /// A copy: it borrows what the list borrows.
+    /// A copy that borrows the same octets as the descriptions.
+    ///
+    /// # Errors
+    ///
+    /// Out of memory.
     pub fn clone(&self, alloc: Global) -> Result<AuthorityInfoAccess<'a>, OutOfMemory>
         ensures { IfOk result (λ copy. authority_info_view copy ≡ authority_info_view self.now) }
     {
@@ -97,7 +105,11 @@ impl<'a> AuthorityInfoAccess<'a> {
 }
 
 impl<'a> SubjectInfoAccess<'a> {
-    /// A copy: it borrows what the list borrows.
+    /// A copy that borrows the same octets as the descriptions.
+    ///
+    /// # Errors
+    ///
+    /// Out of memory.
     pub fn clone(&self, alloc: Global) -> Result<SubjectInfoAccess<'a>, OutOfMemory>
         ensures { IfOk result (λ copy. subject_info_view copy ≡ subject_info_view self.now) }
     {
@@ -192,7 +204,13 @@ impl<'b> DerMeaning for AuthorityInfoAccess<'b> {
 }
 
 impl<'a> FromDer<'a, X509Error> for AuthorityInfoAccess<'a> {
-    /// The places of the SEQUENCE that begins the octets, behind those after it: places to its end, none too.
+    /// Reads one SEQUENCE of access descriptions, possibly empty, from the front of `bytes`.
+    /// Returns `(rest, access)`.
+    ///
+    /// # Errors
+    ///
+    /// `Incomplete` if `bytes` ends inside the element; an `Error` if it holds anything else; out
+    /// of memory.
     fn from_der(alloc: Global, bytes: &'a [u8]) -> X509Result<'a, AuthorityInfoAccess<'a>>
         ensures reads { Reads (λ given e. e ≡ told given) (Unit {0}) EndsWithinElement (λ i. i.now)
             (λ i v r. grammar.InfoAccess i (authority_info_view v) r) bytes.now result }
@@ -232,7 +250,13 @@ impl<'b> DerMeaning for SubjectInfoAccess<'b> {
 }
 
 impl<'a> FromDer<'a, X509Error> for SubjectInfoAccess<'a> {
-    /// The places of the SEQUENCE that begins the octets, behind those after it: places to its end, none too.
+    /// Reads one SEQUENCE of access descriptions, possibly empty, from the front of `bytes`.
+    /// Returns `(rest, access)`.
+    ///
+    /// # Errors
+    ///
+    /// `Incomplete` if `bytes` ends inside the element; an `Error` if it holds anything else; out
+    /// of memory.
     fn from_der(alloc: Global, bytes: &'a [u8]) -> X509Result<'a, SubjectInfoAccess<'a>>
         ensures reads { Reads (λ given e. e ≡ told given) (Unit {0}) EndsWithinElement (λ i. i.now)
             (λ i v r. grammar.InfoAccess i (subject_info_view v) r) bytes.now result }

@@ -1,4 +1,5 @@
-//! Other names of subject and issuer (RFC 5280, 4.2.1.6 and 4.2.1.7), and names under a tag number.
+//! `SubjectAlternativeName` and `IssuerAlternativeName` (RFC 5280, 4.2.1.6 and 4.2.1.7), and
+//! readers of general names under a tag.
 
 ghost use Rattle.std.specs.Prelude.{◌≡◌, ◌<◌, ℕ, List, length, IfOk, IfErr};
 ghost use Rattle.asn1_any.specs.CutViews.{piece_of};
@@ -25,22 +26,26 @@ use std::alloc::Global;
 use x509_core::{X509Error, X509Result, front_element};
 use x509_items::{all, content_of, copy_all, each, optional, some, told, told_front};
 
-/// Other names of the subject (RFC 5280, 4.2.1.6).
+/// A subjectAltName: further names of the subject (RFC 5280, 4.2.1.6).
 #[derive(Debug, Drop, PartialEq, Eq)]
 pub struct SubjectAlternativeName<'a> {
-    /// The names.
+    /// The names, in the order of the encoding.
     pub general_names: Vec<GeneralName<'a>>,
 }
 
-/// Other names of the issuer (RFC 5280, 4.2.1.7).
+/// An issuerAltName: further names of the issuer (RFC 5280, 4.2.1.7).
 #[derive(Debug, Drop, PartialEq, Eq)]
 pub struct IssuerAlternativeName<'a> {
-    /// The names.
+    /// The names, in the order of the encoding.
     pub general_names: Vec<GeneralName<'a>>,
 }
 
 impl<'a> SubjectAlternativeName<'a> {
-    /// A copy: it borrows what the names borrows.
+    /// A copy that borrows the same octets as the names.
+    ///
+    /// # Errors
+    ///
+    /// Out of memory.
     pub fn clone(&self, alloc: Global) -> Result<SubjectAlternativeName<'a>, OutOfMemory>
         ensures { IfOk result (λ copy. subject_names_view copy ≡ subject_names_view self.now) }
     {
@@ -50,7 +55,11 @@ impl<'a> SubjectAlternativeName<'a> {
 }
 
 impl<'a> IssuerAlternativeName<'a> {
-    /// A copy: it borrows what the names borrows.
+    /// A copy that borrows the same octets as the names.
+    ///
+    /// # Errors
+    ///
+    /// Out of memory.
     pub fn clone(&self, alloc: Global) -> Result<IssuerAlternativeName<'a>, OutOfMemory>
         ensures { IfOk result (λ copy. issuer_names_view copy ≡ issuer_names_view self.now) }
     {
@@ -102,7 +111,7 @@ fn many_names<'a>(alloc: Global, tag: u32, i: &'a [u8]) -> X509Result<'a, Vec<Ge
     }
 }
 
-/// As many names as begin the content of an element of this tag number, or no such element.
+/// Reads the names at the front of the content of an optional element of this tag number.
 pub fn next_many_names<'a>(
     alloc: Global,
     tag: u32,
@@ -113,7 +122,11 @@ pub fn next_many_names<'a>(
     optional(i, many_names(alloc, tag, i))
 }
 
-/// One name or more at the front, as many as begin there.
+/// Reads names from the front until none begins, at least one. Returns `(rest, names)`.
+///
+/// # Errors
+///
+/// The error of the first name; out of memory.
 pub fn general_names<'a>(alloc: Global, i: &'a [u8]) -> X509Result<'a, Vec<GeneralName<'a>>>
     ensures { Gives (λ r. (map general_name_view r.1.items, r.0.now)) result (some_of general_name_at i.now) }
 {
@@ -131,7 +144,7 @@ fn some_names<'a>(alloc: Global, tag: u32, i: &'a [u8]) -> X509Result<'a, Vec<Ge
     Ok((rest, names))
 }
 
-/// One name or more at the front of the content of an element of this tag number, or no such element.
+/// Reads at least one name at the front of the content of an optional element of this tag number.
 pub fn next_some_names<'a>(
     alloc: Global,
     tag: u32,
@@ -153,7 +166,13 @@ impl<'b> DerMeaning for SubjectAlternativeName<'b> {
 }
 
 impl<'a> FromDer<'a, X509Error> for SubjectAlternativeName<'a> {
-    /// The names of the SEQUENCE that begins the octets, behind those after it: names to its end, none too.
+    /// Reads one SEQUENCE of general names, possibly empty, from the front of `bytes`. Returns
+    /// `(rest, names)`.
+    ///
+    /// # Errors
+    ///
+    /// `Incomplete` if `bytes` ends inside the element; an `Error` if it holds anything else; out
+    /// of memory.
     fn from_der(alloc: Global, bytes: &'a [u8]) -> X509Result<'a, SubjectAlternativeName<'a>>
         ensures reads { Reads (λ given e. e ≡ told given) (Unit {0}) EndsWithinElement (λ i. i.now)
             (λ i v r. grammar.AlternativeName i (subject_names_view v) r) bytes.now result }
@@ -193,7 +212,13 @@ impl<'b> DerMeaning for IssuerAlternativeName<'b> {
 }
 
 impl<'a> FromDer<'a, X509Error> for IssuerAlternativeName<'a> {
-    /// The names of the SEQUENCE that begins the octets, behind those after it: names to its end, none too.
+    /// Reads one SEQUENCE of general names, possibly empty, from the front of `bytes`. Returns
+    /// `(rest, names)`.
+    ///
+    /// # Errors
+    ///
+    /// `Incomplete` if `bytes` ends inside the element; an `Error` if it holds anything else; out
+    /// of memory.
     fn from_der(alloc: Global, bytes: &'a [u8]) -> X509Result<'a, IssuerAlternativeName<'a>>
         ensures reads { Reads (λ given e. e ≡ told given) (Unit {0}) EndsWithinElement (λ i. i.now)
             (λ i v r. grammar.AlternativeName i (issuer_names_view v) r) bytes.now result }

@@ -1,4 +1,4 @@
-//! What names the certificates may have that the subject issues (RFC 5280, 4.2.1.10).
+//! A nameConstraints: the names that certificates below the subject may have (RFC 5280, 4.2.1.10).
 
 ghost use Rattle.std.specs.Prelude.{◌≡◌, ◌<◌, ℕ, List, length, IfOk, IfErr};
 ghost use Rattle.asn1_any.specs.CutViews.{piece_of};
@@ -24,24 +24,28 @@ use std::alloc::Global;
 use x509_core::{X509Error, X509Result, front_element};
 use x509_items::{Begins, Copies, content_of, copy_some, optional, some, taken, told_front};
 
-/// A name and all below it.
+/// A subtree: a name and all names below it.
 #[derive(Debug, Drop, PartialEq, Eq)]
 pub struct GeneralSubtree<'a> {
-    /// The name.
+    /// The name at the root of the subtree.
     pub base: GeneralName<'a>,
 }
 
-/// What names the certificates may have that the subject issues (RFC 5280, 4.2.1.10).
+/// A nameConstraints: the names that certificates below the subject may have (RFC 5280, 4.2.1.10).
 #[derive(Debug, Drop, PartialEq, Eq)]
 pub struct NameConstraints<'a> {
-    /// The only ones that they may have.
+    /// The subtrees that names must lie in, or `None` if there is no such list.
     pub permitted_subtrees: Option<Vec<GeneralSubtree<'a>>>,
-    /// Those that they may not have.
+    /// The subtrees that names must not lie in, or `None` if there is no such list.
     pub excluded_subtrees: Option<Vec<GeneralSubtree<'a>>>,
 }
 
 impl<'a> GeneralSubtree<'a> {
-    /// A copy: it borrows what the name borrows.
+    /// A copy that borrows the same octets as the name.
+    ///
+    /// # Errors
+    ///
+    /// Out of memory, for the copied vectors.
     pub fn clone(&self, alloc: Global) -> Result<GeneralSubtree<'a>, OutOfMemory>
         ensures { IfOk result (λ copy. subtree_view copy ≡ subtree_view self.now) }
     {
@@ -64,7 +68,11 @@ impl<'a> Copies for GeneralSubtree<'a> {
 }
 
 impl<'a> NameConstraints<'a> {
-    /// A copy: it borrows what the names borrows.
+    /// A copy that borrows the same octets as the names.
+    ///
+    /// # Errors
+    ///
+    /// Out of memory.
     pub fn clone(&self, alloc: Global) -> Result<NameConstraints<'a>, OutOfMemory>
         ensures { IfOk result (λ copy. name_constraints_view copy ≡ name_constraints_view self.now) }
     {
@@ -185,7 +193,13 @@ impl<'b> DerMeaning for NameConstraints<'b> {
 }
 
 impl<'a> FromDer<'a, X509Error> for NameConstraints<'a> {
-    /// The constraints that begin the octets, behind those after them. Subtrees that are malformed count as absent.
+    /// Reads one nameConstraints from the front of `bytes`. Returns `(rest, constraints)`.
+    /// Malformed subtrees count as absent: use the strict readers to judge a path.
+    ///
+    /// # Errors
+    ///
+    /// `Incomplete` if `bytes` ends inside the element; an `Error` if it isn't a SEQUENCE; out of
+    /// memory.
     fn from_der(alloc: Global, bytes: &'a [u8]) -> X509Result<'a, NameConstraints<'a>>
         ensures reads { Reads (λ given e. e ≡ told given) (Unit {0}) EndsWithinElement (λ i. i.now)
             (λ i v r. grammar.NameConstraints i (name_constraints_view v) r) bytes.now result }

@@ -23,33 +23,37 @@ use x509_core::{X509Error, X509Result, front_element};
 use x509_items::{Begins, Copies, first_oid, is_of_class, taken, text_of};
 use x509_names::X509Name;
 
-/// A name of one of nine kinds (RFC 5280, 4.2.1.6). The form of texts isn't looked at, but that they are UTF-8.
+/// A general name (RFC 5280, 4.2.1.6). Texts must be UTF-8; their form isn't checked.
 #[derive(Debug, Drop, PartialEq, Eq)]
 pub enum GeneralName<'a> {
-    /// A kind by its identifier, and the octets behind that.
+    /// otherName: the identifier of the kind, and the octets after it.
     OtherName(Oid<'a>, &'a [u8]),
-    /// An address of electronic mail.
+    /// rfc822Name: an electronic mail address.
     RFC822Name(&'a str),
-    /// The name of a host.
+    /// dNSName: the name of a host.
     DNSName(&'a str),
-    /// An element that isn't looked into.
+    /// x400Address or ediPartyName: an element that isn't parsed.
     X400Address(Any<'a>),
-    /// A name of attributes.
+    /// directoryName: a distinguished name.
     DirectoryName(X509Name<'a>),
-    /// An element that isn't looked into.
+    /// x400Address or ediPartyName: an element that isn't parsed.
     EDIPartyName(Any<'a>),
-    /// An identifier of a resource.
+    /// uniformResourceIdentifier: a URI.
     URI(&'a str),
-    /// The octets of an address, or of an address and its mask.
+    /// iPAddress: the octets of an address, or of an address and its mask.
     IPAddress(&'a [u8]),
-    /// An identifier that somebody was given.
+    /// registeredID: an object identifier.
     RegisteredID(Oid<'a>),
-    /// What is no name, by its tag number and its content.
+    /// An element that is no such name, with its tag number and content.
     Invalid(Tag, &'a [u8]),
 }
 
 impl<'a> GeneralName<'a> {
-    /// A copy: it borrows what the name borrows.
+    /// A copy that borrows the same octets as the name.
+    ///
+    /// # Errors
+    ///
+    /// Out of memory, for the copied vectors.
     #[tactic(auto, using(crate::proofs::Copied::same_name))]
     pub fn clone(&self, alloc: Global) -> Result<GeneralName<'a>, OutOfMemory>
         ensures { IfOk result (λ copy. general_name_view copy ≡ general_name_view self.now) }
@@ -169,7 +173,13 @@ impl<'b> DerMeaning for GeneralName<'b> {
 }
 
 impl<'a> FromDer<'a, X509Error> for GeneralName<'a> {
-    /// The name that begins the octets, behind those after it: an element of the context class, `Invalid` where it is none of the nine kinds.
+    /// Reads one general name from the front of `bytes`: an element of the context class. Returns
+    /// `(rest, name)`; the name is `Invalid` if the element has none of the nine forms.
+    ///
+    /// # Errors
+    ///
+    /// `Incomplete` if `bytes` ends inside the element; an `Error` for another class; out of
+    /// memory.
     fn from_der(alloc: Global, bytes: &'a [u8]) -> X509Result<'a, GeneralName<'a>>
         ensures reads { Reads (λ given e. e ≡ told given) (Unit {0}) EndsWithinElement (λ i. i.now)
             (λ i v r. grammar.GeneralName i (general_name_view v) r) bytes.now result }

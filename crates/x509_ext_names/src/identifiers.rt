@@ -1,4 +1,4 @@
-//! Which key of the issuer signed (RFC 5280, 4.2.1.1).
+//! An authorityKeyIdentifier: which key of the issuer signed (RFC 5280, 4.2.1.1).
 
 ghost use Rattle.std.specs.Prelude.{◌≡◌, ◌<◌, ℕ, List, length, IfOk, IfErr};
 ghost use Rattle.asn1_any.specs.CutViews.{piece_of};
@@ -27,19 +27,23 @@ use x509_core::{X509Error, X509Result, front_element, leaf_of};
 use x509_ext_flags::KeyIdentifier;
 use x509_items::{content_of, copy_some, optional};
 
-/// Which key of the issuer signed (RFC 5280, 4.2.1.1).
+/// An authorityKeyIdentifier: which key of the issuer signed (RFC 5280, 4.2.1.1).
 #[derive(Debug, Drop, PartialEq, Eq)]
 pub struct AuthorityKeyIdentifier<'a> {
-    /// By the key's own identifier.
+    /// The identifier of the issuer's key.
     pub key_identifier: Option<KeyIdentifier<'a>>,
-    /// By who issued the key's certificate ..
+    /// The names of the issuer of the key's certificate.
     pub authority_cert_issuer: Option<Vec<GeneralName<'a>>>,
-    /// .. and under what number: the content of an INTEGER.
+    /// The serial number of the key's certificate: the content octets of an INTEGER.
     pub authority_cert_serial: Option<&'a [u8]>,
 }
 
 impl<'a> AuthorityKeyIdentifier<'a> {
-    /// A copy: it borrows what the value borrows.
+    /// A copy that borrows the same octets as the value.
+    ///
+    /// # Errors
+    ///
+    /// Out of memory.
     pub fn clone(&self, alloc: Global) -> Result<AuthorityKeyIdentifier<'a>, OutOfMemory>
         ensures { IfOk result (λ copy. authority_key_view copy ≡ authority_key_view self.now) }
     {
@@ -129,7 +133,13 @@ impl<'b> DerMeaning for AuthorityKeyIdentifier<'b> {
 }
 
 impl<'a> FromDer<'a, X509Error> for AuthorityKeyIdentifier<'a> {
-    /// The value that begins the octets, behind those after it. A part that is malformed counts as absent, and so do those behind it.
+    /// Reads one authorityKeyIdentifier from the front of `bytes`. Returns `(rest, identifier)`. A
+    /// malformed field counts as absent, and so do the fields after it.
+    ///
+    /// # Errors
+    ///
+    /// `Incomplete` if `bytes` ends inside the element; an `Error` if it isn't a SEQUENCE; out of
+    /// memory.
     fn from_der(alloc: Global, bytes: &'a [u8]) -> X509Result<'a, AuthorityKeyIdentifier<'a>>
         ensures reads { Reads (λ given e. e ≡ told given) (Unit {0}) EndsWithinElement (λ i. i.now)
             (λ i v r. grammar.AuthorityKeyIdentifier i (authority_key_view v) r) bytes.now result }

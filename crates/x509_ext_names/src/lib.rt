@@ -1,5 +1,6 @@
-//! General names, and the extension values that are made of them (RFC 5280, 4.2.1.1, 4.2.1.6, 4.2.1.7, 4.2.1.10 and 4.2.2), with
-//! their readers. What is left of the content of a SEQUENCE is ignored, but where a type says so.
+//! General names, and extension values that consist of them (RFC 5280, 4.2.1.1, 4.2.1.6, 4.2.1.7,
+//! 4.2.1.10 and 4.2.2), with their readers. Unless a type says otherwise, octets that remain in the
+//! content of a SEQUENCE are ignored.
 #![tactic(auto)]
 
 mod access;

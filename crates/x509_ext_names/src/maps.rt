@@ -1,4 +1,4 @@
-//! Places by what is to be had there.
+//! Maps from access methods to locations.
 
 ghost use Rattle.std.specs.Prelude.{◌≡◌, IfOk};
 ghost use Rattle.std.specs.Slice.Iter.{iter_rest};
@@ -49,15 +49,19 @@ fn into_grouped<'a>(
 }
 
 impl<'a> AuthorityInfoAccess<'a> {
-    /// The places.
+    /// An iterator over the access descriptions, in the order of the encoding.
     pub fn iter(&self) -> slice::Iter<'_, AccessDescription<'a>>
         ensures { iter_rest result ≡ self.now.accessdescs.items }
     {
         self.accessdescs.iter()
     }
 
-    /// The places by what is to be had there: those of one method in the order in which they stand. The keys ascend by their
-    /// content octets.
+    /// A map from each access method to its locations, in the order of the encoding. Keys are
+    /// sorted by their content octets.
+    ///
+    /// # Errors
+    ///
+    /// Out of memory.
     pub fn as_hashmap(
         &self,
         alloc: Global,
@@ -67,7 +71,12 @@ impl<'a> AuthorityInfoAccess<'a> {
         grouped(alloc, self.accessdescs.as_slice())
     }
 
-    /// The same of places handed over.
+    /// Consumes the descriptions; a map from each access method to its locations, in the order of
+    /// the encoding.
+    ///
+    /// # Errors
+    ///
+    /// Out of memory.
     pub fn into_hashmap(
         self,
         alloc: Global,
@@ -79,15 +88,19 @@ impl<'a> AuthorityInfoAccess<'a> {
 }
 
 impl<'a> SubjectInfoAccess<'a> {
-    /// The places.
+    /// An iterator over the access descriptions, in the order of the encoding.
     pub fn iter(&self) -> slice::Iter<'_, AccessDescription<'a>>
         ensures { iter_rest result ≡ self.now.accessdescs.items }
     {
         self.accessdescs.iter()
     }
 
-    /// The places by what is to be had there: those of one method in the order in which they stand. The keys ascend by their
-    /// content octets.
+    /// A map from each access method to its locations, in the order of the encoding. Keys are
+    /// sorted by their content octets.
+    ///
+    /// # Errors
+    ///
+    /// Out of memory.
     pub fn as_hashmap(
         &self,
         alloc: Global,
@@ -97,7 +110,12 @@ impl<'a> SubjectInfoAccess<'a> {
         grouped(alloc, self.accessdescs.as_slice())
     }
 
-    /// The same of places handed over.
+    /// Consumes the descriptions; a map from each access method to its locations, in the order of
+    /// the encoding.
+    ///
+    /// # Errors
+    ///
+    /// Out of memory.
     pub fn into_hashmap(
         self,
         alloc: Global,

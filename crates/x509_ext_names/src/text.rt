@@ -9,9 +9,11 @@ use asn1_core::Tag;
 use std::fmt;
 use x509_items::write_octets;
 
-/// The kind, and in parentheses what it holds, as `DNSName(host)`, `DirectoryName(CN=Some name)`, `RegisteredID(1.2.3)` and
-/// `IPAddress(7f:00:00:01)`. Of what isn't looked into nothing is shown, as in `OtherName(1.2.3, [...])` and
-/// `X400Address(<unparsed>)`; what is no name is `Invalid(tag=9, data=01:02)`.
+/// Writes the kind, and in parentheses what it holds: `DNSName(host)`, `DirectoryName(CN=Some
+/// name)`, `RegisteredID(1.2.3)`, `IPAddress(7f:00:00:01)`.
+///
+/// What isn't parsed isn't shown, as in `OtherName(1.2.3, [...])` and `X400Address(<unparsed>)`; an
+/// element that is no name is `Invalid(tag=9, data=01:02)`.
 impl<'a> fmt::Display for GeneralName<'a> {
     ghost use Rattle.std.specs.Prelude.{Some};
     ghost use Rattle.x509_ext_names.specs.GeneralTexts.{general_text};

@@ -1,4 +1,4 @@
-//! Values that are flags, a number or octets.
+//! Values that are flags, a number or octets, by kind.
 
 ghost use Rattle.std.specs.Prelude.{◌≡◌, IfOk};
 ghost use Rattle.x509_ext_flags.specs.Reading.{key_identifier_at, usage_at, netscape_at, policy_constraints_at, inhibit_at};

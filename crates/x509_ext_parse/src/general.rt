@@ -1,4 +1,4 @@
-//! Values that hold general names.
+//! Values that hold general names, by kind.
 
 ghost use Rattle.std.specs.Prelude.{◌≡◌, IfOk};
 ghost use Rattle.x509_ext_names.specs.Reading.{authority_key_at, alternative_at, name_constraints_at, info_access_at};

@@ -1,10 +1,10 @@
-//! The kinds of values that are known, by the identifiers of their extensions.
+//! `Kind`, the known kinds of values, and their identifiers.
 
 ghost use Rattle.std.specs.Prelude.{◌≡◌};
 ghost use Rattle.x509_ext_parse.specs.Kinds.{identifier_of};
 ghost use Rattle.x509_ext_parse.specs.Reading.{among, kind_of};
 
-/// A kind of values that is known.
+/// A known kind of values.
 #[derive(Clone, Copy, Debug, PartialEq, Eq)]
 pub enum Kind {
     /// RFC 5280, 4.2.1.2.
@@ -53,7 +53,7 @@ pub enum Kind {
     NsCertComment,
 }
 
-/// All of them.
+/// All known kinds.
 const KNOWN: [Kind; 22] = [
     Kind::SubjectKeyIdentifier,
     Kind::KeyUsage,
@@ -155,7 +155,7 @@ fn likely_kind_of(identifier: &[u8]) -> Option<Kind> {
     }
 }
 
-/// The kind of this identifier.
+/// The kind with this identifier, or `None`.
 pub(crate) fn kind_of(identifier: &[u8]) -> Option<Kind>
     ensures { result ≡ kind_of identifier.now }
 {

@@ -1,4 +1,4 @@
-//! Values of one element.
+//! Values of one element, by kind.
 
 ghost use Rattle.std.specs.Prelude.{◌≡◌, IfOk};
 ghost use Rattle.x509_ext_basic.specs.Reading.{constraints_at, number_at, reason_at, date_at, comment_at};

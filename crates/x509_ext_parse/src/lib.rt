@@ -1,4 +1,5 @@
-//! What the value of an extension is parsed as, by the extension's identifier (RFC 5280, 4.2, 5.2 and 5.3; RFC 6962, 3.3).
+//! Parsing the values of extensions by their identifiers (RFC 5280, 4.2, 5.2 and 5.3; RFC 6962,
+//! 3.3).
 #![tactic(auto)]
 
 mod flags;

@@ -1,4 +1,4 @@
-//! Policies, purposes, places and timestamps.
+//! Policies, purposes, distribution points and timestamps, by kind.
 
 ghost use Rattle.std.specs.Prelude.{◌≡◌, IfOk};
 ghost use Rattle.x509_ext_points.specs.Reading.{points_at, issuing_at};

@@ -1,4 +1,4 @@
-//! Values of extensions by their identifiers.
+//! `parse_extension`, which parses a value by the identifier of its extension.
 
 ghost use Rattle.std.specs.Prelude.{◌≡◌, IfOk};
 ghost use Rattle.x509_ext_types.specs.Values.{Parsed};
@@ -66,10 +66,13 @@ fn read_deeply<'a>(
     }
 }
 
-/// What the value of an extension of this identifier is parsed as. Octets behind a value that is read are ignored.
+/// Parses the value of an extension with this identifier. Octets after the value are ignored. A
+/// malformed value of a known identifier is `ParseError`, with the reader's error; an unknown
+/// identifier is `UnsupportedExtension`.
 ///
-/// A value of a known identifier that its reader refuses is `ParseError`, by the reader's refusal and never want of memory; of an
-/// unknown identifier it is `UnsupportedExtension`.
+/// # Errors
+///
+/// Out of memory, and nothing else.
 pub fn parse_extension<'a>(
     alloc: Global,
     oid: &Oid<'a>,

@@ -1,4 +1,4 @@
-//! What the value of an extension is parsed as.
+//! `ParsedExtension`, the parsed value of an extension.
 
 ghost use Rattle.std.specs.Prelude.{◌≡◌, ◌↔◌, IsTrue, IfOk, option_map};
 ghost use Rattle.x509_ext_parse.specs.Cases.{IsUnsupported, error_of};
@@ -17,69 +17,69 @@ use x509_ext_types::{
 };
 use x509_time::ASN1Time;
 
-/// What the value of an extension is parsed as, by the extension's identifier.
+/// The parsed value of an extension, a variant for each known identifier.
 #[derive(Debug, Drop, PartialEq, Eq)]
 pub enum ParsedExtension<'a> {
-    /// The identifier isn't known.
+    /// The identifier is unknown.
     UnsupportedExtension {
-        /// It.
+        /// The unknown identifier.
         oid: Oid<'a>,
     },
-    /// The identifier is known, and the value is none of its type.
+    /// The identifier is known, and the value is malformed.
     ParseError {
-        /// Why; never want of memory.
+        /// The reader's error; never out of memory.
         error: Refusal<Error>,
     },
-    /// RFC 5280, 4.2.1.1.
+    /// An authorityKeyIdentifier (RFC 5280, 4.2.1.1).
     AuthorityKeyIdentifier(AuthorityKeyIdentifier<'a>),
-    /// RFC 5280, 4.2.1.2.
+    /// A subjectKeyIdentifier (RFC 5280, 4.2.1.2).
     SubjectKeyIdentifier(KeyIdentifier<'a>),
-    /// RFC 5280, 4.2.1.3.
+    /// A keyUsage (RFC 5280, 4.2.1.3).
     KeyUsage(KeyUsage),
-    /// RFC 5280, 4.2.1.4.
+    /// A certificatePolicies (RFC 5280, 4.2.1.4).
     CertificatePolicies(CertificatePolicies<'a>),
-    /// RFC 5280, 4.2.1.5.
+    /// A policyMappings (RFC 5280, 4.2.1.5).
     PolicyMappings(PolicyMappings<'a>),
-    /// RFC 5280, 4.2.1.6.
+    /// A subjectAltName (RFC 5280, 4.2.1.6).
     SubjectAlternativeName(SubjectAlternativeName<'a>),
-    /// RFC 5280, 4.2.1.7.
+    /// An issuerAltName (RFC 5280, 4.2.1.7).
     IssuerAlternativeName(IssuerAlternativeName<'a>),
-    /// RFC 5280, 4.2.1.9.
+    /// A basicConstraints (RFC 5280, 4.2.1.9).
     BasicConstraints(BasicConstraints),
-    /// RFC 5280, 4.2.1.10.
+    /// A nameConstraints (RFC 5280, 4.2.1.10).
     NameConstraints(NameConstraints<'a>),
-    /// RFC 5280, 4.2.1.11.
+    /// A policyConstraints (RFC 5280, 4.2.1.11).
     PolicyConstraints(PolicyConstraints),
-    /// RFC 5280, 4.2.1.12.
+    /// An extKeyUsage (RFC 5280, 4.2.1.12).
     ExtendedKeyUsage(ExtendedKeyUsage<'a>),
-    /// RFC 5280, 4.2.1.13.
+    /// A cRLDistributionPoints (RFC 5280, 4.2.1.13).
     CRLDistributionPoints(CRLDistributionPoints<'a>),
-    /// RFC 5280, 4.2.1.14.
+    /// An inhibitAnyPolicy (RFC 5280, 4.2.1.14).
     InhibitAnyPolicy(InhibitAnyPolicy),
-    /// RFC 5280, 4.2.2.1.
+    /// An authorityInfoAccess (RFC 5280, 4.2.2.1).
     AuthorityInfoAccess(AuthorityInfoAccess<'a>),
-    /// RFC 5280, 4.2.2.2.
+    /// A subjectInfoAccess (RFC 5280, 4.2.2.2).
     SubjectInfoAccess(SubjectInfoAccess<'a>),
-    /// Netscape's type of a certificate.
+    /// A Netscape certificate type.
     NSCertType(NSCertType),
-    /// Netscape's comment.
+    /// A Netscape comment.
     NsCertComment(&'a str),
-    /// RFC 5280, 5.2.5.
+    /// An issuingDistributionPoint (RFC 5280, 5.2.5).
     IssuingDistributionPoint(IssuingDistributionPoint<'a>),
-    /// RFC 5280, 5.2.3.
+    /// A cRLNumber (RFC 5280, 5.2.3).
     CRLNumber(UnsignedBytes<'a>),
-    /// RFC 5280, 5.3.1.
+    /// A reasonCode (RFC 5280, 5.3.1).
     ReasonCode(ReasonCode),
-    /// RFC 5280, 5.3.2.
+    /// An invalidityDate (RFC 5280, 5.3.2).
     InvalidityDate(ASN1Time),
-    /// RFC 6962, 3.3.
+    /// A list of signed certificate timestamps (RFC 6962, 3.3).
     SCT(Vec<SignedCertificateTimestamp<'a>>),
-    /// The value wasn't looked into.
+    /// The value wasn't parsed, since the parser was set not to.
     Unparsed,
 }
 
 impl<'a> ParsedExtension<'a> {
-    /// Whether the extension's identifier isn't known.
+    /// Whether the extension's identifier is unknown.
     pub fn unsupported(&self) -> bool
         ensures { IsTrue result ↔ IsUnsupported self.now }
     {
@@ -89,7 +89,7 @@ impl<'a> ParsedExtension<'a> {
         }
     }
 
-    /// Why the value is none of its type.
+    /// The error of a malformed value, or `None`.
     pub fn error(&self) -> Option<&Refusal<Error>>
         ensures { option_map (λ e. e.now) result ≡ error_of self.now }
     {
@@ -99,7 +99,11 @@ impl<'a> ParsedExtension<'a> {
         }
     }
 
-    /// A copy: it borrows what the value borrows.
+    /// A copy that borrows the same octets as the value.
+    ///
+    /// # Errors
+    ///
+    /// Out of memory, for copied vectors.
     pub fn clone(&self, alloc: Global) -> Result<ParsedExtension<'a>, OutOfMemory>
         ensures value { IfOk result (λ copy. parsed_view copy ≡ parsed_view self.now) }
         ensures error { IfOk result (λ copy. error_of copy ≡ error_of self.now) }

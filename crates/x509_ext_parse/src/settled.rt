@@ -1,4 +1,4 @@
-//! What becomes of a reader's answer.
+//! Conversions of a reader's result to a parsed value.
 
 ghost use Rattle.std.specs.Prelude.{◌≢◌, IfOk, OnOk};
 ghost use Rattle.asn1_core.specs.Answers.{TakesNoMemory};
@@ -20,7 +20,7 @@ fn plain(e: X509Error) -> Error
     }
 }
 
-/// The refusal with its error as one of an element, and want of memory by itself.
+/// Converts a refusal to one with an element's error; out of memory becomes an `Err` of its own.
 pub(crate) fn refused(refusal: Refusal<X509Error>) -> Result<Refusal<Error>, OutOfMemory>
     ensures kept { IfOk result TakesNoMemory }
     ensures octets { OnOk result (IsNoFailure refusal) }
@@ -32,7 +32,8 @@ pub(crate) fn refused(refusal: Refusal<X509Error>) -> Result<Refusal<Error>, Out
     }
 }
 
-/// The same answer, the octets behind a value dropped, an error as one of an element, and want of memory by itself.
+/// Converts a reader's result: the rest is dropped, errors become an element's errors, and out of
+/// memory becomes an `Err` of its own.
 pub(crate) fn settled<'a, T: Drop>(
     answer: X509Result<'a, T>,
 ) -> Result<Result<T, Refusal<Error>>, OutOfMemory>

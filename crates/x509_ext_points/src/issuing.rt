@@ -1,4 +1,4 @@
-//! What a revocation list tells of (RFC 5280, 5.2.5).
+//! `IssuingDistributionPoint` (RFC 5280, 5.2.5).
 
 ghost use Rattle.std.specs.Prelude.{◌≡◌, ℕ, List, IfOk, IfErr, option_map};
 ghost use Rattle.asn1_any.specs.CutViews.{piece_of};
@@ -18,25 +18,29 @@ use x509_core::{X509Error, X509Result, front_element, leaf_of};
 use x509_ext_flags::ReasonFlags;
 use x509_items::content_of;
 
-/// What a list tells of (RFC 5280, 5.2.5).
+/// An issuingDistributionPoint: the scope of a revocation list (RFC 5280, 5.2.5).
 #[derive(Debug, Drop, PartialEq, Eq)]
 pub struct IssuingDistributionPoint<'a> {
-    /// Where the list is.
+    /// The distribution point of the list.
     pub distribution_point: Option<DistributionPointName<'a>>,
-    /// Certificates of subjects that issue none alone.
+    /// Whether the list covers only end entity certificates.
     pub only_contains_user_certs: bool,
-    /// Certificates of subjects that issue others alone.
+    /// Whether the list covers only certificates of authorities.
     pub only_contains_ca_certs: bool,
-    /// Some reasons of revocation alone.
+    /// The only reasons that the list covers, or `None` for all.
     pub only_some_reasons: Option<ReasonFlags>,
-    /// Certificates of other issuers too.
+    /// Whether the list covers certificates of other issuers.
     pub indirect_crl: bool,
-    /// Attribute certificates alone.
+    /// Whether the list covers only attribute certificates.
     pub only_contains_attribute_certs: bool,
 }
 
 impl<'a> IssuingDistributionPoint<'a> {
-    /// A copy: it borrows what the value borrows.
+    /// A copy that borrows the same octets as the value.
+    ///
+    /// # Errors
+    ///
+    /// Out of memory, for a copied name.
     pub fn clone(&self, alloc: Global) -> Result<IssuingDistributionPoint<'a>, OutOfMemory>
         ensures { IfOk result (λ copy. issuing_point_view copy ≡ issuing_point_view self.now) }
     {
@@ -127,7 +131,13 @@ fn issuing_at_front<'a>(alloc: Global, i: &'a [u8]) -> X509Result<'a, IssuingDis
     Ok((rest, value))
 }
 
-/// The value that begins the octets, behind those after it. A part that is malformed counts as absent, or as false.
+/// Reads one issuingDistributionPoint from the front. Returns `(rest, point)`. A malformed field
+/// counts as absent, or as false: use the strict readers to judge a list.
+///
+/// # Errors
+///
+/// `Incomplete` if the octets end inside the element; an `Error` if it isn't a SEQUENCE; out of
+/// memory.
 pub fn issuing_distribution_point<'a>(
     alloc: Global,
     i: &'a [u8],

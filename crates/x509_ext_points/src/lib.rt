@@ -1,5 +1,6 @@
-//! Where revocation lists are to be had, and what one is for, with their readers (RFC 5280, 4.2.1.13 and 5.2.5). A part that is
-//! malformed counts as absent, and what is left of the content of a SEQUENCE is ignored.
+//! Distribution points of revocation lists, and the scope of a list, with their readers (RFC 5280,
+//! 4.2.1.13 and 5.2.5). Malformed fields count as absent, and octets that remain in the content of
+//! a SEQUENCE are ignored.
 #![tactic(auto)]
 
 mod issuing;

@@ -1,4 +1,4 @@
-//! The name of a place where revocation lists are (RFC 5280, 4.2.1.13), and reasons of revocation.
+//! `DistributionPointName` (RFC 5280, 4.2.1.13), and a reader of reasons.
 
 ghost use Rattle.std.specs.Prelude.{◌≡◌, ℕ, List, IfOk, map, option_map, Ok};
 ghost use Rattle.x509_core.specs.Answers.{Gives};
@@ -16,17 +16,21 @@ use x509_ext_names::{GeneralName, general_names};
 use x509_items::{content_of, copy_all, optional};
 use x509_names::RelativeDistinguishedName;
 
-/// The name of a place where lists are.
+/// The name of a distribution point.
 #[derive(Debug, Drop, PartialEq, Eq)]
 pub enum DistributionPointName<'a> {
-    /// Names of the same place.
+    /// fullName: alternative names of the same place.
     FullName(Vec<GeneralName<'a>>),
-    /// Attributes that are added to the name of the list's issuer.
+    /// nameRelativeToCRLIssuer: attributes to append to the name of the list's issuer.
     NameRelativeToCRLIssuer(RelativeDistinguishedName<'a>),
 }
 
 impl<'a> DistributionPointName<'a> {
-    /// A copy: it borrows what the name borrows.
+    /// A copy that borrows the same octets as the name.
+    ///
+    /// # Errors
+    ///
+    /// Out of memory.
     pub fn clone(&self, alloc: Global) -> Result<DistributionPointName<'a>, OutOfMemory>
         ensures { IfOk result (λ copy. point_name_view copy ≡ point_name_view self.now) }
     {
@@ -106,7 +110,7 @@ fn name_at_front<'a>(alloc: Global, i: &'a [u8]) -> X509Result<'a, DistributionP
     Ok((rest, name))
 }
 
-/// A name under tag number 0, or none.
+/// Reads an optional name under tag number 0.
 pub(crate) fn next_name<'a>(
     alloc: Global,
     i: &'a [u8],
@@ -125,7 +129,7 @@ fn reasons_at_front<'a>(tag: u32, i: &'a [u8]) -> X509Result<'a, ReasonFlags>
     Ok((rest, reasons))
 }
 
-/// Reasons under this tag number, or none.
+/// Reads optional reasons under this tag number.
 pub(crate) fn next_reasons<'a>(tag: u32, i: &'a [u8]) -> X509Result<'a, Option<ReasonFlags>>
     ensures { Gives (λ r. (option_map reasons_view r.1, r.0.now)) result (Ok (maybe_of (reasons_at tag) i.now)) }
 {

@@ -1,4 +1,4 @@
-//! Where revocation lists are to be had (RFC 5280, 4.2.1.13).
+//! `CRLDistributionPoints` (RFC 5280, 4.2.1.13).
 
 ghost use Rattle.std.specs.Prelude.{◌≡◌, ◌<◌, ℕ, List, length, IfOk, IfErr};
 ghost use Rattle.asn1_any.specs.CutViews.{piece_of};
@@ -25,26 +25,30 @@ use x509_ext_flags::ReasonFlags;
 use x509_ext_names::{GeneralName, next_some_names};
 use x509_items::{Begins, Copies, all, content_of, copy_all, copy_some, taken, told};
 
-/// A place where lists are.
+/// A distribution point: a place where revocation lists are found.
 #[derive(Debug, Drop, PartialEq, Eq)]
 pub struct CRLDistributionPoint<'a> {
-    /// Its name.
+    /// The name of the place.
     pub distribution_point: Option<DistributionPointName<'a>>,
-    /// The reasons of revocation that its lists tell; all where none stand.
+    /// The reasons that its lists cover, or `None` for all.
     pub reasons: Option<ReasonFlags>,
-    /// Who issues the lists, where it isn't the certificate's issuer.
+    /// The issuer of its lists, or `None` for the certificate's issuer.
     pub crl_issuer: Option<Vec<GeneralName<'a>>>,
 }
 
-/// The places where lists are (RFC 5280, 4.2.1.13).
+/// A cRLDistributionPoints: places where revocation lists are found (RFC 5280, 4.2.1.13).
 #[derive(Debug, Drop, PartialEq, Eq)]
 pub struct CRLDistributionPoints<'a> {
-    /// The places.
+    /// The distribution points, in the order of the encoding.
     pub points: Vec<CRLDistributionPoint<'a>>,
 }
 
 impl<'a> CRLDistributionPoint<'a> {
-    /// A copy: it borrows what the place borrows.
+    /// A copy that borrows the same octets as the distribution point.
+    ///
+    /// # Errors
+    ///
+    /// Out of memory.
     pub fn clone(&self, alloc: Global) -> Result<CRLDistributionPoint<'a>, OutOfMemory>
         ensures { IfOk result (λ copy. point_view copy ≡ point_view self.now) }
     {
@@ -72,7 +76,11 @@ impl<'a> Copies for CRLDistributionPoint<'a> {
 }
 
 impl<'a> CRLDistributionPoints<'a> {
-    /// A copy: it borrows what the places borrows.
+    /// A copy that borrows the same octets as the distribution points.
+    ///
+    /// # Errors
+    ///
+    /// Out of memory.
     pub fn clone(&self, alloc: Global) -> Result<CRLDistributionPoints<'a>, OutOfMemory>
         ensures { IfOk result (λ copy. points_view copy ≡ points_view self.now) }
     {
@@ -159,7 +167,13 @@ impl<'b> DerMeaning for CRLDistributionPoints<'b> {
 }
 
 impl<'a> FromDer<'a, X509Error> for CRLDistributionPoints<'a> {
-    /// The places of the SEQUENCE that begins the octets, behind those after it: places to its end, none too. A part of a place that is malformed counts as absent.
+    /// Reads one SEQUENCE of distribution points, possibly empty, from the front of `bytes`.
+    /// Returns `(rest, points)`. A malformed field of a point counts as absent.
+    ///
+    /// # Errors
+    ///
+    /// `Incomplete` if `bytes` ends inside the element; an `Error` if it holds anything else; out
+    /// of memory.
     fn from_der(alloc: Global, bytes: &'a [u8]) -> X509Result<'a, CRLDistributionPoints<'a>>
         ensures reads { Reads (λ given e. e ≡ told given) (Unit {0}) EndsWithinElement (λ i. i.now)
             (λ i v r. grammar.CRLDistributionPoints i (points_view v) r) bytes.now result }

@@ -1,4 +1,4 @@
-//! Values by identifier.
+//! A map from identifiers to groups of values.
 
 ghost use Rattle.std.specs.Prelude.{◌≡◌, ◌++◌, ◌∷◌, [], ℕ, List, Some, None, IfOk, if◌then◌else◌, bytes_eq};
 ghost use Rattle.x509_ext_policies.specs.Grouping.{held_at, values_or_none};
@@ -8,7 +8,11 @@ use asn1_oid::Oid;
 use std::alloc::Global;
 use std::collections::BTreeMap;
 
-/// Adds a value behind those of its identifier. `OutOfMemory` where memory ran out: those of this identifier may be gone then.
+/// Appends a value to the group of its identifier.
+///
+/// # Errors
+///
+/// `OutOfMemory`; the group of this identifier may be gone then.
 pub fn add_to_group<'a, T: Drop>(
     alloc: Global,
     groups: &mut BTreeMap<Oid<'a>, Vec<T>>,

@@ -1,5 +1,6 @@
-//! Policies and purposes, and their readers (RFC 5280, 4.2.1.4, 4.2.1.5 and 4.2.1.12). What is left of the content of a SEQUENCE is
-//! ignored, but where a type says so.
+//! Policies, policy mappings and extended key usages, with their readers (RFC 5280, 4.2.1.4,
+//! 4.2.1.5 and 4.2.1.12). Unless a type says otherwise, octets that remain in the content of a
+//! SEQUENCE are ignored.
 #![tactic(auto)]
 
 mod grouping;

@@ -1,4 +1,4 @@
-//! Policies that an issuer takes for the same (RFC 5280, 4.2.1.5).
+//! A policyMappings: pairs of policies that the issuer considers equivalent (RFC 5280, 4.2.1.5).
 
 ghost use Rattle.std.specs.Prelude.{◌≡◌, ◌<◌, ℕ, List, length, IfOk, IfErr};
 ghost use Rattle.asn1_any.specs.CutViews.{piece_of};
@@ -24,17 +24,17 @@ use std::alloc::Global;
 use x509_core::{X509Error, X509Result, front_element};
 use x509_items::{Begins, Copies, all, copy_all, first_oid, sequence_content, taken, told};
 
-/// Two policies that the issuer takes for the same.
+/// A pair of policies that the issuer considers equivalent.
 #[derive(Debug, Drop, PartialEq, Eq)]
 pub struct PolicyMapping<'a> {
-    /// The issuer's.
+    /// The policy in the issuer's domain.
     pub issuer_domain_policy: Oid<'a>,
-    /// The subject's.
+    /// The policy in the subject's domain.
     pub subject_domain_policy: Oid<'a>,
 }
 
 impl<'a> PolicyMapping<'a> {
-    /// These two.
+    /// Joins two policies.
     pub fn new(issuer_domain_policy: Oid<'a>, subject_domain_policy: Oid<'a>) -> PolicyMapping<'a>
         ensures { result ≡ record { issuer_domain_policy = issuer_domain_policy.entry; subject_domain_policy = subject_domain_policy.entry } }
     {
@@ -48,12 +48,16 @@ impl<'a> PolicyMapping<'a> {
 /// Policies that the issuer takes for the same (RFC 5280, 4.2.1.5).
 #[derive(Debug, Drop, PartialEq, Eq)]
 pub struct PolicyMappings<'a> {
-    /// The pairs, in the order in which they stand.
+    /// The pairs, in the order of the encoding.
     pub mappings: Vec<PolicyMapping<'a>>,
 }
 
 impl<'a> PolicyMapping<'a> {
-    /// A copy: it borrows what the pair borrows.
+    /// A copy that borrows the same octets as the pair.
+    ///
+    /// # Errors
+    ///
+    /// Out of memory.
     pub fn clone(&self, alloc: Global) -> Result<PolicyMapping<'a>, OutOfMemory>
         ensures { IfOk result (λ copy. mapping_view copy ≡ mapping_view self.now) }
     {
@@ -80,7 +84,11 @@ impl<'a> Copies for PolicyMapping<'a> {
 }
 
 impl<'a> PolicyMappings<'a> {
-    /// A copy: it borrows what the pairs borrows.
+    /// A copy that borrows the same octets as the pairs.
+    ///
+    /// # Errors
+    ///
+    /// Out of memory, for the copied vector.
     pub fn clone(&self, alloc: Global) -> Result<PolicyMappings<'a>, OutOfMemory>
         ensures { IfOk result (λ copy. mappings_view copy ≡ mappings_view self.now) }
     {
@@ -153,7 +161,12 @@ impl<'b> DerMeaning for PolicyMapping<'b> {
 }
 
 impl<'a> FromDer<'a, X509Error> for PolicyMapping<'a> {
-    /// The pair that begins the octets, behind those after it: a constructed universal SEQUENCE.
+    /// Reads one pair, a constructed universal SEQUENCE, from the front of `bytes`. Returns `(rest,
+    /// pair)`.
+    ///
+    /// # Errors
+    ///
+    /// `Incomplete` if `bytes` ends inside the element; an `Error` if it is anything else.
     fn from_der(_alloc: Global, bytes: &'a [u8]) -> X509Result<'a, PolicyMapping<'a>>
         ensures reads { Reads (λ given e. e ≡ told given) (Unit {0}) EndsWithinElement (λ i. i.now)
             (λ i v r. grammar.PolicyMapping i (mapping_view v) r) bytes.now result }
@@ -190,7 +203,13 @@ impl<'b> DerMeaning for PolicyMappings<'b> {
 }
 
 impl<'a> FromDer<'a, X509Error> for PolicyMappings<'a> {
-    /// The pairs of the SEQUENCE that begins the octets, behind those after it: pairs to its end, none too.
+    /// Reads one SEQUENCE of pairs, possibly empty, from the front of `bytes`. Returns `(rest,
+    /// mappings)`.
+    ///
+    /// # Errors
+    ///
+    /// `Incomplete` if `bytes` ends inside the element; an `Error` if it holds anything else; out
+    /// of memory.
     fn from_der(alloc: Global, bytes: &'a [u8]) -> X509Result<'a, PolicyMappings<'a>>
         ensures reads { Reads (λ given e. e ≡ told given) (Unit {0}) EndsWithinElement (λ i. i.now)
             (λ i v r. grammar.PolicyMappings i (mappings_view v) r) bytes.now result }

@@ -1,4 +1,4 @@
-//! Policies by the issuer's policy.
+//! Maps from the issuer's policies to the subject's.
 
 ghost use Rattle.std.specs.Prelude.{IfOk};
 ghost use Rattle.x509_ext_policies.specs.Grouping.{Groups};
@@ -11,8 +11,12 @@ use std::alloc::Global;
 use std::collections::BTreeMap;
 
 impl<'a> PolicyMappings<'a> {
-    /// The subject's policies by the issuer's: those of one issuer's policy in the order in which they stand. The keys ascend by
-    /// their content octets.
+    /// A map from each policy of the issuer's domain to those of the subject's, in the order of the
+    /// encoding. Keys are sorted by their content octets.
+    ///
+    /// # Errors
+    ///
+    /// Out of memory.
     pub fn as_hashmap(&self, alloc: Global) -> Result<BTreeMap<Oid<'a>, Vec<&Oid<'a>>>, OutOfMemory>
         ensures { IfOk result (Groups (λ o. o.now) (λ m. m.issuer_domain_policy) (λ m. m.subject_domain_policy) self.now.mappings.items) }
     {
@@ -25,7 +29,12 @@ impl<'a> PolicyMappings<'a> {
         Ok(groups)
     }
 
-    /// The same of values handed over.
+    /// Consumes the mappings; a map from each policy of the issuer's domain to those of the
+    /// subject's, in the order of the encoding.
+    ///
+    /// # Errors
+    ///
+    /// Out of memory.
     pub fn into_hashmap(self, alloc: Global) -> Result<BTreeMap<Oid<'a>, Vec<Oid<'a>>>, OutOfMemory>
         ensures { IfOk result (Groups (λ o. o) (λ m. m.issuer_domain_policy) (λ m. m.subject_domain_policy) self.entry.mappings.items) }
     {

@@ -1,4 +1,4 @@
-//! Under which policies certificates are issued (RFC 5280, 4.2.1.4).
+//! `CertificatePolicies` (RFC 5280, 4.2.1.4).
 
 ghost use Rattle.std.specs.Prelude.{◌≡◌, ◌<◌, ℕ, List, length, IfOk, IfErr};
 ghost use Rattle.asn1_any.specs.CutViews.{piece_of};
@@ -21,29 +21,33 @@ use x509_items::{
     Begins, Copies, all, content_of, copy_some, first_oid, optional, some, taken, told, told_front,
 };
 
-/// More on a policy.
+/// A policy qualifier: further information on a policy.
 #[derive(Debug, Drop, PartialEq, Eq)]
 pub struct PolicyQualifierInfo<'a> {
-    /// What it is.
+    /// The identifier of the qualifier.
     pub policy_qualifier_id: Oid<'a>,
-    /// The octets behind its identifier.
+    /// The octets after its identifier.
     pub qualifier: &'a [u8],
 }
 
-/// A policy.
+/// A policy with its qualifiers.
 #[derive(Debug, Drop, PartialEq, Eq)]
 pub struct PolicyInformation<'a> {
-    /// Which one it is.
+    /// The identifier of the policy.
     pub policy_id: Oid<'a>,
-    /// More on it.
+    /// Its qualifiers, or `None` if there is no list of them.
     pub policy_qualifiers: Option<Vec<PolicyQualifierInfo<'a>>>,
 }
 
-/// The policies of a certificate (RFC 5280, 4.2.1.4).
+/// A certificatePolicies: the policies that a certificate was issued under (RFC 5280, 4.2.1.4).
 pub type CertificatePolicies<'a> = Vec<PolicyInformation<'a>>;
 
 impl<'a> PolicyQualifierInfo<'a> {
-    /// A copy: it borrows what the value borrows.
+    /// A copy that borrows the same octets as the qualifier.
+    ///
+    /// # Errors
+    ///
+    /// Out of memory.
     pub fn clone(&self, alloc: Global) -> Result<PolicyQualifierInfo<'a>, OutOfMemory>
         ensures { IfOk result (λ copy. qualifier_view copy ≡ qualifier_view self.now) }
     {
@@ -69,7 +73,11 @@ impl<'a> Copies for PolicyQualifierInfo<'a> {
 }
 
 impl<'a> PolicyInformation<'a> {
-    /// A copy: it borrows what the policy borrows.
+    /// A copy that borrows the same octets as the policy.
+    ///
+    /// # Errors
+    ///
+    /// Out of memory, for the copied vector.
     pub fn clone(&self, alloc: Global) -> Result<PolicyInformation<'a>, OutOfMemory>
         ensures { IfOk result (λ copy. policy_view copy ≡ policy_view self.now) }
     {
@@ -214,7 +222,12 @@ impl<'a> Begins<'a> for PolicyInformation<'a> {
     }
 }
 
-/// The policies of the SEQUENCE that begins the octets, behind those after it: policies to its end, none too.
+/// Reads one SEQUENCE of policies, possibly empty, from the front. Returns `(rest, policies)`.
+///
+/// # Errors
+///
+/// `Incomplete` if the octets end inside the element; an `Error` if it holds anything else; out of
+/// memory.
 pub fn certificate_policies<'a>(
     alloc: Global,
     i: &'a [u8],

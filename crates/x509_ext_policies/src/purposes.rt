@@ -1,4 +1,4 @@
-//! Purposes of a key (RFC 5280, 4.2.1.12).
+//! An extKeyUsage: purposes of a key (RFC 5280, 4.2.1.12).
 
 ghost use Rattle.std.specs.Prelude.{◌≡◌, ◌<◌, ℕ, List, length, IfOk, IfErr};
 ghost use Rattle.asn1_any.specs.CutViews.{piece_of};
@@ -27,29 +27,33 @@ use std::collections::BTreeSet;
 use x509_core::{X509Error, X509Result, front_element};
 use x509_items::{all, copy_all, sequence_content, told};
 
-/// Purposes of a key (RFC 5280, 4.2.1.12).
+/// An extKeyUsage: purposes of a key (RFC 5280, 4.2.1.12).
 #[derive(Debug, Drop, PartialEq, Eq)]
 pub struct ExtendedKeyUsage<'a> {
-    /// Any purpose.
+    /// anyExtendedKeyUsage.
     pub any: bool,
-    /// To show who a server is.
+    /// id-kp-serverAuth: authentication of a TLS server.
     pub server_auth: bool,
-    /// To show who a client is.
+    /// id-kp-clientAuth: authentication of a TLS client.
     pub client_auth: bool,
-    /// To sign code.
+    /// id-kp-codeSigning: signing of code.
     pub code_signing: bool,
-    /// To protect electronic mail.
+    /// id-kp-emailProtection: protection of electronic mail.
     pub email_protection: bool,
-    /// To sign times.
+    /// id-kp-timeStamping: signing of time stamps.
     pub time_stamping: bool,
-    /// To sign answers on the state of certificates.
+    /// id-kp-OCSPSigning: signing of OCSP responses.
     pub ocsp_signing: bool,
-    /// Further ones, in the order in which they stand.
+    /// Other purposes, in the order of the encoding, each once.
     pub other: Vec<Oid<'a>>,
 }
 
 impl<'a> ExtendedKeyUsage<'a> {
-    /// A copy: it borrows what the value borrows.
+    /// A copy that borrows the same octets as the purposes.
+    ///
+    /// # Errors
+    ///
+    /// Out of memory, for the copied vector.
     pub fn clone(&self, alloc: Global) -> Result<ExtendedKeyUsage<'a>, OutOfMemory>
         ensures { IfOk result (λ copy. purposes_view copy ≡ purposes_view self.now) }
     {
@@ -176,8 +180,14 @@ impl<'b> DerMeaning for ExtendedKeyUsage<'b> {
 }
 
 impl<'a> FromDer<'a, X509Error> for ExtendedKeyUsage<'a> {
-    /// The purposes of the SEQUENCE that begins the octets, behind those after it: a constructed universal SEQUENCE of identifiers to its end, none too. A further purpose is kept where it stands first;
-    /// that takes about as many comparisons as n times the logarithm of n, of n further purposes.
+    /// Reads one extKeyUsage from the front of `bytes`: a constructed universal SEQUENCE of
+    /// identifiers, possibly empty. Returns `(rest, purposes)`. Of equal other purposes the first
+    /// is kept; n of them take some n log n comparisons.
+    ///
+    /// # Errors
+    ///
+    /// `Incomplete` if `bytes` ends inside the element; an `Error` if it holds anything else; out
+    /// of memory.
     fn from_der(alloc: Global, bytes: &'a [u8]) -> X509Result<'a, ExtendedKeyUsage<'a>>
         ensures reads { Reads (λ given e. e ≡ told given) (Unit {0}) EndsWithinElement (λ i. i.now)
             (λ i v r. grammar.ExtendedKeyUsage i (purposes_view v) r) bytes.now result }

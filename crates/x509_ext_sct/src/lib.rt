@@ -1,4 +1,4 @@
-//! Signed certificate timestamps (RFC 6962, 3.2 and 3.3).
+//! Signed certificate timestamps (RFC 6962, 3.2 and 3.3), and their readers.
 #![tactic(auto)]
 
 mod list;

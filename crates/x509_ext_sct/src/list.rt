@@ -1,4 +1,4 @@
-//! The list of signed certificate timestamps (RFC 6962, 3.3).
+//! The reader of SignedCertificateTimestampList (RFC 6962, 3.3).
 
 ghost use Rattle.std.specs.Prelude.{◌≡◌, List, ℕ, IfOk, map};
 ghost use Rattle.asn1_any.specs.Views.{any_of};
@@ -74,7 +74,13 @@ fn list_at_front<'a>(
     Ok((rest, timestamps))
 }
 
-/// The timestamps of the OCTET STRING that begins the octets, behind those after it: as many as begin in its list, one at least.
+/// Reads one OCTET STRING with a list of timestamps from the front. Returns `(rest, timestamps)`:
+/// as many as begin in the list, at least one.
+///
+/// # Errors
+///
+/// `Incomplete` if the octets end inside the element; an `Error` without a timestamp; out of
+/// memory.
 pub fn parse_ct_signed_certificate_timestamp_list<'a>(
     alloc: Global,
     i: &'a [u8],

@@ -1,4 +1,4 @@
-//! Octets in the notation of TLS (RFC 5246, 4).
+//! Octets in the presentation language of TLS (RFC 5246, 4).
 
 ghost use Rattle.std.specs.Prelude.{◌≤◌, ◌<◌, ◌+◌, length, IfOk, IfErr};
 ghost use Rattle.x509_core.specs.Answers.{Gives};
@@ -9,7 +9,7 @@ use asn1_core::{Err as Refusal, Error};
 use asn1_unsigned::UnsignedBytes;
 use x509_core::{X509Error, X509Result};
 
-/// So many octets, and those behind them.
+/// Reads `size` octets. Returns `(rest, octets)`.
 #[tactic(auto, unfolding(crate::specs::Reading::fixed_at))]
 pub(crate) fn fixed<'a>(i: &'a [u8], size: usize) -> X509Result<'a, &'a [u8]>
     ensures read { Gives (λ r. (r.1.now, r.0.now)) result (fixed_at size i.now) }
@@ -23,7 +23,7 @@ pub(crate) fn fixed<'a>(i: &'a [u8], size: usize) -> X509Result<'a, &'a [u8]>
     Ok((rest, front))
 }
 
-/// A length in two octets, and so many octets (RFC 5246, 4.3).
+/// Reads a length of two octets and as many octets (RFC 5246, 4.3). Returns `(rest, octets)`.
 #[tactic(auto, unfolding(crate::specs::Reading::opaque_at))]
 pub(crate) fn opaque<'a>(i: &'a [u8]) -> X509Result<'a, &'a [u8]>
     ensures read { Gives (λ r. (r.1.now, r.0.now)) result (opaque_at i.now) }
@@ -36,7 +36,7 @@ pub(crate) fn opaque<'a>(i: &'a [u8]) -> X509Result<'a, &'a [u8]>
     }
 }
 
-/// One octet.
+/// Reads one octet. Returns `(rest, octet)`.
 #[tactic(auto, unfolding(crate::specs::Reading::octet_at))]
 pub(crate) fn octet<'a>(i: &'a [u8]) -> X509Result<'a, u8>
     ensures read { Gives (λ r. (r.1, r.0.now)) result (octet_at i.now) }
@@ -48,7 +48,8 @@ pub(crate) fn octet<'a>(i: &'a [u8]) -> X509Result<'a, u8>
     }
 }
 
-/// A number of eight octets, the highest first (RFC 5246, 4.4).
+/// Reads a number of eight octets, most significant first (RFC 5246, 4.4). Returns `(rest,
+/// number)`.
 #[tactic(auto, unfolding(crate::specs::Reading::time_at))]
 pub(crate) fn time<'a>(i: &'a [u8]) -> X509Result<'a, u64>
     ensures read { Gives (λ r. (r.1, r.0.now)) result (time_at i.now) }

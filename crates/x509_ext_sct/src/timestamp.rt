@@ -1,4 +1,4 @@
-//! One signed certificate timestamp (RFC 6962, 3.2).
+//! The reader of SignedCertificateTimestamp (RFC 6962, 3.2).
 
 ghost use Rattle.std.specs.Prelude.{◌≡◌, ◌<◌, List, ℕ, length, IfOk, IfErr};
 ghost use Rattle.x509_core.specs.Answers.{Gives, ElseMemory};
@@ -77,8 +77,12 @@ pub(crate) fn timestamp_at_front<'a>(i: &'a [u8]) -> X509Result<'a, SignedCertif
     Ok((rest, timestamp))
 }
 
-/// The timestamp that begins the octets behind its length in two octets (RFC 6962, 3.3), behind the octets after it. What is left
-/// of its own octets is ignored.
+/// Reads one timestamp after its length of two octets (RFC 6962, 3.3). Returns `(rest, timestamp)`.
+/// Octets that remain within the length are ignored.
+///
+/// # Errors
+///
+/// An `Error` if the octets are too few.
 pub fn parse_ct_signed_certificate_timestamp<'a>(
     i: &'a [u8],
 ) -> X509Result<'a, SignedCertificateTimestamp<'a>>

@@ -1,4 +1,4 @@
-//! What the values of extensions hold (RFC 5280, 4.2, 5.2 and 5.3; RFC 6962, 3.3), and octets as text.
+//! The types of extension values (RFC 5280, 4.2, 5.2 and 5.3; RFC 6962, 3.3), and octets as text.
 #![tactic(auto)]
 
 mod timestamps;

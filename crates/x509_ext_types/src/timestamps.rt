@@ -1,52 +1,52 @@
-//! Promises of logs to publish a certificate (RFC 6962, 3).
+//! Signed certificate timestamps: promises of logs to publish a certificate (RFC 6962, 3).
 
 use asn1_core::OutOfMemory;
 use std::alloc::Global;
 use x509_items::Copies;
 
-/// The version of a log's answers (RFC 6962, 3.2).
+/// The version of the protocol (RFC 6962, 3.2).
 #[derive(Clone, Copy, Debug, PartialEq, Eq)]
 pub struct CtVersion(pub u8);
 
 impl CtVersion {
-    /// The first one.
+    /// Version 1, encoded as 0.
     pub const V1: CtVersion = CtVersion(0);
 }
 
-/// Which log it is (RFC 6962, 3.2).
+/// The identifier of a log (RFC 6962, 3.2).
 #[derive(Clone, Debug, Drop, PartialEq, Eq)]
 pub struct CtLogID<'a> {
-    /// The SHA-256 digest of its key.
+    /// The SHA-256 digest of the log's public key.
     pub key_id: &'a [u8; 32],
 }
 
-/// What else the log says (RFC 6962, 3.2).
+/// Extensions of a timestamp (RFC 6962, 3.2).
 #[derive(Clone, Debug, Drop, PartialEq, Eq)]
 pub struct CtExtensions<'a>(pub &'a [u8]);
 
-/// A signature (RFC 5246, 4.7).
+/// A signature with its algorithms (RFC 5246, 4.7). It isn't verified.
 #[derive(Clone, Debug, Drop, PartialEq, Eq)]
 pub struct DigitallySigned<'a> {
-    /// How what is signed is digested.
+    /// The hash algorithm.
     pub hash_alg_id: u8,
-    /// How the digest is signed.
+    /// The signature algorithm.
     pub sign_alg_id: u8,
-    /// The signature's octets.
+    /// The octets of the signature.
     pub content: &'a [u8],
 }
 
-/// A log's promise (RFC 6962, 3.2).
+/// A signed certificate timestamp (RFC 6962, 3.2).
 #[derive(Clone, Debug, Drop, PartialEq, Eq)]
 pub struct SignedCertificateTimestamp<'a> {
-    /// The version of the log's answers.
+    /// The version of the protocol.
     pub version: CtVersion,
-    /// The log.
+    /// The log that issued it.
     pub id: CtLogID<'a>,
-    /// When it promised, in milliseconds since 1970 began.
+    /// The time of issue, in milliseconds since the beginning of 1970.
     pub timestamp: u64,
-    /// What else it says.
+    /// Its extensions.
     pub extensions: CtExtensions<'a>,
-    /// Its signature.
+    /// The log's signature.
     pub signature: DigitallySigned<'a>,
 }
 

@@ -1,4 +1,4 @@
-//! The content of an element, parts that may be absent, and answers that tell no error.
+//! Contents of elements, optional fields, and readers that return `None` in place of an error.
 
 ghost use Rattle.std.specs.Prelude.{◌≡◌, ◌==◌, IfErr};
 ghost use Rattle.asn1_core.specs.Views.{class_number};
@@ -13,7 +13,11 @@ use asn1_any::Any;
 use asn1_core::{Class, Err as Refusal, Error, OutOfMemory, Tag};
 use x509_core::{X509Error, X509Result};
 
-/// The content of an element of this tag number, whatever its class and its constructed bit.
+/// The content of an element of this tag number, of any class and constructed bit.
+///
+/// # Errors
+///
+/// `Der(UnexpectedTag)` for another tag number.
 pub fn content_of<'a>(tag: u32, any: Any<'a>) -> Result<&'a [u8], Refusal<X509Error>>
     ensures read { Gives (λ c. c.now) result (content_in tag (any_of any.entry)) }
     ensures memory { IfErr result TakesNoMemory }
@@ -27,7 +31,7 @@ pub fn content_of<'a>(tag: u32, any: Any<'a>) -> Result<&'a [u8], Refusal<X509Er
     Ok(any.content)
 }
 
-/// The content of a constructed universal element of tag number 16 (X.690, 8.9).
+/// The content of a SEQUENCE: a constructed universal element of tag number 16 (X.690, 8.9).
 pub fn sequence_content<'a>(any: Any<'a>) -> Result<&'a [u8], Refusal<X509Error>>
     ensures read { Gives (λ c. c.now) result (sequence_in (any_of any.entry)) }
     ensures memory { IfErr result TakesNoMemory }
@@ -38,7 +42,7 @@ pub fn sequence_content<'a>(any: Any<'a>) -> Result<&'a [u8], Refusal<X509Error>
     Err(Refusal::Error(X509Error::Der(Error::InvalidTag)))
 }
 
-/// Whether it is the class of this number (X.690, 8.1.2.2).
+/// Whether a class has this number (X.690, 8.1.2.2).
 pub fn is_of_class(class: Class, number: u8) -> bool
     ensures { result ≡ (class_number class == number) }
 {
@@ -50,8 +54,8 @@ pub fn is_of_class(class: Class, number: u8) -> bool
     }
 }
 
-/// What a part's reader answered, the part being optional: where it was refused, for whatever reason but want of memory, there
-/// is none, and these octets are left.
+/// The result of an optional field's reader: any error but out of memory becomes `None`, with all
+/// of `i` left.
 pub fn optional<'a, T: Drop>(i: &'a [u8], answer: X509Result<'a, T>) -> X509Result<'a, Option<T>>
     ensures { IsOptional i.entry answer.entry result }
 {
@@ -63,7 +67,7 @@ pub fn optional<'a, T: Drop>(i: &'a [u8], answer: X509Result<'a, T>) -> X509Resu
     }
 }
 
-/// The same answer, a refusal being none, and want of memory by itself.
+/// Converts a reader's result: any error but out of memory becomes `None`.
 pub fn taken<'a, T: Drop>(answer: X509Result<'a, T>) -> Result<Option<(&'a [u8], T)>, OutOfMemory>
     ensures { IsTaken answer.entry result }
 {
@@ -75,7 +79,7 @@ pub fn taken<'a, T: Drop>(answer: X509Result<'a, T>) -> Result<Option<(&'a [u8],
     }
 }
 
-/// The same answer, none being an error.
+/// Converts `None` to an error.
 pub fn told<T: Drop>(answer: Result<Option<T>, OutOfMemory>) -> Result<T, Refusal<X509Error>>
     ensures { IsTold answer result }
 {
@@ -86,7 +90,7 @@ pub fn told<T: Drop>(answer: Result<Option<T>, OutOfMemory>) -> Result<T, Refusa
     }
 }
 
-/// The same answer, none being an error, with the octets behind it.
+/// Converts `None` to an error, of a result with its rest.
 pub fn told_front<'a, T: Drop>(
     answer: Result<Option<(&'a [u8], T)>, OutOfMemory>,
 ) -> X509Result<'a, T>

@@ -1,4 +1,4 @@
-//! Values one after the other.
+//! Readers of repeated values.
 
 ghost use Rattle.std.specs.Prelude.{◌≡◌, map, IfOk};
 ghost use Rattle.x509_core.specs.Reading.{many_of};
@@ -8,28 +8,32 @@ ghost use Rattle.x509_items.specs.Reading.{some_of, all_of};
 use asn1_core::OutOfMemory;
 use std::alloc::Global;
 
-/// A type whose values octets begin with.
+/// A type with a reader for the front of octets.
 pub trait Begins<'a>: Sized {
     ghost use Rattle.std.specs.Prelude.{◌<◌, length};
     ghost use Rattle.x509_core.specs.Reading.{Reader};
     ghost use Rattle.x509_items.specs.Answers.{Takes, IfTaken};
 
-    /// What a value stands for.
+    /// The data that a value represents.
     ghost Data: { Type 0 };
 
-    /// It, of a value.
+    /// The data of a value.
     ghost stands_for: { Self → Data };
 
-    /// What the reader makes of octets.
+    /// The function of the reader.
     ghost reader: { Reader Data };
 
-    /// The value that begins the octets, behind those after it.
+    /// Reads one value from the front. Returns `(rest, value)`, or `None`.
     fn begin(alloc: Global, i: &'a [u8]) -> Result<Option<(&'a [u8], Self)>, OutOfMemory>
         ensures read { Takes (λ r. (stands_for r.1, r.0.now)) result (reader i.now) }
         ensures shorter { IfTaken result (λ r. length r.0.now < length i.now) };
 }
 
-/// As many values as begin there, behind the octets after them.
+/// Reads values until none begins. Returns `(rest, values)`.
+///
+/// # Errors
+///
+/// Out of memory.
 pub fn each<'a, T: Begins<'a> + Drop>(
     alloc: Global,
     i: &'a [u8],
@@ -45,7 +49,11 @@ pub fn each<'a, T: Begins<'a> + Drop>(
     Ok((left, values))
 }
 
-/// The same; none where none begins there.
+/// Reads at least one value, until none begins. Returns `(rest, values)`, or `None` if none begins.
+///
+/// # Errors
+///
+/// Out of memory.
 pub fn some<'a, T: Begins<'a> + Drop>(
     alloc: Global,
     i: &'a [u8],
@@ -59,7 +67,11 @@ pub fn some<'a, T: Begins<'a> + Drop>(
     Ok(Some((rest, values)))
 }
 
-/// Values to the end of the octets; none where octets are left.
+/// Reads values to the end of the octets; `None` if octets are left.
+///
+/// # Errors
+///
+/// Out of memory.
 pub fn all<'a, T: Begins<'a> + Drop>(
     alloc: Global,
     i: &'a [u8],

@@ -1,4 +1,4 @@
-//! Copies of values that hold collections.
+//! Copies of values that hold vectors.
 
 ghost use Rattle.std.specs.Prelude.{◌≡◌, IfOk, map, option_map};
 
@@ -6,22 +6,30 @@ use asn1_core::OutOfMemory;
 use asn1_oid::Oid;
 use std::alloc::Global;
 
-/// A type whose values can be copied, so that the copy stands for the same data.
+/// A type whose values can be copied with equal data.
 pub trait Copies: Sized {
     ghost use Rattle.std.specs.Prelude.{◌≡◌, IfOk};
 
-    /// What a value stands for.
+    /// The data that a value represents.
     ghost Value: { Type 0 };
 
-    /// It, of a value.
+    /// The data of a value.
     ghost value: { Self → Value };
 
-    /// A copy: it borrows what the value borrows.
+    /// A copy that borrows the same octets as the value.
+    ///
+    /// # Errors
+    ///
+    /// Out of memory.
     fn copy(&self, alloc: Global) -> Result<Self, OutOfMemory>
         ensures { IfOk result (λ copy. value copy ≡ value self.now) };
 }
 
-/// Copies of all of them, in the same order.
+/// Copies all values in order.
+///
+/// # Errors
+///
+/// Out of memory.
 pub fn copy_all<T: Copies + Drop>(alloc: Global, items: &[T]) -> Result<Vec<T>, OutOfMemory>
     ensures { IfOk result (λ copies. map T.value copies.items ≡ map T.value items.now) }
 {
@@ -44,7 +52,11 @@ impl<'a> Copies for Oid<'a> {
     }
 }
 
-/// Copies of them, where some stand.
+/// Copies all values in order, if there is a vector of them.
+///
+/// # Errors
+///
+/// Out of memory.
 pub fn copy_some<T: Copies + Drop>(
     alloc: Global,
     items: &Option<Vec<T>>,

@@ -1,5 +1,4 @@
-//! Values that octets begin with: as many as begin there, or none where none does. And copies of values that hold collections, and
-//! octets as text.
+//! Readers of repeated values, copies of values that hold vectors, and octets as text.
 #![tactic(auto)]
 
 mod answers;

@@ -1,4 +1,4 @@
-//! An OBJECT IDENTIFIER at the front.
+//! The reader of an OBJECT IDENTIFIER at the front.
 
 ghost use Rattle.std.specs.Prelude.{◌≡◌, ◌<◌, length, IfOk, IfErr};
 ghost use Rattle.x509_core.specs.Answers.{Gives};
@@ -12,7 +12,8 @@ use asn1_oid::Oid;
 use std::alloc::Global;
 use x509_core::{X509Result, front_element, oid_of};
 
-/// The OBJECT IDENTIFIER that begins the octets, of any content, behind those after it.
+/// Reads one OBJECT IDENTIFIER, of any content, from the front of `i`. Returns `(rest,
+/// identifier)`.
 pub fn first_oid<'a>(i: &'a [u8]) -> X509Result<'a, Oid<'a>>
     ensures read { Gives (λ r. (r.1, r.0.now)) result (oid_at i.now) }
     ensures memory { IfErr result TakesNoMemory }

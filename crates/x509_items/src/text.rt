@@ -1,4 +1,4 @@
-//! Octets as text: as UTF-8, and in hexadecimal.
+//! Octets as text: as UTF-8 and in hexadecimal.
 
 ghost use Rattle.std.specs.Prelude.{◌≡◌, ◌<◌, Some, IfOk, IfErr, string_bytes};
 ghost use Rattle.std.specs.Fmt.{DisplaysOnOk};
@@ -14,7 +14,11 @@ use std::alloc::Global;
 use std::{fmt, str};
 use x509_core::X509Error;
 
-/// The text of a content that is UTF-8.
+/// The content as text.
+///
+/// # Errors
+///
+/// An `Error` if it isn't UTF-8.
 pub fn text_of<'a>(content: &'a [u8]) -> Result<&'a str, Refusal<X509Error>>
     ensures read { Gives (λ t. t.now) result (text_in content.now) }
     ensures memory { IfErr result TakesNoMemory }
@@ -40,7 +44,11 @@ impl<'a> fmt::Display for Colons<'a> {
     }
 }
 
-/// The octets in hexadecimal, two lower-case digits each, with a colon between two: `01:02:ff`.
+/// The octets in hexadecimal, two lower-case digits each, separated by colons: `01:02:ff`.
+///
+/// # Errors
+///
+/// Out of memory.
 pub fn format_serial(alloc: Global, i: &[u8]) -> Result<String, OutOfMemory>
     ensures { IfOk result (λ text. string_bytes text ≡ serial_text i.now) }
 {
@@ -48,7 +56,7 @@ pub fn format_serial(alloc: Global, i: &[u8]) -> Result<String, OutOfMemory>
     Ok(text)
 }
 
-/// Writes the same text.
+/// Writes the octets in hexadecimal, two lower-case digits each, separated by colons: `01:02:ff`.
 pub fn write_octets<W: fmt::Write>(octets: &[u8], f: &mut fmt::Formatter<W>) -> fmt::Result
     ensures { DisplaysOnOk W.write_str_gives f.old result (Some (serial_text octets.now)) f.new }
 {

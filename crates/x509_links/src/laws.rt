@@ -1,4 +1,5 @@
-//! Laws. Each is a function that does nothing: its contract is the law.
+//! Laws of strict encodings and lenient readers. Each is a function without an effect; its contract
+//! is the law.
 
 ghost use Rattle.std.specs.Prelude.{◌≡◌, ◌^◌, ◌<◌, ◌++◌, ℕ, Bool, List, [], length};
 ghost use Rattle.std.specs.Int.Digits.{AllBelowBase};
@@ -24,49 +25,49 @@ ghost use Rattle.x509_links.specs.Examples.{revoking_with_reason, octets_of_revo
 ghost use Rattle.x509_links.specs.Lenient.{lenient_algorithm, lenient_name, lenient_key, nanoseconds_of, lenient_time, lenient_certificate, lenient_list};
 ghost use Rattle.x509_links.specs.Values.{certificate_by, list_by, parsed_certificate, parsed_list};
 
-/// The octets of a strict algorithm are read before any rest.
+/// A strictly encoded algorithm is read, whatever octets follow.
 pub fn strict_algorithm()
     ensures { (a : Algorithm) (rest : List ℕ) → IsAlgorithm a → length (algorithm_octets a) < 2 ^ 64
         → AlgorithmIdentifier (algorithm_octets a ++ rest) (lenient_algorithm a) rest }
 {}
 
-/// The octets of a strict name are read before any rest, and are its window.
+/// A strictly encoded name is read, whatever octets follow, and is its window.
 pub fn strict_name()
     ensures { (n : Name) (rest : List ℕ) → IsName n → length (name_octets n) < 2 ^ 64
         → X509Name (name_octets n ++ rest) (lenient_name n) rest }
 {}
 
-/// The octets of a strict key are read before any rest, and are its window.
+/// A strictly encoded key is read, whatever octets follow, and is its window.
 pub fn strict_key()
     ensures { (k : Key) (rest : List ℕ) → IsKey k → length (key_octets k) < 2 ^ 64
         → SubjectPublicKeyInfo (key_octets k ++ rest) (lenient_key k) rest }
 {}
 
-/// The octets of a strict time are read before any rest.
+/// A strictly encoded time is read, whatever octets follow.
 pub fn strict_time()
     ensures { (t : CivilTime) (rest : List ℕ) → IsTimeField t → ASN1Time (time_octets t ++ rest) (lenient_time t) rest }
 {}
 
-/// The moment of a strict time is that of one date and time of day.
+/// The moment of a strictly encoded time is that of one date and time of day.
 pub fn one_time()
     ensures { (t : CivilTime) (moment : DateTime) → IsTimeField t → civil_nanos moment ≡ nanoseconds_of t → time_view moment ≡ t }
 {}
 
-/// The octets of a strict certificate are read before any rest, and are its window.
+/// A strictly encoded certificate is read, whatever octets follow, and is its window.
 pub fn strict_certificate()
     ensures { (c : Certificate) (rest : List ℕ) → AreCertificateFields c → length (certificate_octets c) < 2 ^ 64
         → X509Certificate IsUnparsed (certificate_octets c ++ rest) (lenient_certificate c) rest }
 {}
 
-/// The octets of a strict revocation list that is an item under the greatest limit are read before any rest, and are its
-/// window.
+/// A strictly encoded revocation list, of a length within the greatest limit, is read, whatever
+/// octets follow, and is its window.
 pub fn strict_list()
     ensures { (l : RevocationList) (rest : List ℕ) → AreListFields l → length (list_octets l) < 2 ^ 64 → IsItem 4_294_967_295 (list_octets l)
         → CertificateRevocationList IsUnparsed (list_octets l ++ rest) (lenient_list l) rest }
 {}
 
-/// Certificates and lists are read alike whether the values of extensions are parsed or not: what a parser of the one setting
-/// reads of octets, a parser of the other setting reads too, with equal fields but for the parsed values.
+/// The setting of deep parsing changes parsed values only: what a parser with one setting reads, a
+/// parser with the other reads too, with equal other fields.
 pub fn either_parser()
     ensures certificate { (deep other : Bool) (octets : List ℕ) (c : ReadCertificate) (rest : List ℕ) → AllBelowBase 256 octets
         → X509Certificate (meaning_of deep) octets c rest → X509Certificate (meaning_of other) octets (certificate_by (reading_of other) c) rest }
@@ -74,8 +75,9 @@ pub fn either_parser()
         → CertificateRevocationList (meaning_of deep) octets l rest → CertificateRevocationList (meaning_of other) octets (list_by (reading_of other) l) rest }
 {}
 
-/// `X509Certificate::from_der` reads a strict certificate whole, whatever octets stand behind it: its grammar gives the fields of
-/// `strict_certificate`, the values of extensions parsed, and the window is the certificate.
+/// `X509Certificate::from_der` reads a strictly encoded certificate whole, whatever octets follow:
+/// the fields are those of `strict_certificate`, extension values are parsed, and the window is the
+/// certificate.
 pub fn certificate_from_der()
     ensures fields { (c : Certificate) (rest : List ℕ) → AreCertificateFields c → AllBelowBase 256 (certificate_octets c) → length (certificate_octets c) < 2 ^ 64
         → X509Certificate IsParsed (certificate_octets c ++ rest) (parsed_certificate c) rest }
@@ -83,8 +85,9 @@ pub fn certificate_from_der()
         → X509Certificate IsParsed (item ++ rest) (parsed_certificate c) rest × ((parsed_certificate c).raw ≡ item) }
 {}
 
-/// `CertificateRevocationList::from_der` reads a strict list whole, whatever octets stand behind it: its grammar gives the fields of
-/// `strict_list`, the values of its extensions and of its entries' parsed, and the window is the list.
+/// `CertificateRevocationList::from_der` reads a strictly encoded list whole, whatever octets
+/// follow: the fields are those of `strict_list`, extension values of list and entries are parsed,
+/// and the window is the list.
 pub fn list_from_der()
     ensures fields { (l : RevocationList) (rest : List ℕ) → AreListFields l → AllBelowBase 256 (list_octets l) → length (list_octets l) < 2 ^ 64 → IsItem 4_294_967_295 (list_octets l)
         → CertificateRevocationList IsParsed (list_octets l ++ rest) (parsed_list l) rest }
@@ -92,8 +95,8 @@ pub fn list_from_der()
         → CertificateRevocationList IsParsed (item ++ rest) (parsed_list l) rest × ((parsed_list l).raw ≡ item) }
 {}
 
-/// What the laws on `from_der` and on parsers ask for is met: by a certificate with an extension, and by a list with one whose entry
-/// has one too.
+/// Examples that meet the premises of the laws of `from_der` and of parsers: a certificate with an
+/// extension, and a list with one whose entry has one too.
 pub fn example_items()
     ensures certificate { AllBelowBase 256 octets_of_constrained × (length octets_of_constrained < 2 ^ 64) × IsCertificateItem octets_of_constrained constrained }
     ensures certificate_read { X509Certificate IsUnparsed octets_of_constrained (lenient_certificate constrained) [] }

@@ -1,5 +1,5 @@
-//! Strict octets are what the lenient grammars of certificates and lists say, with equal fields, whether values of extensions are
-//! parsed or not.
+//! Laws that tie strict encodings to the lenient readers: these read every strictly encoded
+//! certificate and list with equal fields, whether extension values are parsed or not.
 #![tactic(auto)]
 
 mod laws;

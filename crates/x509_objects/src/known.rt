@@ -1,4 +1,4 @@
-//! The identifiers that are known.
+//! The known identifiers.
 
 ghost use Rattle.std.specs.Prelude.{◌≡◌, ℕ, List, Some, if◌then◌else◌, bytes_eq, option_map, IfOk};
 ghost use Rattle.std.specs.Result.{result_ok};
@@ -46,8 +46,12 @@ const DSA: &[u8] = b"\x2a\x86\x48\xce\x38\x04\x01";
 // 1.2.840.113549.1.1.8
 const MGF1: &[u8] = b"\x2a\x86\x48\x86\xf7\x0d\x01\x01\x08";
 
-/// A registry of the identifiers that are known: the attribute types that have an abbreviation, the algorithms of RSA, EC and
-/// DSA keys, and the mask generation function MGF1. `OutOfMemory` where memory ran out.
+/// A registry of the known identifiers: attribute types with an abbreviation, the algorithms of
+/// RSA, EC and DSA keys, and the mask generation function MGF1.
+///
+/// # Errors
+///
+/// `OutOfMemory`.
 pub fn oid_registry(alloc: Global) -> Result<OidRegistry, OutOfMemory>
     ensures { IfOk result (λ r. (id : List ℕ) → entry_of r id ≡ known_entry id) }
 {
@@ -104,7 +108,12 @@ fn add(
     Ok(())
 }
 
-/// The abbreviation of an attribute type, as `CN`; else the short name that the registry tells of the identifier.
+/// The abbreviation of an attribute type, as `CN`; else the identifier's short name in the
+/// registry.
+///
+/// # Errors
+///
+/// `NidError` if there is neither.
 pub fn oid2abbrev(oid: &Oid<'_>, registry: &OidRegistry) -> Result<&'static str, NidError>
     ensures { option_map (λ s. s.now) (result_ok result) ≡ abbreviated registry.now oid.now }
 {

@@ -1,4 +1,4 @@
-//! Registries, and what they tell.
+//! `OidRegistry`, a map from identifiers to names.
 
 ghost use Rattle.std.specs.Prelude.{◌≡◌, ℕ, List, Some, None, if◌then◌else◌, bytes_eq, option_map, IfOk, IfErr};
 ghost use Rattle.std.specs.Result.{result_ok};
@@ -10,7 +10,7 @@ use asn1_oid::Oid;
 use std::alloc::Global;
 use std::collections::BTreeMap;
 
-/// What is told of an identifier.
+/// The short name and description of an identifier.
 #[derive(Clone, Copy, Debug, PartialEq, Eq)]
 pub struct OidEntry {
     sn: &'static str,
@@ -18,14 +18,14 @@ pub struct OidEntry {
 }
 
 impl OidEntry {
-    /// An entry of this short name and this description.
+    /// Makes an entry of a short name and a description.
     pub fn new(sn: &'static str, description: &'static str) -> OidEntry
         ensures { result ≡ record { sn = sn.entry; description = description.entry } }
     {
         OidEntry { sn, description }
     }
 
-    /// The short name, as `commonName`.
+    /// The short name, such as `commonName`.
     pub fn sn(&self) -> &'static str
         ensures { result ≡ self.now.sn }
     {
@@ -40,18 +40,18 @@ impl OidEntry {
     }
 }
 
-/// No name is known of an identifier.
+/// The error for an identifier without a name.
 #[derive(Debug, Drop, PartialEq, Eq)]
 pub struct NidError;
 
-/// Entries by identifier. Identifiers are one where their content octets are.
+/// A map from identifiers to entries. Identifiers are equal if their content octets are.
 #[derive(Drop)]
 pub struct OidRegistry {
     entries: BTreeMap<Vec<u8>, OidEntry>,
 }
 
 impl OidRegistry {
-    /// A registry that tells of no identifier.
+    /// Makes an empty registry.
     pub fn new(alloc: Global) -> OidRegistry
         ensures { (id : List ℕ) → entry_of result id ≡ None }
     {
@@ -60,7 +60,7 @@ impl OidRegistry {
         }
     }
 
-    /// What is told of the identifier.
+    /// The last entry that was inserted for the identifier, or `None`.
     pub fn get(&self, oid: &Oid<'_>) -> Option<&OidEntry>
         ensures { option_map (λ e. entry_view e.now) result ≡ entry_of self.now oid.now }
     {
@@ -73,8 +73,11 @@ impl OidRegistry {
         self.entries.get(octets)
     }
 
-    /// Tells this of the identifier from now on, and answers what was told before. `OutOfMemory` where memory ran out; the
-    /// registry then tells what it told.
+    /// Inserts an entry and returns the one that it replaces.
+    ///
+    /// # Errors
+    ///
+    /// `OutOfMemory`; the registry is unchanged then.
     pub fn insert(
         &mut self,
         alloc: Global,
@@ -106,7 +109,11 @@ impl OidRegistry {
     }
 }
 
-/// The short name that the registry tells of the identifier.
+/// The short name of the identifier in the registry.
+///
+/// # Errors
+///
+/// `NidError` if the registry has none.
 pub fn oid2sn(oid: &Oid<'_>, registry: &OidRegistry) -> Result<&'static str, NidError>
     ensures { option_map (λ s. s.now) (result_ok result) ≡ option_map (λ e. e.short_name) (entry_of registry.now oid.now) }
 {
@@ -116,7 +123,11 @@ pub fn oid2sn(oid: &Oid<'_>, registry: &OidRegistry) -> Result<&'static str, Nid
     }
 }
 
-/// The description that the registry tells of the identifier.
+/// The description of the identifier in the registry.
+///
+/// # Errors
+///
+/// `NidError` if the registry has none.
 pub fn oid2description(oid: &Oid<'_>, registry: &OidRegistry) -> Result<&'static str, NidError>
     ensures { option_map (λ s. s.now) (result_ok result) ≡ option_map (λ e. e.description) (entry_of registry.now oid.now) }
 {

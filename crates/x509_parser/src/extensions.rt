@@ -1,4 +1,4 @@
-//! Extensions (RFC 5280, 4.2), and the types of what their values hold.
+//! Extensions (RFC 5280, 4.2), and the types of their values.
 
 pub use x509_ext::{ParsedExtension, X509Extension, X509ExtensionParser};
 pub use x509_ext_sct::{

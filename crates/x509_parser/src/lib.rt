@@ -1,7 +1,8 @@
-//! Certificates, revocation lists (RFC 5280) and certification requests (RFC 2986), read leniently and exactly where their
-//! grammar has them.
+//! Certificates, revocation lists (RFC 5280) and certification requests (RFC 2986): the modules and
+//! names of the Rust crate `x509-parser`. Reading is lenient, and accepts exactly what the lenient
+//! grammar has.
 //!
-//! The types stand in crates of their own, each with what is proved of it; this one names them in the Rust crate's modules.
+//! The types come from crates of their own, with their contracts.
 #![tactic(auto)]
 
 pub mod certificate;

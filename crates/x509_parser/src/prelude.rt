@@ -1,4 +1,4 @@
-//! What most users need: the names of the modules, those of keys and signatures left out.
+//! The names that most users need; those of keys and signatures are left out.
 
 pub use crate::certificate::{
     BasicExtension, TbsCertificate, TbsCertificateParser, UniqueIdentifier, Validity,

@@ -1,4 +1,5 @@
-//! Validators, and loggers that they tell what is amiss. A `StderrLogger` writes to a sink: a `WriteSink` over a writer of std, say.
+//! Validators, and loggers for their messages. A `StderrLogger` writes to a sink, such as a
+//! `WriteSink` over a writer of std.
 
 pub use asn1_device::WriteSink;
 pub use x509_validate::{

@@ -1,4 +1,4 @@
-//! `X509CriAttribute` (RFC 2986, 4.1), and what its values are read as (RFC 2985, 5.4).
+//! `X509CriAttribute` (RFC 2986, 4.1), and its parsed values (RFC 2985, 5.4).
 
 ghost use Rattle.std.specs.Prelude.{◌≡◌, IfOk, map, string_bytes};
 ghost use Rattle.x509_ext.specs.View.{extension_view, extension_error};
@@ -9,15 +9,19 @@ use asn1_oid::Oid;
 use std::alloc::Global;
 use x509_ext::{X509Extension, copy_extensions};
 
-/// Extensions that the certificate is to have (RFC 2985, 5.4.2).
+/// The extensions that are requested for the certificate (RFC 2985, 5.4.2).
 #[derive(Debug, Drop, PartialEq, Eq)]
 pub struct ExtensionRequest<'a> {
-    /// They, in the order in which they stand.
+    /// The extensions, in the order of the encoding.
     pub extensions: Vec<X509Extension<'a>>,
 }
 
 impl<'a> ExtensionRequest<'a> {
-    /// A copy: it borrows what the extensions borrow.
+    /// A copy that borrows the same octets as the extensions.
+    ///
+    /// # Errors
+    ///
+    /// Out of memory.
     pub fn clone(&self, alloc: Global) -> Result<ExtensionRequest<'a>, OutOfMemory>
         ensures value { IfOk result (λ copy. map extension_view copy.extensions.items ≡ map extension_view self.now.extensions.items) }
         ensures errors { IfOk result (λ copy. map extension_error copy.extensions.items ≡ map extension_error self.now.extensions.items) }
@@ -27,12 +31,16 @@ impl<'a> ExtensionRequest<'a> {
     }
 }
 
-/// A password by which the certificate may be revoked (RFC 2985, 5.4.1).
+/// A password with which revocation of the certificate may be requested (RFC 2985, 5.4.1).
 #[derive(Debug, Drop, PartialEq, Eq)]
 pub struct ChallengePassword(pub String);
 
 impl ChallengePassword {
-    /// A copy.
+    /// A copy of the text.
+    ///
+    /// # Errors
+    ///
+    /// Out of memory.
     pub fn clone(&self, alloc: Global) -> Result<ChallengePassword, OutOfMemory>
         ensures { IfOk result (λ copy. string_bytes copy.0 ≡ string_bytes self.now.0) }
     {
@@ -41,19 +49,23 @@ impl ChallengePassword {
     }
 }
 
-/// What the values of an attribute are read as, by the attribute's type.
+/// The parsed values of an attribute, a variant for each known type.
 #[derive(Debug, Drop, PartialEq, Eq)]
 pub enum ParsedCriAttribute<'a> {
-    /// A password.
+    /// A challenge password.
     ChallengePassword(ChallengePassword),
-    /// Extensions.
+    /// An extension request.
     ExtensionRequest(ExtensionRequest<'a>),
-    /// The type isn't known.
+    /// The attribute's type is unknown.
     UnsupportedAttribute,
 }
 
 impl<'a> ParsedCriAttribute<'a> {
-    /// A copy: it borrows what the values borrow.
+    /// A copy that borrows the same octets as the values.
+    ///
+    /// # Errors
+    ///
+    /// Out of memory.
     pub fn clone(&self, alloc: Global) -> Result<ParsedCriAttribute<'a>, OutOfMemory>
         ensures value { IfOk result (λ copy. values_view copy ≡ values_view self.now) }
         ensures errors { IfOk result (λ copy. values_errors copy ≡ values_errors self.now) }
@@ -70,18 +82,18 @@ impl<'a> ParsedCriAttribute<'a> {
     }
 }
 
-/// An attribute of a request.
+/// An attribute of a request (RFC 2986, 4.1), borrowed from the octets that it was read from.
 #[derive(Debug, Drop, PartialEq, Eq)]
 pub struct X509CriAttribute<'a> {
-    /// What the attribute is.
+    /// The attribute's type.
     pub oid: Oid<'a>,
-    /// The octets of its values, from the header of their SET up to where reading stopped.
+    /// The octets of its values, from the header of their SET to where reading stopped.
     pub value: &'a [u8],
     pub(crate) parsed_attribute: ParsedCriAttribute<'a>,
 }
 
 impl<'a> X509CriAttribute<'a> {
-    /// What the values are read as; `UnsupportedAttribute` where the type isn't known.
+    /// The parsed values; `UnsupportedAttribute` for an unknown type.
     pub fn parsed_attribute(&self) -> &ParsedCriAttribute<'a>
         ensures { result.now ≡ self.now.parsed_attribute }
     {

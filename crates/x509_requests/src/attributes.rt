@@ -1,4 +1,4 @@
-//! The attributes of a request, one after the other (RFC 2986, 4.1).
+//! Readers of the attributes of a request (RFC 2986, 4.1).
 
 ghost use Rattle.std.specs.Prelude.{◌≡◌, ◌==◌, ◌<◌, length, All, IfOk, map};
 ghost use Rattle.asn1_core.specs.Views.{class_number};
@@ -15,7 +15,7 @@ use asn1_core::{Class, Err as Refusal, Error, HeaderCount, Tag};
 use std::alloc::Global;
 use x509_core::{X509Error, X509Result, front_element, front_header, oid_of, renamed};
 
-/// The attribute whose parts begin a content.
+/// Reads the type and the values of an attribute from its content.
 #[tactic(auto, unfolding(crate::specs::Reading::attribute_parts_in))]
 fn parts_within<'a>(
     alloc: Global,
@@ -40,7 +40,7 @@ fn parts_within<'a>(
     })
 }
 
-/// The attribute that an element is.
+/// Reads the attribute in an element.
 #[tactic(auto, unfolding(crate::specs::Reading::attribute_in))]
 fn attribute_of<'a>(alloc: Global, any: Any<'a>) -> Result<X509CriAttribute<'a>, Refusal<X509Error>>
     ensures read { Gives attribute_view result (attribute_in deeply (any_of any.entry)) }
@@ -59,7 +59,7 @@ fn attribute_of<'a>(alloc: Global, any: Any<'a>) -> Result<X509CriAttribute<'a>,
     }
 }
 
-/// The attribute that begins the octets by the rules of BER, behind the octets after it.
+/// Reads one attribute in BER from the front. Returns `(rest, attribute)`.
 #[tactic(auto, unfolding(crate::specs::Reading::attribute_at))]
 pub(crate) fn front_attribute<'a>(
     alloc: Global,
@@ -78,7 +78,7 @@ pub(crate) fn front_attribute<'a>(
     }
 }
 
-/// Attributes to the end.
+/// Reads attributes to the end.
 fn all_attributes<'a>(
     alloc: Global,
     octets: &'a [u8],
@@ -114,8 +114,12 @@ fn is_context(class: Class) -> bool
     }
 }
 
-/// A request's attributes under a context-specific header of tag number 0, whose length isn't used, to the end.
-/// `InvalidAttributes` where there is no such header.
+/// Reads the attributes under a context-specific header of tag number 0, to the end. The header's
+/// length isn't used.
+///
+/// # Errors
+///
+/// `InvalidAttributes` without such a header, or for anything but attributes; out of memory.
 #[tactic(auto, unfolding(crate::specs::Reading::attributes_at))]
 pub(crate) fn attributes_of<'a>(
     alloc: Global,

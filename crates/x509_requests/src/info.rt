@@ -1,4 +1,4 @@
-//! The signed part of a request (RFC 2986, 4.1).
+//! `X509CertificationRequestInfo`, the signed part of a request (RFC 2986, 4.1).
 
 ghost use Rattle.std.specs.Prelude.{◌≡◌, ◌≤◌, length, IfOk, option_map};
 ghost use Rattle.std.specs.Slice.Iter.{iter_rest};
@@ -21,36 +21,37 @@ use x509_core::{Parts, X509Error, named, parts_of};
 use x509_ext::{X509Version, version_of};
 use x509_names::{SubjectPublicKeyInfo, X509Name, next_key, next_name};
 
-/// The signed part of a request.
+/// The signed part of a request, `CertificationRequestInfo` (RFC 2986, 4.1), borrowed from the
+/// octets that it was read from.
 #[derive(Debug, Drop, PartialEq, Eq)]
 pub struct X509CertificationRequestInfo<'a> {
-    /// The version.
+    /// The version; the one of RFC 2986 is encoded as 0, `V1`.
     pub version: X509Version,
-    /// Whose the key is.
+    /// The subject's name (RFC 2986, 4.1).
     pub subject: X509Name<'a>,
-    /// The key.
+    /// The subject's public key and its algorithm (RFC 2986, 4.1).
     pub subject_pki: SubjectPublicKeyInfo<'a>,
     attributes: Vec<X509CriAttribute<'a>>,
-    /// The octets that the signature is of.
+    /// The octets that the signature covers: the whole encoding of the signed part.
     pub raw: &'a [u8],
 }
 
 impl<'a> X509CertificationRequestInfo<'a> {
-    /// The attributes, in the order in which they stand.
+    /// The attributes, in the order of the encoding.
     pub fn attributes(&self) -> &[X509CriAttribute<'a>]
         ensures { result.now ≡ self.now.attributes.items }
     {
         self.attributes.as_slice()
     }
 
-    /// The attributes, in the order in which they stand.
+    /// The attributes, in the order of the encoding.
     pub fn iter_attributes(&self) -> slice::Iter<'_, X509CriAttribute<'a>>
         ensures { iter_rest result ≡ self.now.attributes.items }
     {
         self.attributes.iter()
     }
 
-    /// The first attribute of this identifier. Whether others have it too isn't told.
+    /// The first attribute with this identifier, or `None`. Later ones aren't looked at.
     pub fn find_attribute(&self, oid: &Oid<'_>) -> Option<&X509CriAttribute<'a>>
         ensures { option_map (λ a. a.now) result ≡ first_attribute (attributes_of oid.now self.now.attributes.items) }
     {
@@ -72,7 +73,7 @@ fn find_attribute<'n, 'a>(
     None
 }
 
-/// The version at the front.
+/// Reads the version.
 fn next_version(parts: &mut Parts<'_>) -> Result<X509Version, Refusal<X509Error>>
     ensures read { Gives (λ v. (v.0, parts.new.octets)) result (version_at parts.old.octets) }
     ensures ends { length parts.new.octets ≤ length parts.old.octets }
@@ -84,7 +85,7 @@ fn next_version(parts: &mut Parts<'_>) -> Result<X509Version, Refusal<X509Error>
     }
 }
 
-/// The signed part that an element is.
+/// Reads the signed part in an element.
 #[tactic(auto, unfolding(crate::specs::Reading::info_in))]
 pub(crate) fn info_of<'a>(
     alloc: Global,
@@ -108,7 +109,7 @@ pub(crate) fn info_of<'a>(
     })
 }
 
-/// The signed part at the front.
+/// Reads the signed part at the front.
 pub(crate) fn next_info<'a>(
     alloc: Global,
     parts: &mut Parts<'a>,

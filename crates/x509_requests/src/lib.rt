@@ -1,5 +1,5 @@
-//! Certification requests (RFC 2986), read leniently: the octets that a reader leaves in a container's content are ignored. The
-//! values of the extensions that are asked for are parsed by their types.
+//! Certification requests (RFC 2986). Reading is lenient: octets that remain in the content of a
+//! SEQUENCE after its known fields are ignored. Values of requested extensions are parsed.
 #![tactic(auto)]
 
 mod attribute;

@@ -1,4 +1,4 @@
-//! Attributes by their types.
+//! Maps from types to attributes.
 
 ghost use Rattle.std.specs.Prelude.{◌≡◌, ℕ, List, IfOk, OnOk, IfErr, option_map};
 ghost use Rattle.x509_core.specs.declared.error.X509Error.TheVariants.{DuplicateAttributes};
@@ -34,8 +34,12 @@ fn attributes_map<'n, 'a>(
 }
 
 impl<'a> X509CertificationRequestInfo<'a> {
-    /// The attributes by their identifiers, as `find_attribute` finds them; `DuplicateAttributes` where two have the same one. The
-    /// keys ascend by their content octets, and n attributes take time in n log n.
+    /// A map from each type to its attribute, sorted by the types' content octets. Takes n log n
+    /// time for n attributes.
+    ///
+    /// # Errors
+    ///
+    /// `DuplicateAttributes` if two have the same type; out of memory.
     pub fn attributes_map(
         &self,
         alloc: Global,

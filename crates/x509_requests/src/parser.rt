@@ -1,4 +1,4 @@
-//! The readers of requests, their signed parts and attributes, and of extension requests.
+//! Readers of requests, their signed parts, attributes and extension requests.
 
 ghost use Rattle.std.specs.Prelude.{◌≡◌, ◌++◌, ℕ, List, map, All, IfOk, IfErr};
 ghost use Rattle.asn1_traits.specs.Elements.{EndsWithinElement, one_ber_element_rest};
@@ -40,13 +40,17 @@ impl<'b> DerMeaning for X509CertificationRequest<'b> {
 }
 
 impl<'a> FromDer<'a, X509Error> for X509CertificationRequest<'a> {
-    /// The request that begins the octets, behind those after it.
+    /// Reads one request from the front of `bytes` (RFC 2986, 4.2). Returns `(rest, request)`. A
+    /// known extension whose value is malformed becomes `ParsedExtension::ParseError`; the request
+    /// is still read.
     ///
-    /// By its parts in the order in which they stand: `InvalidVersion`, `InvalidSPKI` of a key without bits,
-    /// `InvalidAlgorithmIdentifier` of an algorithm without an identifier, `InvalidAttributes` where no context-specific header
-    /// of tag number 0 stands in the place of attributes, and `InvalidSignatureValue`; `Incomplete` exactly where the octets
-    /// end within the request. A value of a known extension that its type refuses is `ParsedExtension::ParseError`, and the
-    /// request is read; want of memory within a value is a `Failure` of the whole.
+    /// # Errors
+    ///
+    /// `Incomplete` exactly if `bytes` ends inside the request. Else the error of the first field
+    /// that is wrong: `InvalidVersion`; `InvalidSPKI` for a key without bits;
+    /// `InvalidAlgorithmIdentifier` for an algorithm without an identifier; `InvalidAttributes`
+    /// without a context-specific header of tag number 0; `InvalidSignatureValue`. Out of memory,
+    /// also while a value is parsed, is a `Failure`.
     fn from_der(alloc: Global, bytes: &'a [u8]) -> X509Result<'a, X509CertificationRequest<'a>>
         ensures reads { Reads (λ given e. e ≡ told given) (Unit {0}) EndsWithinElement (λ i. i.now)
             (λ i v r. grammar.X509CertificationRequest IsParsed i (request_view v) r) bytes.now result }
@@ -72,7 +76,12 @@ impl<'b> DerMeaning for X509CertificationRequestInfo<'b> {
 }
 
 impl<'a> FromDer<'a, X509Error> for X509CertificationRequestInfo<'a> {
-    /// The signed part that begins the octets, behind those after it. It is refused as within a request.
+    /// Reads one CertificationRequestInfo from the front of `bytes` (RFC 2986, 4.1). Returns
+    /// `(rest, info)`.
+    ///
+    /// # Errors
+    ///
+    /// The errors that `X509CertificationRequest::from_der` has for this part.
     fn from_der(alloc: Global, bytes: &'a [u8]) -> X509Result<'a, X509CertificationRequestInfo<'a>>
         ensures reads { Reads (λ given e. e ≡ told given) (Unit {0}) EndsWithinElement (λ i. i.now)
             (λ i v r. grammar.X509CertificationRequestInfo IsParsed i (info_view v) r) bytes.now result }
@@ -98,8 +107,12 @@ impl<'b> DerMeaning for X509CriAttribute<'b> {
 }
 
 impl<'a> FromDer<'a, X509Error> for X509CriAttribute<'a> {
-    /// The attribute that begins the octets by the rules of BER, behind the octets after it. `InvalidAttributes` of all others,
-    /// cut ones too.
+    /// Reads one attribute in BER from the front of `bytes`. Returns `(rest, attribute)`.
+    ///
+    /// # Errors
+    ///
+    /// `InvalidAttributes` for everything else, also if `bytes` ends inside the attribute; out of
+    /// memory.
     fn from_der(alloc: Global, bytes: &'a [u8]) -> X509Result<'a, X509CriAttribute<'a>>
         ensures reads { Reads (λ given e. e ≡ told given) (Unit {0}) (λ _ _. ⊥) (λ i. i.now)
             (λ i v r. grammar.X509CriAttribute IsParsed i (attribute_view v) r) bytes.now result }
@@ -125,7 +138,11 @@ impl<'b> DerMeaning for ExtensionRequest<'b> {
 }
 
 impl<'a> FromDer<'a, X509Error> for ExtensionRequest<'a> {
-    /// The extensions that begin the octets, behind those after them: one element that holds nothing else.
+    /// Reads one SEQUENCE of extensions from the front of `bytes`. Returns `(rest, request)`.
+    ///
+    /// # Errors
+    ///
+    /// `InvalidExtensions` or an element's error for everything else; out of memory.
     fn from_der(alloc: Global, bytes: &'a [u8]) -> X509Result<'a, ExtensionRequest<'a>>
         ensures reads { Reads (λ given e. e ≡ told given) (Unit {0}) EndsWithinElement (λ i. i.now)
             (λ i v r. grammar.ExtensionRequest IsParsed i (map extension_view v.extensions.items) r) bytes.now result }

@@ -21,34 +21,35 @@ use std::alloc::Global;
 use x509_core::{Parts, X509Error, named, parts_of};
 use x509_names::{AlgorithmIdentifier, next_algorithm, next_bits};
 
-/// A certification request.
+/// A certification request (RFC 2986, 4.2), borrowed from the octets that it was read from.
 #[derive(Debug, Drop, PartialEq, Eq)]
 pub struct X509CertificationRequest<'a> {
-    /// The signed part.
+    /// The signed part, `certificationRequestInfo`.
     pub certification_request_info: X509CertificationRequestInfo<'a>,
-    /// The algorithm of the signature.
+    /// The algorithm that the signature is made with (RFC 2986, 4.2).
     pub signature_algorithm: AlgorithmIdentifier<'a>,
-    /// The signature.
+    /// The signature's bits (RFC 2986, 4.2). No signature is verified.
     pub signature_value: BitString<'a>,
     raw: &'a [u8],
 }
 
 impl<'a> X509CertificationRequest<'a> {
-    /// All octets of the request.
+    /// The whole encoding of the request, from its header to its last octet.
     pub fn as_raw(&self) -> &'a [u8]
         ensures { result ≡ self.now.raw }
     {
         self.raw
     }
 
-    /// All octets of the request.
+    /// The whole encoding of the request, from its header to its last octet.
     pub fn as_ref(&self) -> &'a [u8]
         ensures { result ≡ self.now.raw }
     {
         self.raw
     }
 
-    /// What the extensions of the first extension request were parsed as, in the order in which they stand.
+    /// The parsed values of the extensions in the first extension request; `None` if there is no
+    /// extension request.
     pub fn requested_extensions(&self) -> Option<RequestedExtensions<'_, 'a>>
         ensures { result ≡ requested_of self.now.certification_request_info.attributes.items }
     {
@@ -78,7 +79,7 @@ fn next_signature<'a>(
     named(next_bits(alloc, parts), X509Error::InvalidSignatureValue)
 }
 
-/// The request that an element is.
+/// Reads the request in an element.
 #[tactic(auto, unfolding(crate::specs::Reading::request_in))]
 pub(crate) fn request_of<'a>(
     alloc: Global,

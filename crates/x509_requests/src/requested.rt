@@ -1,4 +1,4 @@
-//! What the extensions of a request were parsed as, one after the other.
+//! `RequestedExtensions`, an iterator over the parsed values of requested extensions.
 
 ghost use Rattle.std.specs.Prelude.{◌≡◌, map};
 ghost use Rattle.std.specs.Iterator.{YieldsFirstRef, item_count};
@@ -7,7 +7,7 @@ use std::marker::Model;
 use std::slice;
 use x509_ext::{ParsedExtension, X509Extension};
 
-/// What extensions were parsed as, seen as the list of those that are left.
+/// An iterator over the parsed values of requested extensions, in the order of the encoding.
 #[derive(Drop)]
 pub struct RequestedExtensions<'n, 'a> {
     extensions: slice::Iter<'n, X509Extension<'a>>,

@@ -1,4 +1,4 @@
-//! The values of an attribute, by its type (RFC 2985, 5.4).
+//! Parsing the values of an attribute by its type (RFC 2985, 5.4).
 
 ghost use Rattle.std.specs.Prelude.{◌≡◌, ◌≤◌, length, All, IfOk, map, string_bytes};
 ghost use Rattle.asn1_any.specs.Views.{any_of};
@@ -18,13 +18,13 @@ use std::alloc::Global;
 use x509_core::{X509Error, X509Result, front_element};
 use x509_ext::extension_list_of;
 
-/// The identifier of an extension request, 1.2.840.113549.1.9.14.
+/// extensionRequest, 1.2.840.113549.1.9.14.
 const EXTENSION_REQUEST: &[u8] = b"\x2a\x86\x48\x86\xf7\x0d\x01\x09\x0e";
 
-/// The identifier of a challenge password, 1.2.840.113549.1.9.7.
+/// challengePassword, 1.2.840.113549.1.9.7.
 const CHALLENGE_PASSWORD: &[u8] = b"\x2a\x86\x48\x86\xf7\x0d\x01\x09\x07";
 
-/// The text of an element: of a UTF8String or of a PrintableString.
+/// The text of a UTF8String or PrintableString.
 #[tactic(auto, unfolding(crate::specs::Reading::password_in))]
 fn text_of<'a>(alloc: Global, any: Any<'a>) -> Result<&'a str, Refusal<X509Error>>
     ensures read { Gives (λ text. text.now) result (password_in (any_of any.entry)) }
@@ -47,7 +47,7 @@ fn text_of<'a>(alloc: Global, any: Any<'a>) -> Result<&'a str, Refusal<X509Error
     Err(Refusal::Error(X509Error::Der(Error::InvalidTag)))
 }
 
-/// The password that begins the octets, behind those after it.
+/// Reads a challenge password from the front. Returns `(rest, password)`.
 fn front_password<'a>(alloc: Global, i: &'a [u8]) -> X509Result<'a, ChallengePassword>
     ensures read { Gives (λ r. (string_bytes r.1.0, r.0.now)) result (password_at i.now) }
     ensures shorter { IfOk result (λ r. length r.0.now ≤ length i.now) }
@@ -61,7 +61,7 @@ fn front_password<'a>(alloc: Global, i: &'a [u8]) -> X509Result<'a, ChallengePas
     }
 }
 
-/// The extensions that begin the octets, behind those after them.
+/// Reads an extension request from the front. Returns `(rest, request)`.
 fn front_request<'a>(alloc: Global, i: &'a [u8]) -> X509Result<'a, ExtensionRequest<'a>>
     ensures read { Gives (λ r. (map extension_view r.1.extensions.items, r.0.now)) result (requested_at deeply i.now) }
     ensures memory { IfOk result (λ r. All WantsNoMemory r.1.extensions.items) }
@@ -73,7 +73,7 @@ fn front_request<'a>(alloc: Global, i: &'a [u8]) -> X509Result<'a, ExtensionRequ
     Ok((rest, ExtensionRequest { extensions }))
 }
 
-/// What begins the octets behind a SET's header, behind the octets after it.
+/// Reads the first value after the header of a SET. Returns `(rest, value)`.
 #[tactic(auto, unfolding(crate::specs::Reading::values_at))]
 pub(crate) fn values_of<'a>(
     alloc: Global,

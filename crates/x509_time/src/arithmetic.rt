@@ -1,4 +1,4 @@
-//! Times moved, and the time between two.
+//! Arithmetic of times.
 
 ghost use Rattle.std.specs.Prelude.{◌≡◌, ◌+ℤ◌, ◌-ℤ◌};
 ghost use Rattle.jiff.specs.Words.{civil_nanos, signed_nanos};
@@ -38,7 +38,7 @@ impl ASN1Time {
     }
 }
 
-/// `new` of the moment moved by the duration; none where it is in no year from -9999 to 9999.
+/// Adds a duration; the form is chosen as by `new`. `None` if the year isn't from -9999 to 9999.
 impl Add<SignedDuration> for ASN1Time {
     ghost use Rattle.std.specs.Prelude.{◌+ℤ◌};
     ghost use Rattle.jiff.specs.Words.{civil_nanos, signed_nanos};
@@ -53,7 +53,7 @@ impl Add<SignedDuration> for ASN1Time {
     }
 }
 
-/// How much later the first moment is than the second; none where it isn't later.
+/// The duration from the second moment to the first; `None` if the first isn't later.
 impl Sub for ASN1Time {
     ghost use Rattle.jiff.specs.Words.{civil_nanos};
     ghost use Rattle.x509_time.specs.Calls.{GivesLater};

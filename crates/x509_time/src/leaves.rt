@@ -1,4 +1,4 @@
-//! A time at the front of octets, of an element, and of content octets.
+//! Readers of times: at the front of octets, in an element, and of content octets.
 
 ghost use Rattle.std.specs.Prelude.{◌≡◌, ◌+◌, ◌≤◌, ℕ, List, length, IfOk, IfErr, IfSome, IfNone, IsOkAnd, option_map};
 ghost use Rattle.jiff.specs.Words.{civil_nanos};
@@ -51,7 +51,8 @@ fn general_time(content: &[u8]) -> Option<GeneralizedTime>
     }
 }
 
-/// The moment of the content octets of a GeneralizedTime of DER, where they are one's and the calendar has it (X.690, 11.7).
+/// The moment of the content octets of a GeneralizedTime in DER (X.690, 11.7); `None` if they are
+/// malformed, or no date of the calendar.
 #[tactic(auto, unfolding(crate::specs::Reading::general_nanos_at))]
 pub fn general_moment(content: &[u8]) -> Option<DateTime>
     ensures { option_map civil_nanos result ≡ general_nanos_at content.now }
@@ -63,7 +64,7 @@ pub fn general_moment(content: &[u8]) -> Option<DateTime>
     }
 }
 
-/// The time that an element is; none where it is none, or the calendar lacks its moment.
+/// The time in an element; `None` if it isn't one, or no date of the calendar.
 #[tactic(auto, unfolding(crate::specs::Reading::time_in))]
 pub fn time_of(any: Any<'_>) -> Option<ASN1Time>
     ensures { option_map time_view result ≡ time_in (any_of any.entry) }
@@ -82,7 +83,7 @@ pub fn time_of(any: Any<'_>) -> Option<ASN1Time>
     None
 }
 
-/// Whether an element is a GeneralizedTime of DER, of whatever date.
+/// Whether an element is a GeneralizedTime in DER, of any date.
 #[tactic(auto, unfolding(crate::specs::Reading::is_general_time))]
 pub(crate) fn is_general_time(any: Any<'_>) -> bool
     ensures { result ≡ is_general_time (any_of any.entry) }
@@ -92,7 +93,8 @@ pub(crate) fn is_general_time(any: Any<'_>) -> bool
         && general_time(any.content).is_some()
 }
 
-/// The time at the front, taken; the octets stay where none is there. No header is tried, and no memory taken.
+/// Takes the time at the front; `None`, without reading, if there is none. Tries no header, and
+/// takes no memory.
 pub(crate) fn take_time(parts: &mut Parts<'_>) -> Option<ASN1Time>
     ensures read { TakesTime parts.old.octets (option_map time_view result) parts.new.octets }
     ensures elements { IfSome result (λ _. parts.old.elements ≡ parts.new.elements + 1) }
@@ -105,7 +107,11 @@ pub(crate) fn take_time(parts: &mut Parts<'_>) -> Option<ASN1Time>
     Some(time)
 }
 
-/// A time at the front; `InvalidDate` where none begins there, and the octets stay. No header is tried.
+/// Takes the time at the front. Tries no header.
+///
+/// # Errors
+///
+/// `InvalidDate`, without reading, if there is none.
 pub fn next_time(parts: &mut Parts<'_>) -> Result<ASN1Time, Refusal<X509Error>>
     ensures read { Gives (λ v. (time_view v, parts.new.octets)) result (time_at parts.old.octets) }
     ensures refused { IfErr result (λ e. e ≡ refusals.Error errors.InvalidDate) }
@@ -128,7 +134,12 @@ impl DerMeaning for ASN1Time {
 }
 
 impl<'a> FromDer<'a, X509Error> for ASN1Time {
-    /// The time that begins the octets, behind those after it. `InvalidDate` of all others, cut ones too.
+    /// Reads one time, a UTCTime or GeneralizedTime in DER, from the front of `bytes` (RFC 5280,
+    /// 4.1.2.5). Returns `(rest, time)`.
+    ///
+    /// # Errors
+    ///
+    /// `InvalidDate` for everything else, also if `bytes` ends inside the element.
     fn from_der(_alloc: Global, bytes: &'a [u8]) -> X509Result<'a, ASN1Time>
         ensures reads { Reads (λ given e. e ≡ told given) ⊥ (λ _ _. ⊥) (λ i. i.now)
             (λ i v r. grammar.ASN1Time i (time_view v) r) bytes.now result }

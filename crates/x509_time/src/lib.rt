@@ -1,5 +1,5 @@
-//! Times and validities of certificates and revocation lists (RFC 5280, 4.1.2.5 and 5.1.2.5), read leniently, on `jiff`'s
-//! calendar.
+//! Times and validities of certificates and revocation lists (RFC 5280, 4.1.2.5 and 5.1.2.5), on
+//! `jiff`'s calendar. Reading is lenient.
 #![tactic(auto)]
 
 mod arithmetic;

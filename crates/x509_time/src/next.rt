@@ -1,4 +1,4 @@
-//! The time of a list's next update, which may be absent (RFC 5280, 5.1.2.5).
+//! The reader of `nextUpdate`, which may be absent (RFC 5280, 5.1.2.5).
 
 ghost use Rattle.std.specs.Prelude.{◌≡◌, ◌+◌, ◌^◌, ◌<◌, ◌≤◌, length, nat_le, option_map, IfErr};
 ghost use Rattle.std.specs.List.{list_all};
@@ -67,10 +67,14 @@ fn begins_general_time(first: Option<Element<'_>>) -> bool
     }
 }
 
-/// The time of the next update at the front. None where no octet is left, where the octets end within their first tag number,
-/// or where they begin with a header of at most 4,294,967,295 content octets whose tag number is neither 23 nor 24, or is 24
-/// and begins no GeneralizedTime; the octets then stay. `InvalidDate` in every other case without a time. At most one header
-/// is tried.
+/// Reads an optional next update from the front. `None`, without reading, if no octet is left; if
+/// the octets end within their first tag number; or if they begin with a header of at most
+/// 4,294,967,295 content octets whose tag number is neither 23 nor 24, or is 24 and begins no
+/// GeneralizedTime. Tries at most one header.
+///
+/// # Errors
+///
+/// `InvalidDate` in every other case without a time.
 #[tactic(auto, unfolding(crate::specs::Reading::next_update_at))]
 pub fn next_update(
     parts: &mut Parts<'_>,

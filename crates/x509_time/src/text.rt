@@ -1,4 +1,4 @@
-//! Times as text.
+//! Texts of times.
 
 ghost use Rattle.std.specs.Prelude.{◌≡◌};
 ghost use Rattle.std.specs.Int.{IsInRange};
@@ -62,7 +62,7 @@ impl fmt::Display for Clock {
     }
 }
 
-/// `Jul  1 10:52:37 2003 +00:00`; a fraction of a second isn't shown.
+/// Writes `Jul  1 10:52:37 2003 +00:00`, without fractions of a second.
 impl fmt::Display for ASN1Time {
     ghost use Rattle.std.specs.Prelude.{Some};
     ghost use Rattle.x509_time.specs.Texts.{time_text};
@@ -80,8 +80,12 @@ impl fmt::Display for ASN1Time {
 }
 
 impl ASN1Time {
-    /// The text of RFC 2822 (now RFC 5322, 3.3), as `Tue, 01 Jul 2003 10:52:37 +0000`; a fraction of a second isn't shown.
-    /// `InvalidDate` before the year 1900, `OutOfMemory` where memory ran out.
+    /// The time as `Tue, 01 Jul 2003 10:52:37 +0000`, by RFC 2822 (now RFC 5322, 3.3), without
+    /// fractions of a second.
+    ///
+    /// # Errors
+    ///
+    /// `InvalidDate` before the year 1900; `OutOfMemory`.
     pub fn to_rfc2822(self, alloc: Global) -> Result<String, X509Error>
         ensures { WritesRfc2822 self.time result }
     {

@@ -1,4 +1,4 @@
-//! The type of times, and what it is made from.
+//! `ASN1Time`, a time of a certificate or list.
 
 ghost use Rattle.std.specs.Prelude.{◌≡◌, false, true, not, pos, ◌*ℤ◌, IfOk, IfErr, IsOk, ◌↔◌};
 ghost use Rattle.jiff.specs.Words.{civil_nanos, civil_seconds};
@@ -7,9 +7,9 @@ ghost use Rattle.x509_time.specs.Calls.{time_of, is_late, AreSeconds, ReadsTimeO
 use jiff::civil::DateTime;
 use x509_core::X509Error;
 
-/// A moment in universal time, and whether it is written as GeneralizedTime or as UTCTime (RFC 5280, 4.1.2.5).
+/// A moment in universal time with its form, UTCTime or GeneralizedTime (RFC 5280, 4.1.2.5).
 ///
-/// The order is that of moments; at one moment a UTCTime comes before a GeneralizedTime.
+/// Times are ordered by moment; at equal moments UTCTime comes before GeneralizedTime.
 #[derive(Clone, Copy, Debug, PartialEq, Eq, PartialOrd, Ord, Hash)]
 pub struct ASN1Time {
     time: DateTime,
@@ -17,7 +17,7 @@ pub struct ASN1Time {
 }
 
 impl ASN1Time {
-    /// The moment as GeneralizedTime from the year 2050 on, else as UTCTime.
+    /// Makes a time of a moment: a GeneralizedTime from the year 2050 on, else a UTCTime.
     pub fn new(dt: DateTime) -> ASN1Time
         ensures { result ≡ time_of dt }
     {
@@ -27,7 +27,7 @@ impl ASN1Time {
         }
     }
 
-    /// The moment as GeneralizedTime.
+    /// Makes a GeneralizedTime of a moment.
     pub fn new_generalized(dt: DateTime) -> ASN1Time
         ensures { result ≡ record { time = dt; generalized = true } }
     {
@@ -37,7 +37,7 @@ impl ASN1Time {
         }
     }
 
-    /// The moment as UTCTime, of whatever year.
+    /// Makes a UTCTime of a moment of any year.
     pub fn new_utc(dt: DateTime) -> ASN1Time
         ensures { result ≡ record { time = dt; generalized = false } }
     {
@@ -47,15 +47,19 @@ impl ASN1Time {
         }
     }
 
-    /// `new` of the moment that the caller takes for now.
+    /// Makes a time, as `new`, of the caller's current moment. The library reads no clock.
     pub fn now(moment: DateTime) -> ASN1Time
         ensures { result ≡ time_of moment }
     {
         ASN1Time::new(moment)
     }
 
-    /// `new` of the moment so many seconds after 1970 began, leap seconds not counted. `InvalidDate` where it is in no year
-    /// from -9999 to 9999.
+    /// Makes a time, as `new`, of so many seconds after the beginning of 1970, without leap
+    /// seconds.
+    ///
+    /// # Errors
+    ///
+    /// `InvalidDate` if the year isn't from -9999 to 9999.
     pub fn from_timestamp(secs: i64) -> Result<ASN1Time, X509Error>
         ensures { ReadsTimeOf (secs *ℤ pos 1_000_000_000) result }
     {
@@ -65,14 +69,14 @@ impl ASN1Time {
         }
     }
 
-    /// The moment.
+    /// The moment of the time.
     pub fn to_datetime(&self) -> DateTime
         ensures { result ≡ self.now.time }
     {
         self.time
     }
 
-    /// The seconds since 1970 began, leap seconds not counted; a fraction of one is dropped downwards.
+    /// The seconds since the beginning of 1970, without leap seconds, rounded down.
     pub fn timestamp(&self) -> i64
         ensures seconds { result ≡ civil_seconds self.now.time }
         ensures dropped { AreSeconds (civil_nanos self.now.time) result }
@@ -80,14 +84,14 @@ impl ASN1Time {
         self.time.to_plain().to_second()
     }
 
-    /// Whether it is a UTCTime.
+    /// Whether the form is UTCTime.
     pub fn is_utctime(&self) -> bool
         ensures { result ≡ not self.now.generalized }
     {
         !self.generalized
     }
 
-    /// Whether it is a GeneralizedTime.
+    /// Whether the form is GeneralizedTime.
     pub fn is_generalizedtime(&self) -> bool
         ensures { result ≡ self.now.generalized }
     {
@@ -95,7 +99,7 @@ impl ASN1Time {
     }
 }
 
-/// `new` of the moment.
+/// Makes a time of a moment, as `new`.
 impl From<DateTime> for ASN1Time {
     ghost use Rattle.std.specs.Prelude.{◌≡◌};
     ghost use Rattle.x509_time.specs.Calls.{time_of};

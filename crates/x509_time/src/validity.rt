@@ -1,4 +1,4 @@
-//! Validity (RFC 5280, 4.1.2.5).
+//! `Validity` (RFC 5280, 4.1.2.5).
 
 ghost use Rattle.std.specs.Prelude.{◌≡◌, ◌↔◌, ◌+◌, ◌^◌, ◌<◌, ◌≤◌, ℕ, List, length, IfOk, IsTrue};
 ghost use Rattle.asn1_core.specs.Counts.{attempts};
@@ -24,32 +24,32 @@ use jiff::civil::DateTime;
 use std::alloc::Global;
 use x509_core::{Parts, X509Error, X509Result, front_element, parts_of};
 
-/// The first and the last moment at which something is valid.
+/// A validity period: its first and last moment (RFC 5280, 4.1.2.5).
 #[derive(Clone, Debug, Drop, PartialEq, Eq)]
 pub struct Validity {
-    /// The first moment.
+    /// The first moment of the period.
     pub not_before: ASN1Time,
-    /// The last moment.
+    /// The last moment of the period.
     pub not_after: ASN1Time,
 }
 
 impl Validity {
-    /// Whether the time lies in it, both ends included, by the order of times.
+    /// Whether a time lies in the period, both ends included, by the order of times.
     pub fn is_valid_at(&self, time: ASN1Time) -> bool
         ensures { IsTrue result ↔ IsWithin (validity_view self.now) (time_view time) }
     {
         time >= self.not_before && time <= self.not_after
     }
 
-    /// Whether the moment that the caller takes for now lies in it: `is_valid_at` of `ASN1Time::now`.
+    /// Whether the caller's current moment lies in the period, both ends included.
     pub fn is_valid(&self, now: DateTime) -> bool
         ensures { IsTrue result ↔ IsWithin (validity_view self.now) (time_view (time_of now)) }
     {
         self.is_valid_at(ASN1Time::now(now))
     }
 
-    /// How long it goes on behind the moment that the caller takes for now; none where that doesn't lie in it, and at its last
-    /// moment.
+    /// The duration from the caller's current moment to the end; `None` if the moment isn't in the
+    /// period, or is its last.
     pub fn time_to_expiration(&self, now: DateTime) -> Option<SignedDuration>
         ensures { GivesLeft (validity_view self.now) (time_view (time_of now)) result }
     {
@@ -61,7 +61,11 @@ impl Validity {
     }
 }
 
-/// The validity that an element is; `InvalidDate` of a time that is none.
+/// Reads the validity in an element.
+///
+/// # Errors
+///
+/// `InvalidDate` if a time is malformed or absent; out of memory.
 #[tactic(auto, unfolding(crate::specs::Reading::validity_in))]
 pub fn validity_of<'a>(
     alloc: Global,
@@ -88,7 +92,7 @@ pub fn validity_of<'a>(
     }
 }
 
-/// A validity at the front.
+/// Reads a validity from the front of `parts`.
 pub fn next_validity(
     alloc: Global,
     parts: &mut Parts<'_>,
@@ -117,7 +121,12 @@ impl DerMeaning for Validity {
 }
 
 impl<'a> FromDer<'a, X509Error> for Validity {
-    /// The validity that begins the octets, behind those after it. `InvalidDate` where it has no two times.
+    /// Reads one validity from the front of `bytes` (RFC 5280, 4.1.2.5). Returns `(rest,
+    /// validity)`.
+    ///
+    /// # Errors
+    ///
+    /// `Incomplete` if `bytes` ends inside the element; `InvalidDate` without two times.
     fn from_der(alloc: Global, bytes: &'a [u8]) -> X509Result<'a, Validity>
         ensures reads { Reads (λ given e. e ≡ told given) (Unit {0}) EndsWithinElement (λ i. i.now)
             (λ i v r. grammar.Validity i (validity_view v) r) bytes.now result }
