@@ -1,16 +1,16 @@
-//! A logger that hands messages to closures.
+//! `CallbackLogger`, a logger that calls closures.
 
 ghost use Rattle.std.specs.Prelude.{◌≡◌};
 
 use crate::logger::{LogError, Logger};
 
-/// What takes warnings.
+/// A closure that takes warnings.
 pub type OnWarning = Box<dyn FnMut(&str)>;
 
-/// What takes errors.
+/// A closure that takes errors.
 pub type OnError = Box<dyn FnMut(&str)>;
 
-/// Hands warnings to the one closure, and errors to the other.
+/// A logger that hands warnings to one closure and errors to another.
 #[derive(Drop)]
 pub struct CallbackLogger {
     warn: OnWarning,
@@ -20,7 +20,7 @@ pub struct CallbackLogger {
 }
 
 impl CallbackLogger {
-    /// One over these. They have to take any text, again after each call.
+    /// Makes a logger of two closures. They must accept any text, also after each call.
     pub fn new(warn: OnWarning, err: OnError) -> CallbackLogger
         requires warn { OnWarning.IsAlwaysCallable warn }
         requires err { OnError.IsAlwaysCallable err }
@@ -30,7 +30,7 @@ impl CallbackLogger {
         CallbackLogger { warn, err }
     }
 
-    /// The two closures, as the messages left them: that for warnings, and that for errors.
+    /// The closures for warnings and for errors, in their present states.
     pub fn into_parts(self) -> (OnWarning, OnError)
         ensures { result ≡ (self.warn, self.err) }
     {

@@ -1,4 +1,4 @@
-//! Validators of lists of extensions.
+//! Validators of the extensions of a certificate.
 
 ghost use Rattle.std.specs.Prelude.{◌≡◌, ◌++◌, IfOk, IfErr, OnOk, map};
 ghost use Rattle.x509_validate.specs.Logging.{TakesAll, TakesSome};
@@ -20,15 +20,16 @@ use x509_ext_flags::KeyUsage;
 use x509_ext_names::AuthorityKeyIdentifier;
 use x509_ext_policies::PolicyInformation;
 
-/// Looks at extensions: whether an identifier stands twice, and at what their values are parsed as.
+/// Validates extensions: repeated identifiers (RFC 5280, 4.2), and parsed values.
 #[derive(Clone, Copy, Debug)]
 pub struct X509ExtensionsValidator;
 
-/// Looks at the extensions of a certificate likewise.
+/// Validates the extensions of a certificate: repeated identifiers (RFC 5280, 4.2), and parsed
+/// values.
 #[derive(Clone, Copy, Debug)]
 pub struct X509CertificateValidator;
 
-/// Adds a message for each policy that stood before.
+/// Adds a message for each policy that occurs again.
 fn push_policies(
     alloc: Global,
     policies: &[PolicyInformation<'_>],
@@ -49,7 +50,7 @@ fn push_policies(
     Ok(())
 }
 
-/// Adds a message for each extension whose identifier stood before.
+/// Adds a message for each extension whose identifier occurs again.
 fn push_duplicates(
     alloc: Global,
     extensions: &[X509Extension<'_>],
@@ -178,7 +179,11 @@ fn push_list(
 }
 
 impl X509ExtensionsValidator {
-    /// Tells a logger all that is said of the extensions, as `Validator::validate` does.
+    /// Hands the messages of the extensions to a logger; `true` if none is fatal.
+    ///
+    /// # Errors
+    ///
+    /// The logger's error, or out of memory.
     #[tactic(auto, using(crate::proofs::Told::untold))]
     pub fn validate<L: Logger>(
         &self,

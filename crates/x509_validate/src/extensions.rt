@@ -1,4 +1,4 @@
-//! What is said of extensions (RFC 5280, 4.2).
+//! Messages of extensions (RFC 5280, 4.2).
 
 ghost use Rattle.std.specs.Prelude.{◌≡◌, ◌++◌, IfOk, OnOk, map, codes};
 ghost use Rattle.asn1_oid.specs.Text.{oid_text};
@@ -58,7 +58,7 @@ fn push_extension(
     }
 }
 
-/// Adds what is said of each extension by itself.
+/// Adds the messages of each extension by itself.
 pub(crate) fn push_extensions(
     alloc: Global,
     extensions: &[X509Extension<'_>],
@@ -136,7 +136,7 @@ pub(crate) fn push_alternative(
     }
 }
 
-/// Adds what is said of the subject's alternative names.
+/// Adds the messages of the subject's alternative names.
 pub(crate) fn push_alternatives(
     alloc: Global,
     extensions: &[X509Extension<'_>],

@@ -1,4 +1,4 @@
-//! What is said of keys (RFC 5280, 4.1.2.7).
+//! `X509PublicKeyValidator` (RFC 5280, 4.1.2.7).
 
 ghost use Rattle.std.specs.Prelude.{◌≡◌, ◌++◌, OnOk, map};
 ghost use Rattle.x509_names.specs.View.{key_view, public_key_view, rsa_view};
@@ -12,8 +12,8 @@ use crate::validator::Validator;
 use std::alloc::{AllocError, Global};
 use x509_names::{PublicKey, RSAPublicKey, SubjectPublicKeyInfo};
 
-/// Looks at keys: `Invalid public key` is fatal where a key's octets are none of its algorithm; warns of keys of unknown algorithms and of
-/// RSA keys with a negative number.
+/// Validates public keys. `Invalid public key`, which is fatal: the octets are no key of the
+/// algorithm. Warnings: an unknown algorithm; an RSA key with a negative number.
 #[derive(Clone, Copy, Debug)]
 pub struct X509PublicKeyValidator;
 
@@ -23,7 +23,7 @@ impl Default for X509PublicKeyValidator {
     }
 }
 
-/// Adds a warning of this text where the number is negative.
+/// Adds a warning with this text if the number is negative.
 fn push_sign(
     alloc: Global,
     text: &str,
@@ -69,7 +69,7 @@ fn push_value(alloc: Global, key: &PublicKey<'_>, said: &mut Vec<Message>) -> Re
     }
 }
 
-/// Adds what is said of a key, whose octets these are.
+/// Adds the messages of a key with these octets.
 fn push_parsed(
     alloc: Global,
     key: &SubjectPublicKeyInfo<'_>,
@@ -85,7 +85,7 @@ fn push_parsed(
     }
 }
 
-/// Adds what is said of a key.
+/// Adds the messages of a key.
 pub(crate) fn push_key(
     alloc: Global,
     key: &SubjectPublicKeyInfo<'_>,
@@ -96,7 +96,8 @@ pub(crate) fn push_key(
     push_parsed(alloc, key, key.subject_public_key.content, said)
 }
 
-/// The messages of a key are what is said of the value that its octets are, or that there is none.
+/// The messages of a key are those of its parsed value, or that there is none. A law: the function
+/// has no effect.
 pub fn messages_of_key(key: &SubjectPublicKeyInfo<'_>, octets: &[u8])
     requires { octets.now ≡ key.now.subject_public_key.content.now }
     ensures { AreKeyMessages (key_view key.now) (key_messages (key_view key.now)) }

@@ -1,4 +1,4 @@
-//! Who messages are told to.
+//! `Logger`, which takes the messages of validators.
 
 ghost use Rattle.std.specs.Prelude.{⊤, ◌≡◌, ℕ, List, Result};
 ghost use Rattle.x509_validate.specs.declared.logger.LogError.{LogError};
@@ -7,13 +7,13 @@ use asn1_core::OutOfMemory;
 use std::alloc::AllocError;
 use thiserror::Error;
 
-/// Why a message wasn't taken.
+/// Why a logger refused a message.
 #[derive(Clone, Copy, Debug, PartialEq, Eq, Error)]
 pub enum LogError {
-    /// Memory ran out.
+    /// Out of memory.
     #[error("OutOfMemory")]
     OutOfMemory,
-    /// The writer behind the logger failed.
+    /// The logger's writer failed.
     #[error("Write")]
     Write,
 }
@@ -34,19 +34,19 @@ impl From<AllocError> for LogError {
     }
 }
 
-/// Takes messages.
+/// Takes the messages of validators. Implement it for a logger of your own.
 pub trait Logger {
-    /// Which warnings, with the text and what was answered, lead from one state to another. A fixed relation of the type.
+    /// The relation of state, warning, result and next state. It depends on the type alone.
     ghost warns: { Self → List ℕ → Result ⊤ LogError → Self → Type 0 };
 
-    /// The same for errors.
+    /// The relation of state, error, result and next state. It depends on the type alone.
     ghost errs: { Self → List ℕ → Result ⊤ LogError → Self → Type 0 };
 
-    /// Takes a warning: what has the look of a mistake.
+    /// Takes a warning: something that looks like a mistake.
     fn warn(&mut self, message: &str) -> Result<(), LogError>
         ensures { warns self.old message.now result self.new };
 
-    /// Takes an error: what breaks the standard.
+    /// Takes an error: something that the standard forbids.
     fn err(&mut self, message: &str) -> Result<(), LogError>
         ensures { errs self.old message.now result self.new };
 }

@@ -1,4 +1,4 @@
-//! What validators say.
+//! `Message`, what a validator reports.
 
 ghost use Rattle.std.specs.Prelude.{◌≡◌, [], ◌∷◌, ◌++◌, OnOk, OnErr, map};
 ghost use Rattle.std.specs.List.{list_all};
@@ -8,28 +8,28 @@ ghost use Rattle.x509_validate.specs.View.{message_view, weight_view};
 
 use std::alloc::{AllocError, Global};
 
-/// How bad it is.
+/// The weight of a message.
 #[derive(Clone, Copy, Debug, PartialEq, Eq)]
 pub enum Weight {
-    /// Told as a warning.
+    /// Logged as a warning.
     Warning,
-    /// Told as an error.
+    /// Logged as an error.
     Fault,
-    /// Told as an error, and the answer is false.
+    /// Logged as an error, and validation returns `false`.
     Fatal,
 }
 
-/// A message.
+/// A message of a validator.
 #[derive(Debug, Drop)]
 pub struct Message {
-    /// How bad it is.
+    /// The weight of a message.
     pub weight: Weight,
-    /// Its text, as it is told.
+    /// Its text, as it is logged.
     pub text: String,
 }
 
 impl Message {
-    /// Whether it leaves the answer true.
+    /// Whether the message isn't fatal.
     fn passes(&self) -> bool
         ensures { result ≡ messages.passes (message_view self.now) }
     {
@@ -54,7 +54,11 @@ pub(crate) fn all_pass(all: &[Message]) -> bool
     each_passes(all)
 }
 
-/// Adds a message of this text. It is refused where memory runs out for the text or for one more message.
+/// Appends a message with this text.
+///
+/// # Errors
+///
+/// Out of memory, for the text or the vector.
 pub fn push_text(
     alloc: Global,
     weight: Weight,

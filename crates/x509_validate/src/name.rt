@@ -1,4 +1,4 @@
-//! What is said of names (RFC 5280, 4.1.2.4).
+//! `X509NameStructureValidator` (RFC 5280, 4.1.2.4).
 
 ghost use Rattle.std.specs.Prelude.{◌≡◌, ◌++◌, IfOk, OnOk, map, codes};
 ghost use Rattle.std.specs.List.{list_any};
@@ -17,11 +17,12 @@ use asn1_oid::Oid;
 use std::alloc::{AllocError, Global};
 use x509_names::{AttributeTypeAndValue, X509Name};
 
-/// Looks at names: warns of each attribute that is a PrintableString or an IA5String with an octet that is no ASCII (X.680, 41).
+/// Validates names: warns of each PrintableString or IA5String with an octet outside ASCII (X.680,
+/// 41).
 #[derive(Clone, Copy, Debug)]
 pub struct X509NameStructureValidator;
 
-/// Whether an octet is no ASCII.
+/// Whether an octet lies outside ASCII.
 pub(crate) fn has_high(octets: &[u8]) -> bool
     ensures { result ≡ list_any is_high octets.now }
 {
@@ -54,7 +55,7 @@ fn push_attribute(
     Ok(())
 }
 
-/// Adds what is said of the attributes of a name.
+/// Adds the messages of a name's attributes.
 fn push_attributes(
     alloc: Global,
     name: &X509Name<'_>,
@@ -69,7 +70,7 @@ fn push_attributes(
     Ok(())
 }
 
-/// Adds what is said of a name.
+/// Adds the messages of a name.
 #[tactic(auto, using(crate::proofs::NameLaws::said_of_name))]
 pub(crate) fn push_name(
     alloc: Global,

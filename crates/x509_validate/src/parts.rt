@@ -1,4 +1,4 @@
-//! What is said of a certificate's version, serial number and times (RFC 5280, 4.1.2).
+//! Messages of a certificate's version, serial number and times (RFC 5280, 4.1.2).
 
 ghost use Rattle.std.specs.Prelude.{◌≡◌, ◌++◌, OnOk, map};
 ghost use Rattle.x509_validate.specs.Parts.{version_messages, serial_messages, time_messages, validity_messages};
@@ -8,7 +8,7 @@ use crate::message::{Message, Weight, push_text};
 use std::alloc::{AllocError, Global};
 use x509_time::{ASN1Time, Validity};
 
-/// Adds what is said of a version, which counts from 0.
+/// Adds the messages of a version, as it is encoded: 0 is version 1.
 pub(crate) fn push_version(
     alloc: Global,
     version: u32,
@@ -23,7 +23,7 @@ pub(crate) fn push_version(
     }
 }
 
-/// Adds what is said of a serial number, by the octets of its content.
+/// Adds the messages of a serial number with these content octets.
 pub(crate) fn push_serial(
     alloc: Global,
     octets: &[u8],
@@ -68,7 +68,7 @@ fn push_time(
     }
 }
 
-/// Adds what is said of the times of a validity.
+/// Adds the messages of the times of a validity.
 pub(crate) fn push_validity(
     alloc: Global,
     validity: &Validity,

@@ -1,4 +1,4 @@
-//! Identifiers that stand twice.
+//! Repeated identifiers.
 
 ghost use Rattle.std.specs.Prelude.{◌≡◌, ◌∷◌, ◌++◌, ℕ, List, IfOk, OnOk, map};
 ghost use Rattle.asn1_oid.specs.Text.{oid_text};
@@ -23,8 +23,8 @@ fn repeat(alloc: Global, text: &str, oid: &Oid<'_>) -> Result<Message, AllocErro
     })
 }
 
-/// Adds a message where the identifier stood before, and else keeps it. With n of them of s octets in all, about s times the logarithm of
-/// n octets are compared.
+/// Adds a message if the identifier occurred before, else keeps it. For n identifiers of s octets
+/// in all some s log n octets are compared.
 pub(crate) fn push_repeat<'n>(
     alloc: Global,
     text: &str,

@@ -1,4 +1,4 @@
-//! A logger that writes.
+//! `StderrLogger`, a logger that writes lines.
 
 ghost use Rattle.std.specs.Prelude.{◌≡◌, ◌+◌, [], ◌∷◌, ◌++◌, OnOk, OnErr};
 ghost use Rattle.std.specs.Io.KnownBytes.{Appends};
@@ -7,21 +7,22 @@ ghost use Rattle.asn1_device.specs.Counts.{AppendsFront, faults_of};
 use crate::logger::{LogError, Logger};
 use asn1_device::{DeviceFault, Sink, write_octets};
 
-/// Writes each message to a writer, as a line of its own behind `[W] ` or `[E] `. It doesn't flush.
+/// A logger that writes each message to a writer as a line that begins with `[W] ` or `[E] `. It
+/// doesn't flush.
 #[derive(Drop)]
 pub struct StderrLogger<W> {
     writer: W,
 }
 
 impl<W: Sink> StderrLogger<W> {
-    /// One that writes to this.
+    /// Makes a logger that writes to `writer`.
     pub fn new(writer: W) -> StderrLogger<W>
         ensures { result ≡ record { writer = writer } }
     {
         StderrLogger { writer }
     }
 
-    /// The writer, with what was written to it.
+    /// The writer, with all that was written to it.
     pub fn into_inner(self) -> W
         ensures { result ≡ self.writer }
     {

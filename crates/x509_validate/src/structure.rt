@@ -1,4 +1,4 @@
-//! What is said of a certificate's structure (RFC 5280, 4.1).
+//! Validators of a certificate's structure (RFC 5280, 4.1).
 
 ghost use Rattle.std.specs.Prelude.{◌≡◌, ◌++◌, OnOk, map};
 ghost use Rattle.x509_validate.specs.Structure.{present, unique_messages, presence_messages, field_messages, further_messages, structure_messages};
@@ -16,7 +16,8 @@ use std::alloc::{AllocError, Global};
 use x509_certs::{TbsCertificate, X509Certificate};
 use x509_ext::{UniqueIdentifier, X509Extension};
 
-/// Looks at the signed part of a certificate: version, serial number, names, key, times, unique identifiers and extensions.
+/// Validates the signed part of a certificate: version, serial number, names, key, times, unique
+/// identifiers and extensions.
 #[derive(Clone, Copy, Debug)]
 pub struct TbsCertificateStructureValidator;
 
@@ -26,7 +27,8 @@ impl Default for TbsCertificateStructureValidator {
     }
 }
 
-/// Looks at the signed part of a certificate likewise.
+/// Validates a certificate by its signed part: version, serial number, names, key, times, unique
+/// identifiers and extensions.
 #[derive(Clone, Copy, Debug)]
 pub struct X509StructureValidator;
 

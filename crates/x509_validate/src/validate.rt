@@ -1,4 +1,4 @@
-//! Values that are validated as they are.
+//! `Validate`, for values that validate themselves.
 
 ghost use Rattle.std.specs.Prelude.{◌≡◌, List, IfOk, IfErr, OnOk, map, string_bytes};
 ghost use Rattle.x509_validate.specs.Kept.{warning_texts, error_texts};
@@ -12,18 +12,26 @@ use crate::vec_logger::VecLogger;
 use std::alloc::Global;
 use x509_certs::{TbsCertificate, X509Certificate};
 
-/// Says what is amiss with itself.
+/// A value that validates itself.
 pub trait Validate {
-    /// What is said of a value.
+    /// The messages of a value.
     ghost messages: { Self → List Message };
 
-    /// Tells a logger all that is said of the value, as `Validator::validate` does.
+    /// Hands the messages of the value to a logger; `true` if none is fatal.
+    ///
+    /// # Errors
+    ///
+    /// The logger's error, or out of memory.
     fn validate<L: Logger>(&self, alloc: Global, l: &mut L) -> Result<bool, LogError>
         ensures taken { OnOk result (TakesAll L.warns L.errs l.old (messages self.now) l.new) }
         ensures answer { IfOk result (λ answer. answer ≡ all_pass (messages self.now)) }
         ensures refused { IfErr result (λ e. TakesSome L.warns L.errs l.old (messages self.now) e l.new) };
 
-    /// The answer, the warnings and the errors. It is refused for want of memory alone.
+    /// Returns whether no message is fatal, the warnings and the errors.
+    ///
+    /// # Errors
+    ///
+    /// Out of memory, and nothing else.
     #[tactic(auto, using(crate::proofs::KeptFacts::all_warnings, crate::proofs::KeptFacts::all_errors, crate::proofs::KeptFacts::out_of_memory))]
     fn validate_to_vec(&self, alloc: Global) -> Result<(bool, Vec<String>, Vec<String>), LogError>
         ensures answer { IfOk result (λ r. r.0 ≡ all_pass (messages self.now)) }

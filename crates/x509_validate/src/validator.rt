@@ -1,4 +1,4 @@
-//! Validators, and two of them in a chain.
+//! `Validator`, and chains of two.
 
 ghost use Rattle.std.specs.Prelude.{◌≡◌, List, IfOk, IfErr, OnOk};
 ghost use Rattle.x509_validate.specs.Logging.{TakesAll, TakesSome};
@@ -7,16 +7,20 @@ ghost use Rattle.x509_validate.specs.Messages.{Message, all_pass};
 use crate::logger::{LogError, Logger};
 use std::alloc::Global;
 
-/// Says what is amiss with a value.
+/// Validates values of one type.
 pub trait Validator<'a>: Sized {
-    /// What it looks at.
+    /// The type of values that it validates.
     type Item;
 
-    /// What it says of a value: warnings, errors, and those that make its answer false. A function of the two.
+    /// The messages of a value: warnings, errors, and fatal ones. A function of validator and
+    /// value.
     ghost messages: { Self → Self.Item → List Message };
 
-    /// Tells a logger all that is said of the value, in its order, and answers whether nothing of it is fatal. A refusal is the logger's, or
-    /// want of memory for a text; what was told till then is a front of what is said.
+    /// Hands the messages of the value to a logger in order; `true` if none is fatal.
+    ///
+    /// # Errors
+    ///
+    /// The logger's error, or out of memory for a text. Messages before it were handed over.
     fn validate<L: Logger>(
         &self,
         alloc: Global,
@@ -27,7 +31,7 @@ pub trait Validator<'a>: Sized {
         ensures answer { IfOk result (λ answer. answer ≡ all_pass (messages self.now item.now)) }
         ensures refused { IfErr result (λ e. TakesSome L.warns L.errs l.old (messages self.now item.now) e l.new) };
 
-    /// A validator that says what this one says, and then what the other says.
+    /// Makes a validator with the messages of this one, then those of `other`.
     final fn chain<V: Validator<'a, Item = Self::Item>>(self, other: V) -> ChainValidator<Self, V>
         ensures { result ≡ record { first = self; second = other } }
     {
@@ -38,7 +42,7 @@ pub trait Validator<'a>: Sized {
     }
 }
 
-/// Two validators of the same values.
+/// Two validators of one type of values, in a chain.
 #[derive(Clone, Copy, Debug)]
 pub struct ChainValidator<A, B> {
     first: A,

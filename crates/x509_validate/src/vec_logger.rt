@@ -1,11 +1,11 @@
-//! A logger that keeps what it is told.
+//! `VecLogger`, a logger that keeps messages.
 
 ghost use Rattle.std.specs.Prelude.{◌≡◌, [], ◌∷◌, ◌++◌, map, string_bytes, OnOk, OnErr};
 
 use crate::logger::{LogError, Logger};
 use std::alloc::{AllocError, Global};
 
-/// Keeps warnings and errors, each in their order.
+/// A logger that keeps warnings and errors, each in order.
 #[derive(Debug, Drop)]
 pub struct VecLogger {
     warnings: Vec<String>,
@@ -14,7 +14,7 @@ pub struct VecLogger {
 }
 
 impl VecLogger {
-    /// One that was told nothing.
+    /// Makes a logger without messages.
     pub fn new(alloc: Global) -> VecLogger
         ensures warnings { result.warnings.items ≡ [] }
         ensures errors { result.errors.items ≡ [] }
@@ -26,21 +26,21 @@ impl VecLogger {
         }
     }
 
-    /// The warnings.
+    /// The warnings, in order.
     pub fn warnings(&self) -> &[String]
         ensures { result.now ≡ self.now.warnings.items }
     {
         &self.warnings
     }
 
-    /// The errors.
+    /// The errors, in order.
     pub fn errors(&self) -> &[String]
         ensures { result.now ≡ self.now.errors.items }
     {
         &self.errors
     }
 
-    /// The warnings and the errors.
+    /// The warnings and the errors, each in order.
     pub fn into_parts(self) -> (Vec<String>, Vec<String>)
         ensures { result ≡ (self.warnings, self.errors) }
     {
