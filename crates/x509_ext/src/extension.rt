@@ -152,7 +152,7 @@ fn parsed_value<'a>(
 ///
 /// # Errors
 ///
-/// `InvalidExtensions`; out of memory.
+/// The error of the first part that is malformed; out of memory.
 #[tactic(auto, unfolding(crate::specs::Reading::extension_in))]
 pub fn extension_of<'a>(
     alloc: Global,

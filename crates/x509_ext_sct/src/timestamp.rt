@@ -82,7 +82,7 @@ pub(crate) fn timestamp_at_front<'a>(i: &'a [u8]) -> X509Result<'a, SignedCertif
 ///
 /// # Errors
 ///
-/// An `Error` if the octets are too few.
+/// A refusal if the octets are too few.
 pub fn parse_ct_signed_certificate_timestamp<'a>(
     i: &'a [u8],
 ) -> X509Result<'a, SignedCertificateTimestamp<'a>>

@@ -87,7 +87,8 @@ fn next_parameters<'a>(parts: &mut Parts<'a>) -> Result<Option<Any<'a>>, Refusal
 ///
 /// # Errors
 ///
-/// `InvalidAlgorithmIdentifier` without an identifier; out of memory.
+/// `InvalidAlgorithmIdentifier` without an identifier; another `Error` if the tag number isn't 16,
+/// or the parameters are malformed; out of memory.
 #[tactic(auto, unfolding(crate::specs::Reading::algorithm_in))]
 pub fn algorithm_of<'a>(
     alloc: Global,
@@ -113,7 +114,8 @@ pub fn algorithm_of<'a>(
 ///
 /// # Errors
 ///
-/// `InvalidAlgorithmIdentifier` without an identifier; out of memory.
+/// `InvalidAlgorithmIdentifier` without an identifier; another `Error` if the tag number isn't 16,
+/// or the parameters are malformed; out of memory.
 pub fn next_algorithm<'a>(
     alloc: Global,
     parts: &mut Parts<'a>,
