@@ -9,7 +9,7 @@ use Rattle.asn1_any.specs.Cutting.{IsCutting, IsPiece}
 use Rattle.asn1_any.specs.DerElements.{BeginsWithElement, HasElement}
 use Rattle.asn1_any.specs.Reading.{der_element_at}
 use Rattle.asn1_any.proofs.Cuts.{none_begins}
-use Rattle.laws_asn1.specs.Worked.{behind, indefinite_element, indefinite_whole, long_null, long_piece, null_element}
+use Rattle.laws_asn1.specs.Worked.{after, indefinite_element, indefinite_whole, long_null, long_piece, null_element}
 use Rattle.laws_asn1.proofs.OfHeaders.{null_is_element, indefinite_is_head, indefinite_spells}
 
 long_null_header : SpellsHeader long_null (head_of_element null_element)
@@ -24,7 +24,7 @@ long_null_header = record {
 pub long_is_piece : IsPiece long_piece
 long_is_piece = record { header = long_null; in_range = null_is_element; spells = long_null_header; whole = refl }
 
-pub begins : BeginsWithElement (long_null ++ behind) null_element behind
+pub begins : BeginsWithElement (long_null ++ after) null_element after
 begins = record { front = long_null; spells = long_is_piece; whole = refl }
 
 -- the NULL within the indefinite content: 05 00
@@ -61,7 +61,7 @@ indefinite_spelled = record {
   whole = refl;
 }
 
-pub begins_ber : BeginsWithBerElement 1 (indefinite_whole ++ behind) indefinite_element behind
+pub begins_ber : BeginsWithBerElement 1 (indefinite_whole ++ after) indefinite_element after
 begins_ber = record { front = indefinite_whole; spells = indefinite_spelled; whole = refl }
 
 none : ¬ HasElement (0x05 ∷ [])

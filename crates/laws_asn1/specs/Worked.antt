@@ -7,8 +7,8 @@ use Rattle.asn1_core.specs.Lenient.{BerHead}
 use Rattle.asn1_core.specs.Strict.{Head}
 
 -- what comes after a value
-abbrev pub behind : List ℕ
-behind = 0xff ∷ []
+abbrev pub after : List ℕ
+after = 0xff ∷ []
 
 -- the header of a SEQUENCE of three octets: strictly 30 03
 abbrev pub sequence_head : Head

@@ -5,16 +5,16 @@ ghost use Rattle.std.specs.Int.Digits.{AllBelowBase};
 ghost use Rattle.asn1_any.specs.BerElements.{BeginsWithBerElement};
 ghost use Rattle.asn1_any.specs.Cutting.{IsCutting, IsPiece};
 ghost use Rattle.asn1_any.specs.DerElements.{BeginsWithElement};
-ghost use Rattle.laws_asn1.specs.Worked.{behind, indefinite_element, indefinite_whole, long_null, long_piece, null_element};
+ghost use Rattle.laws_asn1.specs.Worked.{after, indefinite_element, indefinite_whole, long_null, long_piece, null_element};
 
 /// A NULL with its length in the long form, `05 81 00`, and an octet after it.
 pub fn example_of_one_definite_element()
-    ensures { BeginsWithElement (long_null ++ behind) null_element behind }
+    ensures { BeginsWithElement (long_null ++ after) null_element after }
 {}
 
 /// A SEQUENCE of indefinite length that holds a NULL, `30 80 05 00 00 00`, and an octet after it.
 pub fn example_of_one_ber_element()
-    ensures { BeginsWithBerElement 1 (indefinite_whole ++ behind) indefinite_element behind }
+    ensures { BeginsWithBerElement 1 (indefinite_whole ++ after) indefinite_element after }
 {}
 
 /// A content of one element, with one octet of a second after it.
