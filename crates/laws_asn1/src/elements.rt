@@ -22,7 +22,8 @@ pub fn example_of_one_cutting()
     ensures { IsPiece long_piece × IsCutting (long_null ++ (0x05 ∷ [])) (long_piece ∷ []) (0x05 ∷ []) × AllBelowBase 256 (0x05 ∷ []) }
 {}
 
-/// One octet of an element, which is no piece.
+/// One octet of an element, which is no piece; and a piece before it.
 pub fn example_of_no_piece()
-    ensures { AllBelowBase 256 (0x05 ∷ []) × IsCutting (0x05 ∷ []) [] (0x05 ∷ []) }
+    ensures none { AllBelowBase 256 (0x05 ∷ []) × IsCutting (0x05 ∷ []) [] (0x05 ∷ []) }
+    ensures more { IsPiece long_piece × ((long_null ++ (0x05 ∷ [])) ≡ long_piece.octets ++ (0x05 ∷ [])) }
 {}
