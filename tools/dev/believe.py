@@ -33,7 +33,7 @@ HEADS = ["certpath_engine::read_words", "certpath_run::frame", "cert_framing::Bu
          "x509_names::X509Name::from_der", "x509_time::ASN1Time::from_der"]
 C_CRATE = "certpath_c"
 # Crates that run code, and hand nothing to others.
-NO_LIBRARY = re.compile(r"(?:_rows|_tests|bench)$|^example_")
+NO_LIBRARY = re.compile(r"^(?:rows|tests|bench|example|laws)_")
 # A page follows the code if the comment at its head says so, or its name does; and the pages of which that is known.
 FOLLOWS = re.compile(r"retrace|step by step|as the code|from where it lies in the octets")
 FOLLOWS_BY_NAME = re.compile(r"(?:Reading|Readers)\.antt$")

@@ -26,8 +26,8 @@ MOST_NAMED = 2
 # Pages of definitions that have no rule: what values of types stand for, and examples.
 NO_RULE = re.compile(r"(?:View|Views|Values|Examples|Told|Held)$")
 SECTION = re.compile(r"(RFC \d+), ((?:appendix )?[A-Z]?[\d.]*\d)|(X\.\d+), (\d[\d.]*\d|\d+)")
-# What runs code, and holds none that others build on.
-TOPS = ("rows_", "tests_", "bench_")
+# What runs code or holds worked values, and none that others build on.
+TOPS = ("rows_", "tests_", "bench_", "laws_")
 EXAMPLES = "example_"
 # The crates that hand on others by name.
 PORTS = ("asn1_rs", "der_parser", "x509_parser")
@@ -131,8 +131,9 @@ LAYERS = (
     ("The program", "certpath_pem certpath_files certpath_bundle certpath_why certpath_inputs certpath_evidence "
                     "certpath_recheck certpath_run certpath_engine certpath_cli"),
     ("For other languages", "certpath_c"),
-    ("Rows, tests, benches, examples", "rows_hex rows_asn1 rows_cert rows_x509 rows_check rows_reasons tests_asn1 tests_der tests_graph "
-                                       "tests_run bench_graph bench_item bench_workload example_certificate example_own_type example_path"),
+    ("Rows, tests, benches, examples, worked laws", "rows_hex rows_asn1 rows_cert rows_x509 rows_check rows_reasons tests_asn1 tests_der tests_graph "
+                                       "tests_run bench_graph bench_item bench_workload example_certificate example_own_type example_path "
+                                       "laws_asn1"),
 )
 
 

@@ -1,18 +1,27 @@
-"""Lists the laws whose premises no example meets.
+"""Looks that no law is vacuous: each clause of a law that has premises has an example, which shows that values meet them.
 
-A law is a public function with an empty body; its clauses are what it says. An example of the law `x`, or `law_x`, is a law that is named
-`example_of_x`: it says of values, which aren't trivial, that the law's premises hold of them. A law whose premises nothing meets says
-nothing, and is proved all the same. What is said by an equivalence alone has no premise.
+A law is a public function with an empty body; its clauses are what it says. A premise is what comes before an arrow of a
+clause. An example is a law that says something of values, or of all values, without a premise: the prover works it out. It
+fits a clause if its parts, between `×`, are all premises of the clause with values in the place of the clause's variables,
+each variable the same value everywhere. A name counts as what the file's `use` lines say that it is.
+
+A clause that is the name of a definition says what the definition does; of a record each field is a part. What is denied
+(`.. → ⊥`) is one part. A premise that an example meets in the words of another definition isn't seen, nor one with a `let`.
+
+LEFT is how many clauses have no example; it may only fall. `python3 tools/gate/quick.py laws` prints them.
 """
+import functools
 import re
 
 from dev import believe
-from gate import calls
+from gate import calls, syntax
 
-# What a clause begins with that speaks of all values: names with their types.
-FOR_ALL = re.compile(r"\s*(?:[({][^(){}]*(?:\([^()]*\)[^(){}]*)*\s:\s(?:[^(){}]|\([^()]*\))*[)}]\s*)+→")
-INNER = re.compile(r"\([^()]*\)|\{[^{}]*\}")
-EXAMPLE = re.compile(r"examples?(?:_of_|$)|worked_")
+LEFT = 160
+OPEN, CLOSE = "({⟦", ")}⟧"
+ARROW, TIMES, COLON, FALSE = "→", "×", ":", "⊥"
+TOKEN = re.compile(r"""[(){}⟦⟧]|[^\s(){}⟦⟧;,"]+|[;,]""")
+# What a definition of a page begins with, before what it says.
+COMMENT = re.compile(r"(?m)(?:^|\s)--.*")
 
 
 def laws():
@@ -20,29 +29,231 @@ def laws():
     return [function for function in calls.functions() if function.is_law]
 
 
+# ---- texts as trees: a list of words and of lists, one for each pair of brackets
+
+def tree(text, name_of):
+    """The tree of a text, whose words are named as the text's file names them. Brackets around one word are away."""
+    stack = [[]]
+    for word in TOKEN.findall(text):
+        if word in OPEN:
+            stack.append([word])
+        elif word in CLOSE and len(stack) > 1:
+            inner = stack.pop()
+            alone = inner[0] == "(" and len(inner) == 2
+            stack[-1].append(inner[1] if alone else tuple(inner))
+        else:
+            stack[-1].append(name_of(word))
+    return tuple(stack[0])
+
+
+def inside(part):
+    """What is in a pair of round brackets that is alone; else the part itself."""
+    while len(part) == 1 and isinstance(part[0], tuple) and part[0][0] == "(":
+        part = part[0][1:]
+    return part
+
+
+def split(part, sign):
+    """The pieces of a part between a sign that is in no brackets."""
+    found = [[]]
+    for word in part:
+        if word == sign:
+            found.append([])
+        else:
+            found[-1].append(word)
+    return [tuple(entry) for entry in found]
+
+
+def binders(part):
+    """The names that a part binds, as `(x y : T) {z : U}` does; none if it binds nothing."""
+    names = []
+    for group in part:
+        if not isinstance(group, tuple) or COLON not in group:
+            return None
+        names += group[1:group.index(COLON)]
+    return names or None
+
+
+# ---- what names stand for
+
+def module_of(path):
+    """The module of a page or of a source, as `use` names it."""
+    crate, part, *inner = re.sub(r"\.\w+$", "", path).split("/")[1:]
+    return ".".join(["Rattle", crate, part, *inner])
+
+
+def named(names, modules, module, own):
+    """A function that gives the whole name of a word: of a repository's definition with its module."""
+    def name_of(word):
+        head, dot, rest = word.partition(".")
+        if head in modules and rest:
+            return f"{modules[head]}.{rest}"
+        where, there = names.get(head, (module, head) if head in own else ("", head))
+        return f"{where}.{there}{dot}{rest}" if where.split(".")[1:2] and where.split(".")[1] in syntax.CRATES else word
+    return name_of
+
+
+@functools.cache
+def page_names(path):
+    page = believe.page(path)
+    return named(page.names, page.modules, module_of(path), page.definitions)
+
+
+class Said:
+    """What a clause says: variables, premises, and parts of what follows."""
+
+    def __init__(self, variables, text_tree):
+        self.variables, self.premises = {*variables}, []
+        *before, last = split(inside(text_tree), ARROW)
+        for part in before:
+            bound = binders(part)
+            if bound is None:
+                self.premises += split(inside(part), TIMES) if ARROW not in inside(part) else [part]
+            else:
+                self.variables |= {*bound}
+        self.parts = [inside(part) for part in split(inside(last), TIMES)]
+        if last == (FALSE,) and self.premises:
+            # (the last premise is denied: that is what follows from the others)
+            self.premises.pop()
+            self.parts = [inside(text_tree)]
+        self.premises = [inside(part) for part in self.premises]
+        for part in self.premises:
+            self.variables |= bound_in(part)
+
+
+def bound_in(part):
+    """The names that a premise binds, as one that speaks of all values does."""
+    found = {*(binders(part[:1]) or ())} if len(part) > 1 and part[1] == ARROW else set()
+    return found.union(*(bound_in(entry) for entry in part if isinstance(entry, tuple)))
+
+
+def of_definition(definition):
+    """What a definition says, with the names that it binds as variables; each field of a record is a part."""
+    lines = COMMENT.sub("", "\n".join(definition.lines))
+    name_of = page_names(definition.page.path)
+    if definition.kind == "record":
+        fields = re.split(r"(?m)^\s+pub [^\s:]+ :", lines.partition("where")[2])[1:]
+        found = Said((), ())
+        found.parts = [inside(tree(field, name_of)) for field in fields]
+        return found
+    said = re.search(rf"(?ms)^{re.escape(definition.name)}\b([^=]*?)=(.*?)(?=^\S|\Z)", lines)
+    return Said(re.findall(r"[^\s{}]+", said[1]), tree(said[2], name_of)) if said else Said((), ())
+
+
 def said(function, text):
-    """What a clause says: if it begins with the name of a definition, what that says."""
+    """What a clause says: if it begins with the name of a definition, what that says, with its own words as a part."""
+    names, modules = function.file.ghosts(function.at)
+    whole = tree(text, named(names, modules, "", ()))
+    parameters = re.findall(r"(?:^|[<,])\s*(?:const )?(\w+)\s*(?=[:,>])", function.signature.partition("(")[0].partition("<")[2])
     name = re.match(r"\s*(\S*)", text)[1]
-    for entry in believe.words_of(function.file, name, function.at):
-        if isinstance(entry, believe.Definition) and entry.name == name and not entry.kind:
-            return re.split(rf"(?m)^{re.escape(name)}\b[^=]*=", "\n".join(entry.lines), maxsplit=1)[-1]
-    return text
+    is_named = all(isinstance(word, str) and word.partition(".")[0] in parameters for word in whole[1:])
+    for entry in believe.words_of(function.file, name, function.at) if is_named else ():
+        if isinstance(entry, believe.Definition) and entry.name == name and entry.kind != "data":
+            inner = of_definition(entry)
+            inner.parts += [whole]
+            inner.variables |= {*parameters}
+            return inner
+    return Said(parameters, whole)
 
 
-def has_premise(text):
-    """Whether something is said under a condition."""
-    while FOR_ALL.match(text):
-        text = text[FOR_ALL.match(text).end():]
-    while INNER.search(text):
-        text = INNER.sub("", text)
-    return "→" in text
+# ---- fitting
+
+def bind(variable, value, bound):
+    """The bindings with one more, or none if the variable has another value."""
+    if variable in bound:
+        return bound if bound[variable] == value else None
+    return {**bound, variable: value}
+
+
+def fits(pattern, value, variables, bound):
+    """Each way in which a value is a pattern with values in the place of its variables."""
+    if not pattern:
+        if not value:
+            yield bound
+        return
+    first, *rest = pattern
+    if isinstance(first, tuple):
+        if value and isinstance(value[0], tuple):
+            for found in fits(first, value[0], variables, bound):
+                yield from fits(rest, value[1:], variables, found)
+        elif value and len(inside((first,))) == 1:
+            yield from fits((*inside((first,)), *rest), value, variables, bound)
+        return
+    head, dot, field = first.partition(".")
+    if head not in variables:
+        if value and value[0] == first:
+            yield from fits(rest, value[1:], variables, bound)
+        return
+    if dot:
+        if value and isinstance(value[0], str) and value[0].endswith(dot + field):
+            found = bind(head, (value[0][:-len(dot + field)],), bound)
+            if found is not None:
+                yield from fits(rest, value[1:], variables, found)
+        return
+    # (the last variable of a row takes all that is left, as `ds` of `d ∷ ds`)
+    for count in (1,) if rest else {1, len(value)}:
+        if len(value) >= count:
+            taken = inside(tuple(value[:count])) if count > 1 or isinstance(value[0], tuple) else tuple(value[:count])
+            found = bind(first, taken, bound)
+            if found is not None:
+                yield from fits(rest, value[count:], variables, found)
+
+
+def met(premises, parts, variables, bound):
+    """Whether parts meet all premises, with one value for each variable."""
+    if not premises:
+        return True
+    return any(met(premises[1:], parts, variables, found)
+               for part in parts for found in fits(premises[0], part, variables, bound))
+
+
+@functools.cache
+def clauses():
+    """Each clause of a law, with what it says."""
+    return [(law, name, said(law, text)) for law in laws() for _, name, text in law.clauses]
+
+
+@functools.cache
+def examples():
+    """The parts of each law that has no premise."""
+    found = {}
+    for law, _, clause in clauses():
+        if not clause.premises:
+            found.setdefault(law, []).extend(clause.parts)
+    return [*found.values()]
+
+
+def words(part):
+    """The words of a tree."""
+    return {word for entry in part for word in (words(entry) if isinstance(entry, tuple) else (entry,))}
+
+
+def has_example(clause):
+    """Whether an example meets all premises of a clause."""
+    wanted = {word for part in clause.premises for word in words(part) if word.startswith("Rattle.")}
+    return any(wanted <= {word for part in parts for word in words(part)} and met(clause.premises, parts, clause.variables, {})
+               for parts in examples())
+
+
+@functools.cache
+def lacking():
+    """The clauses with premises that no example meets, and how many have premises."""
+    conditional = [(law, name, clause) for law, name, clause in clauses() if clause.premises]
+    without = [(law, name) for law, name, clause in conditional if not has_example(clause)]
+    return sorted(without, key=lambda entry: (entry[0].file.path, entry[0].at, entry[1])), len(conditional)
 
 
 def lines():
-    """A line for each law with a premise and no example, and one with their numbers."""
-    named = {(law.file.crate, law.name) for law in laws()}
-    conditional = [law for law in laws() if not EXAMPLE.match(law.name) and any(has_premise(said(law, text)) for _, _, text in law.clauses)]
-    without = [entry for entry in conditional if (entry.file.crate, f"example_of_{entry.name.removeprefix('law_')}") not in named]
-    for element in sorted(without, key=lambda entry: (entry.file.path, entry.at)):
-        yield f"{element.file.path}:{element.line}: {element.name} has no example_of_{element.name.removeprefix('law_')}"
-    yield f"of {len(conditional)} laws with premises {len(conditional) - len(without)} have an example"
+    """A line for each clause with premises and no example, and one with their numbers."""
+    without, count = lacking()
+    for law, name in without:
+        yield f"{law.file.path}:{law.line}: {law.name}{f', {name}' if name else ''}: no example meets its premises"
+    yield f"of {count} clauses of laws with premises {count - len(without)} have an example"
+
+
+def faults():
+    """More clauses without an example than LEFT."""
+    without, _ = lacking()
+    if len(without) > LEFT:
+        yield (f"tools/gate/laws.py: {len(without)} clauses of laws have premises that no example meets, and at most {LEFT} are kept: "
+               "python3 tools/gate/quick.py laws prints them")

@@ -86,4 +86,4 @@ class Vouching:
 
     def summary(self):
         return (f"vouch: {counted(len(self.bundle), 'item')}, {self.vouched} vouched for, {counted(len(self.vouchers), 'line')}, "
-                f"{self.report.count} reported")
+                f"{len(self.bundle) - self.vouched} unverified")

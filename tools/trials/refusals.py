@@ -219,7 +219,7 @@ def tried(t, title, root, want):
     t.shop.keep(files["vouchers"], vouchers)
     lines = vouchers.count(b"\n")
     vouched = len(case.bundle) - len(want.vouch)
-    summary = f"vouch: {counted(len(case.bundle), 'item')}, {vouched} vouched for, {counted(lines, 'line')}, {len(want.vouch)} reported"
+    summary = f"vouch: {counted(len(case.bundle), 'item')}, {vouched} vouched for, {counted(lines, 'line')}, {len(want.vouch)} unverified"
     yield "./vouch", (status, told), (0, [*want.vouch, summary])
     words = [*files.values(), "--target", "0", "--at", AT, *case.words]
     ends = 0 if want.why[head(want.why) - 2].startswith("path ") else 1

@@ -36,7 +36,7 @@ def held(file):
 def samples(t):
     """The lines for the samples are those that samples/make.sh computes."""
     t.same("samples", t.run("vouch", [in_samples("bundle.der"), in_samples("root.der")]),
-           (0, held("vouchers.txt"), ["vouch: 4 items, 4 vouched for, 4 lines, 0 reported"]))
+           (0, held("vouchers.txt"), ["vouch: 4 items, 4 vouched for, 4 lines, 0 unverified"]))
     for pem_name, names in (("fullchain", ("leaf", "intermediate")), ("root", ("root",)), ("list", ("list",)), ("other_list", ("other_list",))):
         bundled = t.run("bundle", [in_samples(f"{pem_name}.pem")])[1]
         t.same(f"{pem_name}.pem", bundled, b"".join(held(f"{it}.der") for it in names))
@@ -80,16 +80,16 @@ def ends(t):
     t.vouch("an empty bundle", [], [root], [])
     t.vouch("no files at all", [], [], [])
     for end, word, what, at_first in ((CUT, "cut", NOT_WHOLE, NOT_WHOLE), (FAULT, "fault", NO_ITEM, NO_FIRST)):
-        summary = "vouch: 1 item, 1 vouched for, 1 line, 1 reported"
-        alone = [f"bundle: {word} at 0: {at_first}", "vouch: 0 items, 0 vouched for, 0 lines, 1 reported"]
+        summary = "vouch: 1 item, 1 vouched for, 1 line, 0 unverified"
+        alone = [f"bundle: {word} at 0: {at_first}", "vouch: 0 items, 0 vouched for, 0 lines, 0 unverified"]
         t.same(f"a {word} in the bundle", t.lines(word, [root, end], []), (1, root_line, [f"bundle: {word} at {number}: {what}", summary]))
         t.same(f"a {word} in the anchors", t.lines(word, [root], [root, end]), (1, root_line, [f"anchors: {word} at {number}: {what}", summary]))
         t.same(f"a {word} alone", t.lines(word, [end], []), (1, "", alone))
     limit = len(parts_of(root)[0].content)
     for words in (["--limit", str(limit)], [f"--limit=00{limit}"], ["--weak", "--limit", "4294967295"]):
-        t.same(f"the words {words}", t.lines("a limit", [root], [], *words), (0, root_line, ["vouch: 1 item, 1 vouched for, 1 line, 0 reported"]))
+        t.same(f"the words {words}", t.lines("a limit", [root], [], *words), (0, root_line, ["vouch: 1 item, 1 vouched for, 1 line, 0 unverified"]))
     t.same("a limit that is too small", t.lines("a limit", [root], [root], "--limit", str(limit - 1)),
-           (1, "", [f"bundle: fault at 0: {NO_FIRST}", f"anchors: fault at 0: {NO_FIRST}", "vouch: 0 items, 0 vouched for, 0 lines, 2 reported"]))
+           (1, "", [f"bundle: fault at 0: {NO_FIRST}", f"anchors: fault at 0: {NO_FIRST}", "vouch: 0 items, 0 vouched for, 0 lines, 0 unverified"]))
 
 
 def patched(t, setting):

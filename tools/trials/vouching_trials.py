@@ -41,7 +41,7 @@ class Trials:
         and the status."""
         wanted = sorted({line(*it) for it in pairs})
         vouched = sum(item in {it for _, it in pairs} for item in bundle)
-        summary = f"vouch: {counted(len(bundle), 'item')}, {vouched} vouched for, {counted(len(wanted), 'line')}, {len(told)} reported"
+        summary = f"vouch: {counted(len(bundle), 'item')}, {vouched} vouched for, {counted(len(wanted), 'line')}, {len(bundle) - vouched} unverified"
         self.same(title, self.lines(title, bundle, anchors, *words), (status, "".join(wanted), [*told, summary]))
 
     def none(self, title, bundle, anchors, *words):

@@ -102,7 +102,7 @@ def groups(t, holders):
     t.shop.keep("many", b"".join([*leaves[:3], odd, *leaves[3:], odd]))
     t.shop.keep("root", holders.root("rsa"))
     t.shop.keep("empty", b"")
-    summary = "vouch: 9 items, 0 vouched for, 0 lines, 9 reported"
+    summary = "vouch: 9 items, 0 vouched for, 0 lines, 9 unverified"
     t.same("two reasons", t.run("vouch", ["many", "empty"]),
            (0, b"", [f"bundle 0, 1, 2, 4, 5, .. (7 items): {NO_KEY}", "bundle 3, 8 (2 items): neither certificate nor list", summary]))
     each = [told(it, "neither certificate nor list" if it in (3, 8) else NO_KEY) for it in range(9)]
@@ -110,7 +110,7 @@ def groups(t, holders):
         t.same(f"two reasons {words}", t.run("vouch", ["many", "empty", *words]), (0, b"", [*each, summary]))
     t.shop.keep("cut", leaves[0] + leaves[1] + odd[:-1])
     t.same("an end behind the reasons", t.run("vouch", ["cut", "root"]),
-           (1, b"", ["bundle 0, 1 (2 items): not verified by 1 key (..)", f"bundle: cut at {len(leaves[0] + leaves[1])}: the last item isn't whole", "vouch: 2 items, 0 vouched for, 0 lines, 3 reported"]))
+           (1, b"", ["bundle 0, 1 (2 items): not verified by 1 key (..)", f"bundle: cut at {len(leaves[0] + leaves[1])}: the last item isn't whole", "vouch: 2 items, 0 vouched for, 0 lines, 2 unverified"]))
 
 
 class Key(NamedTuple):

@@ -1,0 +1,3 @@
+pub mod OfElements
+pub mod OfHeaders
+pub mod OfIdentifiers
