@@ -241,21 +241,26 @@ def measure(family, bench, room):
     return points, point(family, max(1, round(points[0].size * MEGABYTE / points[0].octets)), bench, room)
 
 
+def allowed(family, is_small):
+    """What a family has to reach: what is known of it, if that is less than what is wanted."""
+    most = wanted(is_small)
+    return family.known._replace(growth=max(family.known.growth, most.growth)) if family.known else most
+
+
 def confirmed(family, bench, room):
-    """The points, what they miss, and what of that is more than is known; a family that misses only its growth is measured again, since a
-    machine's pace changes."""
+    """The points, what they miss, and what of that is more than is known; a family that has only too much growth is measured again, since
+    a machine's pace changes."""
     points, of_megabyte = measure(family, bench, room)
-    most = wanted(bench.is_small)
-    found = missed(points, of_megabyte, most)
+    most = allowed(family, bench.is_small)
     for _ in range(MORE_SMALL_TIMES if bench.is_small else MORE_TIMES):
+        beyond = missed(points, of_megabyte, most)
         is_slow = sum(it.seconds for it in points) > ENOUGH_TO_KNOW
-        if not found.growths or found.wrong or found.costs or family.known or is_slow:
+        if not beyond.growths or beyond.wrong or beyond.costs or is_slow:
             break
         again, of_megabyte = measure(family, bench, room)
         points = [min(pair, key=lambda it: it.seconds) for pair in zip(points, again)]
-        found = missed(points, of_megabyte, most)
-    beyond = missed(points, of_megabyte, family.known).all() if family.known else found.all()
-    return points, of_megabyte, found, beyond
+    found, beyond = missed(points, of_megabyte, wanted(bench.is_small)), missed(points, of_megabyte, most)
+    return points, of_megabyte, found, beyond.all()
 
 
 def row(family, points, of_megabyte, found, beyond):

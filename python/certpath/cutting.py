@@ -6,7 +6,9 @@ from typing import NamedTuple, Tuple
 from . import library
 
 # How many octets are cut in one call, or more if an item is longer.
-WINDOW = 1 << 20
+WINDOW = 1 << 16
+# Where items begin is four octets each in a file that has fewer octets than this.
+SMALL = 1 << 32
 # How a file ends, by the numbers of certpath.h.
 ENDS = ("clean", "cut", "fault")
 
@@ -28,7 +30,8 @@ class Cutter:
     def __init__(self, octets: bytes, limit: int) -> None:
         self.length, self.limit = len(octets), limit
         self.octets, self.framed = octets, library.Framed()
-        self.starts: "array[int]" = array("Q")
+        # (a file may have millions of items, so that half the room counts)
+        self.starts: "array[int]" = array("I" if len(octets) < SMALL else "Q")
         self.spans: "array[int]" = array("Q")
 
     def cut(self, at: int, length: int) -> Tuple[str, int]:
@@ -61,9 +64,8 @@ class Cutter:
             if word == "fault" or at + length == self.length:
                 self.starts.append(end)
                 return End(word, end)
-            if end == at:
-                # an item is longer than the window
-                size *= 2
+            # (an item may be longer than the window)
+            size = 2 * size if end == at else WINDOW
             at = end
 
 

@@ -21,6 +21,8 @@ UNKNOWN = 255
 T = TypeVar("T", bound="Item")
 # How many items are classed in one call.
 MANY = 1 << 16
+# An item of more octets takes long to be classed, and then as long to be read.
+LARGE = 1 << 20
 # How octets that aren't DER items can be made such.
 FROM_PEM = "PEM or PKCS #7? certpath.load() reads it"
 
@@ -302,9 +304,23 @@ class Items(Fixed, Sequence[Item]):
     def kinds(self) -> Iterator[Kind]:
         """What each item is, in their order: for all items this costs least."""
         for first in range(0, len(self), MANY):
-            if UNKNOWN in self._kinds[first:first + MANY]:
-                self._class(first, min(first + MANY, len(self)))
+            end = min(first + MANY, len(self))
+            while (first := self._kinds.find(UNKNOWN, first, end)) >= 0:
+                rest = self._kinds[first:end]
+                unknown = len(rest) - len(rest.lstrip(bytes([UNKNOWN])))
+                self._class(first, first + unknown)
+                first += unknown
         return map(KINDS.__getitem__, self._kinds)
+
+    def read_large(self) -> None:
+        """Reads the large items, for a caller who asks for all that certificates and lists hold:
+        `kinds` doesn't class them before."""
+        for first in range(0, len(self), MANY):
+            starts = self._starts[first:first + MANY + 1]
+            if starts[-1] - starts[0] > LARGE:
+                for position, (at, end) in enumerate(zip(starts, starts[1:]), first):
+                    if end - at > LARGE:
+                        self[position]
 
     def _part(self, first: int, end: int) -> Tuple[Any, int]:
         """The octets of the items from a position up to another one, as a call takes them."""

@@ -97,6 +97,7 @@ def candidates() -> List[str]:
 
 def loaded() -> Any:
     """The library with all functions typed, so that no pointer is cut to an int."""
+    refused = None
     for name in candidates():
         try:
             library = ctypes.CDLL(name)
@@ -104,9 +105,10 @@ def loaded() -> Any:
                 called = getattr(library, function)
                 called.restype, called.argtypes = answer, takes
             return library
-        except (OSError, AttributeError):
-            continue
-    raise Missing(f"no libcrypto of OpenSSL 3 is there, and Python has {ssl.OPENSSL_VERSION}")
+        except (OSError, AttributeError) as error:
+            refused = error
+    raise Missing("no libcrypto of OpenSSL 3 is there, and Python has "
+                  f"{ssl.OPENSSL_VERSION}") from refused
 
 
 class Key(NamedTuple):

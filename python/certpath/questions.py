@@ -99,6 +99,8 @@ def holders_by_issuer(bundle: Given, anchors: Given) -> Dict[Name, List[Holder]]
     Items are taken however their octets end; errors are those of `questions` else.
     """
     bundle, anchors = under_one_limit(bundle, anchors)
+    for items in (bundle, anchors):
+        items.read_large()
     first = first_issued(bundle)
     names, asking = [*first], [Holder(False, it) for it in first.values()]
     holding = certificates_under(first, bundle, False) + certificates_under(first, anchors, True)

@@ -24,7 +24,7 @@ OPTION = re.compile(r"(?<![\w-])--[a-z][a-z-]*")
 COMMAND = re.compile(r"^(?:    )?(?:\$ )?(?:time )?\./(certpath|verify|vouch|bundle|rows)\b([^|;>]*)")
 STATUS = re.compile(r"\bstatus(?:es)? (\d+)\b", re.I)
 # Where the options and statuses of each command are.
-GRAMMARS = {"certpath": "tools/program/usage.py", "verify": "tools/verify/words.py", "vouch": "vouch", "bundle": "tools/program/usage.py", "rows": "rows"}
+GRAMMARS = {"certpath": "tools/program/usage.py", "verify": "tools/verify/words.py", "vouch": "tools/pki/run.py", "bundle": "tools/program/usage.py", "rows": "rows"}
 # `timeout`, when the time is over.
 FOREIGN_STATUSES = {"124"}
 NUMBERED = re.compile(r"(?i)\bstatus:? ((?:[^.]|\.(?=\S))*)\.")

@@ -1,5 +1,6 @@
 """The caller's files, read whole, and why one can't be read."""
 import errno
+import os
 import sys
 
 STANDARD_INPUT = "-"
@@ -17,11 +18,21 @@ def octets_of(word, most=-1):
         if word == STANDARD_INPUT:
             if sys.stdin is None:
                 raise Unreadable("cannot read -: standard input is closed")
-            return sys.stdin.buffer.read(most)
+            return octets_in(sys.stdin.buffer, most)
         with open(word, "rb") as file:
-            return file.read(most)
+            return octets_in(file, most)
     except (OSError, ValueError) as error:
         raise Unreadable(f"cannot read {shortened(word)}: {why(error)}") from error
+
+
+def octets_in(file, most):
+    """What an open file holds, so many octets at most; no more room is taken than it needs if the
+    system says how many there are."""
+    size = os.fstat(file.fileno()).st_size
+    if most < 0 or not size:
+        return file.read(most)
+    octets = file.read(min(most, size + 1))
+    return octets if len(octets) <= size else octets + file.read(most - len(octets))
 
 
 def shortened(word):

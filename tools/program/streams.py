@@ -1,6 +1,13 @@
 """What the scripts write: words on standard error, octets on standard output."""
+import errno
 import os
 import sys
+
+# What the loader of libraries says if it gets no memory for one, and if one isn't there.
+NO_ROOM = ("failed to map segment", "cannot map zero-fill", "annot allocate")
+NO_FILE = "No such file"
+# The instructions by which Python loads a module.
+IMPORTS = ("IMPORT_NAME", "IMPORT_FROM")
 
 if sys.stderr is None:
     # it is closed; `print` would write its lines to standard output
@@ -28,15 +35,71 @@ def write_lines(lines):
         pass
 
 
-def within_memory(name, status, call):
-    """What a call gives. If there is no memory for it, one line says so, and the status is this one."""
+def within_memory(name, status, call, beside=None):
+    """What a call gives. If there is no memory for it, one line says so, `beside` is called if it
+    is given, and the status is this one."""
+    sys.unraisablehook = unraised
     try:
         return call()
-    except MemoryError:
-        pass
+    except Exception as error:
+        if not lacks_memory(error):
+            raise
     # (what the call held is free here)
     report(f"{name}: out of memory")
+    if beside:
+        beside()
     return status
+
+
+def unraised(what):
+    """Says of an error that no call gets, as one of a `__del__`, what Python says, unless it comes
+    of a lack of memory, which is said by itself."""
+    if not lacks_memory(what.exc_value):
+        sys.__unraisablehook__(what)
+
+
+def lacks_memory(error):
+    """Whether an error comes of a lack of memory. Python's compiler says otherwise at times: where
+    memory is limited that is each error of a module that is there and is being loaded."""
+    while error is not None:
+        is_said = isinstance(error, MemoryError) or getattr(error, "errno", None) == errno.ENOMEM
+        if is_said or any(it in str(error) for it in NO_ROOM):
+            return True
+        if isinstance(error, Exception) and is_limited() and is_of_loading(error):
+            return True
+        error = error.__cause__
+    return False
+
+
+def is_of_loading(error):
+    """Whether an error is of a module that is there and was being loaded: an import is what a frame
+    of its traceback does."""
+    if isinstance(error, (SyntaxError, SystemError)):
+        return True
+    if isinstance(error, ModuleNotFoundError) or NO_FILE in str(error):
+        return False
+    try:
+        from opcode import opname
+    except (ImportError, MemoryError):
+        # (there is no memory for the module)
+        return True
+    at = error.__traceback__
+    while at is not None:
+        if opname[at.tb_frame.f_code.co_code[at.tb_lasti]] in IMPORTS:
+            return True
+        at = at.tb_next
+    return False
+
+
+def is_limited():
+    """Whether the memory of this process is limited from outside."""
+    try:
+        import resource
+        limits = (resource.RLIMIT_AS, resource.RLIMIT_DATA)
+        return any(resource.getrlimit(it)[0] != resource.RLIM_INFINITY for it in limits)
+    except (ImportError, MemoryError):
+        # (there is no memory for the module)
+        return True
 
 
 def wrote(octets):

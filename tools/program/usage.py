@@ -53,6 +53,8 @@ def main(words):
     try:
         return done(words)
     except OSError as error:
+        if streams.lacks_memory(error):
+            raise
         programs.end(programs.CERTPATH, f"{error.strerror}: {error.filename}")
 
 

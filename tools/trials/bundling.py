@@ -7,10 +7,10 @@ import subprocess
 import sys
 import tempfile
 import threading
-import time
 
 from program import repo
 from trials.count import Trial, size
+from trials.running import spent
 
 CERTIFICATE = "CERTIFICATE"
 NO_LINE = "that is no line of its own (are newlines missing?)"
@@ -213,7 +213,7 @@ class Bundling(Trial):
                 self.same(f"lists of {octets[:80]}", (last, bool(found.left_out)), (said[-1], status == 1))
 
     def test_large(self):
-        """Files of strangers: what is said of them, and that it takes seconds."""
+        """Files of strangers: what is said of them, and that it takes seconds of a processor."""
         lines, width = size(1_000_000, 50_000), size(64 << 20, 4 << 20)
         begin, end = b"-----BEGIN CERTIFICATE-----\n", b"-----END CERTIFICATE-----\n"
         no_end = left("file line {} (CERTIFICATE)", "its END is missing")
@@ -227,10 +227,10 @@ class Bundling(Trial):
                     ("no END at the end", pem(LEAF) + begin + b"MIIB" * lines, 1, no_end.format(LINES + 1)),
                     ("NULs", b"\0" * width + b"\n" + pem(LEAF), 1, left("file line 1", "octets around the blocks that are no text"))):
                 kept(room, {"file": octets})
-                begun = time.monotonic()
+                begun = spent()
                 _, said, status = self.ran(["file"], room)
-                took = time.monotonic() - begun
-                self.row(took < SECONDS_OF_LINES, f"{title}: {took:.1f} s")
+                took = spent() - begun
+                self.row(took < SECONDS_OF_LINES, f"{title}: {took:.1f} s of a processor")
                 if title == "lines with an END":
                     count, first = 1, left("file", "the file is neither PEM nor DER")
                 self.same(title, (status, len(said) - 1, said[0]), (1, count, first))

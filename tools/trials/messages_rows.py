@@ -101,9 +101,9 @@ FILES = (
     Row(f"verify open.p12 {ROOT}", 70, ("verify: open.p12 octet 0: neither certificate nor revocation list; the command openssl, which unpacks PKCS #12, isn't there: "
         "install it, or give PEM or DER",), GOOD, path="ROOM/empty"),
     Row(f"verify all.p7c {ROOT} --quiet", 0, (), path="ROOM/empty"),
-    Row(f"verify open.p12 {ROOT} --seconds 1", 9, ("verify: the run takes more than 1 s of a processor, and has ended while openssl pkcs12 unpacks open.p12; --seconds N allows more",),
+    Row(f"verify open.p12 {ROOT} --seconds 3", 9, ("verify: the run takes more than 3 s of a processor, and has ended while openssl pkcs12 unpacks open.p12; --seconds N allows more",),
         f"verify open.p12 {ROOT} --quiet --seconds 100", path="ROOM/slow"),
-    Row(f"verify open.p12 {ROOT} --seconds 1 --json", 9, ('"outcome": "fault", "status": 9, "fault": "the run takes more than 1 s of a processor, and has ended while openssl pkcs12 unpacks',),
+    Row(f"verify open.p12 {ROOT} --seconds 3 --json", 9, ('"outcome": "fault", "status": 9, "fault": "the run takes more than 3 s of a processor, and has ended while openssl pkcs12 unpacks',),
         path="ROOM/slow"),
     Row(f"verify flat.pem int.pem {ROOT}", 4, ("flat.pem line 1: a BEGIN or an END that is no line of its own (are newlines missing?); mend the file",), GOOD),
     Row(f"verify damaged.pem {ROOT}", 4, ("damaged.pem line 1 CERTIFICATE: not base64; it would be the target: mend it, or name another one with --target",),

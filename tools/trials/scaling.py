@@ -34,8 +34,8 @@ PATH = re.compile(r"\d+ path \d+ ?([\d ]*?) ?anchor (\d+)")
 OBSTACLE = re.compile(r"not usable|no issuer|not linked|not used|leads to an anchor")
 # How many certificates without a path are asked about over everything, too.
 WHYS = 5
-# Seconds between two workers that are killed, so that another one is there.
-PAUSE = 0.2
+# A run may be done before its workers could be killed: so often it is begun.
+TRIED = range(4)
 
 
 class Whole:
@@ -142,11 +142,13 @@ def issuers_are_there(count, out, rows):
 
 def killed(count, interpreter, whole, one, given, room):
     """A run of which each worker is killed once writes the table of another one."""
-    run = Run(interpreter, whole, os.path.join(room, "two"), *given, "--workers", "2")
-    for pattern in (("work", "0*.json"), ("entries", "*.csv")):
-        count.row(run.kill_a_worker(pattern), f"no worker to be killed at {pattern[0]}")
-        time.sleep(PAUSE)
-    run.wait()
+    for name in TRIED:
+        run = Run(interpreter, whole, os.path.join(room, f"two-{name}"), *given, "--workers", "2")
+        lost = [*map(run.kill_a_worker, (("work", "0*.json"), ("entries", "*.csv")))]
+        run.wait()
+        if all(lost):
+            break
+    count.row(all(lost), f"no worker to be killed: {lost}")
     count.row("of the workers lost" in run.errors, f"no word of lost workers: {run.errors}")
     count.row(octets_of(one.out) == octets_of(run.out),
               f"another table by two processes, each of them killed once:\n{run.errors[-3000:]}")

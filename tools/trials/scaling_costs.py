@@ -16,6 +16,8 @@ from datetime import datetime
 sys.dont_write_bytecode = True
 TOP = os.path.dirname(os.path.dirname(os.path.dirname(os.path.abspath(__file__))))
 FEW, MOST_OF_ENTRY = 1500, 0.001
+# So many times what OpenSSL takes itself an entry may take on a slow machine.
+MOST_BESIDE = 3
 LOG = "log.json"
 # What is handed to OpenSSL as a pointer, and not called from here.
 POINTED = "ASN1_TYPE_free"
@@ -107,7 +109,9 @@ def small(count, interpreter, room):
     folder = os.path.join(room, "costs")
     made(folder, FEW)
     entries, took, openssl = in_one_process(interpreter, folder, os.path.join(room, "of-costs"))
-    count.row(entries >= FEW and openssl > 0 and took - openssl < MOST_OF_ENTRY * entries,
+    # (OpenSSL takes so much longer on a slower machine, or one that does other work)
+    most = max(MOST_OF_ENTRY * entries, MOST_BESIDE * openssl)
+    count.row(entries >= FEW and openssl > 0 and took - openssl < most,
               f"{entries} entries took {took:.2f} s of a core, of which OpenSSL {openssl:.2f} s")
 
 

@@ -53,10 +53,13 @@ def files(count, interpreter, room, number):
 
 
 def names(count, interpreter, room, number):
-    took = scaling_ends.one_name(count, interpreter, whole(room, scaling.FEW), room, number)
+    few = whole(room, scaling.FEW)
+    took = scaling_ends.one_name(count, interpreter, few, room, number, MOST_OF_NAMES)
     print(f"names: {number} certificates took {took:.1f} s of a processor")
 
 
+# So many seconds of a processor certificates of one name may take.
+MOST_OF_NAMES = 10
 # What is tried, and at which size.
 TRIALS = {"apart": (apart, 10_000), "ends": (ends, 10_000), "files": (files, 100_000),
           "names": (names, 1_000), "costs": (scaling_costs.trial, 10_000)}

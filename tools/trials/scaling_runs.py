@@ -49,13 +49,22 @@ class Run:
             text=True, **more)
         self.said = self.errors = ""
 
+    def wait_to_say(self, words):
+        """Reads what it says on standard error until it has said these words, or has ended."""
+        while words not in self.errors:
+            piece = os.read(self.process.stderr.fileno(), 1 << 16)
+            if not piece:
+                return
+            self.errors += piece.decode(errors="replace")
+
     def wait(self):
         try:
-            self.said, self.errors = self.process.communicate(timeout=SECONDS)
+            self.said, errors = self.process.communicate(timeout=SECONDS)
         except subprocess.TimeoutExpired:
             self.process.kill()
-            self.said, self.errors = self.process.communicate()
-            self.errors += f"\nended after {SECONDS} s"
+            self.said, errors = self.process.communicate()
+            errors += f"\nended after {SECONDS} s"
+        self.errors += errors
         return self
 
     def workers(self):

@@ -100,7 +100,7 @@ def trial(count, interpreter, few, room):
         stranger.terminate()
         stranger.wait()
         run = Run(interpreter, few, out, *given, *there, *own)
-        time.sleep(10 * SHORT)
+        run.wait_to_say("has no worker")
         worker = servers.worker()
         ended(count, run, 1, f"{servers.address} has no worker; waiting for one")
         scaling_intruder.trial(count, interpreter, [servers.scheduler.pid, worker.pid])

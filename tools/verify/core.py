@@ -1,5 +1,4 @@
 """The package `certpath` of this repository, and what it shows of items."""
-import errno
 import hashlib
 import sys
 from collections import OrderedDict
@@ -127,8 +126,7 @@ def run_of(call):
     """What a call gives; the run ends if there is no memory."""
     try:
         return call()
-    except (certpath.OutOfMemory, MemoryError, OSError) as error:
-        # (the system needs memory to list a folder, too)
-        if isinstance(error, OSError) and error.errno != errno.ENOMEM:
+    except Exception as error:
+        if not streams.lacks_memory(error):
             raise
         raise Fault(MEMORY, "out of memory") from error
