@@ -27,6 +27,8 @@ CODE = re.compile(r"`[^`]*`")
 COMMENT, TEXT = {".rt": re.compile(r"//.*$"), ".antt": re.compile(r"--.*$")}, re.compile(r'"(?:[^"\\]|\\.)*"')
 NAME = re.compile(r"[A-Za-z_]\w*")
 PART = re.compile(r"[A-Z]?[a-z]+")
+# "stands for" in a name.
+FOR_IN_NAME = re.compile(r"[Ss]tands_?[Ff]or(?![a-z])")
 # "stands for" means what it means elsewhere.
 UNLESS = r"(?! for\b)"
 # Scripts without a suffix.
@@ -52,7 +54,8 @@ def avoided():
 
 def in_names(text, parts):
     """The avoided words within the names of a text."""
-    return [part.lower() for name in NAME.findall(text) for part in PART.findall(name) if part.lower() in parts]
+    names = (FOR_IN_NAME.sub("", name) for name in NAME.findall(text))
+    return [part.lower() for name in names for part in PART.findall(name) if part.lower() in parts]
 
 
 def of_rattle(path, pattern, parts):

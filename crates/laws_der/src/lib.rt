@@ -1,0 +1,7 @@
+//! Worked trees that meet the premises of the laws of `der_tree`.
+//!
+//! Each example is a function that does nothing: its contract says that values meet premises, and the prover works it out.
+#![tactic(auto)]
+
+pub mod objects;
+pub mod shapes;

@@ -1,0 +1,2 @@
+pub mod OfFraming
+pub mod OfGraphs
