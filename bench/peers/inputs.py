@@ -25,7 +25,7 @@ class Sizes(NamedTuple):
     width: int
 
 
-FULL, SMALL = Sizes(30_000, 100_000, 35), Sizes(30, 100, 3)
+FULL, SMALL = Sizes(10_000, 100_000, 35), Sizes(30, 100, 3)
 
 
 def certificates(count):
