@@ -14,7 +14,7 @@ Installs the commands certpath, certpath-verify, certpath-vouch, certpath-bundle
 certpath-inventory, the library with its header and pkg-config's file, manual pages, and completion
 for bash, zsh and fish. Nothing is built or fetched. docs/INSTALL.md says what goes where.
 """
-ENDS = "Exit status: 0 done; 2 wrong words; 4 the checkout lacks a file, or nothing is installed there; 7 a file can't be written."
+ENDS = "Exit status: 0 done; 2 wrong words; 4 the checkout lacks a file, or nothing is installed there; 6 out of memory; 7 a file can't be written."
 
 
 class Failed(Exception):

@@ -61,6 +61,34 @@ runpy.run_path({script!r}, run_name="__main__")
 """
 
 
+# How a module may fail while it is loaded, and with what a run ends then: with a limit of memory, and
+# without one. (Python's compiler, if it is short of memory, raises what it raises of faulty sources.)
+TRACEBACK = "Traceback (most recent call last):"
+SAID, TRACED = (6, "it: out of memory"), (1, None)
+LOADS = (
+    ("raise MemoryError", SAID, SAID),
+    ("raise OSError(12, 'Cannot allocate memory')", SAID, SAID),
+    ("raise ImportError('libz.so.1: failed to map segment from shared object')", SAID, SAID),
+    ("raise ImportError('PyCapsule_Import could not import module')", SAID, TRACED),
+    ("def call(", SAID, TRACED),
+    ("raise ValueError(\"field 'target' is required for AnnAssign\")", SAID, TRACED),
+    ("raise SystemError('error return without exception set')", SAID, TRACED),
+    ("import module_that_is_nowhere", TRACED, TRACED),
+    ("raise ImportError('libz.so.1: cannot open shared object file: No such file')", TRACED, TRACED),
+    ("def call(): raise ValueError('of no import')", TRACED, TRACED),
+)
+LOADING = """\
+import sys
+sys.dont_write_bytecode = True
+sys.path[:0] = [{tools!r}, {room!r}]
+from program import streams
+def call():
+    import loads
+    loads.call()
+sys.exit(streams.within_memory("it", 6, call))
+"""
+
+
 def script(name):
     """The words that run a script. (Python is named, so that a limit is the script's alone.)"""
     return [sys.executable, "-ISB" if name != "verify" else "-IB", os.path.join(repo.TOP, name)]
@@ -126,6 +154,18 @@ class Limits(Trial):
                 is_short = status in statuses and output == b"" and len(errors) == 1
                 is_right = found == wanted or is_short and most < ENOUGH
                 self.row(is_right, f"{words[0]} with {most} MB: {found!r:.600}")
+
+    def test_loading(self):
+        """What comes of a lack of memory while a module is loaded is said as that, and nothing else
+        is."""
+        words = [sys.executable, "-ISc",
+                 LOADING.format(tools=os.path.join(repo.TOP, "tools"), room=self.room)]
+        for source, *wanted in LOADS:
+            sources.put(os.path.join(self.room, "loads.py"), f"{source}\n".encode())
+            for most, (status, said) in zip((ENOUGH * MEGABYTE, resource.RLIM_INFINITY), wanted):
+                its, _, errors = self.ran(words, resource.RLIMIT_AS, most)
+                is_said = errors == [said] if said else errors[:1] == [TRACEBACK]
+                self.row(its == status and is_said, f"{source}, {most}: {its} {errors}")
 
     def test_large_files(self):
         """A file that is larger than the memory is said to be so."""

@@ -1,0 +1,31 @@
+"""Runs bench/peers/run.py at its small sizes, beside OpenSSL alone: both read each file, and count
+alike."""
+import os
+import subprocess
+import sys
+
+from program import repo
+from trials.count import Trial
+
+HEADER = "/usr/include/openssl/x509.h"
+WORDS = [sys.executable, os.path.join(repo.TOP, "bench", "peers", "run.py"), "--small", "--turns", "1",
+         "--columns", "ours", "--columns", "openssl"]
+SECONDS = 600
+# The rows that OpenSSL has a figure for, and where it is.
+NAMES = ("from_der, extensions parsed", "from_der, envelope", "names", "lists", "read_tree, envelope",
+         "read_typed, envelope", "path in a cross-signed web")
+COLUMN = 5
+
+
+class Peers(Trial):
+    def test_table(self):
+        self.need_libcrypto()
+        self.program()
+        self.need("cc")
+        if not os.path.exists(HEADER):
+            self.skipTest("libssl-dev isn't installed")
+        ran = subprocess.run(WORDS, stdin=subprocess.DEVNULL, stdout=subprocess.PIPE,
+                             stderr=subprocess.STDOUT, text=True, timeout=SECONDS)
+        rows = [[it.strip() for it in line.split("|")] for line in ran.stdout.splitlines()]
+        filled = [it[1] for it in rows[2:] if len(it) > COLUMN and it[COLUMN]]
+        self.same(f"the table: {ran.stdout}", (ran.returncode, filled), (0, [*NAMES]))
