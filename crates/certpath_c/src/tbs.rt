@@ -25,11 +25,10 @@ fn push_kept<'a>(
 ) -> Result<(), AllocError>
     ensures { OnOk result (map ext_view left.new.items ≡ map ext_view left.old.items ++ kept identifier.now (ext_view extension.now)) }
 {
-    if extension.identifier == identifier {
-        Ok(())
-    } else {
-        left.push(*extension)
+    if extension.identifier != identifier {
+        left.push(*extension)?;
     }
+    Ok(())
 }
 
 /// The extensions that don't have the identifier, in their order.

@@ -351,7 +351,7 @@ mod tests {
         assert_eq!(size_of::<LeftOut>(), 64);
         assert_eq!(size_of::<Loaded>(), 32);
         assert_eq!(size_of::<Validity>(), 20);
-        assert_eq!(size_of::<Contents>(), 216);
+        assert_eq!(size_of::<Contents>(), 208);
         assert_eq!(size_of::<Extension>(), 24);
         assert_eq!(size_of::<ExtensionSizes>(), 16);
         assert_eq!(size_of::<Question>(), 24);
