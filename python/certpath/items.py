@@ -78,17 +78,19 @@ class Contents(NamedTuple):
 def contents_of(octets: bytes) -> Contents:
     """What the octets of an item are and hold, by one reading."""
     found, buffer = library.contents_of(octets)
-    view, at, fields = memoryview(buffer), 0, []
+    view, at = memoryview(buffer), 0
+    fields: Dict[str, Optional[bytes]] = {}
     for name in library.FIELDS:
         extent = getattr(found, name)
         end = at + extent.length
-        fields.append(bytes(view[at:end]) if extent.is_there else None)
+        fields[name] = bytes(view[at:end]) if extent.is_there else None
         at = end
     times = found.validity
     first = datetime_of(times.first) if found.item_class else None
     last = datetime_of(times.last) if times.has_last else None
     key_digest = bytes(found.key_digest) if found.key.is_there else None
-    return Contents(KINDS[found.item_class], first, last, *fields, bytes(found.item_digest), key_digest)
+    return Contents(KINDS[found.item_class], first, last, **fields,
+                    item_digest=bytes(found.item_digest), key_digest=key_digest)
 
 
 def class_number(octets: bytes, length: int) -> int:

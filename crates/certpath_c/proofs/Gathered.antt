@@ -14,3 +14,7 @@ gathered_all f xs i found le so_far = so_far ∙ ap (flat_map f) (take_all i xs 
 -- of values that are seen through a view
 pub gathered_view : {X Y Z : Type 0} (f : Y → List Z) (v : X → Y) (xs : List X) → flat_map (λ x. f (v x)) xs ≡ flat_map f (map v xs)
 gathered_view f v xs = sym (flat_map-map f v xs)
+
+pub mapped_view : {X Y Z : Type 0} (f : Y → Z) (v : X → Y) (xs : List X) → map (λ x. f (v x)) xs ≡ map f (map v xs)
+mapped_view f v [] = refl
+mapped_view f v (x ∷ xs) = ap (λ l. f (v x) ∷ l) (mapped_view f v xs)
