@@ -272,17 +272,60 @@ typedef struct {
     certpath_extent subject_key_id;  /* key identifiers that a certificate names, the content */
     certpath_extent authority_key_id; /* of their elements (RFC 5280, 4.2.1.2 and 4.2.1.1) */
     size_t length;                   /* how many octets all fields have together */
+    uint8_t item_digest[32];         /* SHA-256 (FIPS 180-4) of the item, all of its octets */
+    uint8_t key_digest[32];          /* of a certificate's key, as `key`; all 0 of anything else */
 } certpath_contents;
 
 /*
- * Reads an item once: what it is, its times and all its fields, which are written into `octets` one
- * after another in the order of `contents`. So the subject begins at `contents->issuer.length`.
- * `contents` is set with CERTPATH_DONE and CERTPATH_TOO_SMALL; `contents->length` is the room that
- * is needed, which is less than `item_length`. Of anything but a certificate or a list nothing is
- * written, with CERTPATH_DONE.
+ * Reads an item once: what it is, its times, its digests and all its fields, which are written into
+ * `octets` one after another in the order of `contents`. So the subject begins at
+ * `contents->issuer.length`. `contents` is set with CERTPATH_DONE and CERTPATH_TOO_SMALL;
+ * `contents->length` is the room that is needed, which is less than `item_length`. Of anything but
+ * a certificate or a list nothing is written, with CERTPATH_DONE. The digests came with version 6;
+ * a voucher has that of the holder's key and that of the item.
  */
 int32_t certpath_item(const uint8_t *item, size_t item_length, uint8_t *octets, size_t room,
                       certpath_contents *contents);
+
+/* An extension of an item (RFC 5280, 4.2 and 5.2). */
+typedef struct {
+    size_t identifier_length; /* of the content of its OBJECT IDENTIFIER, in octets */
+    size_t value_length;      /* of the content of its OCTET STRING, in octets */
+    uint32_t is_critical;     /* 1 or 0 */
+} certpath_extension;
+
+typedef struct {
+    size_t count;  /* how many extensions there are */
+    size_t length; /* how many octets their identifiers and values have together */
+} certpath_extension_sizes;
+
+/*
+ * Writes the extensions of a certificate or a list in their order: into `extensions` a structure
+ * for each, and into `octets` the identifier and the value of each, one after another. Values are
+ * as they are in the item; nothing of them is tested. CERTPATH_NO_FIELD where the item is neither a
+ * certificate nor a list. `sizes` is set with CERTPATH_DONE and CERTPATH_TOO_SMALL: the room that
+ * is needed is `sizes->length` octets and `sizes->count` structures. It came with version 6.
+ */
+int32_t certpath_extensions(const uint8_t *item, size_t item_length, uint8_t *octets, size_t room,
+                            certpath_extension *extensions, size_t extensions_room,
+                            certpath_extension_sizes *sizes);
+
+/*
+ * Writes the TBSCertificate of a certificate (RFC 5280, 4.1), without the extensions whose
+ * identifier is `without`, the content of an OBJECT IDENTIFIER; where `without_length` is 0 nothing
+ * is left out. Where no extension is left the field is absent. CERTPATH_NOT_CERTIFICATE where the
+ * item is no certificate. `length` is set with CERTPATH_DONE and CERTPATH_TOO_SMALL; it is less
+ * than `item_length`. It came with version 6.
+ *
+ * So a certificate is compared with its entry in a log (RFC 6962, 3.2): of the certificate without
+ * the list of SCTs, and of the precertificate without the poison, unless a Precertificate Signing
+ * Certificate issued that one, this is the tbs_certificate of the entry.
+ */
+#define CERTPATH_POISON "\x2b\x06\x01\x04\x01\xd6\x79\x02\x04\x03"   /* RFC 6962, 3.1 */
+#define CERTPATH_SCT_LIST "\x2b\x06\x01\x04\x01\xd6\x79\x02\x04\x02" /* RFC 6962, 3.3 */
+
+int32_t certpath_tbs(const uint8_t *item, size_t item_length, const uint8_t *without,
+                     size_t without_length, uint8_t *octets, size_t room, size_t *length);
 
 /*
  * Writes a name, by its element's octets, as text (UTF-8, no 0 at the end), as
@@ -412,7 +455,8 @@ typedef struct {
  * answer is right, one after another. `answer` is set with CERTPATH_DONE and CERTPATH_TOO_SMALL:
  * the room that is needed is `answer->length` positions and `answer->entries` entries.
  * CERTPATH_BAD_MOMENT where the calendar has no such date, a clock no such time, or the year is
- * negative; else CERTPATH_BAD_HOST where the host is none, and certpath_serves says why.
+ * negative; else CERTPATH_BAD_HOST where the host is none, and certpath_serves says why. A call
+ * hashes equal items once.
  */
 int32_t certpath_find(const uint8_t *bundle, size_t bundle_length, const uint8_t *anchors,
                       size_t anchors_length, const certpath_voucher *vouchers,
@@ -478,7 +522,7 @@ int32_t certpath_paths(const uint8_t *bundle, size_t bundle_length, const uint8_
 /* ---- the library */
 
 /* The version of these calls: it grows where one of them changes. */
-#define CERTPATH_VERSION 5
+#define CERTPATH_VERSION 6
 
 uint32_t certpath_version(void);
 

@@ -17,8 +17,9 @@ and gives names to what comes back. It reads no DER and no PEM. No call keeps an
 number of threads may call at once.
 """
 from .cutting import End
+from .extensions import POISON, SCT_LIST, Extension
 from .items import (LIMIT, Certificate, Contents, Item, Items, Kind, Other, RevocationList,
-                    class_of, frame, item_of)
+                    class_of, frame, item_of, tbs)
 from .library import (BadAnswer, BadHost, BadItem, BadLine, BadMoment, BadName, Error,
                       LibraryMissing, NoField, OutOfMemory, version)
 from .loading import LeftOut, Loaded, load, shape_of
@@ -27,14 +28,15 @@ from .paths import Answer, Asked, Outcome, check, find
 from .questions import Holder, Question, holders_by_issuer, questions
 from .reports import path, paths, why
 from .serving import allows, serves
+from .stores import trust_store
 from .verifying import Verified, verify
 from .vouchers import Vouchers
 
 __all__ = [
     "Answer", "Asked", "BadAnswer", "BadHost", "BadItem", "BadLine", "BadMoment", "BadName",
-    "Certificate", "Contents", "End", "Error", "Holder", "Item", "Items", "Kind", "LIMIT", "LeftOut",
-    "LibraryMissing", "Loaded", "Name", "NoField", "Other", "OutOfMemory", "Outcome", "Question",
-    "RevocationList", "Verified", "Vouchers", "allows", "check", "class_of", "find", "frame",
-    "holders_by_issuer", "item_of", "load", "path", "paths", "questions", "serves", "shape_of",
-    "verify", "version", "why",
+    "Certificate", "Contents", "End", "Error", "Extension", "Holder", "Item", "Items", "Kind", "LIMIT",
+    "LeftOut", "LibraryMissing", "Loaded", "Name", "NoField", "Other", "OutOfMemory", "Outcome",
+    "POISON", "Question", "RevocationList", "SCT_LIST", "Verified", "Vouchers", "allows", "check",
+    "class_of", "find", "frame", "holders_by_issuer", "item_of", "load", "path", "paths",
+    "questions", "serves", "shape_of", "tbs", "trust_store", "verify", "version", "why",
 ]

@@ -1,5 +1,7 @@
 """Items: the certificates and revocation lists of a file, and what they hold."""
+import base64
 import enum
+import hashlib
 from array import array
 from collections.abc import Sequence
 from ctypes import byref, c_size_t, c_uint32
@@ -9,7 +11,9 @@ from typing import (Any, Dict, Iterator, List, NamedTuple, Optional, Tuple, Type
 
 from . import arguments, library
 from .cutting import Cutter, End
+from .extensions import Extension, extensions_of, tbs_of
 from .fixed import Fixed, kept
+from .identifiers import IdentifierGiven, identifier_of
 from .moments import datetime_of
 from .names import Name
 
@@ -48,6 +52,9 @@ FIELDS = range(len(Field))
 
 
 KINDS = tuple(Kind)
+# The labels of PEM blocks, and how many characters a line of one has (RFC 7468, 5, 6 and 2).
+LABELS = {Kind.CERTIFICATE: "CERTIFICATE", Kind.LIST: "X509 CRL"}
+LINE = 64
 
 
 class Contents(NamedTuple):
@@ -64,21 +71,28 @@ class Contents(NamedTuple):
     algorithm: Optional[bytes]
     subject_key_id: Optional[bytes]
     authority_key_id: Optional[bytes]
+    item_digest: bytes
+    """SHA-256 of all octets."""
+    key_digest: Optional[bytes]
+    """SHA-256 of the key."""
 
 
 def contents_of(octets: bytes) -> Contents:
     """What the octets of an item are and hold, by one reading."""
     found, buffer = library.contents_of(octets)
-    view, at, fields = memoryview(buffer), 0, []
+    view, at = memoryview(buffer), 0
+    fields: Dict[str, Optional[bytes]] = {}
     for name in library.FIELDS:
         extent = getattr(found, name)
         end = at + extent.length
-        fields.append(bytes(view[at:end]) if extent.is_there else None)
+        fields[name] = bytes(view[at:end]) if extent.is_there else None
         at = end
     times = found.validity
     first = datetime_of(times.first) if found.item_class else None
     last = datetime_of(times.last) if times.has_last else None
-    return Contents(KINDS[found.item_class], first, last, *fields)
+    key_digest = bytes(found.key_digest) if found.key.is_there else None
+    return Contents(KINDS[found.item_class], first, last, **fields,
+                    item_digest=bytes(found.item_digest), key_digest=key_digest)
 
 
 def class_number(octets: bytes, length: int) -> int:
@@ -136,6 +150,37 @@ class Item(Fixed):
         """The item's DER."""
         return self._octets
 
+    def pem(self) -> str:
+        """The item as a PEM block (RFC 7468, 5 and 6), ended by a line end; BadItem of what is
+        neither a certificate nor a list.
+
+        >>> import certpath
+        >>> text = certpath.load("samples/root.pem").items[0].pem()
+        >>> text == open("samples/root.pem").read()
+        True
+        """
+        label = LABELS.get(self.kind)
+        if label is None:
+            raise library.BadItem("neither a certificate nor a list: PEM has no label for it")
+        text = base64.b64encode(self._octets).decode()
+        lines = [text[it:it + LINE] for it in range(0, len(text), LINE)]
+        return "\n".join([f"-----BEGIN {label}-----", *lines, f"-----END {label}-----", ""])
+
+    def fingerprint(self, algorithm: str = "sha256") -> bytes:
+        """The digest of all octets, by a name that `hashlib` knows: 32 octets of SHA-256 by default.
+
+        >>> import certpath
+        >>> leaf = certpath.load("samples/leaf.der").items[0]
+        >>> leaf.fingerprint() == leaf.read().item_digest, len(leaf.fingerprint("sha1"))
+        (True, 20)
+
+        ValueError of a name that it doesn't know.
+        """
+        if not isinstance(algorithm, str):
+            raise TypeError(f"algorithm: a name is needed, as 'sha256', not "
+                            f"{arguments.type_name(algorithm)}")
+        return hashlib.new(algorithm, self._octets, usedforsecurity=False).digest()
+
     def field(self, field: Field) -> bytes:
         """A field's octets; NoField if the item has no such field."""
         number = arguments.number(field, "the field", arguments.MOST_32)
@@ -186,6 +231,24 @@ class Signed(OfKind):
         """The identifier of the signature's algorithm, the content of its OBJECT IDENTIFIER."""
         return self.field(Field.ALGORITHM)
 
+    @kept
+    def extensions(self) -> Tuple[Extension, ...]:
+        """Its extensions, in their order."""
+        return extensions_of(self._octets)
+
+    def extension(self, identifier: IdentifierGiven) -> Optional[Extension]:
+        """The first extension of an identifier, or None if there is none.
+
+        >>> import certpath
+        >>> leaf = certpath.load("samples/leaf.der").items[0]
+        >>> leaf.extension("2.5.29.15")
+        Extension(identifier=b'U\\x1d\\x0f', is_critical=True, value=b'\\x03\\x02\\x07\\x80')
+
+        ValueError of a text that isn't the numbers of one, as `2.5.29.15` is.
+        """
+        wanted = identifier_of(identifier, "the identifier")
+        return next((it for it in self.extensions if it.identifier == wanted), None)
+
 
 class Certificate(Signed):
     """A certificate (RFC 5280, 4.1)."""
@@ -224,6 +287,10 @@ class Certificate(Signed):
     def authority_key_id(self) -> Optional[bytes]:
         """The identifier of its issuer's key (RFC 5280, 4.2.1.1), or None if it names none."""
         return self._contents.authority_key_id
+
+    def tbs(self, without: Optional[IdentifierGiven] = None) -> bytes:
+        """The part that is signed, in DER; `certpath.tbs` has more."""
+        return tbs_of(self._octets, without)
 
 
 class RevocationList(Signed):
@@ -264,6 +331,28 @@ def read_item(octets: bytes) -> Item:
     made = CLASSES[contents.kind]._known(octets)
     made.__dict__["_contents"] = contents
     return made
+
+
+def tbs(item: Union[Item, Octets], without: Optional[IdentifierGiven] = None) -> bytes:
+    """The TBSCertificate of a certificate, in DER (RFC 5280, 4.1), without the extensions that have
+    the identifier `without`: its numbers, or the content octets of its OBJECT IDENTIFIER.
+
+    >>> import certpath
+    >>> leaf = open("samples/leaf.der", "rb").read()
+    >>> certpath.tbs(leaf) in leaf, certpath.tbs(leaf, certpath.SCT_LIST) == certpath.tbs(leaf)
+    (True, True)
+    >>> len(certpath.tbs(leaf)) - len(certpath.tbs(leaf, "2.5.29.15"))
+    16
+
+    A log's entry for a precertificate has `tbs(precertificate, certpath.POISON)`, unless another
+    certificate than the issuer's own signed that, and `tbs(certificate, certpath.SCT_LIST)` of the
+    certificate that followed it (RFC 6962, 3.2).
+
+    BadItem if the item is no certificate, ValueError of a text that isn't the numbers of an
+    identifier.
+    """
+    octets = item.public_bytes() if isinstance(item, Item) else arguments.octets(item, "an item")
+    return tbs_of(octets, without)
 
 
 class Items(Fixed, Sequence[Item]):

@@ -2,12 +2,12 @@
 import ctypes
 import functools
 import os
-from ctypes import (POINTER, byref, c_char_p, c_int8, c_int16, c_int32, c_size_t, c_uint32,
+from ctypes import (POINTER, byref, c_char_p, c_int8, c_int16, c_int32, c_size_t, c_uint8, c_uint32,
                     c_uint64)
 from typing import Any, Callable, Dict, List, Tuple, Type
 
 # The version of the calls that this package makes (CERTPATH_VERSION in certpath.h).
-VERSION = 5
+VERSION = 6
 NAME = "libcertpath.so"
 # The library is in the package, or in dist/ if this is a checkout of the repository.
 FOLDERS = (os.path.dirname(os.path.abspath(__file__)),
@@ -82,8 +82,8 @@ ERRORS: Dict[int, Tuple[Type[Exception], str]] = {
     8: (BadItem, "the octets are no certificate in its one spelling"),
     9: (BadHost, "the text is no host"),
 }
-# The octets of a voucher: two SHA-256 digests.
-PAIR = 64
+# The octets of a SHA-256 digest, and of a voucher, which is two.
+DIGEST, PAIR = 32, 64
 
 
 class Span(ctypes.Structure):
@@ -113,7 +113,16 @@ FIELDS = ("issuer", "subject", "key", "serial", "algorithm", "subject_key_id", "
 
 class Contents(ctypes.Structure):
     _fields_ = [("item_class", c_uint32), ("validity", Validity),
-                *((name, Extent) for name in FIELDS), ("length", c_size_t)]
+                *((name, Extent) for name in FIELDS), ("length", c_size_t),
+                ("item_digest", c_uint8 * DIGEST), ("key_digest", c_uint8 * DIGEST)]
+
+
+class ExtensionRow(ctypes.Structure):
+    _fields_ = [("identifier", c_size_t), ("value", c_size_t), ("is_critical", c_uint32)]
+
+
+class ExtensionSizes(ctypes.Structure):
+    _fields_ = [("count", c_size_t), ("length", c_size_t)]
 
 
 class LeftOut(ctypes.Structure):
@@ -157,6 +166,9 @@ FUNCTIONS: Dict[str, List[Any]] = {
     "certpath_frame": [*INPUT, c_uint32, POINTER(Span), SIZE, POINTER(Framed)],
     "certpath_load": [*INPUT, OCTETS, SIZE, POINTER(LeftOut), SIZE, POINTER(Loaded)],
     "certpath_item": [*INPUT, OCTETS, SIZE, POINTER(Contents)],
+    "certpath_extensions": [*INPUT, OCTETS, SIZE, POINTER(ExtensionRow), SIZE,
+                            POINTER(ExtensionSizes)],
+    "certpath_tbs": [*INPUT, *INPUT, *TEXT],
     "certpath_class": [*INPUT, POINTER(c_uint32)],
     "certpath_classes": [*INPUT, c_uint32, POINTER(c_uint32), SIZE, SIZES],
     "certpath_shape": [*INPUT, POINTER(c_uint32)],

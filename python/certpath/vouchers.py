@@ -6,7 +6,7 @@ from typing import Dict, Iterable, Tuple, Union
 from . import arguments, library
 from .items import Octets
 
-DIGEST = 32
+DIGEST = library.DIGEST
 DIGITS = 2 * DIGEST
 # What text consists of. That 64 octets of digests are such happens once in 2^88 times.
 TEXT = bytes(range(32, 127)) + b"\t\r\n"

@@ -374,7 +374,7 @@ class Reports(unittest.TestCase):
 
 class Library(unittest.TestCase):
     def test_version(self):
-        self.assertEqual(certpath.version(), 5)
+        self.assertEqual(certpath.version(), 6)
 
     def test_missing(self):
         ran = subprocess.run(
@@ -392,6 +392,8 @@ class Library(unittest.TestCase):
             "certpath_shape": [lambda: certpath.shape_of(root)],
             "certpath_shapes": [lambda: certpath.load(root)],
             "certpath_item": [lambda: certpath.item_of(root), lambda: certpath.Item(root).kind],
+            "certpath_extensions": [lambda: certpath.Certificate(root).extensions],
+            "certpath_tbs": [lambda: certpath.tbs(root)],
             "certpath_class": [lambda: certpath.class_of(root), lambda: items.kind(0)],
             "certpath_allows": [lambda: certpath.allows(root, "serverAuth")],
             "certpath_serves": [lambda: certpath.serves(root, "a.test")],

@@ -4,6 +4,8 @@ pub mod TableRows
 pub mod EntriesSoFar
 pub mod NoAnswers
 pub mod KeyIds
+pub mod Gathered
+pub mod TbsParts
 pub mod ClassNumbers
 pub mod ReportFacts
 pub mod LeftRows

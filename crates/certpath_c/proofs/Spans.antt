@@ -41,7 +41,8 @@ one_more spans items k offset item w e =
           ∙ ap (λ d. offset + length (concat d)) (sym split) ∙ w.sizes;
     }
 
--- what was fed to a new bundle is its stream
-pub fed : {A E : Type 0} (r : Result A E) (held held' : Held) (octets : List ℕ) → OnOk r ((stream : List ℕ) → StandsFor held stream → StandsFor held' (stream ++ octets)) → is_err r ≡ false → StandsFor held [] → StandsFor held' octets
-fed (Ok x) held held' octets ok no_err s = ok [] s
-fed (Err x) held held' octets ok no_err s = let bad : true ≡ false = no_err in cc
+-- what was fed to a bundle is behind its stream
+pub fed : {A E : Type 0} (r : Result A E) (held held' : Held) (front octets : List ℕ) → OnOk r ((stream : List ℕ) → StandsFor held stream → StandsFor held' (stream ++ octets)) → is_err r ≡ false → StandsFor held front
+    → StandsFor held' (front ++ octets)
+fed (Ok x) held held' front octets ok no_err s = ok front s
+fed (Err x) held held' front octets ok no_err s = let bad : true ≡ false = no_err in cc

@@ -1,7 +1,8 @@
 -- What `certpath_item` answers.
-use Rattle.std.specs.Prelude.{◌≡◌, ◌⊎◌, ◌++◌, ℕ, ℤ, pos, Bool, true, false, List, [], length, Option, Some, None, option_copied}
+use Rattle.std.specs.Prelude.{◌≡◌, ◌⊎◌, ◌++◌, ℕ, ℤ, pos, Bool, true, false, List, [], length, Option, Some, None, option_copied, replicate}
 use Rattle.cert_model.specs.Class.{Class, certificate, list, other, IsClassOf}
 use Rattle.cert_model.specs.KeyIds.{IsAuthorityKeyId, IsSubjectKeyId}
+use Rattle.sha2.specs.Sha256.{sha256}
 use Rattle.certpath_c.specs.declared.contents.Contents.{Contents}
 use Rattle.certpath_c.specs.declared.contents.Extent.{Extent}
 use Rattle.certpath_c.specs.declared.contents.Found.{Found}
@@ -60,6 +61,11 @@ fields_octets f =
     (((((octets_in f.issuer ++ octets_in f.subject) ++ octets_in f.key) ++ octets_in f.serial)
     ++ octets_in f.algorithm) ++ octets_in f.subject_key_id) ++ octets_in f.authority_key_id
 
+-- the SHA-256 digest of a field; 32 zeros where it isn't there
+abbrev pub digest_in : Option (List ℕ) → List ℕ
+digest_in None = replicate 32 0
+digest_in (Some octets) = sha256 octets
+
 -- how many octets a field has, and whether it is there
 abbrev pub HasExtent : Option (List ℕ) → Extent → Type 0
 HasExtent None e = (e.length ≡ 0) × (e.is_there ≡ 0)
@@ -105,15 +111,17 @@ pub record IsReadOf (class : Class) (r : ItemRead) : Type 0 where
 abbrev pub IsReadFrom : List ℕ → ItemRead → Type 0
 IsReadFrom item r = (class : Class) × IsClassOf item class × IsReadOf class r
 
--- what was read, as the structure of the header has it
-pub record AreContents (r : ItemRead) (size : ℕ) (c : Contents) : Type 0 where
+-- what was read of an item, as the structure of the header has it
+pub record AreContents (item : List ℕ) (r : ItemRead) (size : ℕ) (c : Contents) : Type 0 where
   pub class : c.class ≡ r.class
   pub validity : c.validity ≡ r.validity
   pub extents : HaveExtents (found_view r.found) c
   pub length_is : c.length ≡ size
+  pub item_digest : c.item_digest ≡ sha256 item
+  pub key_digest : c.key_digest ≡ digest_in (found_view r.found).key
 
--- the class, the times and the fields of the item; these were put into the buffer, or not, where
--- they don't fit
+-- the class, the times, the fields and the digests of the item; the fields were put into the buffer,
+-- or not, where they don't fit
 pub record HasContents (item buffer buffer' : List ℕ) (c : Contents) (fits : Bool) : Type 0 where
   pub class : Class
   pub is_class : IsClassOf item class
@@ -123,6 +131,8 @@ pub record HasContents (item buffer buffer' : List ℕ) (c : Contents) (fits : B
   pub are_fields : AreFieldsOf class fields
   pub extents : HaveExtents fields c
   pub length_is : c.length ≡ length (fields_octets fields)
+  pub item_digest : c.item_digest ≡ sha256 item
+  pub key_digest : c.key_digest ≡ digest_in fields.key
   pub written : Puts buffer buffer' (fields_octets fields) fits
 
 abbrev pub ContentsAnswer : List ℕ → List ℕ → List ℕ → Contents → Contents → ℤ → Type 0

@@ -9,6 +9,8 @@ pub mod Classes
 pub mod Fields
 pub mod Times
 pub mod Contents
+pub mod Extensions
+pub mod Tbs
 pub mod Naming
 pub mod Asking
 pub mod Answers

@@ -9,7 +9,7 @@ use crate::times::Moment;
 use asn1_core::OutOfMemory;
 use cert_framing::Items;
 use cert_judge::Policy;
-use cert_vouchers::Vouchers;
+use cert_vouchers::{RememberedVouchers, Vouchers};
 use jiff::civil::DateTime;
 use std::alloc::Global;
 
@@ -132,4 +132,16 @@ pub(crate) fn inputs_of(
         anchors,
         vouchers,
     })
+}
+
+/// The vouchers with a memory of the items, each of which is hashed at most once then, and equal ones
+/// once together. What memory is refused for isn't remembered.
+pub(crate) fn remembered_of<'a>(alloc: Global, inputs: &'a Inputs) -> RememberedVouchers<'a>
+    ensures { result.vouchers.now ≡ inputs.now.vouchers }
+{
+    let mut remembered = RememberedVouchers::new(alloc, &inputs.vouchers);
+    for k in 0..inputs.items.len() {
+        remembered.expect_item(inputs.items.get(k));
+    }
+    remembered
 }

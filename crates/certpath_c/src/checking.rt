@@ -5,7 +5,7 @@ ghost use Rattle.certpath_c.specs.Checking.{IsCheckedBy, HasNoAnswer, CheckAnswe
 ghost use Rattle.certpath_c.specs.Wanted.{IsWantedBy};
 
 use crate::answers::AnswerRow;
-use crate::asked::{Settings, Voucher, inputs_of, policy_of};
+use crate::asked::{Settings, Voucher, inputs_of, policy_of, remembered_of};
 use crate::status::{BAD_ANSWER, BAD_HOST, BAD_MOMENT, DONE, OUT_OF_MEMORY};
 use crate::tables::given_answer;
 use crate::wanted::{Judged, demands_of, wanted_of};
@@ -52,7 +52,8 @@ fn checked(
     };
     let demands = demands_of(&inputs.items, settings.target, &judged.wanted);
     let permits = Permits::new(alloc, &inputs.items, &demands)?;
-    let vouch = Restricted::new(&inputs.vouchers, &permits);
+    let remembered = remembered_of(alloc, &inputs);
+    let vouch = Restricted::new(&remembered, &permits);
     let said = check(
         alloc,
         &inputs.items,

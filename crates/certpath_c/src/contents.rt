@@ -1,10 +1,11 @@
-//! All that is read of an item at once: what it is, its times, and its fields.
+//! All that is read of an item at once: what it is, its times, its fields, and digests.
 
 ghost use Rattle.std.specs.Prelude.{◌≡◌, ◌++◌, option_copied, IfOk, OnOk};
 ghost use Rattle.cert_model.specs.Class.{certificate, list, other};
 ghost use Rattle.cert_model.specs.Octets.{certificate_octets, list_octets};
 ghost use Rattle.cert_model.specs.View.{certificate_view, list_view};
-ghost use Rattle.certpath_c.specs.Contents.{IsSubjectIdIn, IsAuthorityIdIn, HasExtent, octets_in, fields_octets, found_view, AreFieldsOf, IsReadOf, IsReadFrom, AreContents, ContentsAnswer};
+ghost use Rattle.sha2.specs.Sha256.{sha256};
+ghost use Rattle.certpath_c.specs.Contents.{IsSubjectIdIn, IsAuthorityIdIn, HasExtent, octets_in, digest_in, fields_octets, found_view, AreFieldsOf, IsReadOf, IsReadFrom, AreContents, ContentsAnswer};
 
 use crate::status::{DONE, OUT_OF_MEMORY, TOO_SMALL};
 use crate::times::{Moment, Validity, certificate_times, list_times};
@@ -13,6 +14,7 @@ use asn1_core::OutOfMemory;
 use cert_judge::{list_issuer_of, windows_of};
 use cert_model::fields::{CertFields, ListFields};
 use certcheck::{ItemClass, read_tree};
+use sha2::{Digest, Sha256};
 use std::alloc::{AllocError, Global};
 
 /// A field of an item: how many octets it has there, and whether the item has it.
@@ -23,7 +25,8 @@ pub struct Extent {
     pub is_there: u32,
 }
 
-/// What an item is, its times, and where its fields end in a buffer that has them one after another.
+/// What an item is, its times, how long its fields are in a buffer that has them one after another,
+/// and the digests of the item and of its key.
 #[repr(C)]
 #[derive(Clone, Copy, Debug)]
 pub struct Contents {
@@ -37,6 +40,8 @@ pub struct Contents {
     pub subject_key_id: Extent,
     pub authority_key_id: Extent,
     pub length: usize,
+    pub item_digest: [u8; 32],
+    pub key_digest: [u8; 32],
 }
 
 /// The octets of each field, where the item has it.
@@ -223,9 +228,26 @@ fn joined(alloc: Global, found: &Found<'_>) -> Result<Vec<u8>, AllocError>
     Ok(octets)
 }
 
-/// What was read, as the caller gets it, with this many octets of fields.
-fn contents_of(read: &ItemRead<'_>, length: usize) -> Contents
-    ensures { AreContents read.now length result }
+/// The SHA-256 digest (FIPS 180-4) of octets.
+fn digest_of(octets: &[u8]) -> [u8; 32]
+    ensures { result ≡ sha256 octets.now }
+{
+    Sha256::digest(octets)
+}
+
+/// The digest of a field; zeros where it isn't there.
+fn digest_in(field: Option<&[u8]>) -> [u8; 32]
+    ensures { result ≡ digest_in (option_copied field.entry) }
+{
+    match field {
+        Some(octets) => digest_of(octets),
+        None => [0; 32],
+    }
+}
+
+/// What was read of an item, as the caller gets it, with this many octets of fields.
+fn contents_of(item: &[u8], read: &ItemRead<'_>, length: usize) -> Contents
+    ensures { AreContents item.now read.now length result }
 {
     let found = read.found;
     Contents {
@@ -239,6 +261,8 @@ fn contents_of(read: &ItemRead<'_>, length: usize) -> Contents
         subject_key_id: extent_of(found.subject_key_id),
         authority_key_id: extent_of(found.authority_key_id),
         length,
+        item_digest: digest_of(item),
+        key_digest: digest_in(found.key),
     }
 }
 
@@ -258,7 +282,7 @@ pub extern "C" fn certpath_item(
     let Ok(fields) = joined(alloc, &read.found) else {
         return OUT_OF_MEMORY;
     };
-    *contents = contents_of(&read, fields.len());
+    *contents = contents_of(item, &read, fields.len());
     if put(octets, &fields) {
         DONE
     } else {

@@ -5,7 +5,7 @@ ghost use Rattle.certpath_c.specs.Finding.{IsFoundBy, FindAnswer};
 ghost use Rattle.certpath_c.specs.Wanted.{IsWantedBy};
 
 use crate::answers::{AnswerRow, entries_of, positions_of, row_of};
-use crate::asked::{Settings, Voucher, inputs_of, policy_of};
+use crate::asked::{Settings, Voucher, inputs_of, policy_of, remembered_of};
 use crate::status::{BAD_HOST, BAD_MOMENT, DONE, OUT_OF_MEMORY, TOO_SMALL};
 use crate::wanted::{Judged, demands_of, wanted_of};
 use crate::writing::put_both;
@@ -32,7 +32,8 @@ fn answer_of(
     let inputs = inputs_of(alloc, bundle, anchors, vouchers, settings.limit)?;
     let demands = demands_of(&inputs.items, settings.target, &judged.wanted);
     let permits = Permits::new(alloc, &inputs.items, &demands)?;
-    let vouch = Restricted::new(&inputs.vouchers, &permits);
+    let remembered = remembered_of(alloc, &inputs);
+    let vouch = Restricted::new(&remembered, &permits);
     let answer = find(
         alloc,
         &inputs.items,

@@ -26,12 +26,20 @@ pub struct Framed {
     pub end: u32,
 }
 
-/// The items of octets, of at most so many content octets. The only error is out of memory.
+/// How many octets are looked at before the rest is copied.
+const FRONT: usize = 65536;
+
+/// The items of octets, of at most so many content octets. The only error is out of memory. Where a
+/// fault is among the first octets, as in a text, no others are copied.
 pub(crate) fn items_of(alloc: Global, octets: &[u8], limit: u32) -> Result<Items, AllocError>
     ensures { IfOk result (λ items. IsFraming limit octets.now items.items items.end) }
 {
+    let (front, rest) = octets.split_at(FRONT.min(octets.len()));
     let mut bundle = Bundle::new(alloc, limit);
-    if bundle.feed(octets).is_err() {
+    if bundle.feed(front).is_err() {
+        return Err(AllocError);
+    }
+    if bundle.feed(rest).is_err() {
         return Err(AllocError);
     }
     let Ok(items) = bundle.finish() else {

@@ -17,7 +17,7 @@ pub const BAD_HOST: i32 = 9;
 pub const LIMIT: u32 = 16_777_216;
 
 /// The version of the calls that are declared here.
-pub const VERSION: u32 = 5;
+pub const VERSION: u32 = 6;
 
 #[repr(C)]
 #[derive(Clone, Copy, Debug, Default, PartialEq, Eq)]
@@ -96,6 +96,23 @@ pub struct Contents {
     pub subject_key_id: Extent,
     pub authority_key_id: Extent,
     pub length: usize,
+    pub item_digest: [u8; 32],
+    pub key_digest: [u8; 32],
+}
+
+#[repr(C)]
+#[derive(Clone, Copy, Debug, Default, PartialEq, Eq)]
+pub struct Extension {
+    pub identifier_length: usize,
+    pub value_length: usize,
+    pub is_critical: u32,
+}
+
+#[repr(C)]
+#[derive(Clone, Copy, Debug, Default, PartialEq, Eq)]
+pub struct ExtensionSizes {
+    pub count: usize,
+    pub length: usize,
 }
 
 #[repr(C)]
@@ -159,6 +176,10 @@ extern "C" {
     pub fn certpath_times(item: *const u8, length: usize, validity: *mut Validity) -> i32;
     pub fn certpath_item(item: *const u8, length: usize, octets: *mut u8, room: usize,
         contents: *mut Contents) -> i32;
+    pub fn certpath_extensions(item: *const u8, length: usize, octets: *mut u8, room: usize,
+        extensions: *mut Extension, extensions_room: usize, sizes: *mut ExtensionSizes) -> i32;
+    pub fn certpath_tbs(item: *const u8, length: usize, without: *const u8,
+        without_length: usize, octets: *mut u8, room: usize, size: *mut usize) -> i32;
     pub fn certpath_name(name: *const u8, length: usize, text: *mut u8, room: usize,
         size: *mut usize) -> i32;
     pub fn certpath_allows(item: *const u8, length: usize, purpose: *const u8,
@@ -273,6 +294,27 @@ pub fn item(octets: &[u8]) -> Result<(Contents, Vec<u8>), Refused> {
     Ok((contents, fields))
 }
 
+/// The TBSCertificate of a certificate, without the extensions of an identifier: the content octets
+/// of its OBJECT IDENTIFIER, or none.
+pub fn tbs(octets: &[u8], without: &[u8]) -> Result<Vec<u8>, Refused> {
+    let (mut part, mut size) = (vec![0; octets.len()], 0);
+    // SAFETY: as above; a part of a certificate has fewer octets than the certificate
+    let status = unsafe {
+        certpath_tbs(
+            octets.as_ptr(),
+            octets.len(),
+            without.as_ptr(),
+            without.len(),
+            part.as_mut_ptr(),
+            part.len(),
+            &mut size,
+        )
+    };
+    done(status)?;
+    part.truncate(size);
+    Ok(part)
+}
+
 /// The text of a name, with the values as they are in it: escape it before it is shown.
 pub fn name(octets: &[u8]) -> Result<String, Refused> {
     let (mut text, mut size) = (Vec::new(), 0);
@@ -293,5 +335,36 @@ pub fn name(octets: &[u8]) -> Result<String, Refused> {
             return Ok(String::from_utf8(text).expect("the library writes UTF-8"));
         }
         text.resize(size, 0);
+    }
+}
+
+#[cfg(test)]
+mod tests {
+    use super::*;
+    use std::mem::size_of;
+
+    /// The structures have the sizes that they have in C, on x86-64.
+    #[test]
+    fn sizes() {
+        assert_eq!(size_of::<Span>(), 16);
+        assert_eq!(size_of::<Framed>(), 24);
+        assert_eq!(size_of::<LeftOut>(), 64);
+        assert_eq!(size_of::<Loaded>(), 32);
+        assert_eq!(size_of::<Validity>(), 20);
+        assert_eq!(size_of::<Contents>(), 208);
+        assert_eq!(size_of::<Extension>(), 24);
+        assert_eq!(size_of::<ExtensionSizes>(), 16);
+        assert_eq!(size_of::<Question>(), 24);
+        assert_eq!(size_of::<Voucher>(), 64);
+        assert_eq!(size_of::<Settings>(), 56);
+        assert_eq!(size_of::<AnswerRow>(), 32);
+        assert_eq!(size_of::<Report>(), 16);
+    }
+
+    #[test]
+    fn library() {
+        // SAFETY: it takes nothing
+        assert_eq!(unsafe { certpath_version() }, VERSION);
+        assert_eq!(tbs(&[], &[]), Err(Refused(NOT_CERTIFICATE)));
     }
 }

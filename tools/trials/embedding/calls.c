@@ -47,6 +47,7 @@ static void of_nothing(void)
     uint32_t found;
     certpath_validity validity;
     certpath_contents contents;
+    certpath_extension_sizes sizes;
     certpath_loaded loaded;
     tell(certpath_load(NULL, 0, NULL, 0, NULL, 0, &loaded) == CERTPATH_TOO_SMALL
              && loaded.form == CERTPATH_FORM_EMPTY && loaded.length == 0 && loaded.count == 0
@@ -56,6 +57,10 @@ static void of_nothing(void)
              && contents.item_class == CERTPATH_OTHER && contents.length == 0
              && !contents.issuer.is_there && !contents.subject_key_id.is_there,
          "an item of nothing");
+    tell(certpath_extensions(NULL, 0, NULL, 0, NULL, 0, &sizes) == CERTPATH_NO_FIELD,
+         "extensions of nothing");
+    tell(certpath_tbs(NULL, 0, NULL, 0, NULL, 0, &number) == CERTPATH_NOT_CERTIFICATE,
+         "the first part of nothing");
     tell(certpath_frame(NULL, 0, CERTPATH_LIMIT, NULL, 0, &framed) == CERTPATH_DONE
              && framed.count == 0 && framed.end == CERTPATH_CLEAN,
          "frame of nothing");
@@ -229,6 +234,114 @@ static void of_contents(const unsigned char *item, size_t length)
              && validity.first.year == again.validity.first.year
              && validity.last.year == again.validity.last.year && again.validity.has_last == 1,
          "the times of contents");
+}
+
+/* Whether a voucher has these digests. */
+static int is_vouched(const uint8_t *key, const uint8_t *item)
+{
+    size_t k;
+    for (k = 0; k < vouchers_count; k++)
+        if (memcmp(vouchers[k].key, key, 32) == 0 && memcmp(vouchers[k].item, item, 32) == 0)
+            return 1;
+    return 0;
+}
+
+/* The digests of contents are those of vouchers; of what is no certificate the key's is 0. */
+static void of_digests(const certpath_span *spans)
+{
+    static const uint8_t ZEROS[32];
+    certpath_contents leaf, issuer, none;
+    tell(certpath_item(bundle + spans[0].offset, spans[0].length, NULL, 0, &leaf)
+                 == CERTPATH_TOO_SMALL
+             && certpath_item(bundle + spans[1].offset, spans[1].length, NULL, 0, &issuer)
+                    == CERTPATH_TOO_SMALL
+             && is_vouched(issuer.key_digest, leaf.item_digest)
+             && !is_vouched(leaf.key_digest, issuer.item_digest),
+         "the digests of contents");
+    tell(certpath_item(bundle + spans[3].offset, spans[3].length, NULL, 0, &none)
+                 == CERTPATH_TOO_SMALL
+             && is_vouched(issuer.key_digest, none.item_digest)
+             && memcmp(none.key_digest, ZEROS, 32) == 0,
+         "the digests of a list's contents");
+    tell(certpath_item(NULL, 0, NULL, 0, &none) == CERTPATH_DONE
+             && memcmp(none.item_digest, "\xe3\xb0\xc4\x42", 4) == 0
+             && memcmp(none.key_digest, ZEROS, 32) == 0,
+         "the digests of nothing");
+}
+
+/* Whether octets hold others. */
+static int holds(const unsigned char *octets, size_t length, const unsigned char *part, size_t size)
+{
+    size_t k;
+    for (k = 0; k + size <= length; k++)
+        if (memcmp(octets + k, part, size) == 0)
+            return 1;
+    return 0;
+}
+
+/* The extensions of an item, which lie in it, in rooms of all but one and of all. */
+static void of_extensions(const unsigned char *item, size_t length, int has_usage)
+{
+    static const unsigned char KEY_USAGE[] = {0x55, 0x1d, 0x0f};
+    static unsigned char text[ROOM];
+    certpath_extension found[MOST];
+    certpath_extension_sizes sizes, again;
+    size_t k, at = 0;
+    int lie_in_it = 1, usages = 0;
+    memset(text, KEPT, sizeof text);
+    memset(found, KEPT, sizeof found);
+    tell(certpath_extensions(item, length, NULL, 0, NULL, 0, &sizes) == CERTPATH_TOO_SMALL
+             && sizes.count > 0 && sizes.length > 0 && sizes.length < length,
+         "no room for extensions");
+    tell(certpath_extensions(item, length, text, sizes.length - 1, found, MOST, &again)
+                 == CERTPATH_TOO_SMALL
+             && certpath_extensions(item, length, text, ROOM, found, sizes.count - 1, &again)
+                    == CERTPATH_TOO_SMALL
+             && again.count == sizes.count && again.length == sizes.length
+             && is_kept(text, sizeof text) && is_kept(found, sizeof found),
+         "room for all extensions but one");
+    tell(certpath_extensions(item, length, text, sizes.length, found, sizes.count, &again)
+                 == CERTPATH_DONE
+             && is_kept(text + sizes.length, sizeof text - sizes.length)
+             && is_kept(found + sizes.count, sizeof found - sizes.count * sizeof *found),
+         "just enough room for extensions");
+    for (k = 0; k < sizes.count; k++) {
+        usages += found[k].identifier_length == sizeof KEY_USAGE && found[k].is_critical == 1
+                  && memcmp(text + at, KEY_USAGE, sizeof KEY_USAGE) == 0;
+        lie_in_it &= found[k].is_critical <= 1
+                     && holds(item, length, text + at, found[k].identifier_length)
+                     && holds(item, length, text + at + found[k].identifier_length,
+                              found[k].value_length);
+        at += found[k].identifier_length + found[k].value_length;
+    }
+    tell(lie_in_it && at == sizes.length && usages == has_usage, "extensions");
+}
+
+/* The first part of a certificate: all of it lies in the item behind four octets; without an
+   extension it is shorter by that one, and without one that isn't there it is the same. */
+static void of_first_part(const unsigned char *item, size_t length)
+{
+    static const unsigned char KEY_USAGE[] = {0x55, 0x1d, 0x0f};
+    static const unsigned char USAGE[] = {0x30, 0x0e, 6, 3, 0x55, 0x1d, 0x0f, 1, 1, 0xff};
+    static unsigned char whole[ROOM], less[ROOM];
+    size_t size, other, again;
+    memset(whole, KEPT, sizeof whole);
+    tell(certpath_tbs(item, length, NULL, 0, whole, 0, &size) == CERTPATH_TOO_SMALL && size < length
+             && certpath_tbs(item, length, NULL, 0, whole, size - 1, &other) == CERTPATH_TOO_SMALL
+             && other == size && is_kept(whole, sizeof whole),
+         "room for all of a first part but one octet");
+    tell(certpath_tbs(item, length, NULL, 0, whole, size, &other) == CERTPATH_DONE
+             && memcmp(whole, item + 4, size) == 0 && is_kept(whole + size, sizeof whole - size),
+         "just enough room for a first part");
+    tell(certpath_tbs(item, length, KEY_USAGE, sizeof KEY_USAGE, less, ROOM, &other)
+                 == CERTPATH_DONE
+             && other + 16 == size && holds(whole, size, USAGE, sizeof USAGE)
+             && !holds(less, other, KEY_USAGE, sizeof KEY_USAGE),
+         "a first part without an extension");
+    tell(certpath_tbs(item, length, (const uint8_t *)CERTPATH_POISON, sizeof CERTPATH_POISON - 1,
+                      less, ROOM, &again) == CERTPATH_DONE
+             && again == size && memcmp(less, whole, size) == 0,
+         "a first part without an extension that isn't there");
 }
 
 /* A PEM text with a key, a line that is none, and what isn't ended; and the bundle in DER. */
@@ -733,6 +846,8 @@ static void of_changed(size_t length)
     certpath_contents contents;
     certpath_left_out left[2];
     certpath_loaded loaded;
+    certpath_extension extensions[2];
+    certpath_extension_sizes sizes;
     size_t count;
     uint32_t found, shape, number;
     int is_right = item != NULL;
@@ -750,6 +865,12 @@ static void of_changed(size_t length)
                && is_status(certpath_item(item, length, text, sizeof text, &contents),
                             CERTPATH_DONE)
                && contents.item_class == found && contents.length <= length;
+    is_right = is_right
+               && is_status(certpath_extensions(item, length, text, sizeof text, extensions, 2, &sizes),
+                            CERTPATH_NO_FIELD)
+               && is_status(certpath_tbs(item, length, item, length < 3 ? length : 3, text,
+                                         sizeof text, &count),
+                            CERTPATH_NOT_CERTIFICATE);
     is_right = is_right
                && is_status(certpath_load(item, length, text, sizeof text, left, 2, &loaded),
                             CERTPATH_DONE)
@@ -792,6 +913,7 @@ int main(int count, char **words)
 {
     certpath_span spans[MOST];
     certpath_framed framed;
+    size_t unset;
     long k, number;
     if (count != 5)
         return 2;
@@ -810,6 +932,13 @@ int main(int count, char **words)
         return 1;
     of_small_rooms(bundle + spans[0].offset, spans[0].length);
     of_contents(bundle + spans[0].offset, spans[0].length);
+    of_digests(spans);
+    of_extensions(bundle + spans[0].offset, spans[0].length, 1);
+    of_extensions(bundle + spans[3].offset, spans[3].length, 0);
+    of_first_part(bundle + spans[0].offset, spans[0].length);
+    tell(certpath_tbs(bundle + spans[3].offset, spans[3].length, NULL, 0, NULL, 0, &unset)
+             == CERTPATH_NOT_CERTIFICATE,
+         "the first part of a list");
     of_files();
     chain_length = spans[3].offset;
     of_rooms_for_paths();

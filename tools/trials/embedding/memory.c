@@ -57,7 +57,7 @@ enum { ROOM = 1 << 16 };
 
 /* What a call wrote: its results and its buffer. */
 typedef struct {
-    unsigned char result[192];
+    unsigned char result[256];
     unsigned char buffer[ROOM];
 } written;
 
@@ -125,6 +125,45 @@ static int32_t contents(written *to)
 {
     return certpath_item(bundle + one.offset, one.length, to->buffer, ROOM,
                          (certpath_contents *)to->result);
+}
+
+/* The extensions as structures, and their octets behind these. */
+enum { EXTENSIONS = 64 };
+
+static int32_t extensions(written *to)
+{
+    return certpath_extensions(bundle + one.offset, one.length,
+                               to->buffer + EXTENSIONS * sizeof(certpath_extension),
+                               ROOM - EXTENSIONS * sizeof(certpath_extension),
+                               (certpath_extension *)to->buffer, EXTENSIONS,
+                               (certpath_extension_sizes *)to->result);
+}
+
+static int32_t tbs(written *to)
+{
+    return certpath_tbs(bundle + one.offset, one.length, NULL, 0, to->buffer, ROOM,
+                        (size_t *)to->result);
+}
+
+static int32_t tbs_without(written *to)
+{
+    static const unsigned char KEY_USAGE[] = {0x55, 0x1d, 0x0f};
+    return certpath_tbs(bundle + one.offset, one.length, KEY_USAGE, sizeof KEY_USAGE, to->buffer,
+                        ROOM, (size_t *)to->result);
+}
+
+static int32_t allows(written *to)
+{
+    static const unsigned char PURPOSE[] = {0x2b, 6, 1, 5, 5, 7, 3, 1};
+    return certpath_allows(bundle + one.offset, one.length, PURPOSE, sizeof PURPOSE,
+                           (uint32_t *)to->result);
+}
+
+static int32_t serves(written *to)
+{
+    static const char HOST[] = "www.example.test";
+    return certpath_serves(bundle + one.offset, one.length, (const uint8_t *)HOST, sizeof HOST - 1,
+                           (uint32_t *)to->result);
 }
 
 static int32_t load(written *to)
@@ -261,7 +300,8 @@ typedef struct {
 static const named OF_AN_ITEM[] = {
     {"class", class_of}, {"issuer", issuer}, {"subject", subject},     {"key", key},
     {"serial", serial},  {"times", times},   {"algorithm", algorithm}, {"name", name},
-    {"item", contents}};
+    {"item", contents},  {"tbs", tbs},       {"extensions", extensions},
+    {"allows", allows},  {"serves", serves}, {"tbs without an extension", tbs_without}};
 
 static const named OF_FILES[] = {
     {"frame", frame}, {"load", load},           {"classes", classes}, {"shapes", shapes},
@@ -310,7 +350,8 @@ static size_t all_refusals(const named *it)
     static written whole, part, blank;
     size_t n = 1;
     int32_t status, done = tried_with(it->make, 0, &whole);
-    tell(it->name, 0, done == CERTPATH_DONE || done == CERTPATH_NO_FIELD,
+    tell(it->name, 0,
+         done == CERTPATH_DONE || done == CERTPATH_NO_FIELD || done == CERTPATH_NOT_CERTIFICATE,
          "it isn't done with all its memory");
     tell(it->name, 0, blocks == 0, "memory is left over");
     memset(&blank, 0x5a, sizeof blank);

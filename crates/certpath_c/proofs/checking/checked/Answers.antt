@@ -1,5 +1,6 @@
 use Rattle.std.specs.Prelude.{◌↔◌}
-use Rattle.std.proofs.Common.{subst, IsTrue}
+use Rattle.std.proofs.Common.{◌≡◌, ◌∙◌, ap, subst, IsTrue}
+use Rattle.cert_vouchers.specs.declared.remembered.RememberedVouchers.{RememberedVouchers}
 use Rattle.cert_graph.specs.Adequate.{IsAdequate, IsTrueAnswer}
 use Rattle.cert_serving.specs.Demanding.{PermitsOf, ProcessesFor}
 use Rattle.cert_serving.specs.Refusing.{are_permitted, are_processed}
@@ -33,7 +34,7 @@ returns c =
     let answer = c.in-Some.answer in
     let said = c.in_ok-said.said in
     let is = rw c.in-Some.is at c.in_ok-found.ensures.found in
-    let pairs = c.new-vouch.ensures.vouch in
+    let pairs : vouch.vouch.now.vouchers.now ≡ inputs.vouchers = ap (λ (r : RememberedVouchers). r.vouchers.now) c.new-vouch.ensures.vouch ∙ c.remembered_of-remembered.ensures in
     let permitted = c.new-vouch.ensures.permit in
     record {
       found = record {
@@ -50,8 +51,8 @@ returns c =
         };
         answer = answer;
         is_answer = subst (λ w. IsAnswerOf w given.row given.positions.now given.entries.now answer) c.len-width.ensures.len is;
-        exact = moved policy vouch.vouch.now inputs.vouchers vouch.permit.now permits items anchors (λ g. IsTrue said ↔ IsAdequate g target answer) pairs permitted c.in_ok-said.ensures.exact;
-        holds = moved policy vouch.vouch.now inputs.vouchers vouch.permit.now permits items anchors (λ g. IsTrue said → IsTrueAnswer g target answer) pairs permitted c.in_ok-said.ensures.holds;
+        exact = moved policy vouch.vouch.now.vouchers.now inputs.vouchers vouch.permit.now permits items anchors (λ g. IsTrue said ↔ IsAdequate g target answer) pairs permitted c.in_ok-said.ensures.exact;
+        holds = moved policy vouch.vouch.now.vouchers.now inputs.vouchers vouch.permit.now permits items anchors (λ g. IsTrue said → IsTrueAnswer g target answer) pairs permitted c.in_ok-said.ensures.holds;
       };
       none = tt;
     }

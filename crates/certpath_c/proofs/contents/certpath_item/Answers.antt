@@ -22,6 +22,8 @@ returns-then-put c =
         are_fields = h.2.fields;
         extents = put.extents;
         length_is = put.length_is ∙ size ∙ ap length c.in-Ok-joined.ensures;
+        item_digest = put.item_digest;
+        key_digest = put.key_digest;
         written = subst (λ (v : List ℕ). Puts c.args.octets.now c.put.new.buffer v true) octets c.if-put.ensures;
       },
     )
@@ -45,6 +47,8 @@ returns c =
         are_fields = h.2.fields;
         extents = put.extents;
         length_is = put.length_is ∙ size ∙ ap length c.in-Ok-joined.ensures;
+        item_digest = put.item_digest;
+        key_digest = put.key_digest;
         written = subst (λ (v : List ℕ). Puts c.args.octets.now c.put.new.buffer v false) octets c.if-put.ensures;
       },
     ))
