@@ -12,3 +12,8 @@ changed row (x ∷ xs) = changed (slice_set row x.position x.reach) xs
 abbrev pub rows_by : List Reach → List (List Change) → List (List Reach)
 rows_by row [] = []
 rows_by row (step ∷ steps) = changed row step ∷ rows_by (changed row step) steps
+
+-- the last of these rows, or the row itself where there is none
+abbrev pub last_by : List Reach → List (List Change) → List Reach
+last_by row [] = row
+last_by row (step ∷ steps) = last_by (changed row step) steps

@@ -4,7 +4,7 @@ use Rattle.cert_graph.specs.Changes.{rows_by}
 use Rattle.cert_graph.specs.Nodes.{graph_of}
 use Rattle.cert_graph.proofs.Changing.{items_by}
 use Rattle.cert_search.proofs.Walking.{Walks}
-use Rattle.cert_search.proofs.verdicts.walk.Given as goal
+use Rattle.cert_search.proofs.walk.walk.Given as goal
 
 abbrev pub invariant-loop-left : goal.invariant-loop-left
 invariant-loop-left l = record {

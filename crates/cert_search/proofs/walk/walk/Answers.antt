@@ -7,7 +7,7 @@ use Rattle.cert_graph.specs.Nodes.{graph_of}
 use Rattle.cert_graph.proofs.Changing.{items_by, length-rows}
 use Rattle.cert_graph.proofs.NodeFacts.{fit_is_usable}
 use Rattle.cert_search.proofs.Walking.{walks_start, walks_there, walks_on, walks_end}
-use Rattle.cert_search.proofs.verdicts.walk.Goals as goal
+use Rattle.cert_search.proofs.walk.walk.Goals as goal
 
 pub loop-left-init : goal.loop-left-init
 loop-left-init c =
