@@ -1,7 +1,7 @@
 -- A table of rows that come of changes, row by row.
-use Rattle.std.proofs.Common.{◌≡◌, ℕ, zero, suc, ◌+◌, ◌<◌, ◌≤◌, not, cond, List, [], ◌∷◌, ◌++◌, length, take, drop, replicate, get_or, Vec, Global, arith, ap, sym, ◌∙◌, subst, refl, inl, inr, length-append}
+use Rattle.std.proofs.Common.{◌≡◌, ℕ, zero, suc, ◌+◌, ◌-◌, ◌<◌, ◌≤◌, ◌==◌, Bool, true, false, not, cond, List, [], ◌∷◌, ◌++◌, length, take, drop, replicate, get_or, Vec, Global, arith, ap, sym, ◌∙◌, subst, refl, inl, inr, length-append}
 use Rattle.std.specs.Prelude.{◌↔◌}
-use Rattle.std.proofs.lemmas.Bool.{cases_lt}
+use Rattle.std.proofs.lemmas.Bool.{cases_lt, false≢true}
 use Rattle.std.proofs.lemmas.List.{get_or-replicate, get_or_past, get_or_append_left, get_or_push, get_or-take, length-replicate, take-map}
 use Rattle.std.proofs.lemmas.List.Elements.{All-nil, All-push}
 use Rattle.cert_graph.specs.declared.reach.Reach.{Reach}
@@ -158,6 +158,15 @@ pub width_by : (row : List Reach) (steps : List (List Change)) (k : ℕ) → k <
 width_by row [] k lt = absurd (omega arith)
 width_by row (s ∷ steps) zero lt = length-changed row s
 width_by row (s ∷ steps) (suc k) lt = width_by (changed row s) steps k (omega arith) ∙ length-changed row s
+
+-- whether there are steps
+pub some_steps : (steps : List (Vec Change Global)) (b : Bool) → b ≡ (length steps == 0) → b ≡ false → 0 < length steps
+some_steps [] b is f = absurd (false≢true (sym f ∙ is))
+some_steps (s ∷ steps) b is f = omega arith
+
+pub none_there : (steps : List (Vec Change Global)) (b : Bool) → b ≡ (length steps == 0) → b ≡ true → length steps ≡ 0
+none_there [] b is t = refl
+none_there (s ∷ steps) b is t = absurd (grind arith)
 
 -- where there are no steps the width doesn't matter
 pub no_steps : (m n : ℕ) (steps : List (Vec Change Global)) → length steps ≡ 0 → rows_by (replicate m No) (items_by steps) ≡ rows_by (replicate n No) (items_by steps)

@@ -8,7 +8,7 @@ use Rattle.cert_graph.specs.Adequate.{row_of, IsAdequatePath}
 use Rattle.cert_graph.specs.Changes.{rows_by}
 use Rattle.cert_graph.specs.Nodes.{graph_of}
 use Rattle.cert_graph.proofs.Changing.{items_by, length-rows}
-use Rattle.cert_graph.proofs.RowByRow.{rows_in, row_of_no, width_by, no_steps}
+use Rattle.cert_graph.proofs.RowByRow.{rows_in, row_of_no, width_by, some_steps, none_there, no_steps}
 use Rattle.cert_graph.proofs.TableFacts.{refuted}
 use Rattle.cert_graph.proofs.check.is_path_by.Goals as goal
 use Rattle.cert_graph.proofs.check.is_path_by.Goals.{else-not-is_empty-via-then-not-is_empty+else-width-len, else-not-is_empty-via-else-not-is_empty}
@@ -17,7 +17,7 @@ pub returns-then-positions-steps : goal.returns-then-positions-steps
 returns-then-positions-steps c = refuted (λ h.
     let size = length-rows (replicate c.args.width No) c.args.steps.now in
     let count : length (rows_by (replicate c.args.width No) (items_by c.args.steps.now)) + 1 ≡ length c.args.positions.now = h.count in
-    let same : length c.args.positions.now ≡ length c.args.steps.now + 1 = omega (size, count) in
+    let same : length c.args.positions.now ≡ length c.args.steps.now + 1 = omega (arith, size, count) in
     c.if-positions-steps.true same)
 
 pub returns-then-width-len : goal.returns-then-width-len
@@ -25,7 +25,7 @@ returns-then-width-len c = refuted (λ h.
     let none = replicate c.args.width No in
     let steps = c.args.steps.now in
     let size = length-rows none steps in
-    let some : 0 < length steps = omega arith in
+    let some : 0 < length steps = some_steps steps c.is_empty.result c.is_empty.ensures c.if-not-is_empty.true in
     let there : 0 < length (rows_by none (items_by steps)) = omega arith in
     let wide = width_by none (items_by steps) 0 there in
     let own = length-replicate c.args.width No in
@@ -45,9 +45,9 @@ returns c =
           let e : w ≡ n = omega arith in
           ap (λ (m : ℕ). rows_by (replicate m No) (items_by steps)) e
       | else-not-is_empty-via-else-not-is_empty x ↦
-          let none : length steps ≡ 0 = omega arith in
+          let none : length steps ≡ 0 = none_there steps c.is_empty.result c.is_empty.ensures x.if-not-is_empty.false in
           no_steps w (length nodes.items.items) steps none
     ] in
-    let long : length (rows_in nodes steps) + 1 ≡ length c.args.positions.now = omega (size, c.if-positions-steps.false) in
+    let long : length (rows_in nodes steps) + 1 ≡ length c.args.positions.now = omega (arith, size, c.if-positions-steps.false) in
     subst (λ (rows : List (List Reach)). (c.is_shown_path.result ≡ true) ↔ IsAdequatePath (graph_of nodes) c.args.target c.args.positions.now c.args.anchor rows) (sym same)
     (c.is_shown_path.ensures (rows_in nodes steps) c.in_ok-lookup.ensures (c.in_ok-is_table.ensures.0 c.if-not-branch.false) long)
