@@ -1,5 +1,5 @@
 -- The walk's path, with the rows that it went down.
-use Rattle.std.proofs.Common.{◌≡◌, ℕ, ◌+◌, List, length, replicate, Vec, Global, subst, sym, arith}
+use Rattle.std.proofs.Common.{◌≡◌, ℕ, ◌+◌, ◌<◌, List, length, replicate, Vec, Global, subst, sym, arith}
 use Rattle.cert_graph.specs.declared.reach.Reach.{Reach}
 use Rattle.cert_graph.specs.declared.reach.Reach.TheVariants.{No}
 use Rattle.cert_graph.specs.declared.changes.Change.{Change}
@@ -15,8 +15,8 @@ use Rattle.cert_search.specs.Rows.{IsRun, Opens}
 use Rattle.cert_search.proofs.Exactness.{exact_no_elsewhere}
 use Rattle.cert_search.proofs.walk.first_path.Goals as goal
 
-pub returns-in-FirstPath-clause-adequate : goal.returns-in-FirstPath-clause-adequate
-returns-in-FirstPath-clause-adequate c =
+pub returns-clause-adequate : goal.returns-clause-adequate
+returns-clause-adequate c =
     let nodes = c.args.nodes.now in
     let g = graph_of nodes in
     let none = replicate (length nodes.items.items) No in
@@ -26,8 +26,8 @@ returns-in-FirstPath-clause-adequate c =
     subst (λ (n : ℕ). IsAdequatePath g c.args.target c.in-FirstPath.positions.items c.in-FirstPath.anchor (rows_by (replicate n No) (items_by c.args.steps.items))) (sym wide)
     (subst (λ (xs : List (Vec Change Global)). IsAdequatePath g c.args.target c.in-FirstPath.positions.items c.in-FirstPath.anchor (rows_by none (items_by xs))) c.deref-2.ensures.value found)
 
-pub returns-in-FirstPath-clause-exact : goal.returns-in-FirstPath-clause-exact
-returns-in-FirstPath-clause-exact c =
+pub returns-clause-exact : goal.returns-clause-exact
+returns-clause-exact c =
     let nodes = c.args.nodes.now in
     let g = graph_of nodes in
     let none = replicate (length nodes.items.items) No in
