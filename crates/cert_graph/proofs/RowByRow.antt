@@ -53,7 +53,7 @@ last_at none (s ∷ []) (suc k) e = absurd (omega arith)
 last_at none (s ∷ t ∷ steps) zero e = absurd (omega arith)
 last_at none (s ∷ t ∷ steps) (suc k) e = last_at (changed none s) (t ∷ steps) k (omega arith)
 
-length-last : (none : List Reach) (steps : List (List Change)) → length (last_by none steps) ≡ length none
+pub length-last : (none : List Reach) (steps : List (List Change)) → length (last_by none steps) ≡ length none
 length-last none [] = refl
 length-last none (s ∷ steps) = length-last (changed none s) steps ∙ length-changed none s
 

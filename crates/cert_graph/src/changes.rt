@@ -1,6 +1,6 @@
 //! Rows kept as changes: a row holds its reaches, and the next one only where it differs.
 
-ghost use Rattle.std.specs.Prelude.{◌≡◌, ◌↔◌, [], ◌∷◌, length, map, replicate, IfOk, IsTrue};
+ghost use Rattle.std.specs.Prelude.{◌≡◌, ◌↔◌, [], ◌∷◌, length, map, replicate, All, IfOk, IsTrue};
 ghost use Rattle.cert_graph.specs.declared.reach.Reach.TheVariants.{No};
 ghost use Rattle.cert_graph.specs.Adequate.{at_row};
 ghost use Rattle.cert_graph.specs.Changes.{changed, rows_by, last_by};
@@ -87,7 +87,7 @@ fn is_same(first: Reach, second: Reach) -> bool
 }
 
 /// Where a row differs from another of its length, and what it holds there.
-pub fn changes_between(
+fn changes_between(
     alloc: Global,
     before: &[Reach],
     row: &[Reach],
@@ -116,6 +116,27 @@ pub(crate) fn steps_of(alloc: Global, row: &[Reach]) -> Result<Vec<Vec<Change>>,
     let changes = changes_between(alloc, &none, row)?;
     let mut steps = Vec::with_capacity(alloc, 1)?;
     steps.push(changes)?;
+    Ok(steps)
+}
+
+/// Rows of a width as the changes of each: the first against a row of nothing, each further one against the one before.
+///
+/// The only error is out of memory. Goes over all entries once.
+pub fn steps_of_rows(
+    alloc: Global,
+    width: usize,
+    rows: &[Vec<Reach>],
+) -> Result<Vec<Vec<Change>>, AllocError>
+    requires { All (λ r. length r.items ≡ width) rows.now }
+    ensures { IfOk result (λ steps. rows_by (replicate width No) (map (λ s. s.items) steps.items) ≡ map (λ r. r.items) rows.now) }
+{
+    let mut steps = Vec::with_capacity(alloc, rows.len())?;
+    let mut before = row_of_none(alloc, width)?;
+    for row in rows {
+        let changes = changes_between(alloc, &before, row)?;
+        make(&mut before, &changes);
+        steps.push(changes)?;
+    }
     Ok(steps)
 }
 

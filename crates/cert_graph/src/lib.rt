@@ -37,7 +37,7 @@ mod tables;
 
 pub use answer::{Answer, Table};
 pub use buckets::{Bucket, alike};
-pub use changes::{Change, changes_between, rows_of};
+pub use changes::{Change, rows_of, steps_of_rows};
 pub use check::check_nodes;
 pub use check_all::check_all_nodes;
 pub use entries::Entry;
