@@ -7,7 +7,7 @@ ghost use Rattle.std.specs.Prelude.{◌≡◌, length, IfOk};
 mod graphs;
 
 use anyhow::{Context, Result, bail};
-use cert_graph::{Answer, Inventory, Nodes, Verdict, check_all_nodes, check_nodes};
+use cert_graph::{Answer, Inventory, Nodes, Table, Verdict, check_all_nodes, check_nodes};
 use cert_search::{find_all_nodes, find_nodes};
 use std::env;
 use std::rt::Clock;
@@ -49,15 +49,15 @@ fn run(
     let answer = find_nodes(rt.alloc(), &nodes, 0)?;
     let found = start.elapsed(rt)?;
     let start = Instant::now(rt)?;
-    let checked = check_nodes(&nodes, 0, &answer);
+    let checked = check_nodes(rt.alloc(), &nodes, 0, &answer)?;
     let check = start.elapsed(rt)?;
     let (certificates, rows) = match &answer {
         Answer::Path {
             positions,
             table,
             ..
-        } => (positions.len(), table.rows.len()),
-        Answer::NoPath { table } => (0, table.rows.len()),
+        } => (positions.len(), rows_in(table)),
+        Answer::NoPath { table } => (0, rows_in(table)),
         Answer::NoTarget => (0, 0),
     };
     println!(rt; "{kind} {count}: path of {certificates}, {rows} rows, check {checked}")?;
@@ -67,6 +67,14 @@ fn run(
         println!(rt; "find {found} us, check {check} us")?;
     }
     Ok(())
+}
+
+/// How many rows a table has.
+fn rows_in(table: &Table) -> usize {
+    match table {
+        Table::Row(_) => 1,
+        Table::Rows { steps, .. } => steps.len(),
+    }
 }
 
 fn run_all(

@@ -1,7 +1,7 @@
 //! Answers on a number of items.
 
 use cert_judge::Vouch;
-use certcheck::{Answer, Reach, Table};
+use certcheck::{Answer, Change, Reach, Table};
 use std::alloc::{AllocError, Global};
 
 /// Every key vouches for everything.
@@ -21,41 +21,38 @@ impl Vouch for Anyone {
     }
 }
 
-/// A row that holds `Any` from a position to the tenth.
-fn row_from(alloc: Global, first: usize, count: usize) -> Result<Vec<Reach>, AllocError> {
-    let mut row = Vec::with_capacity(alloc, count)?;
-    for position in 0..count {
-        if position >= first && position < 10 {
-            row.push(Reach::Any)?;
-        } else {
-            row.push(Reach::No)?;
-        }
-    }
-    Ok(row)
-}
-
 /// The first ten items, to the first anchor.
 pub fn path_of_ten(alloc: Global, count: usize) -> Result<Answer, AllocError> {
     let mut positions = Vec::new(alloc);
     for position in 0..10usize {
         positions.push(position)?;
     }
-    let mut rows = Vec::new(alloc);
+    let mut steps = Vec::new(alloc);
     for row in 0..9usize {
-        rows.push(row_from(alloc, 9 - row, count)?)?;
+        let mut step = Vec::with_capacity(alloc, 1)?;
+        step.push(Change {
+            position: 9 - row,
+            reach: Reach::Any,
+        })?;
+        steps.push(step)?;
     }
     Ok(Answer::Path {
         positions,
         anchor: 0,
-        table: Table { rows },
+        table: Table::Rows {
+            width: count,
+            steps,
+        },
     })
 }
 
 /// No path, by a row that reaches nobody.
 pub fn no_path(alloc: Global, count: usize) -> Result<Answer, AllocError> {
-    let mut rows = Vec::new(alloc);
-    rows.push(row_from(alloc, 10, count)?)?;
+    let mut row = Vec::with_capacity(alloc, count)?;
+    for _ in 0..count {
+        row.push(Reach::No)?;
+    }
     Ok(Answer::NoPath {
-        table: Table { rows },
+        table: Table::Row(row),
     })
 }

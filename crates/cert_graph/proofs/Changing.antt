@@ -1,9 +1,11 @@
 -- Rows by their changes, one change and one row after the other.
-use Rattle.std.proofs.Common.{◌≡◌, ℕ, zero, suc, ◌+◌, ◌<◌, ◌≤◌, List, [], ◌∷◌, ◌++◌, length, take, get_or, set, map, Vec, Global, ap, sym, ◌∙◌, refl}
-use Rattle.std.proofs.lemmas.List.{take_more, length-map, length-set, set_past, map_push}
+use Rattle.std.proofs.Common.{◌≡◌, ℕ, zero, suc, ◌+◌, ◌<◌, ◌≤◌, List, [], ◌∷◌, ◌++◌, length, take, drop, replicate, get_or, set, map, Vec, Global, ap, arith, sym, ◌∙◌, refl, append_assoc}
+use Rattle.std.proofs.lemmas.List.{take_more, drop_more, length-map, length-set, length-take-le, set_past, set_at, map_push, get_or-set_same, get_or-set_other, get_or_past}
 use Rattle.cert_graph.specs.declared.reach.Reach.{Reach}
+use Rattle.cert_graph.specs.declared.reach.Reach.TheVariants.{No}
+use Rattle.cert_graph.specs.Adequate.{at_row}
 use Rattle.cert_graph.specs.declared.changes.Change.{Change}
-use Rattle.cert_graph.specs.Changes.{changed, rows_by}
+use Rattle.cert_graph.specs.Changes.{changed, rows_by, last_by}
 
 -- one change more
 pub changed_push : (row : List Reach) (xs : List Change) (x : Change) → changed row (xs ++ x ∷ []) ≡ set (changed row xs) x.position x.reach
@@ -13,11 +15,6 @@ changed_push row (y ∷ xs) x = changed_push (set row y.position y.reach) xs x
 pub length-changed : (row : List Reach) (xs : List Change) → length (changed row xs) ≡ length row
 length-changed row [] = refl
 length-changed row (x ∷ xs) = length-changed (set row x.position x.reach) xs ∙ length-set row x.position x.reach
-
--- the last row of some
-abbrev pub last_by : List Reach → List (List Change) → List Reach
-last_by row [] = row
-last_by row (step ∷ steps) = last_by (changed row step) steps
 
 -- one row more
 pub rows_push : (row : List Reach) (steps : List (List Change)) (step : List Change) → rows_by row (steps ++ step ∷ []) ≡ rows_by row steps ++ changed (last_by row steps) step ∷ []
@@ -84,3 +81,48 @@ rows_front row [] zero = refl
 rows_front row [] (suc n) = refl
 rows_front row (s ∷ steps) zero = refl
 rows_front row (s ∷ steps) (suc n) = ap (λ (rs : List (List Reach)). changed row s ∷ rs) (rows_front (changed row s) steps n)
+
+-- a row up to a place, and another from there on, differ by one place less
+seam : (before row : List Reach) (p : ℕ) → p < length row → take p row ++ get_or row p No ∷ drop (p + 1) before ≡ take (p + 1) row ++ drop (p + 1) before
+seam before row p within =
+    sym (append_assoc (take p row) (get_or row p No ∷ []) (drop (p + 1) before))
+    ∙ ap (λ (rs : List Reach). rs ++ drop (p + 1) before) (sym (take_more row p No within))
+
+pub change_noted : (before row : List Reach) (xs pushed : List Change) (p : ℕ) → length before ≡ length row → p < length row → pushed ≡ xs ++ record { position = p; reach = get_or row p No } ∷ []
+    → changed before xs ≡ take p row ++ drop p before → changed before pushed ≡ take (p + 1) row ++ drop (p + 1) before
+change_noted before row xs pushed p size within push h =
+    let there : p < length before = omega arith in
+    let short : p ≤ length row = omega arith in
+    ap (λ (ys : List Change). changed before ys) push ∙ changed_push before xs (record { position = p; reach = get_or row p No })
+    ∙ ap (λ (rs : List Reach). set rs p (get_or row p No)) (h ∙ ap (λ (rs : List Reach). take p row ++ rs) (drop_more before p No there))
+    ∙ set_at (take p row) (get_or before p No) (drop (p + 1) before) (get_or row p No) p (length-take-le p row short)
+    ∙ seam before row p within
+
+pub same_passed : (before row : List Reach) (xs : List Change) (p : ℕ) → length before ≡ length row → p < length row → get_or before p No ≡ get_or row p No
+    → changed before xs ≡ take p row ++ drop p before → changed before xs ≡ take (p + 1) row ++ drop (p + 1) before
+same_passed before row xs p size within same h =
+    let there : p < length before = omega arith in
+    h ∙ ap (λ (rs : List Reach). take p row ++ rs) (drop_more before p No there ∙ ap (λ (x : Reach). x ∷ drop (p + 1) before) same)
+    ∙ seam before row p within
+
+-- one row of nothing, and one step
+pub one_step : (n : ℕ) (row none : List Reach) (steps : List (Vec Change Global)) (step : Vec Change Global) → none ≡ replicate n No → steps ≡ step ∷ [] → changed none step.items ≡ row → rows_by (replicate n No) (items_by steps) ≡ row ∷ []
+one_step n row none steps step e one made =
+    ap (λ (xs : List (Vec Change Global)). rows_by (replicate n No) (items_by xs)) one
+    ∙ ap (λ (r : List Reach). r ∷ []) (ap (λ (r : List Reach). changed r step.items) (sym e) ∙ made)
+
+-- what a row holds at a place, change by change
+pub at_more : (row : List Reach) (xs : List Change) (i p : ℕ) (d : Change) (r : Reach) → i < length xs → p < length row → r ≡ at_row (changed row (take i xs)) p
+    → ((get_or xs i d).position ≡ p → (get_or xs i d).reach ≡ at_row (changed row (take (i + 1) xs)) p) × (((get_or xs i d).position ≡ p → ⊥) → r ≡ at_row (changed row (take (i + 1) xs)) p)
+at_more row xs i p d r within inside is =
+    let x = get_or xs i d in
+    let now = changed row (take i xs) in
+    let size = length-changed row (take i xs) in
+    let there : p < length now = omega arith in
+    let e : changed row (take (i + 1) xs) ≡ set now x.position x.reach = ap (λ (ys : List Change). changed row ys) (take_more xs i d within) ∙ changed_push row (take i xs) x in (
+      λ here. sym (ap (λ (rs : List Reach). at_row rs p) (e ∙ ap (λ (n : ℕ). set now n x.reach) here) ∙ get_or-set_same now p x.reach No there),
+      λ other. is ∙ sym (ap (λ (rs : List Reach). at_row rs p) e ∙ get_or-set_other now x.position p x.reach No (λ q. other (sym q))),
+    )
+
+pub at_end : (row : List Reach) (xs : List Change) (p : ℕ) → length row ≤ p → at_row (changed row xs) p ≡ No
+at_end row xs p past = let size = length-changed row xs in get_or_past (changed row xs) p No (omega arith)

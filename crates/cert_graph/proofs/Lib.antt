@@ -30,3 +30,5 @@ pub mod Sifted
 pub mod Adding
 pub mod Gathering
 pub mod Placing
+pub mod Touching
+pub mod Following

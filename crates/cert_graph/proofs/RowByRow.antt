@@ -1,7 +1,7 @@
 -- A table of rows that come of changes, row by row.
-use Rattle.std.proofs.Common.{◌≡◌, ℕ, zero, suc, ◌+◌, ◌<◌, ◌≤◌, not, cond, List, [], ◌∷◌, ◌++◌, length, take, replicate, get_or, Vec, Global, arith, ap, sym, ◌∙◌, subst, refl, inl, inr, length-append}
+use Rattle.std.proofs.Common.{◌≡◌, ℕ, zero, suc, ◌+◌, ◌-◌, ◌<◌, ◌≤◌, ◌==◌, Bool, true, false, not, cond, List, [], ◌∷◌, ◌++◌, length, take, drop, replicate, get_or, Vec, Global, arith, ap, sym, ◌∙◌, subst, refl, inl, inr, length-append}
 use Rattle.std.specs.Prelude.{◌↔◌}
-use Rattle.std.proofs.lemmas.Bool.{cases_lt}
+use Rattle.std.proofs.lemmas.Bool.{cases_lt, false≢true}
 use Rattle.std.proofs.lemmas.List.{get_or-replicate, get_or_past, get_or_append_left, get_or_push, get_or-take, length-replicate, take-map}
 use Rattle.std.proofs.lemmas.List.Elements.{All-nil, All-push}
 use Rattle.cert_graph.specs.declared.reach.Reach.{Reach}
@@ -11,16 +11,16 @@ use Rattle.cert_graph.specs.declared.nodes.Nodes.{Nodes}
 use Rattle.cert_graph.specs.Reach.{lesser}
 use Rattle.cert_graph.specs.Graph.{Graph}
 use Rattle.cert_graph.specs.Adequate.{at_row, row_of, passed_by, HasAnchored, IsSuccessor}
-use Rattle.cert_graph.specs.Changes.{changed, rows_by}
+use Rattle.cert_graph.specs.Changes.{changed, rows_by, last_by}
 use Rattle.cert_graph.specs.Groups.{HoldsEachLimit, FollowsRow}
 use Rattle.cert_graph.specs.Inventory.{StandsAtLast}
 use Rattle.cert_graph.specs.Nodes.{graph_of}
 use Rattle.cert_graph.specs.Tables.{IsTable}
 use Rattle.cert_graph.proofs.ReachFacts.{at_most_from_takes, none_taken, passed_back, lesser_right}
 use Rattle.cert_graph.proofs.GroupFacts.{anchored_iff, successor_iff}
-use Rattle.cert_graph.proofs.Changing.{length-changed, length-rows_by, length-rows, last_by, items_by, rows_front}
+use Rattle.cert_graph.proofs.Changing.{length-changed, length-rows_by, length-rows, items_by, rows_front}
 use Rattle.cert_graph.proofs.Flights.{rows_counted, rows_next}
-use Rattle.cert_graph.proofs.Sharing.{last_iff}
+use Rattle.cert_graph.proofs.Sharing.{last_iff, last_alone, no_row_left}
 
 -- a row of so many `No`
 abbrev pub row_of_no : Nodes → List Reach
@@ -53,7 +53,7 @@ last_at none (s ∷ []) (suc k) e = absurd (omega arith)
 last_at none (s ∷ t ∷ steps) zero e = absurd (omega arith)
 last_at none (s ∷ t ∷ steps) (suc k) e = last_at (changed none s) (t ∷ steps) k (omega arith)
 
-length-last : (none : List Reach) (steps : List (List Change)) → length (last_by none steps) ≡ length none
+pub length-last : (none : List Reach) (steps : List (List Change)) → length (last_by none steps) ≡ length none
 length-last none [] = refl
 length-last none (s ∷ steps) = length-last (changed none s) steps ∙ length-changed none s
 
@@ -152,3 +152,34 @@ standing_iff nodes (s ∷ steps) row is t h =
     let stands = last_iff (graph_of nodes) (rows_in nodes (s ∷ steps)) row k last (is ∙ last_at none (items_by (s ∷ steps)) k (last ∙ length-rows_by none (items_by (s ∷ steps))))
     (λ p. (successor_iff nodes row row).0 (h.0 p), λ q. h.1 ((successor_iff nodes row row).1 q)) in
     (λ p. (t, stands.0 p), λ x. stands.1 x.1)
+
+-- rows of a width
+pub width_by : (row : List Reach) (steps : List (List Change)) (k : ℕ) → k < length (rows_by row steps) → length (row_of (rows_by row steps) k) ≡ length row
+width_by row [] k lt = absurd (omega arith)
+width_by row (s ∷ steps) zero lt = length-changed row s
+width_by row (s ∷ steps) (suc k) lt = width_by (changed row s) steps k (omega arith) ∙ length-changed row s
+
+-- whether there are steps
+pub some_steps : (steps : List (Vec Change Global)) (b : Bool) → b ≡ (length steps == 0) → b ≡ false → 0 < length steps
+some_steps [] b is f = absurd (false≢true (sym f ∙ is))
+some_steps (s ∷ steps) b is f = omega arith
+
+pub none_there : (steps : List (Vec Change Global)) (b : Bool) → b ≡ (length steps == 0) → b ≡ true → length steps ≡ 0
+none_there [] b is t = refl
+none_there (s ∷ steps) b is t = absurd (grind arith)
+
+-- where there are no steps the width doesn't matter
+pub no_steps : (m n : ℕ) (steps : List (Vec Change Global)) → length steps ≡ 0 → rows_by (replicate m No) (items_by steps) ≡ rows_by (replicate n No) (items_by steps)
+no_steps m n [] e = refl
+no_steps m n (s ∷ steps) e = absurd (omega arith)
+
+-- the last of some rows, alone
+pub last_of_rows : (none : List Reach) (steps : List (List Change)) (row : List Reach) → drop (length (rows_by none steps) - 1) (rows_by none steps) ≡ row ∷ [] → drop (length (rows_by none steps) - 1) (rows_by none steps) ≡ last_by none steps ∷ []
+last_of_rows none [] row e = absurd (no_row_left [] row refl e)
+last_of_rows none (s ∷ steps) row e =
+    let rows = rows_by none (s ∷ steps) in
+    let k = length steps in
+    let size = length-rows_by none (s ∷ steps) in
+    let last : k + 1 ≡ length rows = omega arith in
+    let at : k + 1 ≡ length (s ∷ steps) = omega arith in
+    last_alone rows k last ∙ ap (λ (r : List Reach). r ∷ []) (sym (last_at none (s ∷ steps) k at))

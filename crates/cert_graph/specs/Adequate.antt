@@ -1,11 +1,13 @@
 -- True answers, and answers that show by inequalities that they are true.
-use Rattle.std.specs.Prelude.{◌≡◌, ℕ, ◌+◌, ◌<◌, ◌≤◌, cond, List, [], ◌∷◌, ◌++◌, length, map, ◌⊎◌, All, slice_index_or}
+use Rattle.std.specs.Prelude.{◌≡◌, ℕ, ◌+◌, ◌<◌, ◌≤◌, cond, List, [], ◌∷◌, ◌++◌, length, map, replicate, ◌⊎◌, All, slice_index_or}
 use Rattle.cert_graph.specs.declared.reach.Reach.{Reach}
 use Rattle.cert_graph.specs.declared.reach.Reach.TheVariants.{No}
 use Rattle.cert_graph.specs.declared.answer.Table.{Table}
+use Rattle.cert_graph.specs.declared.answer.Table.TheVariants.{Row, Rows}
 use Rattle.cert_graph.specs.declared.answer.Answer.{Answer}
 use Rattle.cert_graph.specs.declared.answer.Answer.TheVariants.{Path, NoPath, NoTarget}
 use Rattle.cert_graph.specs.Reach.{Takes, IsAtMost, lesser, less_one}
+use Rattle.cert_graph.specs.Changes.{rows_by}
 use Rattle.cert_graph.specs.Graph.{Graph, counted, EndsIn, IsValidPath, IsFirstPath, HasNoPath}
 
 -- what an answer says is so; its table is no part of this
@@ -68,8 +70,10 @@ pub record IsAdequateNone (g : Graph) (target : ℕ) (rows : List (List Reach)) 
   pub fixed : IsSuccessor g row row
   pub closed : (g.Usable target → ⊥) ⊎ (((b : ℕ) → g.AnchorEdge target b → ⊥) × ((w : ℕ) → g.Fit w → g.Edge target w → at_row row w ≡ No))
 
+-- the rows of a table: the one, or those that come of a row of `No` by the changes of each
 abbrev pub rows_of : Table → List (List Reach)
-rows_of table = map (λ r. r.items) table.rows.items
+rows_of (Row row) = row.items ∷ []
+rows_of (Rows width steps) = rows_by (replicate width No) (map (λ s. s.items) steps.items)
 
 abbrev pub IsAdequate : Graph → ℕ → Answer → Type 0
 IsAdequate g target (Path ps a table) = IsAdequatePath g target ps.items a (rows_of table)

@@ -1,5 +1,5 @@
 -- What the code tests group by group, in place of link by link.
-use Rattle.std.specs.Prelude.{ℕ, ◌<◌, List, length, All, Any, Contains}
+use Rattle.std.specs.Prelude.{ℕ, ◌<◌, List, length, All, Any, Contains, slice_index_or}
 use Rattle.cert_graph.specs.declared.reach.Reach.{Reach}
 use Rattle.cert_graph.specs.declared.nodes.Group.{Group}
 use Rattle.cert_graph.specs.declared.nodes.Nodes.{Nodes}
@@ -52,3 +52,7 @@ IsOpenBelow nodes row count bound w = (w < bound) × (graph_of nodes).Fit w × T
 -- a group that issued v has such a member
 unfoldable pub HasOpenBelow : Nodes → List Reach → ℕ → ℕ → ℕ → Group → Type 0
 HasOpenBelow nodes row v count bound g = Contains g.issued.items v × Any (IsOpenBelow nodes row count bound) g.members.items
+
+-- each group at some places keeps that
+abbrev pub FollowsAt : Nodes → List Reach → List Reach → List ℕ → Type 0
+FollowsAt nodes row next places = (k : ℕ) (group : Group) → Contains places k → k < length nodes.groups.items → HoldsAllPassed nodes row next (slice_index_or nodes.groups.items k group)

@@ -1,5 +1,5 @@
 -- How high a row rises over the members of a group, step by step.
-use Rattle.std.specs.Prelude.{◌≡◌, ℕ, ◌≤◌, ◌<◌, List, length, All, Contains, slice_index_or}
+use Rattle.std.specs.Prelude.{◌≡◌, ℕ, ◌-◌, ◌≤◌, ◌<◌, ◌⊎◌, List, [], ◌∷◌, ◌++◌, length, All, Contains, slice_index_or}
 use Rattle.cert_graph.specs.declared.reach.Reach.{Reach}
 use Rattle.cert_graph.specs.declared.nodes.Group.{Group}
 use Rattle.cert_graph.specs.declared.stairs.Stair.{Stair}
@@ -33,3 +33,18 @@ AreFlightsSoFar g rows members flights = AreFlights g rows members flights × Al
 abbrev pub OfEachGroup : (List ℕ → List Flight → Type 0) → List Group → List (List Flight) → Type 0
 OfEachGroup P groups flights = (length flights ≡ length groups)
     × ((k : ℕ) (group : Group) (own : List Flight) → k < length groups → P (slice_index_or groups k group).members.items (slice_index_or flights k own))
+
+-- a group's flights go on to one row more, in which the last begins
+abbrev pub HasFlightTo : Graph → List (List Reach) → List Reach → List ℕ → List Flight → Type 0
+HasFlightTo g rows row members flights = AreFlightsSoFar g (rows ++ row ∷ []) members flights × (0 < length flights)
+    × ((d : Flight) → (slice_index_or flights (length flights - 1) d).row ≡ length rows)
+
+-- a group's flights go on to some rows, or have begun one in one row more
+abbrev pub MayClimb : Graph → List (List Reach) → List Reach → List ℕ → List Flight → Type 0
+MayClimb g rows row members flights = AreFlightsSoFar g rows members flights ⊎ HasFlightTo g rows row members flights
+
+-- flights of which those of some groups, told by their places, go on to one row more
+abbrev pub AreClimbing : Graph → List (List Reach) → List Reach → List ℕ → List Group → List (List Flight) → Type 0
+AreClimbing g rows row done groups flights = (length flights ≡ length groups)
+    × ((k : ℕ) (group : Group) (own : List Flight) → k < length groups → MayClimb g rows row (slice_index_or groups k group).members.items (slice_index_or flights k own)
+    × (Contains done k → AreFlightsSoFar g (rows ++ row ∷ []) (slice_index_or groups k group).members.items (slice_index_or flights k own)))

@@ -1,12 +1,23 @@
 //! The answer on one target, and the table of rows that shows it.
 
-use crate::Reach;
+ghost use Rattle.std.specs.Prelude.{◌≡◌};
+ghost use Rattle.cert_graph.specs.Adequate.{at_row, row_of, rows_of};
+
+use crate::changes::reach_by;
+use crate::{Change, Reach, reach_at};
 
 /// Rows of reaches, each with one entry per item, by its position. The first row is for one issuer, each further
 /// one for one issuer more.
 #[derive(Debug, Drop)]
-pub struct Table {
-    pub rows: Vec<Vec<Reach>>,
+pub enum Table {
+    /// One row.
+    Row(Vec<Reach>),
+
+    /// Rows of so many entries, each as its changes against the row before it, the first against a row of `No`.
+    Rows {
+        width: usize,
+        steps: Vec<Vec<Change>>,
+    },
 }
 
 /// What is said of a target, with the table that shows it.
@@ -28,4 +39,19 @@ pub enum Answer {
 
     /// The target is no certificate.
     NoTarget,
+}
+
+impl Table {
+    /// What the first row holds at a position; `No` past its end, and where there is no row.
+    pub fn first_reach(&self, position: usize) -> Reach
+        ensures { result ≡ at_row (row_of (rows_of self.now) 0) position }
+    {
+        match self {
+            Table::Row(row) => reach_at(row, position),
+            Table::Rows { width, steps } => match steps.first() {
+                Some(step) => reach_by(*width, step, position),
+                None => Reach::No,
+            },
+        }
+    }
 }

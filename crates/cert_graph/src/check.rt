@@ -3,52 +3,74 @@
 //! A path needs rows that no shorter path could have; that there is none needs a row that is closed
 //! under all links.
 
-ghost use Rattle.std.specs.Prelude.{◌↔◌, map, IsTrue};
-ghost use Rattle.cert_graph.specs.Adequate.{IsAdequatePath, IsAdequateNone, IsAdequate, IsTrueAnswer};
+ghost use Rattle.std.specs.Prelude.{◌↔◌, [], ◌∷◌, length, map, replicate, IsTrue, IfOk};
+ghost use Rattle.cert_graph.specs.declared.reach.Reach.TheVariants.{No};
+ghost use Rattle.cert_graph.specs.Adequate.{rows_of, IsAdequatePath, IsAdequateNone, IsAdequate, IsTrueAnswer};
+ghost use Rattle.cert_graph.specs.Changes.{rows_by};
 ghost use Rattle.cert_graph.specs.Nodes.{graph_of};
 
-use crate::path::{is_lowest, is_valid_path};
+use crate::changes::{make, row_of_none, steps_of};
+use crate::check_all::is_shown_path;
 use crate::rows::{follows_row, holds_each_limit};
-use crate::tables::{is_closed, is_shortest, is_table};
-use crate::{Answer, Nodes, Reach};
+use crate::standing::is_table;
+use crate::tables::is_closed;
+use crate::{Answer, Change, Nodes, Reach, Table, lookup_of};
+use std::alloc::{AllocError, Global};
 
-fn is_adequate_path(
+/// Whether a path is adequate by the rows of a width that come of some changes.
+fn is_path_by(
+    alloc: Global,
     nodes: &Nodes,
     target: usize,
     positions: &[usize],
     anchor: usize,
-    rows: &[Vec<Reach>],
-) -> bool
-    ensures { IsTrue result ↔ IsAdequatePath (graph_of nodes.now) target positions.now anchor (map (λ r. r.items) rows.now) }
+    width: usize,
+    steps: &[Vec<Change>],
+) -> Result<bool, AllocError>
+    ensures { IfOk result (λ yes. IsTrue yes ↔ IsAdequatePath (graph_of nodes.now) target positions.now anchor (rows_by (replicate width No) (map (λ s. s.items) steps.now))) }
 {
-    if positions.len() != rows.len() + 1 {
-        return false;
+    if positions.len() != steps.len() + 1 {
+        return Ok(false);
     }
-    if !is_valid_path(nodes, target, positions, anchor) {
-        return false;
+    if !steps.is_empty() && width != nodes.items.len() {
+        return Ok(false);
     }
-    if !is_table(nodes, rows) {
-        return false;
+    if !is_table(alloc, nodes, steps)? {
+        return Ok(false);
     }
-    if nodes.has_anchor_below(positions[rows.len()], anchor) {
-        return false;
-    }
-    if !is_shortest(nodes, target, rows) {
-        return false;
-    }
-    is_lowest(nodes, target, &positions[1..], rows)
+    let lookup = lookup_of(alloc, nodes, steps)?;
+    Ok(is_shown_path(nodes, &lookup, target, positions, anchor))
 }
 
-fn is_adequate_none(nodes: &Nodes, target: usize, rows: &[Vec<Reach>]) -> bool
-    ensures { IsTrue result ↔ IsAdequateNone (graph_of nodes.now) target (map (λ r. r.items) rows.now) }
+/// Whether a path is adequate by a table.
+fn is_adequate_path(
+    alloc: Global,
+    nodes: &Nodes,
+    target: usize,
+    positions: &[usize],
+    anchor: usize,
+    table: &Table,
+) -> Result<bool, AllocError>
+    ensures { IfOk result (λ yes. IsTrue yes ↔ IsAdequatePath (graph_of nodes.now) target positions.now anchor (rows_of table.now)) }
+{
+    match table {
+        Table::Row(row) => {
+            let steps = steps_of(alloc, row)?;
+            is_path_by(alloc, nodes, target, positions, anchor, row.len(), &steps)
+        }
+        Table::Rows { width, steps } => {
+            is_path_by(alloc, nodes, target, positions, anchor, *width, steps)
+        }
+    }
+}
+
+/// Whether one row shows that there is no path.
+fn is_none_by(nodes: &Nodes, target: usize, row: &[Reach]) -> bool
+    ensures { IsTrue result ↔ IsAdequateNone (graph_of nodes.now) target (row.now ∷ []) }
 {
     if !nodes.is_certificate(target) {
         return false;
     }
-    if rows.len() != 1 {
-        return false;
-    }
-    let row = &rows[0];
     if row.len() != nodes.items.len() {
         return false;
     }
@@ -61,21 +83,49 @@ fn is_adequate_none(nodes: &Nodes, target: usize, rows: &[Vec<Reach>]) -> bool
     is_closed(nodes, row, target)
 }
 
+/// Whether a table shows that there is no path.
+fn is_adequate_none(
+    alloc: Global,
+    nodes: &Nodes,
+    target: usize,
+    table: &Table,
+) -> Result<bool, AllocError>
+    ensures { IfOk result (λ yes. IsTrue yes ↔ IsAdequateNone (graph_of nodes.now) target (rows_of table.now)) }
+{
+    match table {
+        Table::Row(row) => Ok(is_none_by(nodes, target, row)),
+        Table::Rows { width, steps } => {
+            if steps.len() != 1 {
+                return Ok(false);
+            }
+            let mut row = row_of_none(alloc, *width)?;
+            make(&mut row, &steps[0]);
+            Ok(is_none_by(nodes, target, &row))
+        }
+    }
+}
+
 /// Whether an answer on a target, told by its position, is adequate: whether its table shows by inequalities that it
-/// is true. A position that is no item's, an anchor that is none, rows of a wrong length or number: `false`.
+/// is true. A position that is no item's, an anchor that is none, rows of a wrong length or number: `Ok(false)`.
 ///
-/// Takes no memory. Goes over the items, the groups and their lists once for each row and each certificate.
-pub fn check_nodes(nodes: &Nodes, target: usize, answer: &Answer) -> bool
-    ensures exact { IsTrue result ↔ IsAdequate (graph_of nodes.now) target answer.now }
-    ensures holds { IsTrue result → IsTrueAnswer (graph_of nodes.now) target answer.now }
+/// The only error is out of memory. Holds two rows at a time, whatever the number of rows, and goes over what changes
+/// from row to row.
+pub fn check_nodes(
+    alloc: Global,
+    nodes: &Nodes,
+    target: usize,
+    answer: &Answer,
+) -> Result<bool, AllocError>
+    ensures exact { IfOk result (λ yes. IsTrue yes ↔ IsAdequate (graph_of nodes.now) target answer.now) }
+    ensures holds { IfOk result (λ yes. IsTrue yes → IsTrueAnswer (graph_of nodes.now) target answer.now) }
 {
     match answer {
         Answer::Path {
             positions,
             anchor,
             table,
-        } => is_adequate_path(nodes, target, positions, *anchor, &table.rows),
-        Answer::NoPath { table } => is_adequate_none(nodes, target, &table.rows),
-        Answer::NoTarget => !nodes.is_certificate(target),
+        } => is_adequate_path(alloc, nodes, target, positions, *anchor, table),
+        Answer::NoPath { table } => is_adequate_none(alloc, nodes, target, table),
+        Answer::NoTarget => Ok(!nodes.is_certificate(target)),
     }
 }

@@ -16,7 +16,7 @@ use std::alloc::{AllocError, Global};
 
 /// Whether a path is adequate by rows that are a table already, one fewer than it has certificates. The rows are those
 /// of the look-up.
-fn is_shown_path(
+pub(crate) fn is_shown_path(
     nodes: &Nodes,
     lookup: &Lookup,
     target: usize,

@@ -1,6 +1,6 @@
 //! Certificates as a graph: valid certification paths, their order, and answers that show their own truth.
 //!
-//! `check_nodes` decides whether an answer is adequate, by inequalities alone and in no memory of its own.
+//! `check_nodes` decides whether an answer is adequate, by inequalities alone.
 //! `check_all_nodes` does so for an inventory: a verdict on each item, with one table of rows for all of them.
 //! `laws` has the theorems on graphs as functions: an adequate answer is true, and what follows for paths.
 #![tactic(auto)]
@@ -37,7 +37,7 @@ mod tables;
 
 pub use answer::{Answer, Table};
 pub use buckets::{Bucket, alike};
-pub use changes::{Change, rows_of};
+pub use changes::{Change, rows_of, steps_of_rows};
 pub use check::check_nodes;
 pub use check_all::check_all_nodes;
 pub use entries::Entry;

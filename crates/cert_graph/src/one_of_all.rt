@@ -5,14 +5,15 @@ ghost use Rattle.cert_graph.specs.Adequate.{IsAdequate};
 ghost use Rattle.cert_graph.specs.Inventory.{IsAdequateInventory};
 ghost use Rattle.cert_graph.specs.Nodes.{graph_of};
 
-use crate::{Answer, Inventory, Nodes, Table, Verdict, rows_of};
+use crate::changes::{copied, last_row};
+use crate::{Answer, Inventory, Nodes, Table, Verdict};
 use std::alloc::{AllocError, Global};
 
 /// What an inventory says of one item, as an answer with a table of its own that `check_nodes` accepts. A path gets as
 /// many of the inventory's rows as it has issuers, an item without a path the last row. A position past the items gets
 /// `NoTarget`.
 ///
-/// The only error is out of memory. Builds the rows from the inventory's changes, and copies the path.
+/// The only error is out of memory. Copies the path and the changes of its rows, or makes the last row.
 pub fn answer_of(
     alloc: Global,
     nodes: &Nodes,
@@ -27,26 +28,21 @@ pub fn answer_of(
     }
     match &inventory.verdicts[target] {
         Verdict::FirstPath { positions, anchor } => {
-            let rows = rows_of(
-                alloc,
-                nodes.items.len(),
-                &inventory.steps[..positions.len() - 1],
-            )?;
+            let steps = copied(alloc, &inventory.steps[..positions.len() - 1])?;
             let positions = Vec::from_slice(alloc, positions)?;
             Ok(Answer::Path {
                 positions,
                 anchor: *anchor,
-                table: Table { rows },
+                table: Table::Rows {
+                    width: nodes.items.len(),
+                    steps,
+                },
             })
         }
         Verdict::Pathless => {
-            let mut rows = rows_of(alloc, nodes.items.len(), &inventory.steps)?;
-            let last = rows.len() - 1;
-            let row = rows.swap_remove(last);
-            let mut one = Vec::with_capacity(alloc, 1)?;
-            one.push(row)?;
+            let row = last_row(alloc, nodes.items.len(), &inventory.steps)?;
             Ok(Answer::NoPath {
-                table: Table { rows: one },
+                table: Table::Row(row),
             })
         }
         Verdict::NoCertificate => Ok(Answer::NoTarget),

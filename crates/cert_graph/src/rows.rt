@@ -73,7 +73,7 @@ fn hold_passed(nodes: &Nodes, row: &[Reach], reach: Reach, positions: &[usize]) 
         .all(|position| holds_passed(nodes, row, reach, *position))
 }
 
-fn holds_all_passed(nodes: &Nodes, row: &[Reach], next: &[Reach], group: &Group) -> bool
+pub(crate) fn holds_all_passed(nodes: &Nodes, row: &[Reach], next: &[Reach], group: &Group) -> bool
     ensures { IsTrue result ↔ HoldsAllPassed nodes.now row.now next.now group.now }
 {
     let best = best_of(nodes, row, &group.members);

@@ -9,12 +9,14 @@ ghost use Rattle.cert_graph.specs.declared.reach.Reach.{Reach};
 ghost use Rattle.cert_graph.specs.declared.reach.Reach.TheVariants.{No};
 ghost use Rattle.cert_graph.specs.declared.stairs.Flight.{Flight};
 ghost use Rattle.cert_graph.specs.Adequate.{row_of};
-ghost use Rattle.cert_graph.specs.Changes.{rows_by};
+ghost use Rattle.cert_graph.specs.Changes.{changed, rows_by, touched};
+ghost use Rattle.cert_graph.specs.Issuing.{AreMemberships};
 ghost use Rattle.cert_graph.specs.Least.{IsLeastOption};
 ghost use Rattle.cert_graph.specs.Nodes.{graph_of};
-ghost use Rattle.cert_graph.specs.Stairs.{OpenIn, AreStairs, AreFlights, AreFlightsSoFar, OfEachGroup};
+ghost use Rattle.cert_graph.specs.Stairs.{OpenIn, AreStairs, AreFlights, AreFlightsSoFar, MayClimb, AreClimbing, OfEachGroup};
 
 use crate::changes::{make, row_of_none};
+use crate::issuing::{is_wide, memberships_of};
 use crate::{Change, Group, Nodes, Reach, reach_at};
 use std::alloc::{AllocError, Global};
 
@@ -129,7 +131,19 @@ fn ends_in(flights: &[Flight], stairs: &[Stair]) -> bool
     are_same(&last.stairs, stairs)
 }
 
-/// Goes on with a group's flights by one row: a further flight, unless the last has the row's stairs.
+/// Whether the last of some flights begins in a row, given by its number from 0.
+fn begins_in(flights: &[Flight], number: usize) -> bool
+    ensures { IsTrue result ↔ ((0 < length flights.now) × ((d : Flight) → (slice_index_or flights.now (length flights.now - 1) d).row ≡ number)) }
+{
+    if flights.is_empty() {
+        return false;
+    }
+    let last = &flights[flights.len() - 1];
+    last.row == number
+}
+
+/// Goes on with a group's flights by one row: a further flight, unless the last has the row's stairs. A second time it
+/// changes nothing, or notes the same again.
 fn climb(
     alloc: Global,
     nodes: &Nodes,
@@ -138,8 +152,12 @@ fn climb(
     group: &Group,
     flights: &mut Vec<Flight>,
 ) -> Result<(), AllocError>
-    ensures { OnOk result ((rows : List (List Reach)) → length rows ≡ number → AreFlightsSoFar (graph_of nodes.now) rows group.now.members.items flights.old.items → AreFlightsSoFar (graph_of nodes.now) (rows ++ row.now ∷ []) group.now.members.items flights.new.items) }
+    ensures { OnOk result ((rows : List (List Reach)) → length rows ≡ number → MayClimb (graph_of nodes.now) rows row.now group.now.members.items flights.old.items
+        → AreFlightsSoFar (graph_of nodes.now) (rows ++ row.now ∷ []) group.now.members.items flights.new.items × MayClimb (graph_of nodes.now) rows row.now group.now.members.items flights.new.items) }
 {
+    if begins_in(flights, number) {
+        return Ok(());
+    }
     let stairs = stairs_of(alloc, nodes, row, group)?;
     if ends_in(flights, &stairs) {
         return Ok(());
@@ -168,6 +186,75 @@ fn climb_all(
     Ok(())
 }
 
+/// Goes on with the flights of some groups, told by their places, by one row.
+fn climb_at(
+    alloc: Global,
+    nodes: &Nodes,
+    row: &[Reach],
+    number: usize,
+    places: &[usize],
+    flights: &mut Vec<Vec<Flight>>,
+) -> Result<(), AllocError>
+    requires count { length flights.old.items ≡ length nodes.now.groups.items }
+    requires within { All (λ k. k < length nodes.now.groups.items) places.now }
+    ensures count { OnOk result (length flights.new.items ≡ length nodes.now.groups.items) }
+    ensures climbed { OnOk result ((rows : List (List Reach)) (done : List ℕ) → length rows ≡ number → AreClimbing (graph_of nodes.now) rows row.now done nodes.now.groups.items (map (λ f. f.items) flights.old.items)
+        → AreClimbing (graph_of nodes.now) rows row.now (done ++ places.now) nodes.now.groups.items (map (λ f. f.items) flights.new.items)) }
+{
+    for place in places {
+        climb(alloc, nodes, row, number, &nodes.groups[*place], &mut flights[*place])?;
+    }
+    Ok(())
+}
+
+/// Goes on with the flights of those groups by one row of which some changes are of a member.
+fn climb_some(
+    alloc: Global,
+    nodes: &Nodes,
+    places: &[Vec<usize>],
+    row: &[Reach],
+    number: usize,
+    step: &[Change],
+    flights: &mut Vec<Vec<Flight>>,
+) -> Result<(), AllocError>
+    requires count { length flights.old.items ≡ length nodes.now.groups.items }
+    requires within { All (λ l. All (λ k. k < length nodes.now.groups.items) l.items) places.now }
+    ensures { OnOk result ((rows : List (List Reach)) → length rows ≡ number → OfEachGroup (AreFlightsSoFar (graph_of nodes.now) rows) nodes.now.groups.items (map (λ f. f.items) flights.old.items)
+        → AreClimbing (graph_of nodes.now) rows row.now (touched (map (λ l. l.items) places.now) step.now) nodes.now.groups.items (map (λ f. f.items) flights.new.items)) }
+{
+    for change in step {
+        if change.position < places.len() {
+            climb_at(alloc, nodes, row, number, &places[change.position], flights)?;
+        }
+    }
+    Ok(())
+}
+
+/// Goes on with the flights of each group by one row that some changes make of the one before it.
+fn climb_by(
+    alloc: Global,
+    nodes: &Nodes,
+    places: &[Vec<usize>],
+    row: &[Reach],
+    number: usize,
+    step: &[Change],
+    flights: &mut Vec<Vec<Flight>>,
+) -> Result<(), AllocError>
+    requires count { length flights.old.items ≡ length nodes.now.groups.items }
+    requires places { AreMemberships nodes.now (map (λ l. l.items) places.now) }
+    ensures { OnOk result ((rows : List (List Reach)) (before : List Reach) → length rows ≡ number → (0 < length rows → before ≡ row_of rows (length rows - 1)) → row.now ≡ changed before step.now
+        → OfEachGroup (AreFlightsSoFar (graph_of nodes.now) rows) nodes.now.groups.items (map (λ f. f.items) flights.old.items)
+        → OfEachGroup (AreFlightsSoFar (graph_of nodes.now) (rows ++ row.now ∷ [])) nodes.now.groups.items (map (λ f. f.items) flights.new.items)) }
+{
+    if number == 0 {
+        return climb_all(alloc, nodes, row, number, flights);
+    }
+    if is_wide(nodes, places, step) {
+        return climb_all(alloc, nodes, row, number, flights);
+    }
+    climb_some(alloc, nodes, places, row, number, step, flights)
+}
+
 /// So many groups, each without a flight.
 fn no_flights(alloc: Global, number: usize) -> Result<Vec<Vec<Flight>>, AllocError>
     ensures count { IfOk result (λ flights. length flights.items ≡ number) }
@@ -182,7 +269,7 @@ fn no_flights(alloc: Global, number: usize) -> Result<Vec<Vec<Flight>>, AllocErr
 
 /// The flights of each group over the rows that come of some changes.
 ///
-/// Goes over the members of all groups once for each row.
+/// Goes over the members of all groups once, and again of those groups of which a member changes.
 pub(crate) fn flights_of(
     alloc: Global,
     nodes: &Nodes,
@@ -190,11 +277,12 @@ pub(crate) fn flights_of(
 ) -> Result<Vec<Vec<Flight>>, AllocError>
     ensures { IfOk result (λ flights. OfEachGroup (AreFlights (graph_of nodes.now) (rows_by (replicate (length nodes.now.items.items) No) (map (λ s. s.items) steps.now))) nodes.now.groups.items (map (λ f. f.items) flights.items)) }
 {
+    let places = memberships_of(alloc, nodes)?;
     let mut flights = no_flights(alloc, nodes.groups.len())?;
     let mut row = row_of_none(alloc, nodes.items.len())?;
     for (number, step) in steps.iter().enumerate() {
         make(&mut row, step);
-        climb_all(alloc, nodes, &row, number, &mut flights)?;
+        climb_by(alloc, nodes, &places, &row, number, step, &mut flights)?;
     }
     Ok(flights)
 }

@@ -14,9 +14,9 @@ use Rattle.cert_graph.specs.Adequate.{row_of, HasAnchored, IsAdequatePath, IsAde
 use Rattle.cert_graph.specs.Least.{IsLeast}
 use Rattle.cert_graph.specs.Nodes.{graph_of}
 use Rattle.cert_graph.specs.Tables.{IsTable}
-use Rattle.cert_graph.specs.Changes.{changed, rows_by}
+use Rattle.cert_graph.specs.Changes.{changed, rows_by, last_by}
 use Rattle.cert_graph.specs.Inventory.{IsAdequateVerdict, StandsAtLast, OfEach}
-use Rattle.cert_graph.proofs.Changing.{items_by, last_by, rows_grow, length-rows, rows_front}
+use Rattle.cert_graph.proofs.Changing.{items_by, rows_grow, length-rows, rows_front}
 use Rattle.cert_graph.proofs.Sharing.{last_alone}
 use Rattle.cert_search.specs.Exact.{HoldsExactly}
 use Rattle.cert_search.specs.Rows.{IsRun, IsFixed, Opens}

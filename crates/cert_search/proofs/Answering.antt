@@ -20,7 +20,7 @@ use Rattle.cert_graph.proofs.NodeFacts.{fit_is_usable}
 use Rattle.cert_search.specs.Exact.{HoldsExactly, HoldsAll, HoldsNoElsewhere, HasExactRows, IsShort}
 use Rattle.cert_graph.specs.Least.{IsLeast}
 use Rattle.cert_search.specs.Rows.{IsFixed, Opens}
-use Rattle.cert_search.specs.Found.{IsAlone, IsOneRow}
+use Rattle.cert_search.specs.Found.{IsAlone}
 use Rattle.cert_search.proofs.Exactness.{fixed_anchored, fixed_successor, fixed_holds_all, exact_no_elsewhere}
 
 -- a path of the target alone
@@ -62,23 +62,12 @@ alone_adequate g fu target anchor usable least (Path ps a table) h =
 alone_adequate g fu target anchor usable least (NoPath table) h = absurd h
 alone_adequate g fu target anchor usable least NoTarget h = absurd h
 
-pub one_row_adequate : (g : Graph) (target : ℕ) (row : List Reach) → g.IsCertificate target → length row ≡ g.items → IsFixed g row → (Opens g target row → ⊥)
-    → ((g.Usable target → ⊥) ⊎ (g.Usable target × ((b : ℕ) → g.AnchorEdge target b → ⊥))) → (answer : Answer) → IsOneRow row answer → IsAdequate g target answer
-one_row_adequate g target row cert whole k shut c (Path ps a table) h = absurd h
-one_row_adequate g target row cert whole k shut c (NoPath table) h =
-    subst (IsAdequateNone g target) (sym h) (none_adequate g target row cert whole k shut c)
-one_row_adequate g target row cert whole k shut c NoTarget h = absurd h
-
 only_row : (g : Graph) (row : List Reach) → HoldsAll g row × HoldsNoElsewhere g row → (k : ℕ) → k < length (row ∷ []) → HoldsAll g (row_of (row ∷ []) k) × HoldsNoElsewhere g (row_of (row ∷ []) k)
 only_row g row p zero lt = p
 only_row g row p (suc k) lt = absurd (omega arith)
 
-pub one_row_exact : (g : Graph) (number : ℕ) (row : List Reach) → HoldsExactly g number row → IsFixed g row → (answer : Answer) → IsOneRow row answer → HasExactRows g answer
-one_row_exact g number row exact k (Path ps a table) h = absurd h
-one_row_exact g number row exact k (NoPath table) h =
-    subst (λ (rows : List (List Reach)). (i : ℕ) → i < length rows → HoldsAll g (row_of rows i) × HoldsNoElsewhere g (row_of rows i)) (sym h)
-    (only_row g row (fixed_holds_all g number row exact k, exact_no_elsewhere g number row exact))
-one_row_exact g number row exact k NoTarget h = absurd h
+pub one_row_exact : (g : Graph) (number : ℕ) (row : List Reach) → HoldsExactly g number row → IsFixed g row → (k : ℕ) → k < length (row ∷ []) → HoldsAll g (row_of (row ∷ []) k) × HoldsNoElsewhere g (row_of (row ∷ []) k)
+one_row_exact g number row exact k = only_row g row (fixed_holds_all g number row exact k, exact_no_elsewhere g number row exact)
 
 -- positions of which none stands twice are distinct
 apart : (x : ℕ) (ys : List ℕ) → ((between back : List ℕ) → ys ≡ between ++ x ∷ back → ⊥) → AllByRecursion (λ y. eqb x y ≡ false) ys

@@ -1,7 +1,7 @@
 -- The rows of a search so far.
 use Rattle.std.proofs.Common.{◌≡◌, ℕ, ◌+◌, ◌<◌, List, [], ◌∷◌, ◌++◌, length, map, Vec, Global, arith, ap, sym, ◌∙◌, subst, refl, inl, inr, length-append}
 use Rattle.std.specs.Prelude.{All}
-use Rattle.std.proofs.lemmas.List.{get_or_push, get_or_append_left, length-map, map_push}
+use Rattle.std.proofs.lemmas.List.{get_or_push, get_or_append_left}
 use Rattle.std.proofs.lemmas.List.Elements.{All-push, All-nil}
 use Rattle.std.proofs.lemmas.Bool.{cases_lt}
 use Rattle.cert_graph.specs.declared.reach.Reach.{Reach}
@@ -10,8 +10,8 @@ use Rattle.cert_graph.specs.Adequate.{row_of}
 use Rattle.cert_search.specs.Exact.{HoldsExactly}
 use Rattle.cert_search.specs.Rows.{IsRun, Opens}
 use Rattle.cert_graph.specs.declared.changes.Change.{Change}
-use Rattle.cert_graph.specs.Changes.{changed, rows_by}
-use Rattle.cert_graph.proofs.Changing.{items_by, last_by, rows_grow, length-rows}
+use Rattle.cert_graph.specs.Changes.{changed, rows_by, last_by}
+use Rattle.cert_graph.proofs.Changing.{items_by, rows_grow, length-rows}
 
 -- the rows so far, none of which opens the target
 pub record SoFar (g : Graph) (target : ℕ) (rows : List (List Reach)) : Type 0 where
@@ -51,10 +51,6 @@ run_ends g target rows row h whole e opens =
       subst (Opens g target) (sym (get_or_push rows row [] (length rows) refl)) opens,
     )
 
--- the same of rows as the code keeps them
-abbrev pub items_of : List (Vec Reach Global) → List (List Reach)
-items_of rows = map (λ (r : Vec Reach Global). r.items) rows
-
 -- one row more, told by its changes
 pub so_far_more : (g : Graph) (target : ℕ) (none : List Reach) (steps pushed : List (Vec Change Global)) (x : Vec Change Global) (last row : List Reach) → pushed ≡ steps ++ x ∷ [] → last ≡ last_by none (items_by steps) → changed last x.items ≡ row
     → SoFar g target (rows_by none (items_by steps)) → length row ≡ g.items → HoldsExactly g (length steps + 1) row → (Opens g target row → ⊥) → SoFar g target (rows_by none (items_by pushed))
@@ -62,15 +58,17 @@ so_far_more g target none steps pushed x last row push e made h whole exact clos
     subst (SoFar g target) (sym (rows_grow none steps pushed x last row push e made))
     (so_far_push g target (rows_by none (items_by steps)) row h whole (subst (λ (n : ℕ). HoldsExactly g (n + 1) row) (sym (length-rows none steps)) exact) closed)
 
-pub run_more : (g : Graph) (target : ℕ) (rows pushed : List (Vec Reach Global)) (row : Vec Reach Global) → pushed ≡ rows ++ row ∷ [] → SoFar g target (items_of rows) → length row.items ≡ g.items
-    → HoldsExactly g (length rows + 1) row.items → Opens g target row.items → IsRun g target (items_of pushed) × ((k : ℕ) × (k + 1 ≡ length pushed) × Opens g target (row_of (items_of pushed) k))
-run_more g target rows pushed row e h whole exact opens =
-    let size : length (items_of rows) ≡ length rows = length-map rows (λ (r : Vec Reach Global). r.items) in
-    let same : items_of pushed ≡ items_of rows ++ row.items ∷ [] = ap items_of e ∙ map_push (λ (r : Vec Reach Global). r.items) rows row in
-    let long : length rows + 1 ≡ length pushed = sym (ap length e ∙ length-append rows (row ∷ [])) in
-    let run = run_ends g target (items_of rows) row.items h whole (subst (λ (n : ℕ). HoldsExactly g (n + 1) row.items) (sym size) exact) opens in (
+pub run_more : (g : Graph) (target : ℕ) (none : List Reach) (steps pushed : List (Vec Change Global)) (x : Vec Change Global) (last row : List Reach) → pushed ≡ steps ++ x ∷ [] → last ≡ last_by none (items_by steps) → changed last x.items ≡ row
+    → SoFar g target (rows_by none (items_by steps)) → length row ≡ g.items → HoldsExactly g (length steps + 1) row → Opens g target row
+    → IsRun g target (rows_by none (items_by pushed)) × ((k : ℕ) × (k + 1 ≡ length pushed) × Opens g target (row_of (rows_by none (items_by pushed)) k))
+run_more g target none steps pushed x last row push e made h whole exact opens =
+    let rows = rows_by none (items_by steps) in
+    let size : length rows ≡ length steps = length-rows none steps in
+    let same = rows_grow none steps pushed x last row push e made in
+    let long : length steps + 1 ≡ length pushed = sym (ap length push ∙ length-append steps (x ∷ [])) in
+    let run = run_ends g target rows row h whole (subst (λ (n : ℕ). HoldsExactly g (n + 1) row) (sym size) exact) opens in (
       subst (IsRun g target) (sym same) run.0,
-      (length rows, long, subst (λ (rs : List (List Reach)). Opens g target (row_of rs (length rows))) (sym same) (subst (λ (n : ℕ). Opens g target (row_of (items_of rows ++ row.items ∷ []) n)) size run.1)),
+      (length steps, long, subst (λ (rs : List (List Reach)). Opens g target (row_of rs (length steps))) (sym same) (subst (λ (n : ℕ). Opens g target (row_of (rows ++ row ∷ []) n)) size run.1)),
     )
 
 pub none_so_far : (g : Graph) (target : ℕ) → SoFar g target []

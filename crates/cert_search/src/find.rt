@@ -4,11 +4,11 @@ ghost use Rattle.std.specs.Prelude.{IfOk};
 ghost use Rattle.cert_graph.specs.Adequate.{IsAdequate, IsTrueAnswer};
 ghost use Rattle.cert_graph.specs.Nodes.{graph_of};
 ghost use Rattle.cert_search.specs.Exact.{HasExactRows, IsShort};
-ghost use Rattle.cert_search.specs.Found.{IsAlone, IsOneRow};
+ghost use Rattle.cert_search.specs.Found.{IsAlone};
 
 use crate::rounds::{Found, rows_to};
 use crate::walk::first_path;
-use cert_graph::{Answer, Nodes, Reach, Table, least_anchor};
+use cert_graph::{Answer, Nodes, Table, least_anchor};
 use std::alloc::{AllocError, Global};
 
 /// The first valid path from a target, told by its position from 0, or that there is none, with the table that shows it.
@@ -29,8 +29,10 @@ pub fn find_nodes(alloc: Global, nodes: &Nodes, target: usize) -> Result<Answer,
         }
     }
     match rows_to(alloc, nodes, target)? {
-        Found::Opening(rows) => first_path(alloc, nodes, target, rows),
-        Found::Standing(row) => none(alloc, row),
+        Found::Opening(steps) => first_path(alloc, nodes, target, steps),
+        Found::Standing(row) => Ok(Answer::NoPath {
+            table: Table::Row(row),
+        }),
     }
 }
 
@@ -43,19 +45,9 @@ fn alone(alloc: Global, target: usize, anchor: usize) -> Result<Answer, AllocErr
     Ok(Answer::Path {
         positions,
         anchor,
-        table: Table {
-            rows: Vec::new(alloc),
+        table: Table::Rows {
+            width: 0,
+            steps: Vec::new(alloc),
         },
-    })
-}
-
-/// The answer that there is no path, with the one row that shows it.
-fn none(alloc: Global, row: Vec<Reach>) -> Result<Answer, AllocError>
-    ensures { IfOk result (IsOneRow row.items) }
-{
-    let mut rows = Vec::with_capacity(alloc, 1)?;
-    rows.push(row)?;
-    Ok(Answer::NoPath {
-        table: Table { rows },
     })
 }

@@ -8,14 +8,15 @@ ghost use Rattle.cert_search.specs.Found.{IsFound};
 
 use crate::places::noted;
 use crate::rising::{begin, has_risen, rise};
-use cert_graph::{Nodes, Reach, reach_at, rows_of};
+use cert_graph::{Change, Nodes, Reach, reach_at};
 use std::alloc::{AllocError, Global};
 
 /// What the raising of rows comes to.
 #[derive(Drop)]
 pub(crate) enum Found {
-    /// Rows of which the last is the first that gives the target a path.
-    Opening(Vec<Vec<Reach>>),
+    /// Rows, each as its changes against the row before it, the first against a row of `No`. The last is the first that
+    /// gives the target a path.
+    Opening(Vec<Vec<Change>>),
 
     /// A row that is its own successor, and gives the target no path.
     Standing(Vec<Reach>),
@@ -30,8 +31,8 @@ fn opens(usable: bool, offers: &[Reach], target: usize) -> bool
 
 /// Rows raised from none, up to the first that gives the target a path or is its own successor.
 ///
-/// Of the rows before the last their changes alone are kept, until the target has a path. The groups of each item are
-/// noted only where a second round follows.
+/// One row is kept, and of each one where it differs from the one before it. The groups of each item are noted only
+/// where a second round follows.
 pub(crate) fn rows_to(alloc: Global, nodes: &Nodes, target: usize) -> Result<Found, AllocError>
     ensures { IfOk result (IsFound (graph_of nodes.now) target) }
 {
@@ -42,9 +43,8 @@ pub(crate) fn rows_to(alloc: Global, nodes: &Nodes, target: usize) -> Result<Fou
     'round: loop {
         let changes = rise(alloc, nodes, &places, &mut search)?;
         if opens(usable, &search.offers, target) {
-            let mut rows = rows_of(alloc, nodes.items.len(), &steps)?;
-            rows.push(search.row)?;
-            return Ok(Found::Opening(rows));
+            steps.push(changes)?;
+            return Ok(Found::Opening(steps));
         }
         if !has_risen(&search) {
             return Ok(Found::Standing(search.row));

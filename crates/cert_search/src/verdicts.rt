@@ -13,6 +13,7 @@ ghost use Rattle.cert_graph.specs.Nodes.{graph_of};
 ghost use Rattle.cert_search.specs.Inventory.{AreAllRows, LeadsOn, LeadsAt, IsPathBy};
 ghost use Rattle.cert_search.specs.Rows.{IsRun, Opens};
 
+use crate::walk::walk;
 use cert_graph::{Change, Lookup, Nodes, Verdict};
 use std::alloc::{AllocError, Global};
 
@@ -46,43 +47,6 @@ fn alone(alloc: Global, nodes: &Nodes, target: usize, anchor: usize) -> Result<V
 {
     let mut positions = Vec::with_capacity(alloc, 1)?;
     positions.push(target)?;
-    Ok(Verdict::FirstPath { positions, anchor })
-}
-
-/// The walk down the rows of some changes, of which the last is the first that reaches an issuer of the target. It
-/// takes the least position at each step, and then the least anchor.
-fn walk(
-    alloc: Global,
-    nodes: &Nodes,
-    lookup: &Lookup,
-    steps: &[Vec<Change>],
-    target: usize,
-) -> Result<Verdict, AllocError>
-    requires lookup { IsLookup nodes.now (rows_by (replicate (length nodes.now.items.items) No) (map (λ s. s.items) steps.now)) lookup.now }
-    requires run { IsRun (graph_of nodes.now) target (rows_by (replicate (length nodes.now.items.items) No) (map (λ s. s.items) steps.now)) }
-    requires opened { (k : ℕ) × (k + 1 ≡ length steps.now) × Opens (graph_of nodes.now) target (row_of (rows_by (replicate (length nodes.now.items.items) No) (map (λ s. s.items) steps.now)) k) }
-    requires alone { (a : ℕ) → (graph_of nodes.now).AnchorEdge target a → ⊥ }
-    ensures { IfOk result (IsPathBy (graph_of nodes.now) (rows_by (replicate (length nodes.now.items.items) No) (map (λ s. s.items) steps.now)) target) }
-{
-    let mut positions = Vec::with_capacity(alloc, steps.len() + 1)?;
-    positions.push(target)?;
-    let mut last = target;
-    let mut count = 0;
-    let mut left = steps.len();
-    while left > 0 {
-        left -= 1;
-        let Some(next) = lookup.least_next(left, last, count) else {
-            unreachable!()
-        };
-        positions.push(next)?;
-        if !nodes.is_self_issued(next) {
-            count += 1;
-        }
-        last = next;
-    }
-    let Some(anchor) = lookup.least_anchor(nodes, last) else {
-        unreachable!()
-    };
     Ok(Verdict::FirstPath { positions, anchor })
 }
 

@@ -40,7 +40,8 @@ pub fn check<'a, V: Vouch>(
     let items = judged_items::<TreeReader>(alloc, items, &moment)?;
     let anchors = judged_items::<TreeReader>(alloc, anchors, &moment)?;
     let nodes = nodes_by(alloc, &items, &anchors, vouch, policy.demands_lists())?;
-    Ok(check_nodes(&nodes, target, answer))
+    let yes = check_nodes(alloc, &nodes, target, answer)?;
+    Ok(yes)
 }
 
 /// `check` on items and anchors that were read, for a caller who reads them for more than the answer.
@@ -62,6 +63,6 @@ pub fn check_read<'a, V: Vouch>(
     ensures holds { IfOk result (λ yes. IsTrue yes → IsTrueAnswer (graph_of_items (rules_by policy.now.moment policy.now.demand_lists (V.vouches_for vouch.now)) (map item_of items.now) (map item_of anchors.now)) target answer.now) }
 {
     let nodes = nodes_of(alloc, items, anchors, vouch, policy)?;
-    let yes = check_nodes(&nodes, target, answer);
+    let yes = check_nodes(alloc, &nodes, target, answer)?;
     Ok(yes)
 }

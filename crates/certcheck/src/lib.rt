@@ -27,7 +27,7 @@ pub use asn1_core::OutOfMemory;
 pub use cert_framing::{
     Bundle, BundleError, End, Items, any_cutting, one_bundle, one_framing, one_item, one_stream,
 };
-pub use cert_graph::{Answer, Change, Inventory, Reach, Table, Verdict};
+pub use cert_graph::{Answer, Change, Inventory, Reach, Table, Verdict, steps_of_rows};
 pub use cert_judge::{Policy, Vouch};
 pub use cert_model::ItemClass;
 pub use cert_model::fields::{

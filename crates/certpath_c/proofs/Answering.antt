@@ -69,28 +69,25 @@ one_row (x ∷ xs) (y ∷ ys) f g e =
     let tail : xs ≡ ys = one_row xs ys f.1 g.1 (cc) in
     cc
 
-abbrev items_of : Vec Reach Global → List Reach
-items_of row = row.items
-
-one_table : (width : ℕ) (rows others : List (Vec Reach Global)) → 0 < width → AllByRecursion (IsWide width) rows → AllByRecursion (IsWide width) others → AllByRecursion FitsRow rows → AllByRecursion FitsRow others
-    → rows_entries rows ≡ rows_entries others → map items_of rows ≡ map items_of others
+one_table : (width : ℕ) (rows others : List (List Reach)) → 0 < width → AllByRecursion (IsWide width) rows → AllByRecursion (IsWide width) others → AllByRecursion FitsRow rows → AllByRecursion FitsRow others
+    → rows_entries rows ≡ rows_entries others → rows ≡ others
 one_table width [] [] some v w f g e = refl
 one_table width [] (y ∷ ys) some v w f g e =
-    let h : [] ≡ map reach_number y.items ++ rows_entries ys = e in
-    let long : length y.items ≡ width = w.0 in
-    absurd (omega (arith, ap length h, length-append (map reach_number y.items) (rows_entries ys), length-map y.items reach_number, long))
+    let h : [] ≡ map reach_number y ++ rows_entries ys = e in
+    let long : length y ≡ width = w.0 in
+    absurd (omega (arith, ap length h, length-append (map reach_number y) (rows_entries ys), length-map y reach_number, long))
 one_table width (x ∷ xs) [] some v w f g e =
-    let h : map reach_number x.items ++ rows_entries xs ≡ [] = e in
-    let long : length x.items ≡ width = v.0 in
-    absurd (omega (arith, ap length h, length-append (map reach_number x.items) (rows_entries xs), length-map x.items reach_number, long))
+    let h : map reach_number x ++ rows_entries xs ≡ [] = e in
+    let long : length x ≡ width = v.0 in
+    absurd (omega (arith, ap length h, length-append (map reach_number x) (rows_entries xs), length-map x reach_number, long))
 one_table width (x ∷ xs) (y ∷ ys) some v w f g e =
-    let h : map reach_number x.items ++ rows_entries xs ≡ map reach_number y.items ++ rows_entries ys = e in
-    let one : length x.items ≡ width = v.0 in
-    let two : length y.items ≡ width = w.0 in
-    let long : length (map reach_number x.items) ≡ length (map reach_number y.items) = omega (arith, length-map x.items reach_number, length-map y.items reach_number, one, two) in
-    let head : x.items ≡ y.items = one_row x.items y.items f.0 g.0 (same_fronts _ _ _ _ h long) in
-    let tail : map items_of xs ≡ map items_of ys = one_table width xs ys some v.1 w.1 f.1 g.1 (same_backs _ _ _ _ h long) in
-    ap (λ r. r ∷ map items_of xs) head ∙ ap (λ rs. y.items ∷ rs) tail
+    let h : map reach_number x ++ rows_entries xs ≡ map reach_number y ++ rows_entries ys = e in
+    let one : length x ≡ width = v.0 in
+    let two : length y ≡ width = w.0 in
+    let long : length (map reach_number x) ≡ length (map reach_number y) = omega (arith, length-map x reach_number, length-map y reach_number, one, two) in
+    let head : x ≡ y = one_row x y f.0 g.0 (same_fronts _ _ _ _ h long) in
+    let tail : xs ≡ ys = one_table width xs ys some v.1 w.1 f.1 g.1 (same_backs _ _ _ _ h long) in
+    ap (λ r. r ∷ xs) head ∙ ap (λ rs. y ∷ rs) tail
 
 -- two answers that are the same numbers are adequate alike
 same_adequate : (g : Graph) (target width : ℕ) (row : AnswerRow) (positions entries : List ℕ) (answer other : Answer) → (IsAdequate g target answer → answer ≡ NoTarget ⊎ (0 < width)) → IsAnswerOf width row positions entries answer
@@ -99,7 +96,7 @@ same_adequate g target width row positions entries (Path ps a t) (Path qs b u) s
     elim (some h) [
       | inl e ↦ cc
       | inr lt ↦
-          let rows : rows_of t ≡ rows_of u = one_table width t.rows.items u.rows.items lt is.whole is'.whole is.fits is'.fits (is.entries_are ∙ sym is'.entries_are) in
+          let rows : rows_of t ≡ rows_of u = one_table width (rows_of t) (rows_of u) lt is.whole is'.whole is.fits is'.fits (is.entries_are ∙ sym is'.entries_are) in
           let path : ps.items ≡ qs.items = is.positions_are ∙ sym is'.positions_are in
           let anchor : a ≡ b = sym is.is_row.anchor ∙ is'.is_row.anchor in
           subst (λ zs. IsAdequatePath g target zs b (rows_of u)) path (subst (λ c. IsAdequatePath g target ps.items c (rows_of u)) anchor (subst (IsAdequatePath g target ps.items a) rows h))
@@ -110,7 +107,7 @@ same_adequate g target width row positions entries (NoPath t) (Path qs b u) some
 same_adequate g target width row positions entries (NoPath t) (NoPath u) some is is' h =
     elim (some h) [
       | inl e ↦ cc
-      | inr lt ↦ subst (IsAdequateNone g target) (one_table width t.rows.items u.rows.items lt is.whole is'.whole is.fits is'.fits (is.entries_are ∙ sym is'.entries_are)) h
+      | inr lt ↦ subst (IsAdequateNone g target) (one_table width (rows_of t) (rows_of u) lt is.whole is'.whole is.fits is'.fits (is.entries_are ∙ sym is'.entries_are)) h
     ]
 same_adequate g target width row positions entries (NoPath t) NoTarget some is is' h = let e : 1 ≡ 2 = sym is.is_row.outcome ∙ is'.is_row.outcome in absurd (omega (arith, e))
 same_adequate g target width row positions entries NoTarget (Path qs b u) some is is' h = let e : 2 ≡ 0 = sym is.is_row.outcome ∙ is'.is_row.outcome in absurd (omega (arith, e))
@@ -175,16 +172,14 @@ rules_alike settings vouchers octets p q pairs others a b items hp hq vp vq pa p
     }
 
 -- the rows of an adequate answer are whole
-whole_rows : (n : ℕ) (rows : List (Vec Reach Global)) → All (λ (row : List Reach). length row ≡ n) (map items_of rows) → AllByRecursion (IsWide n) rows
+whole_rows : (n : ℕ) (rows : List (List Reach)) → All (λ (row : List Reach). length row ≡ n) rows → AllByRecursion (IsWide n) rows
 whole_rows n [] all = tt
 whole_rows n (r ∷ rs) all =
     let P : List Reach → Type 0 = λ row. length row ≡ n in
-    (All-head P r.items (map items_of rs) all, whole_rows n rs (All-tail P r.items (map items_of rs) all))
+    (All-head P r rs all, whole_rows n rs (All-tail P r rs all))
 
-one_whole : (n : ℕ) (rows : List (Vec Reach Global)) (row : List Reach) → map items_of rows ≡ row ∷ [] → length row ≡ n → AllByRecursion (IsWide n) rows
-one_whole n [] row one long = tt
-one_whole n (x ∷ []) row one long = let h : x.items ∷ [] ≡ row ∷ [] = one in let same : x.items ≡ row = cc in (ap length same ∙ long, tt)
-one_whole n (x ∷ y ∷ ys) row one long = let h : x.items ∷ y.items ∷ map items_of ys ≡ row ∷ [] = one in absurd (omega (arith, ap length h))
+one_whole : (n : ℕ) (rows : List (List Reach)) (row : List Reach) → rows ≡ row ∷ [] → length row ≡ n → AllByRecursion (IsWide n) rows
+one_whole n rows row one long = subst (AllByRecursion (IsWide n)) (sym one) (long, tt)
 
 abbrev octets_of : Item → List ℕ
 octets_of x = x.octets
@@ -194,8 +189,8 @@ as_many octets items classed = sym (length-map items octets_of) ∙ ap length cl
 
 adequate_whole : (r : Rules) (octets : List (List ℕ)) (items anchors : List Item) (target : ℕ) (answer : Answer) → AreClassed octets items → IsAdequate (graph_of_items r items anchors) target answer → HasWholeRows (length octets) answer
 adequate_whole r octets items anchors target (Path ps a table) classed h =
-    whole_rows (length octets) table.rows.items (subst (λ n. All (λ (row : List Reach). length row ≡ n) (map items_of table.rows.items)) (as_many octets items classed) h.whole)
-adequate_whole r octets items anchors target (NoPath table) classed h = one_whole (length octets) table.rows.items h.row h.one (h.whole ∙ as_many octets items classed)
+    whole_rows (length octets) (rows_of table) (subst (λ n. All (λ (row : List Reach). length row ≡ n) (rows_of table)) (as_many octets items classed) h.whole)
+adequate_whole r octets items anchors target (NoPath table) classed h = one_whole (length octets) (rows_of table) h.row h.one (h.whole ∙ as_many octets items classed)
 adequate_whole r octets items anchors target NoTarget classed h = tt
 
 -- an answer with a table has an item at least

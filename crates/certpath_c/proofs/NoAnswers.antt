@@ -2,6 +2,7 @@
 use Rattle.std.proofs.Common.{◌≡◌, ◌∙◌, ℕ, List, [], length, ap, sym}
 use Rattle.cert_graph.specs.declared.answer.Answer.{Answer}
 use Rattle.cert_graph.specs.declared.answer.Answer.TheVariants.{Path, NoPath, NoTarget}
+use Rattle.cert_graph.specs.Adequate.{rows_of}
 use Rattle.certpath_c.specs.declared.answers.AnswerRow.{AnswerRow}
 use Rattle.certpath_c.specs.Answers.{AreNoRows, AreNoAnswer}
 
@@ -12,8 +13,8 @@ pub other_entries : (width : ℕ) (row : AnswerRow) (positions entries : List �
 other_entries width row positions entries differ answer is = differ (is.is_row.entries ∙ ap length is.entries_are)
 
 pub no_table : (width : ℕ) (row : AnswerRow) (positions entries : List ℕ) → AreNoRows width entries → AreNoAnswer width row positions entries
-no_table width row positions entries none (Path ps a table) is = none table.rows.items (record { entries_are = is.entries_are; whole = is.whole; fit = is.fits })
-no_table width row positions entries none (NoPath table) is = none table.rows.items (record { entries_are = is.entries_are; whole = is.whole; fit = is.fits })
+no_table width row positions entries none (Path ps a table) is = none (rows_of table) (record { entries_are = is.entries_are; whole = is.whole; fit = is.fits })
+no_table width row positions entries none (NoPath table) is = none (rows_of table) (record { entries_are = is.entries_are; whole = is.whole; fit = is.fits })
 no_table width row positions entries none NoTarget is = none [] (record { entries_are = is.entries_are; whole = tt; fit = tt })
 
 -- another outcome than a path, beside what a path alone has

@@ -1,8 +1,7 @@
 -- The rows of a table so far, and entries that are no rows.
-use Rattle.std.proofs.Common.{◌≡◌, ◌∙◌, refl, ℕ, ◌+◌, ◌<◌, ◌≤◌, List, [], ◌∷◌, ◌++◌, length, map, take, drop, get_or, sym, ap, subst, ◌⊎◌, inl, inr, append_assoc, length-append, Vec, arith}
+use Rattle.std.proofs.Common.{◌≡◌, ◌∙◌, refl, ℕ, ◌+◌, ◌<◌, ◌≤◌, List, [], ◌∷◌, ◌++◌, length, map, take, drop, get_or, sym, ap, subst, ◌⊎◌, inl, inr, append_assoc, length-append, arith}
 use Rattle.std.proofs.lemmas.List.{append-nil, length-map, append_cancel_left, take_at, take-append-drop, drop_more}
 use Rattle.std.specs.List.{AllByRecursion}
-use Rattle.std.specs.declared.alloc.Global.{Global}
 use Rattle.cert_graph.specs.declared.reach.Reach.{Reach}
 use Rattle.cert_graph.specs.declared.reach.Reach.TheVariants.{No, UpTo, Any}
 use Rattle.certpath_c.specs.Answers.{reach_number, rows_entries, FitsReach, FitsRow, IsWide, AreRowsOf, IsNoReach, AreNoRow, AreNoRows}
@@ -39,12 +38,12 @@ pub same_backs : (a b c d : List ℕ) → a ++ b ≡ c ++ d → length a ≡ len
 same_backs a b c d is long = append_cancel_left c b d (ap (λ l. l ++ b) (sym (same_fronts a b c d is long)) ∙ is)
 
 -- rows without entries have none
-narrow_none : (rows : List (Vec Reach Global)) → AllByRecursion (IsWide 0) rows → length (rows_entries rows) ≡ 0
+narrow_none : (rows : List (List Reach)) → AllByRecursion (IsWide 0) rows → length (rows_entries rows) ≡ 0
 narrow_none [] wide = refl
 narrow_none (row ∷ rows) wide =
-    let long = length-append (map reach_number row.items) (rows_entries rows) in
-    let mapped = length-map row.items reach_number in
-    let here : length row.items ≡ 0 = wide.0 in
+    let long = length-append (map reach_number row) (rows_entries rows) in
+    let mapped = length-map row reach_number in
+    let here : length row ≡ 0 = wide.0 in
     let rest = narrow_none rows wide.1 in
     omega (arith, long, mapped, here, rest)
 
@@ -55,9 +54,9 @@ no_rows_narrow entries some rows are = omega (arith, narrow_none rows are.whole,
 pub no_rows_short : (width : ℕ) (entries : List ℕ) → 0 < length entries → length entries < width → AreNoRows width entries
 no_rows_short width entries some few [] are = let e : [] ≡ entries = are.entries_are in omega (arith, ap length e)
 no_rows_short width entries some few (row ∷ rows) are =
-    let long = length-append (map reach_number row.items) (rows_entries rows) in
-    let mapped = length-map row.items reach_number in
-    let here : length row.items ≡ width = are.whole.0 in
+    let long = length-append (map reach_number row) (rows_entries rows) in
+    let mapped = length-map row reach_number in
+    let here : length row ≡ width = are.whole.0 in
     omega (arith, long, mapped, here, ap length are.entries_are)
 
 pub no_rows_few : (width : ℕ) (entries : List ℕ) → 0 < length entries → (width ≡ 0) ⊎ (length entries < width) → AreNoRows width entries
@@ -68,46 +67,46 @@ no_rows_few width entries some (inr few) = no_rows_short width entries some few
 pub no_rows_front : (width : ℕ) (front others : List ℕ) → length front ≡ width → 0 < width → AreNoRow front → AreNoRows width (front ++ others)
 no_rows_front width front others long some none [] are = let e : [] ≡ front ++ others = are.entries_are in omega (arith, ap length e, length-append front others)
 no_rows_front width front others long some none (row ∷ rows) are =
-    let here : length row.items ≡ width = are.whole.0 in
-    let mapped = length-map row.items reach_number in
-    let same : length (map reach_number row.items) ≡ length front = omega (arith, mapped, here, long) in
-    none row.items are.fit.0 (same_fronts (map reach_number row.items) (rows_entries rows) front others are.entries_are same)
+    let here : length row ≡ width = are.whole.0 in
+    let mapped = length-map row reach_number in
+    let same : length (map reach_number row) ≡ length front = omega (arith, mapped, here, long) in
+    none row are.fit.0 (same_fronts (map reach_number row) (rows_entries rows) front others are.entries_are same)
 
 -- as many as a row has, before what is no rows
 pub no_rows_back : (width : ℕ) (front others : List ℕ) → length front ≡ width → 0 < width → AreNoRows width others → AreNoRows width (front ++ others)
 no_rows_back width front others long some none [] are = let e : [] ≡ front ++ others = are.entries_are in omega (arith, ap length e, length-append front others)
 no_rows_back width front others long some none (row ∷ rows) are =
-    let here : length row.items ≡ width = are.whole.0 in
-    let mapped = length-map row.items reach_number in
-    let same : length (map reach_number row.items) ≡ length front = omega (arith, mapped, here, long) in
-    none rows (record { entries_are = same_backs (map reach_number row.items) (rows_entries rows) front others are.entries_are same; whole = are.whole.1; fit = are.fit.1 })
+    let here : length row ≡ width = are.whole.0 in
+    let mapped = length-map row reach_number in
+    let same : length (map reach_number row) ≡ length front = omega (arith, mapped, here, long) in
+    none rows (record { entries_are = same_backs (map reach_number row) (rows_entries rows) front others are.entries_are same; whole = are.whole.1; fit = are.fit.1 })
 
 -- the rows and what is left are all entries; and where what is left is no rows, neither are all
-pub record TableSoFar (width : ℕ) (entries rest : List ℕ) (rows : List (Vec Reach Global)) : Type 0 where
+pub record TableSoFar (width : ℕ) (entries rest : List ℕ) (rows : List (List Reach)) : Type 0 where
   pub all : rows_entries rows ++ rest ≡ entries
   pub whole : AllByRecursion (IsWide width) rows
   pub fit : AllByRecursion FitsRow rows
   pub none : AreNoRows width rest → AreNoRows width entries
 
-rows_more : (rows : List (Vec Reach Global)) (row : Vec Reach Global) → rows_entries (rows ++ row ∷ []) ≡ rows_entries rows ++ map reach_number row.items
-rows_more [] row = append-nil (map reach_number row.items)
-rows_more (r ∷ rs) row = ap (λ l. map reach_number r.items ++ l) (rows_more rs row) ∙ sym (append_assoc (map reach_number r.items) (rows_entries rs) (map reach_number row.items))
+rows_more : (rows : List (List Reach)) (row : List Reach) → rows_entries (rows ++ row ∷ []) ≡ rows_entries rows ++ map reach_number row
+rows_more [] row = append-nil (map reach_number row)
+rows_more (r ∷ rs) row = ap (λ l. map reach_number r ++ l) (rows_more rs row) ∙ sym (append_assoc (map reach_number r) (rows_entries rs) (map reach_number row))
 
 pub no_rows_yet : (width : ℕ) (entries : List ℕ) → TableSoFar width entries entries []
 no_rows_yet width entries = record { all = refl; whole = tt; fit = tt; none = λ h. h }
 
-pub row_more : (width : ℕ) (entries rest front others : List ℕ) (rows : List (Vec Reach Global)) (row : Vec Reach Global) → TableSoFar width entries rest rows → rest ≡ front ++ others
-    → map reach_number row.items ≡ front → AllByRecursion FitsReach row.items → length front ≡ width → 0 < width → TableSoFar width entries others (rows ++ row ∷ [])
+pub row_more : (width : ℕ) (entries rest front others : List ℕ) (rows : List (List Reach)) (row : List Reach) → TableSoFar width entries rest rows → rest ≡ front ++ others
+    → map reach_number row ≡ front → AllByRecursion FitsReach row → length front ≡ width → 0 < width → TableSoFar width entries others (rows ++ row ∷ [])
 row_more width entries rest front others rows row s split is fits long some =
     let read = rows_entries rows in
     record {
       all = ap (λ l. l ++ others) (rows_more rows row ∙ ap (λ f. read ++ f) is) ∙ append_assoc read front others ∙ ap (λ r. read ++ r) (sym split) ∙ s.all;
-      whole = all_push (IsWide width) rows row s.whole (sym (length-map row.items reach_number) ∙ ap length is ∙ long);
+      whole = all_push (IsWide width) rows row s.whole (sym (length-map row reach_number) ∙ ap length is ∙ long);
       fit = all_push FitsRow rows row s.fit fits;
       none = λ h. s.none (subst (AreNoRows width) (sym split) (no_rows_back width front others long some h));
     }
 
-pub all_rows : (width : ℕ) (entries rest : List ℕ) (rows : List (Vec Reach Global)) → TableSoFar width entries rest rows → rest ≡ [] → AreRowsOf width entries rows
+pub all_rows : (width : ℕ) (entries rest : List ℕ) (rows : List (List Reach)) → TableSoFar width entries rest rows → rest ≡ [] → AreRowsOf width entries rows
 all_rows width entries rest rows s none =
     let read = rows_entries rows in
     record { entries_are = sym (append-nil read) ∙ ap (λ r. read ++ r) (sym none) ∙ s.all; whole = s.whole; fit = s.fit }

@@ -1,12 +1,12 @@
 -- Answers on paths as the header has them.
-use Rattle.std.specs.Prelude.{◌≡◌, ◌+◌, ◌^◌, ◌<◌, ◌++◌, ℕ, List, [], ◌∷◌, length, map, Vec}
+use Rattle.std.specs.Prelude.{◌≡◌, ◌+◌, ◌^◌, ◌<◌, ◌++◌, ℕ, List, [], ◌∷◌, length, map}
 use Rattle.std.specs.List.{AllByRecursion}
-use Rattle.std.specs.declared.alloc.Global.{Global}
 use Rattle.cert_graph.specs.declared.reach.Reach.{Reach}
 use Rattle.cert_graph.specs.declared.reach.Reach.TheVariants.{No, UpTo, Any}
 use Rattle.cert_graph.specs.declared.answer.Table.{Table}
 use Rattle.cert_graph.specs.declared.answer.Answer.{Answer}
 use Rattle.cert_graph.specs.declared.answer.Answer.TheVariants.{Path, NoPath, NoTarget}
+use Rattle.cert_graph.specs.Adequate.{rows_of}
 use Rattle.certpath_c.specs.declared.answers.AnswerRow.{AnswerRow}
 
 -- CERTPATH_REACH_NO, CERTPATH_REACH_UP_TO(n), CERTPATH_REACH_ANY
@@ -21,17 +21,17 @@ FitsReach No = Unit {0}
 FitsReach (UpTo n) = n < 2 ^ 32
 FitsReach Any = Unit {0}
 
-abbrev pub FitsRow : Vec Reach Global → Type 0
-FitsRow row = AllByRecursion FitsReach row.items
+abbrev pub FitsRow : List Reach → Type 0
+FitsRow row = AllByRecursion FitsReach row
 
 -- a row has an entry for each item
-abbrev pub IsWide : ℕ → Vec Reach Global → Type 0
-IsWide width row = length row.items ≡ width
+abbrev pub IsWide : ℕ → List Reach → Type 0
+IsWide width row = length row ≡ width
 
 -- the entries of rows, one row after another
-abbrev pub rows_entries : List (Vec Reach Global) → List ℕ
+abbrev pub rows_entries : List (List Reach) → List ℕ
 rows_entries [] = []
-rows_entries (row ∷ rows) = map reach_number row.items ++ rows_entries rows
+rows_entries (row ∷ rows) = map reach_number row ++ rows_entries rows
 
 -- CERTPATH_PATH, CERTPATH_NO_PATH, CERTPATH_NO_TARGET
 abbrev pub outcome_number : Answer → ℕ
@@ -52,8 +52,8 @@ anchor_of NoTarget = 0
 
 -- the entries of an answer's table
 abbrev pub answer_entries : Answer → List ℕ
-answer_entries (Path ps a table) = rows_entries table.rows.items
-answer_entries (NoPath table) = rows_entries table.rows.items
+answer_entries (Path ps a table) = rows_entries (rows_of table)
+answer_entries (NoPath table) = rows_entries (rows_of table)
 answer_entries NoTarget = []
 
 -- the structure says this of the answer
@@ -64,13 +64,13 @@ pub record IsRowOf (answer : Answer) (row : AnswerRow) : Type 0 where
   pub entries : row.entries ≡ length (answer_entries answer)
 
 -- whole rows, whose entries these are
-pub record AreRowsOf (width : ℕ) (entries : List ℕ) (rows : List (Vec Reach Global)) : Type 0 where
+pub record AreRowsOf (width : ℕ) (entries : List ℕ) (rows : List (List Reach)) : Type 0 where
   pub entries_are : rows_entries rows ≡ entries
   pub whole : AllByRecursion (IsWide width) rows
   pub fit : AllByRecursion FitsRow rows
 
 abbrev pub IsTableOf : ℕ → List ℕ → Table → Type 0
-IsTableOf width entries table = AreRowsOf width entries table.rows.items
+IsTableOf width entries table = AreRowsOf width entries (rows_of table)
 
 -- a number that is no entry, entries that are no row, and entries that are no whole rows
 abbrev pub IsNoReach : ℕ → Type 0
@@ -80,7 +80,7 @@ abbrev pub AreNoRow : List ℕ → Type 0
 AreNoRow entries = (row : List Reach) → AllByRecursion FitsReach row → map reach_number row ≡ entries → ⊥
 
 abbrev pub AreNoRows : ℕ → List ℕ → Type 0
-AreNoRows width entries = (rows : List (Vec Reach Global)) → ¬ AreRowsOf width entries rows
+AreNoRows width entries = (rows : List (List Reach)) → ¬ AreRowsOf width entries rows
 
 abbrev pub IsPathOf : List ℕ → ℕ → Table → Answer → Type 0
 IsPathOf positions anchor table (Path ps a t) = (ps.items ≡ positions) × (a ≡ anchor) × (t ≡ table)
@@ -89,14 +89,14 @@ IsPathOf positions anchor table NoTarget = ⊥
 
 -- an answer's table has whole rows
 abbrev pub HasWholeRows : ℕ → Answer → Type 0
-HasWholeRows width (Path ps a table) = AllByRecursion (IsWide width) table.rows.items
-HasWholeRows width (NoPath table) = AllByRecursion (IsWide width) table.rows.items
+HasWholeRows width (Path ps a table) = AllByRecursion (IsWide width) (rows_of table)
+HasWholeRows width (NoPath table) = AllByRecursion (IsWide width) (rows_of table)
 HasWholeRows width NoTarget = Unit {0}
 
 -- each entry of its table has a number of its own
 abbrev pub FitsAnswer : Answer → Type 0
-FitsAnswer (Path ps a table) = AllByRecursion FitsRow table.rows.items
-FitsAnswer (NoPath table) = AllByRecursion FitsRow table.rows.items
+FitsAnswer (Path ps a table) = AllByRecursion FitsRow (rows_of table)
+FitsAnswer (NoPath table) = AllByRecursion FitsRow (rows_of table)
 FitsAnswer NoTarget = Unit {0}
 
 -- the answer that the structure, the positions and the entries are

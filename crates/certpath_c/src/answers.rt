@@ -1,10 +1,11 @@
 //! Answers on paths, as numbers.
 
-ghost use Rattle.std.specs.Prelude.{◌≡◌, ◌++◌, map, IfOk, OnOk};
+ghost use Rattle.std.specs.Prelude.{◌≡◌, ◌++◌, [], ◌∷◌, map, IfOk, OnOk};
 ghost use Rattle.std.specs.List.{AllByRecursion};
+ghost use Rattle.cert_graph.specs.Adequate.{rows_of};
 ghost use Rattle.certpath_c.specs.Answers.{reach_number, FitsReach, FitsRow, FitsAnswer, rows_entries, outcome_number, positions_of, anchor_of, answer_entries, IsRowOf};
 
-use cert_graph::{Answer, Reach, Table};
+use cert_graph::{Answer, Reach, Table, rows_of};
 use std::alloc::{AllocError, Global};
 
 /// What is said of a target, without its positions and its table.
@@ -41,21 +42,45 @@ fn push_row(entries: &mut Vec<u64>, row: &[Reach]) -> Result<(), AllocError>
 /// Adds the entries of a row.
 fn push_of(entries: &mut Vec<u64>, row: &Vec<Reach>) -> Result<(), AllocError>
     ensures pushed { OnOk result (entries.new.items ≡ entries.old.items ++ map reach_number row.now.items) }
-    ensures fits { OnOk result (FitsRow row.now) }
+    ensures fits { OnOk result (FitsRow row.now.items) }
 {
     push_row(entries, row)
 }
 
-/// The entries of a table, one row after another.
-fn table_entries(alloc: Global, table: &Table) -> Result<Vec<u64>, AllocError>
-    ensures entries { IfOk result (λ entries. entries.items ≡ rows_entries table.now.rows.items) }
-    ensures fit { OnOk result (AllByRecursion FitsRow table.now.rows.items) }
+/// The entries of rows, one row after another.
+fn entries_in(alloc: Global, rows: &[Vec<Reach>]) -> Result<Vec<u64>, AllocError>
+    ensures entries { IfOk result (λ entries. entries.items ≡ rows_entries (map (λ r. r.items) rows.now)) }
+    ensures fit { OnOk result (AllByRecursion FitsRow (map (λ r. r.items) rows.now)) }
 {
     let mut entries = Vec::new(alloc);
-    for row in &table.rows {
+    for row in rows {
         push_of(&mut entries, row)?;
     }
     Ok(entries)
+}
+
+/// The entries of one row.
+fn entries_of_one(alloc: Global, row: &[Reach]) -> Result<Vec<u64>, AllocError>
+    ensures entries { IfOk result (λ entries. entries.items ≡ rows_entries (row.now ∷ [])) }
+    ensures fit { OnOk result (AllByRecursion FitsRow (row.now ∷ [])) }
+{
+    let mut entries = Vec::new(alloc);
+    push_row(&mut entries, row)?;
+    Ok(entries)
+}
+
+/// The entries of a table, one row after another.
+fn table_entries(alloc: Global, table: &Table) -> Result<Vec<u64>, AllocError>
+    ensures entries { IfOk result (λ entries. entries.items ≡ rows_entries (rows_of table.now)) }
+    ensures fit { OnOk result (AllByRecursion FitsRow (rows_of table.now)) }
+{
+    match table {
+        Table::Row(row) => entries_of_one(alloc, row),
+        Table::Rows { width, steps } => {
+            let rows = rows_of(alloc, *width, steps)?;
+            entries_in(alloc, &rows)
+        }
+    }
 }
 
 /// The entries of an answer's table.

@@ -5,7 +5,7 @@ ghost use Rattle.std.specs.List.{AllByRecursion};
 ghost use Rattle.certpath_c.specs.Answers.{reach_number, FitsReach, IsNoReach, AreNoRow, AreNoRows, AreNoAnswer, IsTableOf, IsPathOf, IsAnswerOf};
 
 use crate::answers::AnswerRow;
-use cert_graph::{Answer, Reach, Table};
+use cert_graph::{Answer, Reach, Table, steps_of_rows};
 use std::alloc::{AllocError, Global};
 
 /// The reach of a number; none where it stands for none.
@@ -65,7 +65,8 @@ fn table_of(alloc: Global, entries: &[u64], width: usize) -> Result<Option<Table
         rows.push(row)?;
         rest = others;
     }
-    Ok(Some(Table { rows }))
+    let steps = steps_of_rows(alloc, width, &rows)?;
+    Ok(Some(Table::Rows { width, steps }))
 }
 
 fn path_of(

@@ -16,7 +16,7 @@ ghost use Rattle.certpath_why.specs.Reached.{ArePositions, HasSubject, IsCertifi
 use crate::found::certificate_at;
 use crate::marks::{marked_but, no_marks, put_mark};
 use crate::question::Question;
-use cert_graph::{Answer, Reach, reach_at};
+use cert_graph::{Answer, Reach};
 use cert_judge::{CertificateItem, Vouch};
 use cert_reasons::{Linking, Unlinked};
 use std::alloc::{AllocError, Global};
@@ -28,10 +28,7 @@ fn reach_in(answer: &Answer, place: usize) -> Reach
     let Answer::NoPath { table } = answer else {
         return Reach::No;
     };
-    match table.rows.first() {
-        Some(row) => reach_at(row, place),
-        None => Reach::No,
-    }
+    table.first_reach(place)
 }
 
 /// Whether an issuer leads to no anchor.

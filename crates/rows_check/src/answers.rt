@@ -1,8 +1,8 @@
 //! Answers in words.
 
-ghost use Rattle.std.specs.Prelude.{◌<◌, length, IfSome};
+ghost use Rattle.std.specs.Prelude.{◌≡◌, ◌<◌, ◌↔◌, length, All, IfSome, IsTrue};
 
-use certcheck::{Answer, Reach, Table};
+use certcheck::{Answer, Reach, Table, steps_of_rows};
 use std::alloc::{AllocError, Global};
 
 /// `No`, `Any` or a number.
@@ -32,7 +32,13 @@ fn row_of(alloc: Global, word: &str) -> Result<Option<Vec<Reach>>, AllocError> {
     Ok(Some(row))
 }
 
-/// A table, a word for each row.
+fn are_wide(rows: &[Vec<Reach>], width: usize) -> bool
+    ensures { IsTrue result ↔ All (λ r. length r.items ≡ width) rows.now }
+{
+    rows.iter().all(|row| row.len() == width)
+}
+
+/// A table, a word for each row; none if rows differ in length.
 pub fn table_of(alloc: Global, words: &[&str]) -> Result<Option<Table>, AllocError> {
     let mut rows = Vec::new(alloc);
     for word in words {
@@ -41,7 +47,15 @@ pub fn table_of(alloc: Global, words: &[&str]) -> Result<Option<Table>, AllocErr
             None => return Ok(None),
         }
     }
-    Ok(Some(Table { rows }))
+    let width = match rows.first() {
+        Some(row) => row.len(),
+        None => 0,
+    };
+    if !are_wide(&rows, width) {
+        return Ok(None);
+    }
+    let steps = steps_of_rows(alloc, width, &rows)?;
+    Ok(Some(Table::Rows { width, steps }))
 }
 
 fn positions_of(alloc: Global, words: &[&str]) -> Result<Option<Vec<usize>>, AllocError> {

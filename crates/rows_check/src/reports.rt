@@ -2,7 +2,7 @@
 
 use crate::vouching::{VouchedPair, VouchedPairs};
 use asn1_device::{ReadSource, WriteSink};
-use cert_graph::{Answer, Reach, Table};
+use cert_graph::{Answer, Reach, Table, rows_of};
 use certpath_run::{Settings, run};
 use rows_hex::{Added, add_debug};
 use sha2::{Digest, Sha256};
@@ -85,10 +85,16 @@ fn add_row(text: &mut String, row: &[Reach]) -> Added {
 }
 
 fn add_rows(text: &mut String, table: &Table) -> Added {
-    for row in &table.rows {
-        add_row(text, row)?;
+    match table {
+        Table::Row(row) => add_row(text, row),
+        Table::Rows { width, steps } => {
+            let rows = rows_of(*text.allocator(), *width, steps)?;
+            for row in &rows {
+                add_row(text, row)?;
+            }
+            Ok(())
+        }
     }
-    Ok(())
 }
 
 /// Adds the rows of an answer's table, below the line.

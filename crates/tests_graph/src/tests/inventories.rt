@@ -109,7 +109,7 @@ fn ask_each<R: Abort>(rt: &R, alloc: Global, nodes: &Nodes) -> Result<(), Fail> 
     for (target, verdict) in inventory.verdicts.iter().enumerate() {
         assert!(rt; says(verdict, &find_nodes(alloc, nodes, target)?));
         let own = own_answer(alloc, nodes, target)?;
-        assert!(rt; says(verdict, &own) && check_nodes(nodes, target, &own));
+        assert!(rt; says(verdict, &own) && check_nodes(alloc, nodes, target, &own)?);
     }
     Ok(())
 }

@@ -109,10 +109,10 @@ issued 1: 1 = false of 3
 # a root alone: it may not be usable at the moment, be without a voucher, or without an anchor
 graph 8: root 0>0; anchor 0
 find 0 = 0 to 0
-told 0 = Path { positions: [0], anchor: 0, table: Table { rows: [] } }
+told 0 = path [0] to 0 by []
 graph 8: late 0>0; anchor 0
 find 0 = none / -
-told 0 = NoPath { table: Table { rows: [[No]] } }
+told 0 = no path by [[No]]
 graph 8: root 0>-; anchor 0
 find 0 = none / -
 graph 8: root 0>0
@@ -123,7 +123,7 @@ find 299 = 299 to 0
 # no target
 graph 8
 find 0 = no target
-told 0 = NoTarget
+told 0 = no target
 graph 8: other 0>-
 find 0 = no target
 graph 8: leaf 0>-
@@ -132,7 +132,7 @@ find 18446744073709551615 = no target
 # an issuer with path length 0: the target is not counted
 graph 8: leaf 0>1; issuer 1>2 0; anchor 2
 find 0 = 0,1 to 0 / - 0
-told 0 = Path { positions: [0, 1], anchor: 0, table: Table { rows: [[No, UpTo(0)]] } }
+told 0 = path [0, 1] to 0 by [[No, UpTo(0)]]
 # no issuer of the target's, since it may not issue or has another name
 graph 8: leaf 0>1; leaf 1>2; anchor 2
 find 0 = none / - -
@@ -172,7 +172,7 @@ find 0 = none / - 4294967294 4294967295
 // Whether the check says yes to an answer on a target.
 fn checked(alloc: Global, nodes: &Nodes, target: usize, text: &str) -> Result<String, Fail> {
     let answer = text::answer(alloc, text)?;
-    let word = if check_nodes(nodes, target, &answer) {
+    let word = if check_nodes(alloc, nodes, target, &answer)? {
         "yes"
     } else {
         "no"
@@ -180,20 +180,20 @@ fn checked(alloc: Global, nodes: &Nodes, target: usize, text: &str) -> Result<St
     Ok(String::from_str(alloc, word)?)
 }
 
-// The answer on a target in its debug text, where the check says yes to it.
+// The answer on a target with its rows, where the check says yes to it.
 fn found(alloc: Global, nodes: &Nodes, target: usize) -> Result<String, Fail> {
     let answer = find_nodes(alloc, nodes, target)?;
-    if !check_nodes(nodes, target, &answer) {
+    if !check_nodes(alloc, nodes, target, &answer)? {
         return Err(Fail::from("the check says no"));
     }
-    Ok(format!(in alloc; "{answer:?}")?)
+    text::told(alloc, &answer)
 }
 
 // The text of the answer that is wanted, where it is the one that is found; else the one that is found.
 fn found_as(alloc: Global, nodes: &Nodes, target: usize, want: &str) -> Result<String, Fail> {
     let found = found(alloc, nodes, target)?;
     let answer = text::answer(alloc, want)?;
-    if found == format!(in alloc; "{answer:?}")? {
+    if found == text::told(alloc, &answer)? {
         return Ok(String::from_str(alloc, want)?);
     }
     Ok(found)

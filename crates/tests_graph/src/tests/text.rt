@@ -7,9 +7,9 @@
 //! An answer is `0,1 to 0 / - 0`, the positions of a path, its anchor and each row of the table after a `/`; or
 //! `none / - -`; or `no target`. A reach is `-`, the greatest count that it takes, or `any`.
 
-ghost use Rattle.std.specs.Prelude.{IsTrue};
+ghost use Rattle.std.specs.Prelude.{◌≡◌, ◌↔◌, length, All, IsTrue};
 
-use cert_graph::{Answer, Entry, Node, Nodes, Reach, Table};
+use cert_graph::{Answer, Entry, Node, Nodes, Reach, Table, rows_of, steps_of_rows};
 use std::alloc::Global;
 use std::test::Fail;
 
@@ -125,6 +125,57 @@ fn row(alloc: Global, text: &str) -> Result<Vec<Reach>, Fail> {
     Ok(row)
 }
 
+fn are_wide(rows: &[Vec<Reach>], width: usize) -> bool
+    ensures { IsTrue result ↔ All (λ r. length r.items ≡ width) rows.now }
+{
+    rows.iter().all(|row| row.len() == width)
+}
+
+// One row by itself, or rows of one length as changes.
+fn table(alloc: Global, mut rows: Vec<Vec<Reach>>) -> Result<Table, Fail> {
+    if rows.len() == 1 {
+        return Ok(Table::Row(rows.pop().ok_or("no row")?));
+    }
+    let width = match rows.first() {
+        Some(row) => row.len(),
+        None => 0,
+    };
+    if !are_wide(&rows, width) {
+        return Err(Fail::from("rows of different lengths"));
+    }
+    let steps = steps_of_rows(alloc, width, &rows)?;
+    Ok(Table::Rows { width, steps })
+}
+
+fn rows(alloc: Global, table: &Table) -> Result<String, Fail> {
+    match table {
+        Table::Row(row) => Ok(format!(in alloc; "[{row:?}]")?),
+        Table::Rows { width, steps } => {
+            let rows = rows_of(alloc, *width, steps)?;
+            Ok(format!(in alloc; "{rows:?}")?)
+        }
+    }
+}
+
+/// An answer with the rows of its table.
+pub fn told(alloc: Global, answer: &Answer) -> Result<String, Fail> {
+    match answer {
+        Answer::Path {
+            positions,
+            anchor,
+            table,
+        } => {
+            let rows = rows(alloc, table)?;
+            Ok(format!(in alloc; "path {positions:?} to {anchor} by {rows}")?)
+        }
+        Answer::NoPath { table } => {
+            let rows = rows(alloc, table)?;
+            Ok(format!(in alloc; "no path by {rows}")?)
+        }
+        Answer::NoTarget => Ok(String::from_str(alloc, "no target")?),
+    }
+}
+
 /// The answer of the text.
 pub fn answer(alloc: Global, text: &str) -> Result<Answer, Fail> {
     let mut parts = text.split('/');
@@ -133,7 +184,7 @@ pub fn answer(alloc: Global, text: &str) -> Result<Answer, Fail> {
     for part in parts {
         rows.push(row(alloc, part)?)?;
     }
-    let table = Table { rows };
+    let table = table(alloc, rows)?;
     match told {
         "no target" => Ok(Answer::NoTarget),
         "none" => Ok(Answer::NoPath { table }),

@@ -1,5 +1,5 @@
 -- One group more.
-use Rattle.std.proofs.Common.{◌≡◌, ◌∙◌, ◌<◌, ◌≤◌, List, length, get_or, ap, arith, subst}
+use Rattle.std.proofs.Common.{◌≡◌, ◌∙◌, ◌<◌, ◌≤◌, List, length, get_or, ap, arith, subst, inl}
 use Rattle.std.proofs.lemmas.List.{length-set}
 use Rattle.cert_graph.specs.declared.nodes.Group.{Group}
 use Rattle.cert_graph.specs.Nodes.{graph_of}
@@ -24,7 +24,7 @@ loop-place-preserved c =
     let inside : i < length vectors = omega arith in record {
       count = length-set vectors i c.climb.new.flights ∙ count;
       each = λ rows number h. vector_on (graph_of c.args.nodes.now) rows c.args.row.now i groups c.group-item.result vectors c.index_mut.result.now c.climb.new.flights within is inside c.index_mut.ensures.value
-          (c.in_ok-climb.ensures rows number) (c.loop-place.invariant.each rows number h);
+          (λ x. (c.in_ok-climb.ensures rows number (inl x)).0) (c.loop-place.invariant.each rows number h);
     }
 
 pub returns : goal.returns

@@ -1,5 +1,5 @@
 -- One row more.
-use Rattle.std.proofs.Common.{◌≡◌, ◌∙◌, ◌<◌, ◌≤◌, ℕ, List, [], ◌∷◌, ◌++◌, length, replicate, take, Vec, Global, ap, arith, subst}
+use Rattle.std.proofs.Common.{◌≡◌, ◌∙◌, ◌+◌, ◌-◌, ◌<◌, ◌≤◌, sym, ℕ, List, [], ◌∷◌, ◌++◌, length, replicate, take, Vec, Global, ap, arith, subst}
 use Rattle.std.proofs.lemmas.List.{length-map, take_all, with_items_is}
 use Rattle.std.proofs.lemmas.List.Elements.{All-map}
 use Rattle.cert_graph.specs.declared.changes.Change.{Change}
@@ -9,7 +9,9 @@ use Rattle.cert_graph.specs.declared.stairs.Flight.{Flight}
 use Rattle.cert_graph.specs.Changes.{changed, rows_by}
 use Rattle.cert_graph.specs.Nodes.{graph_of}
 use Rattle.cert_graph.specs.Stairs.{AreFlightsSoFar, OfEachGroup}
-use Rattle.cert_graph.proofs.Changing.{items_by, last_more}
+use Rattle.cert_graph.specs.Adequate.{row_of}
+use Rattle.cert_graph.proofs.Changing.{items_by, last_more, length-rows_by}
+use Rattle.cert_graph.proofs.RowByRow.{last_at}
 use Rattle.cert_graph.proofs.Flights.{flights_in, no_rows, rows_next, rows_counted, all_flights}
 use Rattle.cert_graph.proofs.stairs.flights_of.Goals as goal
 
@@ -38,11 +40,17 @@ loop-number-preserved c =
     let here : i < length steps = c.loop-number-test.true in
     let start : i ≤ length steps = omega arith in
     let rows = rows_by none (items_by (take i steps)) in
-    let climbed = c.in_ok-climb_all.ensures rows (rows_counted none steps i start) c.loop-number.invariant.each in
-    let row : c.deref-in-loop-number.result.now ≡ c.make.new.row = c.deref-in-loop-number.ensures.value ∙ e in
+    let row : c.deref-in-loop-number-2.result.now ≡ c.make.new.row = c.deref-in-loop-number-2.ensures.value ∙ e in
+    let before = c.loop-number.row.items in
+    let counted = rows_counted none steps i start in
+    let last : 0 < length rows → before ≡ row_of rows (length rows - 1) = λ some.
+    let size = length-rows_by none (items_by (take i steps)) in
+    let ends : length rows - 1 + 1 ≡ length (items_by (take i steps)) = omega (arith, some, size) in
+    c.loop-number.invariant.row ∙ last_at none (items_by (take i steps)) (length rows - 1) ends in
+    let climbed = c.in_ok-climb_by.ensures rows before counted last (row ∙ made ∙ ap (λ (xs : List Change). changed before xs) (sym c.deref-in-loop-number-3.ensures.value)) c.loop-number.invariant.each in
     record {
       row = e ∙ last_more none steps i x c.loop-number.row.items c.make.new.row here c.index-steps-number.is c.loop-number.invariant.row made;
-      each = subst (λ (rs : List (List Reach)). OfEachGroup (AreFlightsSoFar (graph_of nodes) rs) nodes.groups.items (flights_in c.climb_all.new.flights.items))
+      each = subst (λ (rs : List (List Reach)). OfEachGroup (AreFlightsSoFar (graph_of nodes) rs) nodes.groups.items (flights_in c.climb_by.new.flights.items))
           (ap (λ (r : List Reach). rows ++ r ∷ []) row ∙ rows_next none steps i x c.loop-number.row.items c.make.new.row here c.index-steps-number.is c.loop-number.invariant.row made) climbed;
     }
 

@@ -1,18 +1,15 @@
-use Rattle.std.proofs.Common.{◌≡◌, ℕ, ◌+◌, ◌<◌, ◌∙◌, List, length, replicate, Vec, Global, sym, subst, ap, arith}
-use Rattle.std.proofs.lemmas.List.{length_push, length-map}
+use Rattle.std.proofs.Common.{◌≡◌, ℕ, ◌+◌, ◌<◌, ◌∙◌, List, length, replicate, sym, subst, ap, arith}
+use Rattle.std.proofs.lemmas.List.{length_push}
 use Rattle.cert_graph.specs.declared.reach.Reach.{Reach}
 use Rattle.cert_graph.specs.declared.reach.Reach.TheVariants.{No}
 use Rattle.cert_graph.specs.Reach.{Takes}
 use Rattle.cert_graph.specs.Adequate.{at_row}
 use Rattle.cert_graph.specs.Nodes.{graph_of}
-use Rattle.cert_graph.specs.declared.changes.Change.{Change}
-use Rattle.cert_graph.specs.Changes.{rows_by}
-use Rattle.cert_search.specs.Exact.{HoldsExactly}
 use Rattle.cert_search.specs.Rows.{StandsUnder}
 use Rattle.cert_search.proofs.Exactness.{OffersExactly, raised_exact, offers_exact, offers_rise, stands_fixed}
 use Rattle.cert_search.proofs.Ranking.{bound_of, rank_falls, offers_within, limits_within}
-use Rattle.cert_search.proofs.Running.{SoFar, items_of, so_far_more, run_more}
-use Rattle.cert_graph.proofs.Changing.{items_by, last_grows, length-rows}
+use Rattle.cert_search.proofs.Running.{so_far_more, run_more}
+use Rattle.cert_graph.proofs.Changing.{last_grows}
 use Rattle.cert_search.proofs.Rounding.{moves, stands}
 use Rattle.cert_search.proofs.rounds.rows_to.Goals as goal
 
@@ -25,14 +22,8 @@ returns-then-opens c =
     let shows = c.opens.ensures.0 c.if-opens.true in
     let takes : Takes (at_row new.offers.items c.args.target) 0 = subst (λ (os : List Reach). Takes (at_row os c.args.target) 0) c.deref.ensures.value shows.1 in
     let none = replicate (length c.args.nodes.now.items.items) No in
-    let count : c.len.result ≡ length c.args.nodes.now.items.items = omega arith in
-    let same : items_of c.in_ok-rows.rows.items ≡ rows_by none (items_by c.round.steps.items) =
-    c.in_ok-rows.ensures ∙ ap (λ (n : ℕ). rows_by (replicate n No) (items_by c.deref-then-opens.result.now)) count
-    ∙ ap (λ (xs : List (Vec Change Global)). rows_by none (items_by xs)) c.deref-then-opens.ensures.value in
-    let size : length c.in_ok-rows.rows.items ≡ length c.round.steps.items = sym (length-map c.in_ok-rows.rows.items (λ (r : Vec Reach Global). r.items)) ∙ ap length same ∙ length-rows none c.round.steps.items in
-    run_more g c.args.target c.in_ok-rows.rows.items c.push.new.self.items new.row c.in_ok-push.ensures.items
-    (subst (SoFar g c.args.target) (sym same) c.round.invariant.so_far) r.rising.whole
-    (subst (λ (n : ℕ). HoldsExactly g (n + 1) new.row.items) (sym size) exact)
+    run_more g c.args.target none c.round.steps.items c.push.new.self.items c.in_ok-changes.changes c.round.search.row.items new.row.items c.in_ok-push.ensures.items c.round.invariant.last r.changed
+    c.round.invariant.so_far r.rising.whole exact
     (c.is_usable-usable.ensures.0 shows.0, (r.offered c.args.target 0).0 takes)
 
 pub returns-then-not-has_risen : goal.returns-then-not-has_risen

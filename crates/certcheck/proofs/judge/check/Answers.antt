@@ -25,6 +25,6 @@ returns g c =
     let adequate = agreed_adequate (graph_of nodes) (graph_of_items r xs ys) agrees (fit_is_usable nodes) c.args.target c.args.answer.now in
     let true_answer = agreed_true (graph_of nodes) (graph_of_items r xs ys) agrees (fit_is_usable nodes) c.args.target c.args.answer.now in
     record {
-      exact = (xs, ys, items.1, anchors.1, (λ t. adequate.0 (c.check_nodes.ensures.exact.0 t), λ h. c.check_nodes.ensures.exact.1 (adequate.1 h)));
-      holds = (xs, ys, items.1, anchors.1, λ t. true_answer.0 (c.check_nodes.ensures.holds t));
+      exact = (xs, ys, items.1, anchors.1, (λ t. adequate.0 (c.in_ok-yes.ensures.exact.0 t), λ h. c.in_ok-yes.ensures.exact.1 (adequate.1 h)));
+      holds = (xs, ys, items.1, anchors.1, λ t. true_answer.0 (c.in_ok-yes.ensures.holds t));
     }

@@ -15,6 +15,6 @@ returns g c =
     let adequate = agreed_adequate (graph_of nodes) of_items agrees (fit_is_usable nodes) c.args.target c.args.answer.now in
     let true_answer = agreed_true (graph_of nodes) of_items agrees (fit_is_usable nodes) c.args.target c.args.answer.now in
     record {
-      exact = (λ t. adequate.0 (c.check_nodes-yes.ensures.exact.0 t), λ h. c.check_nodes-yes.ensures.exact.1 (adequate.1 h));
-      holds = λ t. true_answer.0 (c.check_nodes-yes.ensures.holds t);
+      exact = (λ t. adequate.0 (c.in_ok-yes.ensures.exact.0 t), λ h. c.in_ok-yes.ensures.exact.1 (adequate.1 h));
+      holds = λ t. true_answer.0 (c.in_ok-yes.ensures.holds t);
     }

@@ -1,7 +1,10 @@
-use Rattle.std.proofs.Common.{◌≡◌, ◌<◌, ◌≤◌, length, arith, refl, sym, subst}
+use Rattle.std.proofs.Common.{◌≡◌, ◌∙◌, ◌<◌, ◌≤◌, length, map, List, Vec, ap, arith, refl, sym, subst}
+use Rattle.std.specs.declared.alloc.Global.{Global}
+use Rattle.std.proofs.lemmas.List.{map_push}
+use Rattle.cert_graph.specs.declared.reach.Reach.{Reach}
 use Rattle.std.proofs.lemmas.Grind.{common_steps}
 use Rattle.certpath_c.specs.Answers.{AreNoRows}
-use Rattle.certpath_c.proofs.TableRows.{row_more, no_rows_few, no_rows_front}
+use Rattle.certpath_c.proofs.TableRows.{TableSoFar, row_more, no_rows_few, no_rows_front}
 use Rattle.certpath_c.proofs.tables.table_of.Goals as goal
 
 pub loop-rest-preserved : goal.loop-rest-preserved
@@ -9,8 +12,9 @@ loop-rest-preserved c =
     let read = rw c.in-Some.is at c.in_ok-row.ensures.found in
     let split = c.split_at.ensures in
     let some : 0 < c.args.width = grind (arith, common_steps) in
-    let more = row_more c.args.width c.args.entries.now c.loop-rest.rest.now c.split_at.result.0.now c.split_at.result.1.now c.loop-rest.rows.items c.in-Some.row c.loop-rest.invariant split.by_index.0 read.0 read.1 split.front_len some in
-    rw c.in_ok-push.ensures.items more
+    let more = row_more c.args.width c.args.entries.now c.loop-rest.rest.now c.split_at.result.0.now c.split_at.result.1.now (map (λ (r : Vec Reach Global). r.items) c.loop-rest.rows.items) c.in-Some.row.items c.loop-rest.invariant split.by_index.0 read.0 read.1 split.front_len some in
+    subst (TableSoFar c.args.width c.args.entries.now c.split_at.result.1.now)
+    (sym (ap (λ (rs : List (Vec Reach Global)). map (λ (r : Vec Reach Global). r.items) rs) c.in_ok-push.ensures.items ∙ map_push (λ (r : Vec Reach Global). r.items) c.loop-rest.rows.items c.in-Some.row)) more
 
 pub returns-then-is_short-clause-none : goal.returns-then-is_short-clause-none
 returns-then-is_short-clause-none c =
