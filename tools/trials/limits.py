@@ -74,6 +74,8 @@ LOADS = (
     ("raise ValueError(\"field 'target' is required for AnnAssign\")", SAID, TRACED),
     ("raise SystemError('error return without exception set')", SAID, TRACED),
     ("import module_that_is_nowhere", TRACED, TRACED),
+    ("def call(): open('cannot allocate')", TRACED, TRACED),
+    ("def call(): raise Exception('cannot allocate')", TRACED, TRACED),
     ("raise ImportError('libz.so.1: cannot open shared object file: No such file')", TRACED, TRACED),
     ("def call(): raise ValueError('of no import')", TRACED, TRACED),
 )

@@ -169,7 +169,10 @@ def lacks_memory(error: Optional[BaseException]) -> bool:
     while error is not None:
         if isinstance(error, MemoryError) or getattr(error, "errno", None) == errno.ENOMEM:
             return True
-        if any(it in str(error) for it in NO_ROOM):
+        # (others have the caller's words)
+        is_of_system = isinstance(error, (ImportError, RuntimeError, OSError))
+        if is_of_system and not getattr(error, "filename", None) and any(
+                it in str(error) for it in NO_ROOM):
             return True
         error = error.__cause__ or error.__context__
     return False
