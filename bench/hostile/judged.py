@@ -2,7 +2,7 @@
 import slow_keys
 from family import Files, Known, family
 from graphs import ROWS
-from parts import element, entry, integer, name, p256_keys, revocation_list
+from parts import element, entry, integer, name, p256_keys, revocation_list, small_certificate
 from reports import ANCHOR, PAIRS
 from signed import KEY, LEAF, ROOT, X, signed_by_none
 
@@ -93,6 +93,15 @@ def iterations(_):
     digest = element(0x30, SHA1, element(0x04, bytes(20)))
     mac = element(0x30, digest, element(0x04, bytes(8)), integer(2**31 - 1))
     return Files([element(0x30, integer(3), safe, mac)], [ANCHOR])
+
+
+@of_verify("few-slow", "n certificates of one name, an RSA key of 16,384 bits each, all tried", *SECONDS,
+           statuses=(1, 9), sizes=(20, 40, 80, 160), small=(10, 40), known=GIVEN_UP)
+def few_slow(count):
+    algorithm, signature = slow_keys.RSA_SHA256, slow_keys.signed_by_rsa
+    items = (small_certificate(X, X, slow_keys.large_rsa(it), algorithm, signature(it), it)
+             for it in range(count))
+    return Files([*items], [ANCHOR])
 
 
 @of_verify("seven", "a PKCS #7 file of n certificates, a key each on a curve of its own", *SECONDS,

@@ -97,7 +97,7 @@ def candidates() -> List[str]:
 
 def loaded() -> Any:
     """The library with all functions typed, so that no pointer is cut to an int."""
-    refused = None
+    refused: Optional[Exception] = None
     for name in candidates():
         try:
             library = ctypes.CDLL(name)

@@ -131,6 +131,28 @@ class Items(unittest.TestCase):
                 self.assertEqual(item.not_valid_after_utc, other.not_valid_after_utc)
 
 
+class LargeItems(unittest.TestCase):
+    """Items that are read, and not classed before."""
+
+    def test_kinds(self):
+        leaf, crl, other = sample("leaf.der"), sample("list.der"), b"\x30\x00"
+        of, classing = [other, leaf, leaf, crl, other, other, leaf, crl, other], certpath.Items._class
+        for large in (0, 2, len(crl), len(leaf), 1 << 20):
+            items, classed = certpath.frame(b"".join(of)), []
+
+            def noted(items, first, end):
+                classed.extend(range(first, end))
+                classing(items, first, end)
+
+            with mock.patch("certpath.items.LARGE", large), \
+                    mock.patch.object(certpath.Items, "_class", noted):
+                items.read_large()
+                kinds = [*items.kinds()]
+            self.assertEqual(kinds, [*map(certpath.class_of, of)])
+            self.assertEqual([it.kind for it in items], kinds)
+            self.assertEqual(classed, [at for at, it in enumerate(of) if len(it) <= large])
+
+
 class Questions(unittest.TestCase):
     def test_samples(self):
         asked = certpath.questions(sample("bundle.der"), sample("root.der"))

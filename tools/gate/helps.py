@@ -23,7 +23,7 @@ INVENTORY = "certpath.inventory"
 CELL = re.compile(r"(?m)^\| (`--[^|]*)")
 SECTION = r"(?ms)^## `{}[^`\n]*`\n(.*?)(?=^## |\Z)"
 COMPLETED = r'(?m)^ +{}\) words="([^"]*)"'
-SECONDS = 60
+SECONDS = 600
 
 
 def printed(words, folder=""):

@@ -62,8 +62,12 @@ def lacks_memory(error):
     """Whether an error comes of a lack of memory. Python's compiler says otherwise at times: where
     memory is limited that is each error of a module that is there and is being loaded."""
     while error is not None:
-        is_said = isinstance(error, MemoryError) or getattr(error, "errno", None) == errno.ENOMEM
-        if is_said or any(it in str(error) for it in NO_ROOM):
+        number = getattr(error, "errno", None)
+        # (errors of the loader have no number, and those of files may have the caller's words)
+        is_of_loader = isinstance(error, (ImportError, OSError)) and number is None
+        if isinstance(error, MemoryError) or number == errno.ENOMEM:
+            return True
+        if is_of_loader and any(it in str(error) for it in NO_ROOM):
             return True
         if isinstance(error, Exception) and is_limited() and is_of_loading(error):
             return True

@@ -16,7 +16,7 @@ CERTIFICATE = "CERTIFICATE"
 NO_LINE = "that is no line of its own (are newlines missing?)"
 BOUNDARY = f"a BEGIN or an END {NO_LINE}"
 NO_ITEM = "neither certificate nor revocation list"
-SECONDS = 60
+SECONDS = 600
 # The seconds of ./verify count for all of the process in which its modules run.
 MANY_SECONDS = 1 << 30
 # A file of 10^6 lines takes so long at most, on a machine that does other things too.

@@ -10,7 +10,7 @@ from program import repo
 from trials import paths, pieces
 from trials.count import Trial
 
-SECONDS = 60
+SECONDS = 600
 BUNDLE = os.path.join(repo.TOP, "samples", "bundle.der")
 LINES = repo.read("samples/bundle.frame").encode()
 LARGEST = 16_777_216

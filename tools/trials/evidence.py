@@ -14,7 +14,7 @@ from dev import items
 from trials import paths
 from trials.count import Trial
 
-SECONDS = 60
+SECONDS = 600
 FORGED, MANY = 1_000, 10_000
 MOMENT = "2025-06-01T00:00:00"
 YES, NO = (0, b"check yes\n", b""), (1, b"check no\n", b"")

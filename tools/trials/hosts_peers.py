@@ -23,7 +23,7 @@ from verify import core
 
 certpath = core.certpath
 PROGRAM = os.path.join(os.path.dirname(os.path.abspath(__file__)), "hosts_go.go")
-SECONDS = 300
+SECONDS = 900
 WEBPKI = "/usr/share/cargo/registry/webpki-*/src/name/dns_name.rs"
 # A table of webpki's test, a row of it, and what a row's answer is; lines of comments are no rows.
 TABLE = re.compile(r"PRESENTED_MATCHES_REFERENCE: &.*?\];", re.S)

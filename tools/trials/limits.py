@@ -9,6 +9,7 @@ import tempfile
 import time
 
 from program import repo, sources
+from trials.bundling import PEAK
 from trials.count import INTERRUPTIBLE, Trial, size
 
 SECONDS = 600
@@ -61,6 +62,8 @@ runpy.run_path({script!r}, run_name="__main__")
 """
 
 
+# Of a file of items of two octets ./vouch holds at most so many octets for each. (They are seven.)
+OF_ITEM = 10
 # How a module may fail while it is loaded, and with what a run ends then: with a limit of memory, and
 # without one. (Python's compiler, if it is short of memory, raises what it raises of faulty sources.)
 TRACEBACK = "Traceback (most recent call last):"
@@ -74,6 +77,8 @@ LOADS = (
     ("raise ValueError(\"field 'target' is required for AnnAssign\")", SAID, TRACED),
     ("raise SystemError('error return without exception set')", SAID, TRACED),
     ("import module_that_is_nowhere", TRACED, TRACED),
+    ("def call(): open('cannot allocate')", TRACED, TRACED),
+    ("def call(): raise Exception('cannot allocate')", TRACED, TRACED),
     ("raise ImportError('libz.so.1: cannot open shared object file: No such file')", TRACED, TRACED),
     ("def call(): raise ValueError('of no import')", TRACED, TRACED),
 )
@@ -180,6 +185,22 @@ class Limits(Trial):
         status, output, errors = self.run_limited(words, resource.RLIMIT_AS, LITTLE)
         self.same("verify --json on a large file", (status, b'"status": 6' in output, errors),
                   (6, True, ["verify: out of memory"]))
+
+    def peak(self, octets):
+        """The most memory of ./vouch on a file of these octets, in octets."""
+        sources.put(os.path.join(self.room, "items"), octets)
+        words = [*script("vouch"), "items", ROOT_DER]
+        ran = subprocess.run([sys.executable, "-ISc", PEAK, "out", *words], cwd=self.room,
+                             env=self.environment(), stdin=subprocess.DEVNULL,
+                             stdout=subprocess.PIPE, stderr=subprocess.DEVNULL, timeout=SECONDS)
+        self.same("./vouch on items of two octets", ran.returncode, 0)
+        return int(ran.stdout) * 1024
+
+    def test_small_items(self):
+        """Items that are neither certificate nor list take a few octets each, and no object."""
+        count = size(1_000_000, 250_000)
+        beside = self.peak(b"\x30\x00" * count) - self.peak(b"")
+        self.row(beside < OF_ITEM * count + 2 * MEGABYTE, f"{count} items take {beside} octets")
 
     def test_evidence(self):
         """Evidence is whole, or isn't there: it is written beside its file, with its rights."""

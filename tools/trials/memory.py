@@ -19,7 +19,7 @@ from trials.count import Trial
 
 REFUSER = os.path.join("tools", "trials", "embedding", "refuse.c")
 COMPILER = ["cc", "-std=c99", "-Wall", "-Wextra", "-Werror", "-O1", "-shared", "-fPIC"]
-SECONDS, RUNS = 60, 4
+SECONDS, RUNS = 600, 4
 OUT_OF_MEMORY = 6, b"", b"out of memory\n"
 # How a program of rows ends over a row.
 ROW_LOST = 1, b"Error: Kind(OutOfMemory)\n"

@@ -10,7 +10,7 @@ import subprocess
 from program import repo
 from trials.count import Trial
 
-MUTANTS, SECONDS = 2_000, 120
+MUTANTS, SECONDS = 2_000, 600
 ITEM = re.compile(r"(?m)^[0-9a-f]{40,4000}$")
 
 

@@ -21,7 +21,7 @@ from trials import page_commands
 from trials.count import Trial
 
 PROMPT, INDENT, GOES_ON = "$ ", "    ", "\\"
-SECONDS = 120
+SECONDS = 600
 # What a command line calls that is no script of the repository, once what is in quotes is away.
 CALLED, QUOTED = re.compile(r"(?:^|[|;&])\s*([a-z][\w-]*)"), re.compile(r"'[^']*'|\"[^\"]*\"")
 # What stands in the place of `rt`.

@@ -23,7 +23,7 @@ from trials.synthetic import CONSTRAINTS, USAGE, element, extension, name, numbe
 
 # How many random bundles are made: by hand, in the gate, and on a machine without the toolchain.
 MANY, SOME, FEW = 10_000, 500, 50
-SEED, SECONDS = "reasons", 60
+SEED, SECONDS = "reasons", 600
 AT = "2025-06-01T00:00:00"
 KEY, YEAR = KEYS[0], ("250101000000Z", "260101000000Z")
 CERTIFICATE_ISSUER, POLICIES = bytes.fromhex("0603551d1d"), bytes.fromhex("0603551d20")

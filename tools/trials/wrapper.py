@@ -12,7 +12,7 @@ import tempfile
 from program import programs, repo, sources, usage
 from trials.count import INTERRUPTIBLE, Trial
 
-SECONDS = 120
+SECONDS = 300
 CRATES = ("low", f"{programs.CERTPATH}: low", f"{programs.LIBRARY}: low", "rows_cert: low")
 MAIN = os.path.join("crates", "low", "src", "main.rt")
 STAND_IN, KIT = b'#!/bin/sh\necho "stand-in $*"\n', "the kit of the trials"

@@ -1,7 +1,9 @@
 """The command line: `python3 -m certpath.inventory --help`."""
 import argparse
+import errno
 import logging
 import os
+import resource
 import signal
 import sys
 import traceback
@@ -30,6 +32,8 @@ SIGNALLED = 128
 ENDING = (signal.SIGINT, signal.SIGTERM)
 # After so many seconds a run is ended that can't be ended at once.
 SOON = 0.01
+# What is said if there is no memory for a library, a thread, or what OpenSSL holds.
+NO_ROOM = "failed to map segment", "can't start new thread", "malloc failure", "annot allocate"
 NO_DASK = ("it comes with `apt-get install python3-distributed python3-cryptography`, or "
            "`pip install 'dask[distributed]' cryptography`")
 
@@ -121,7 +125,6 @@ def refusals() -> List[Refusal]:
             Refusal(clusters.Unreachable, UNREACHABLE),
             Refusal(Lost, UNREACHABLE), Refusal(Missing, NOT_THERE),
             Refusal(LibraryMissing, NOT_THERE), Refusal(tables.NoParquet, NOT_THERE),
-            Refusal(MemoryError, NO_MEMORY),
             Refusal(OSError, CANNOT_READ)]
 
 
@@ -156,15 +159,40 @@ def workers_of(client) -> Callable[[], Set[str]]:
 
 def said_of(error: BaseException) -> str:
     """What an error that ends a run says."""
-    if isinstance(error, MemoryError):
-        return "out of memory"
     if isinstance(error, OSError) and error.filename:
         return f"cannot read {error.filename}" + (f": {error.strerror}" if error.strerror else "")
     return str(error)
 
 
+def lacks_memory(error: Optional[BaseException]) -> bool:
+    """Whether an error comes of a lack of memory, which Dask and OpenSSL say in words of their own."""
+    while error is not None:
+        if isinstance(error, MemoryError) or getattr(error, "errno", None) == errno.ENOMEM:
+            return True
+        # (others have the caller's words)
+        is_of_system = isinstance(error, (ImportError, RuntimeError, OSError))
+        if is_of_system and not getattr(error, "filename", None) and any(
+                it in str(error) for it in NO_ROOM):
+            return True
+        error = error.__cause__ or error.__context__
+    return False
+
+
+def is_limited() -> bool:
+    """Whether the memory of this process is limited from outside."""
+    return resource.getrlimit(resource.RLIMIT_AS)[0] != resource.RLIM_INFINITY
+
+
+def without_memory() -> int:
+    """Says that there is no memory, and gives the status."""
+    show("inventory: out of memory")
+    return NO_MEMORY
+
+
 def ended(error: BaseException) -> int:
     """Says why a run has ended, and gives the status."""
+    if lacks_memory(error):
+        return without_memory()
     for refusal in refusals():
         if isinstance(error, refusal.error):
             show(f"inventory: {said_of(error)}")
@@ -183,7 +211,11 @@ def main(given: List[str]) -> int:
         if not words.scheduler:
             # (it makes the key of the run)
             import cryptography  # noqa: F401
-    except ImportError as error:
+    except Exception as error:  # (without memory Python says otherwise at times why it loads nothing)
+        if lacks_memory(error) or is_limited() and not isinstance(error, ImportError):
+            return without_memory()
+        if not isinstance(error, ImportError):
+            raise
         show(f"inventory: {error}; {NO_DASK}")
         return NOT_THERE
     # (Dask writes tracebacks of connections that end, and what matters of these is said here)
