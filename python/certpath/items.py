@@ -1,5 +1,4 @@
 """Items: the certificates and revocation lists of a file, and what they hold."""
-import base64
 import enum
 import hashlib
 from array import array
@@ -16,6 +15,7 @@ from .fixed import Fixed, kept
 from .identifiers import IdentifierGiven, identifier_of
 from .moments import datetime_of
 from .names import Name
+from .pem import block_of
 
 LIMIT = 16777216
 # What a call takes as octets.
@@ -52,9 +52,8 @@ FIELDS = range(len(Field))
 
 
 KINDS = tuple(Kind)
-# The labels of PEM blocks, and how many characters a line of one has (RFC 7468, 5, 6 and 2).
+# The labels of PEM blocks (RFC 7468, 5 and 6).
 LABELS = {Kind.CERTIFICATE: "CERTIFICATE", Kind.LIST: "X509 CRL"}
-LINE = 64
 
 
 class Contents(NamedTuple):
@@ -162,9 +161,7 @@ class Item(Fixed):
         label = LABELS.get(self.kind)
         if label is None:
             raise library.BadItem("neither a certificate nor a list: PEM has no label for it")
-        text = base64.b64encode(self._octets).decode()
-        lines = [text[it:it + LINE] for it in range(0, len(text), LINE)]
-        return "\n".join([f"-----BEGIN {label}-----", *lines, f"-----END {label}-----", ""])
+        return block_of(label, self._octets)
 
     def fingerprint(self, algorithm: str = "sha256") -> bytes:
         """The digest of all octets, by a name that `hashlib` knows: 32 octets of SHA-256 by default.

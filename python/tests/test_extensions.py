@@ -237,6 +237,14 @@ class Stores(unittest.TestCase):
                 mock.patch.object(stores, "BUNDLES", ("/none",)), self.assertRaises(OSError):
             certpath.trust_store()
 
+    def test_system_folder(self):
+        """Of the system's folder, files that are named by hashes."""
+        self.put("0a1b2c3d.0", self.root.pem().encode())
+        for name in ("leaf.pem", "0A1B2C3D.1", "0a1b2c3d.r0", "0a1b2c3.0", ".0a1b2c3d.0", "0a1b2c3d."):
+            self.put(name, certpath.item_of(sample("leaf.der")).pem().encode())
+        with mock.patch.dict(os.environ, SSL_CERT_FILE="/none", SSL_CERT_DIR=self.room):
+            self.assertEqual([*certpath.trust_store()], [self.root])
+
     def test_refused(self):
         with self.assertRaises(OSError):
             certpath.trust_store(os.path.join(self.room, "none"))

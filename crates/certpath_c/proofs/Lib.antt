@@ -6,6 +6,7 @@ pub mod NoAnswers
 pub mod KeyIds
 pub mod Gathered
 pub mod TbsParts
+pub mod LeftOut
 pub mod ClassNumbers
 pub mod ReportFacts
 pub mod LeftRows

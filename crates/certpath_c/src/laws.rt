@@ -2,6 +2,8 @@
 
 ghost use Rattle.std.specs.Prelude.{◌≡◌, ◌⊎◌, ◌↔◌, ℕ, ℤ, List, [], ◌∷◌, None, take};
 ghost use Rattle.cert_framing.specs.Held.{Framed};
+ghost use Rattle.cert_model.specs.Fields.{Certificate};
+ghost use Rattle.cert_model.specs.Range.{AreCertificateFields};
 ghost use Rattle.cert_vouchers.specs.declared.vouchers.Vouchers.{Vouchers};
 ghost use Rattle.certpath_files.specs.Rows.{item, at, octet};
 ghost use Rattle.certpath_files.specs.Sequences.{stream_rows};
@@ -25,6 +27,7 @@ ghost use Rattle.certpath_c.specs.Loading.{kind_number};
 ghost use Rattle.certpath_c.specs.Reports.{IsPathReport, IsWhyReport, IsPathsReport};
 ghost use Rattle.certpath_c.specs.Shaping.{shape_number};
 ghost use Rattle.certpath_c.specs.Status.{done, out_of_memory};
+ghost use Rattle.certpath_c.specs.Tbs.{certificate_without};
 ghost use Rattle.certpath_c.specs.Wanted.{IsWantedBy, demanded};
 
 use cert_framing::one_framing;
@@ -47,6 +50,11 @@ pub fn shapes_are_taken()
     ensures taken { (octets : List ℕ) (kind : Kind) → shape_number octets ≡ kind_number kind → stream_rows octets ≡ item (at (octet 0)) kind octets ∷ [] }
     ensures example { shape_number (48 ∷ 13 ∷ 48 ∷ 6 ∷ 48 ∷ 0 ∷ 48 ∷ 0 ∷ 23 ∷ 0 ∷ 48 ∷ 0 ∷ 3 ∷ 1 ∷ 0 ∷ []) ≡ 2 }
     ensures longer { shape_number (48 ∷ 13 ∷ 48 ∷ 6 ∷ 48 ∷ 0 ∷ 48 ∷ 0 ∷ 23 ∷ 0 ∷ 48 ∷ 0 ∷ 3 ∷ 1 ∷ 0 ∷ 0 ∷ []) ≡ 0 }
+{}
+
+/// Without an identifier `certpath_tbs` leaves nothing out, since no identifier is empty.
+pub fn nothing_left_out()
+    ensures { (c : Certificate) → AreCertificateFields c → certificate_without [] c ≡ c }
 {}
 
 /// `certpath_path` and `certpath_why` demand of a path what `certpath_find` demands by the same
