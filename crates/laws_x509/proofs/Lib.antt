@@ -1,0 +1,2 @@
+pub mod OfItems
+pub mod OfParts

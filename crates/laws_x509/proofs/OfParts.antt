@@ -1,0 +1,46 @@
+-- The worked parts are in range, and the worked times are read.
+use Rattle.std.specs.Prelude.{◌&&◌}
+use Rattle.std.proofs.Common.{◌≡◌, ◌<◌, ◌^◌, ℕ, Bool, true, false, nat_lt, List, [], ◌∷◌, length, refl, lit<}
+use Rattle.std.specs.Int.Digits.{AllBelowBase}
+use Rattle.std.specs.List.{list_all}
+use Rattle.std.proofs.lemmas.Bool.{ltb-true}
+use Rattle.asn1_oid.specs.Identifier.{IsOidContent, subidentifier_octets}
+use Rattle.cert_model.specs.Examples.{algorithm, common_name, key}
+use Rattle.cert_model.specs.Octets.{algorithm_octets, attribute_octets, relative_name_octets, name_octets, key_octets}
+use Rattle.cert_model.specs.Range.{IsName}
+use Rattle.x509_time.specs.Examples.{period_octets, start_octets}
+
+two_true : (a b : Bool) → (a && b) ≡ true → (a ≡ true) × (b ≡ true)
+two_true true b is = (refl, is)
+two_true false b is = cc
+
+below_tested : (s : List ℕ) → list_all (λ d. nat_lt d 256) s ≡ true → AllBelowBase 256 s
+below_tested [] is = tt
+below_tested (x ∷ s) is = let both = two_true (nat_lt x 256) (list_all (λ d. nat_lt d 256) s) is in (ltb-true x 256 both.0, below_tested s both.1)
+
+pub start_below : AllBelowBase 256 start_octets
+start_below = below_tested start_octets refl
+
+pub period_below : AllBelowBase 256 period_octets
+period_below = below_tested period_octets refl
+
+-- 2.5.4.3
+named : IsOidContent (0x55 ∷ 0x04 ∷ 0x03 ∷ [])
+unfolding subidentifier_octets
+named = record { subidentifiers = 85 ∷ 4 ∷ 3 ∷ []; some = λ e. cc; spelled = refl }
+
+pub name_in_range : IsName (common_name 0x62)
+unfolding attribute_octets
+name_in_range = (record { some = λ e. cc; each = (record { identifier = named; value = record { class = lit< tt; tag = lit< tt } }, tt); ordered = refl }, tt)
+
+pub algorithm_short : length (algorithm_octets algorithm) < 2 ^ 64
+unfolding algorithm_octets
+algorithm_short = lit< tt
+
+pub name_short : length (name_octets (common_name 0x62)) < 2 ^ 64
+unfolding attribute_octets relative_name_octets name_octets
+name_short = lit< tt
+
+pub key_short : length (key_octets key) < 2 ^ 64
+unfolding algorithm_octets key_octets
+key_short = lit< tt
