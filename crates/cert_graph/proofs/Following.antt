@@ -1,6 +1,6 @@
 -- A row that follows another where something changed, and so everywhere.
-use Rattle.std.proofs.Common.{◌≡◌, ◌≢◌, ℕ, suc, ◌+◌, ◌-◌, ◌<◌, ◌≤◌, List, [], ◌∷◌, ◌++◌, length, map, take, get_or, set, Vec, Global, arith, ap, sym, ◌∙◌, subst, refl, inl, inr}
-use Rattle.std.specs.Prelude.{◌⊎◌, ◌↔◌, All, Contains}
+use Rattle.std.proofs.Common.{◌≡◌, ℕ, suc, ◌+◌, ◌<◌, ◌≤◌, List, [], ◌∷◌, ◌++◌, length, map, take, get_or, set, Vec, Global, arith, ap, sym, ◌∙◌, subst, inl, inr}
+use Rattle.std.specs.Prelude.{◌↔◌, All, Contains}
 use Rattle.std.proofs.lemmas.Bool.{cases_lt}
 use Rattle.std.proofs.lemmas.List.{get_or-set_same, get_or-set_other, get_or_past, get_or-map, get_or_default, length-set, take_more}
 use Rattle.std.proofs.lemmas.List.Elements.{Contains-get_or, Contains-append_cases, Contains-push_cases}
@@ -9,7 +9,7 @@ use Rattle.cert_graph.specs.declared.reach.Reach.TheVariants.{No}
 use Rattle.cert_graph.specs.declared.changes.Change.{Change}
 use Rattle.cert_graph.specs.declared.nodes.Group.{Group}
 use Rattle.cert_graph.specs.declared.nodes.Nodes.{Nodes}
-use Rattle.cert_graph.specs.Reach.{Takes, IsAtMost, lesser}
+use Rattle.cert_graph.specs.Reach.{IsAtMost, lesser}
 use Rattle.cert_graph.specs.Adequate.{at_row, row_of, passed_by}
 use Rattle.cert_graph.specs.Changes.{changed, touched, last_by}
 use Rattle.cert_graph.specs.Groups.{HoldsLimit, HoldsLimits, HoldsEachLimit, HoldsPassed, HoldsAllPassed, FollowsRow, FollowsAt}

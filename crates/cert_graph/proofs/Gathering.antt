@@ -1,15 +1,14 @@
 -- One place more among those brought together.
 use Rattle.std.specs.Prelude.{◌↔◌}
-use Rattle.std.proofs.Common.{◌≡◌, ◌≢◌, ◌∙◌, ap, sym, subst, refl, ℕ, ◌+◌, ◌<◌, ◌≤◌, Bool, true, false, cond, List, [], ◌∷◌, ◌++◌, length, length-append, arith, get_or, Option, Some, None, Bor, Ordering, inl, inr, ◌⊎◌}
+use Rattle.std.proofs.Common.{◌≡◌, ◌∙◌, ap, sym, subst, refl, ℕ, ◌+◌, ◌<◌, Bool, cond, List, [], ◌∷◌, ◌++◌, length, length-append, arith, get_or, Option, Some, None, Bor, Ordering, inl, inr, ◌⊎◌}
 use Rattle.std.specs.Bool.{Decides}
 use Rattle.std.specs.Ordering.{on, nat_cmp, eq_by_cmp}
 use Rattle.std.specs.Cmp.Lexicographic.{slice_cmp}
-use Rattle.std.specs.List.{All, Any, Contains}
+use Rattle.std.specs.List.{Any, Contains}
 use Rattle.std.specs.List.Sorted.{IsStrictlyIncreasing}
 use Rattle.std.proofs.Math.ListN.{get_or-append}
 use Rattle.std.proofs.Math.Seq.{get_or-append_seam}
 use Rattle.std.proofs.lemmas.Bool.{cases_lt, cases_eq, cases_Bool, cond-true, cond-false, false_from_ne_true}
-use Rattle.std.proofs.lemmas.List.{get_or_default}
 use Rattle.std.proofs.lemmas.List.Kept.{AllPairs-from_increasing}
 use Rattle.std.proofs.lemmas.List.Elements.{Contains-append_left, Contains-push, Contains-push_cases}
 use Rattle.std.proofs.lemmas.Map.Text.{is_eq-slice_cmp}
@@ -19,7 +18,7 @@ use Rattle.cert_graph.specs.declared.buckets.Bucket.{Bucket}
 use Rattle.cert_graph.specs.declared.places.Place.{Place}
 use Rattle.cert_graph.specs.declared.places.Part.{Part}
 use Rattle.cert_graph.specs.Places.{text_at, Shows}
-use Rattle.cert_graph.specs.Buckets.{IsBucket, AreBuckets, IsPushed}
+use Rattle.cert_graph.specs.Buckets.{AreBuckets, IsPushed}
 use Rattle.cert_graph.proofs.Sifted.{push_ascends, met_at_last}
 
 abbrev pub E : List ℕ → List ℕ → Bool

@@ -1,11 +1,11 @@
 -- Links between places, bucket by bucket.
 use Rattle.std.specs.Prelude.{◌↔◌, ◌⊎◌}
-use Rattle.std.proofs.Common.{◌≡◌, ◌∙◌, ap, sym, subst, refl, ℕ, ◌+◌, ◌-◌, ◌<◌, ◌≤◌, Bool, true, false, List, [], ◌∷◌, ◌++◌, length, length-append, arith, get_or, Option, Some, None, inl, inr}
+use Rattle.std.proofs.Common.{◌≡◌, ◌∙◌, ap, sym, subst, refl, ℕ, ◌+◌, ◌-◌, ◌<◌, ◌≤◌, true, false, List, [], ◌++◌, length, length-append, arith, get_or, Option, Some, None, inl, inr}
 use Rattle.std.proofs.Math.ListN.{get_or-append}
 use Rattle.std.proofs.lemmas.Bool.{cases_lt}
 use Rattle.std.proofs.lemmas.List.{get_or-append_right}
 use Rattle.std.specs.Prelude.{is_some}
-use Rattle.std.specs.List.{All, Any, Contains}
+use Rattle.std.specs.List.{All, Contains}
 use Rattle.std.specs.List.Sorted.{IsStrictlyIncreasing}
 use Rattle.std.proofs.lemmas.List.Elements.{All-contains, Contains-get_or, Contains-append_left, Contains-append_right, Contains-append_cases}
 use Rattle.cert_graph.specs.declared.nodes.Group.{Group}
@@ -14,8 +14,8 @@ use Rattle.cert_graph.specs.declared.places.Place.{Place}
 use Rattle.cert_graph.specs.declared.places.Part.TheVariants.{Id}
 use Rattle.cert_graph.specs.Places.{text_at, Shows}
 use Rattle.cert_graph.specs.Buckets.{IsBucket, AreBuckets}
-use Rattle.cert_graph.specs.Links.{Adds, AgreeOnId, IsIdLink, IsPlaceLink, IsPlaceAnchor}
-use Rattle.cert_graph.proofs.Adding.{UpTo, up_to_more, adds_then, adds_as, adds_none}
+use Rattle.cert_graph.specs.Links.{Adds, IsIdLink, IsPlaceLink, IsPlaceAnchor}
+use Rattle.cert_graph.proofs.Adding.{UpTo, up_to_more, adds_then, adds_as}
 
 abbrev pub Nothing : ℕ → ℕ → Type 0
 Nothing v a = ⊥

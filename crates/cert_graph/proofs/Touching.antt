@@ -1,5 +1,5 @@
 -- What some changes touch, and flights that go on where they touch something.
-use Rattle.std.proofs.Common.{◌≡◌, ◌≢◌, ℕ, zero, suc, ◌+◌, ◌-◌, ◌<◌, ◌≤◌, List, [], ◌∷◌, ◌++◌, length, take, map, get_or, set, Vec, Global, arith, ap, sym, ◌∙◌, subst, refl, inl, inr, append_assoc, length-append}
+use Rattle.std.proofs.Common.{◌≡◌, ◌≢◌, ℕ, zero, suc, ◌+◌, ◌-◌, ◌<◌, List, [], ◌∷◌, ◌++◌, length, take, map, get_or, set, Vec, Global, arith, ap, sym, ◌∙◌, subst, refl, inl, inr, append_assoc, length-append}
 use Rattle.std.specs.Prelude.{◌⊎◌, All, Contains}
 use Rattle.std.proofs.lemmas.Bool.{cases_lt}
 use Rattle.std.proofs.lemmas.List.{get_or_default, get_or_push, get_or-set_same, get_or-set_other, get_or-map, length-map, length-set, map-set, take_more, append-nil}
@@ -14,9 +14,9 @@ use Rattle.cert_graph.specs.Reach.{Takes}
 use Rattle.cert_graph.specs.Adequate.{at_row, row_of}
 use Rattle.cert_graph.specs.Changes.{changed, touched}
 use Rattle.cert_graph.specs.Graph.{Graph}
-use Rattle.cert_graph.specs.Issuing.{MemberIn, AreMemberships}
+use Rattle.cert_graph.specs.Issuing.{AreMemberships}
 use Rattle.cert_graph.specs.Nodes.{graph_of}
-use Rattle.cert_graph.specs.Stairs.{OpenIn, AreStairs, AreFlightsSoFar, OfEachGroup, HasFlightTo, MayClimb, AreClimbing}
+use Rattle.cert_graph.specs.Stairs.{OpenIn, AreStairs, AreFlightsSoFar, OfEachGroup, MayClimb, AreClimbing}
 use Rattle.cert_graph.proofs.Flights.{flight_pushed, flight_kept, flights_in}
 use Rattle.cert_graph.proofs.PlacesOfNodes.{element_at}
 
@@ -143,9 +143,9 @@ one_climbed g rows row done i groups x flights old new within is was step h =
       size ∙ count,
       λ k group own lt.
           let kept : k ≢ i → Goal k group (get_or (set flights i new) k own) = λ other.
-              let there = h.1 k group own lt in
-              subst (Goal k group) (sym (get_or-set_other flights i k new own other))
-              (there.0, λ c. elim (Contains-push_cases done i k c) [ inl d ↦ there.1 d | inr e ↦ absurd (other (sym e)) ]) in
+          let there = h.1 k group own lt in
+          subst (Goal k group) (sym (get_or-set_other flights i k new own other))
+          (there.0, λ c. elim (Contains-push_cases done i k c) [ inl d ↦ there.1 d | inr e ↦ absurd (other (sym e)) ]) in
           elim (cases_lt k i) [
             | inl below ↦ kept (λ e. absurd (omega (arith, e, below)))
             | inr least ↦ elim (cases_lt i k) [

@@ -99,10 +99,7 @@ fn changes_between(
     for position in 0..row.len() {
         let reach = row[position];
         if !is_same(before[position], reach) {
-            changes.push(Change {
-                position,
-                reach,
-            })?;
+            changes.push(Change { position, reach })?;
         }
     }
     Ok(changes)

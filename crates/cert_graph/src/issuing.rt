@@ -4,8 +4,8 @@ ghost use Rattle.std.specs.Prelude.{◌≡◌, [], length, map, slice_index_or, 
 ghost use Rattle.cert_graph.specs.Issuing.{IssuedBy, AreMemberships};
 ghost use Rattle.cert_graph.specs.Lists.{AreFilled};
 
-use crate::{Change, Nodes};
 use crate::lists::{empty_lists, put};
+use crate::{Change, Nodes};
 use std::alloc::{AllocError, Global};
 
 /// For each item the groups that issued it, by their positions among the groups, ascending: the way from an item to its

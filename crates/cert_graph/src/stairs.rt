@@ -202,7 +202,14 @@ fn climb_at(
         → AreClimbing (graph_of nodes.now) rows row.now (done ++ places.now) nodes.now.groups.items (map (λ f. f.items) flights.new.items)) }
 {
     for place in places {
-        climb(alloc, nodes, row, number, &nodes.groups[*place], &mut flights[*place])?;
+        climb(
+            alloc,
+            nodes,
+            row,
+            number,
+            &nodes.groups[*place],
+            &mut flights[*place],
+        )?;
     }
     Ok(())
 }

@@ -17,7 +17,7 @@ use Rattle.cert_graph.proofs.ReachFacts.{no_takes}
 use Rattle.cert_graph.proofs.PathLaws.{valid_from, no_two, only, first_names_none_twice}
 use Rattle.cert_graph.proofs.True.{first_path}
 use Rattle.cert_graph.proofs.NodeFacts.{fit_is_usable}
-use Rattle.cert_search.specs.Exact.{HoldsExactly, HoldsAll, HoldsNoElsewhere, HasExactRows, IsShort}
+use Rattle.cert_search.specs.Exact.{HoldsExactly, HoldsAll, HoldsNoElsewhere, IsShort}
 use Rattle.cert_graph.specs.Least.{IsLeast}
 use Rattle.cert_search.specs.Rows.{IsFixed, Opens}
 use Rattle.cert_search.specs.Found.{IsAlone}

@@ -1,7 +1,7 @@
-use Rattle.std.proofs.Common.{rules, ◌≡◌, ◌∙◌, ◌+◌, ◌<◌, ℕ, List, [], ◌∷◌, length, get_or, Option, Some, None, cond, arith, sym, subst, ap, refl}
+use Rattle.std.proofs.Common.{rules, ◌≡◌, ◌∙◌, [], ◌∷◌, length, get_or, Some, None, cond, arith, sym, ap, refl}
 use Rattle.std.specs.BTreeMap.{get}
 use Rattle.cert_graph.specs.Places.{shown, text_at, Shows}
-use Rattle.cert_graph.proofs.Gathering.{E, R, Gathered, gathered_same, gathered_known, gathered_new, gathered_all, one_text, shows_none}
+use Rattle.cert_graph.proofs.Gathering.{E, R, gathered_same, gathered_known, gathered_new, gathered_all, one_text, shows_none}
 use Rattle.cert_graph.proofs.buckets.alike.Goals as goal
 use Rattle.cert_graph.proofs.buckets.alike.Goals.{in-Some+in-Some-get+in_ok-push_to-in-Some-get, in-Some+in-None+in_ok-insert-in-None+in_ok-places-in-None+in_ok-push-in-None, in_default}
 

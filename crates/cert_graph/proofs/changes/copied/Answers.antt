@@ -1,5 +1,5 @@
 -- One step more.
-use Rattle.std.proofs.Common.{◌≡◌, ◌∙◌, ◌++◌, ◌∷◌, [], ap, sym, take, List, Vec, Global}
+use Rattle.std.proofs.Common.{◌∙◌, ◌++◌, ◌∷◌, [], ap, sym, take, List, Vec, Global}
 use Rattle.std.proofs.lemmas.List.{take_all, map_push}
 use Rattle.cert_graph.specs.declared.changes.Change.{Change}
 use Rattle.cert_graph.proofs.Changing.{items_by, items_more}

@@ -1,10 +1,10 @@
 -- One row more.
-use Rattle.std.proofs.Common.{◌≡◌, ◌∙◌, ◌+◌, ◌++◌, ◌∷◌, [], ap, sym, subst, List, length, map, replicate, take, get_or, Vec, Global}
+use Rattle.std.proofs.Common.{◌≡◌, ◌∙◌, ◌+◌, ◌++◌, ◌∷◌, [], ap, sym, List, length, map, replicate, take, Vec, Global}
 use Rattle.std.proofs.lemmas.List.{take_all, take_more, map_push, length-replicate, with_items_is}
 use Rattle.cert_graph.specs.declared.reach.Reach.{Reach}
 use Rattle.cert_graph.specs.declared.reach.Reach.TheVariants.{No}
 use Rattle.cert_graph.specs.declared.changes.Change.{Change}
-use Rattle.cert_graph.specs.Changes.{changed, rows_by}
+use Rattle.cert_graph.specs.Changes.{changed}
 use Rattle.cert_graph.proofs.Changing.{items_by, last_grows, rows_grow}
 use Rattle.cert_graph.proofs.RowByRow.{length-last}
 use Rattle.cert_graph.proofs.changes.steps_of_rows.Goals as goal

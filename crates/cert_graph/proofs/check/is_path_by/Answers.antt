@@ -1,5 +1,5 @@
 -- The number and the width of the rows, that they are a table, and the path by them.
-use Rattle.std.proofs.Common.{◌≡◌, ℕ, ◌+◌, ◌<◌, ◌∙◌, List, [], length, replicate, true, ap, sym, subst, arith}
+use Rattle.std.proofs.Common.{◌≡◌, ℕ, ◌+◌, ◌<◌, List, [], length, replicate, true, ap, sym, subst, arith}
 use Rattle.std.specs.Prelude.{◌↔◌}
 use Rattle.std.proofs.lemmas.List.{length-replicate}
 use Rattle.cert_graph.specs.declared.reach.Reach.{Reach}

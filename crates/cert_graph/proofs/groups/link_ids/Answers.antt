@@ -1,12 +1,12 @@
-use Rattle.std.proofs.Common.{◌≡◌, ◌+◌, ◌<◌, ℕ, List, length, get_or, Contains, arith, sym, subst, refl}
+use Rattle.std.proofs.Common.{◌≡◌, ◌+◌, ◌<◌, ℕ, length, Contains, arith, sym, subst}
 use Rattle.std.specs.Prelude.{◌↔◌}
 use Rattle.std.specs.List.Sorted.{IsStrictlyIncreasing}
 use Rattle.cert_graph.specs.declared.places.Part.TheVariants.{Id}
 use Rattle.cert_graph.specs.Places.{Shows}
-use Rattle.cert_graph.specs.Buckets.{IsBucket, AreBuckets}
+use Rattle.cert_graph.specs.Buckets.{AreBuckets}
 use Rattle.cert_graph.specs.Links.{Adds}
 use Rattle.cert_graph.proofs.Adding.{adds_as}
-use Rattle.cert_graph.proofs.Placing.{InBucket, Nothing, ids_all, ids_more, all_below, bucket_ascends, same_nothing}
+use Rattle.cert_graph.proofs.Placing.{ids_all, ids_more, all_below, bucket_ascends, same_nothing}
 use Rattle.cert_graph.proofs.groups.link_ids.Goals as goal
 
 pub between-requires : goal.between-requires

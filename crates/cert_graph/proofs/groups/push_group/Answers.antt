@@ -1,6 +1,4 @@
-use Rattle.std.proofs.Common.{rules, ◌≡◌, ◌∙◌, sym, arith, ◌<◌, length}
-use Rattle.std.proofs.lemmas.Bool.{eqb-true}
-use Rattle.cert_graph.specs.declared.nodes.Group.{Group}
+use Rattle.std.proofs.Common.{rules, ◌≡◌, arith, length}
 use Rattle.cert_graph.proofs.Adding.{adds_push, adds_none}
 use Rattle.cert_graph.proofs.groups.push_group.Goals as goal
 

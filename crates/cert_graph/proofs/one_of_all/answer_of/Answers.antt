@@ -1,11 +1,11 @@
 -- The first rows, or the last.
-use Rattle.std.proofs.Common.{◌≡◌, ℕ, ◌+◌, ◌-◌, ◌<◌, ◌≤◌, ◌∙◌, List, [], ◌∷◌, ◌++◌, length, map, take, drop, replicate, Vec, Global, rules, arith, ap, sym, subst, refl}
-use Rattle.std.proofs.lemmas.List.{take-map, length-map, length-take, length-take-le}
+use Rattle.std.proofs.Common.{◌≡◌, ℕ, ◌+◌, ◌-◌, ◌<◌, ◌≤◌, ◌∙◌, List, [], ◌∷◌, length, take, replicate, Vec, Global, arith, ap, sym, subst}
+use Rattle.std.proofs.lemmas.List.{take-map, length-take, length-take-le}
 use Rattle.cert_graph.specs.declared.reach.Reach.{Reach}
 use Rattle.cert_graph.specs.declared.reach.Reach.TheVariants.{No}
 use Rattle.cert_graph.specs.declared.changes.Change.{Change}
 use Rattle.cert_graph.specs.declared.inventory.Verdict.TheVariants.{FirstPath, Pathless}
-use Rattle.cert_graph.specs.Adequate.{row_of, IsAdequatePath, IsAdequateNone}
+use Rattle.cert_graph.specs.Adequate.{IsAdequatePath, IsAdequateNone}
 use Rattle.cert_graph.specs.Changes.{rows_by, last_by}
 use Rattle.cert_graph.specs.Inventory.{IsAdequateVerdict, shared_rows}
 use Rattle.cert_graph.specs.Nodes.{graph_of}

@@ -1,5 +1,5 @@
-use Rattle.std.proofs.Common.{◌≡◌, ◌+◌, ◌-◌, ◌<◌, ◌≤◌, ℕ, length, get_or, arith, sym, subst}
-use Rattle.cert_graph.proofs.Sifted.{Sifted, sifted_more, sifted_same, sifted_all}
+use Rattle.std.proofs.Common.{◌≡◌, ◌+◌, ◌-◌, ◌<◌, ℕ, length, get_or, arith}
+use Rattle.cert_graph.proofs.Sifted.{sifted_more, sifted_same, sifted_all}
 use Rattle.cert_graph.proofs.sifting.between.Goals as goal
 use Rattle.cert_graph.proofs.sifting.between.Goals.{then-place-first+then-place-first-2+in_ok-push, else-place-first, else-place-first-via-then-place-first+else-place-first-2, else-place-first-via-else-place-first}
 

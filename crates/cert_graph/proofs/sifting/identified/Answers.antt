@@ -1,8 +1,8 @@
-use Rattle.std.proofs.Common.{◌≡◌, ◌∙◌, ◌+◌, ◌<◌, ◌≤◌, ℕ, length, get_or, arith, sym, subst, ap}
+use Rattle.std.proofs.Common.{◌≡◌, ◌∙◌, ◌+◌, ℕ, length, get_or, arith, sym, subst, ap}
 use Rattle.std.specs.Prelude.{is_some}
 use Rattle.cert_graph.specs.Places.{text_at}
 use Rattle.cert_graph.specs.declared.places.Part.TheVariants.{Id}
-use Rattle.cert_graph.proofs.Sifted.{Sifted, sifted_more, sifted_same, sifted_whole, some_shown, same_flag, other_flag, nothing_added}
+use Rattle.cert_graph.proofs.Sifted.{sifted_more, sifted_same, sifted_whole, some_shown, same_flag, other_flag, nothing_added}
 use Rattle.cert_graph.proofs.sifting.identified.Goals as goal
 use Rattle.cert_graph.proofs.sifting.identified.Goals.{then-is_some-shown+in_ok-push, else-is_some-shown}
 

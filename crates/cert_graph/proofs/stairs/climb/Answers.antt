@@ -1,5 +1,5 @@
 -- The last flight begins in the row already, or has its stairs, or a further one.
-use Rattle.std.proofs.Common.{◌≡◌, ℕ, ◌<◌, [], ◌∷◌, ◌++◌, List, get_or, length, ◌-◌, sym, ◌∙◌, subst, inl}
+use Rattle.std.proofs.Common.{◌≡◌, ◌<◌, [], ◌∷◌, ◌++◌, List, get_or, length, ◌-◌, sym, ◌∙◌, subst, inl}
 use Rattle.cert_graph.specs.declared.stairs.Flight.{Flight}
 use Rattle.cert_graph.specs.declared.stairs.Stair.{Stair}
 use Rattle.cert_graph.specs.Nodes.{graph_of}

@@ -1,5 +1,5 @@
 -- All groups, or those that the changes touch.
-use Rattle.std.proofs.Common.{◌≡◌, ℕ, ◌<◌, List, length, map, Vec, Global, arith}
+use Rattle.std.proofs.Common.{ℕ, ◌<◌, length, map, Vec, Global, arith}
 use Rattle.std.proofs.lemmas.Result.{on_ok_weaker}
 use Rattle.cert_graph.proofs.Flights.{flights_in}
 use Rattle.cert_graph.proofs.Touching.{all_climbed, memberships_within}

@@ -1,6 +1,5 @@
 -- One change more.
-use Rattle.std.proofs.Common.{◌≡◌, ℕ, ◌+◌, ◌<◌, ◌≤◌, [], ◌++◌, ◌∙◌, List, length, get_or, map, take, Vec, Global, ap, sym, arith, subst}
-use Rattle.std.specs.Prelude.{All}
+use Rattle.std.proofs.Common.{◌≡◌, ℕ, ◌+◌, ◌≤◌, [], ◌++◌, ◌∙◌, List, length, get_or, map, take, Vec, Global, ap, sym, arith, subst}
 use Rattle.std.proofs.lemmas.List.{length-map, get_or-map, get_or_past, take_all, append-nil}
 use Rattle.cert_graph.specs.declared.reach.Reach.TheVariants.{No}
 use Rattle.cert_graph.specs.declared.changes.Change.{Change}

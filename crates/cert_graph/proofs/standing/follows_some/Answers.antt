@@ -1,5 +1,5 @@
 -- The groups of one change more.
-use Rattle.std.proofs.Common.{◌≡◌, ℕ, [], List, get_or, map, take, Vec, Global, true, sym, subst}
+use Rattle.std.proofs.Common.{◌≡◌, ℕ, List, get_or, map, Vec, Global, true, sym, subst}
 use Rattle.std.proofs.lemmas.List.{take_all}
 use Rattle.cert_graph.specs.declared.reach.Reach.TheVariants.{No}
 use Rattle.cert_graph.specs.declared.changes.Change.{Change}

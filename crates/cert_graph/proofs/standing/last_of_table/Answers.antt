@@ -1,7 +1,6 @@
 -- One row more is compared with the one before it, which then becomes the same.
-use Rattle.std.proofs.Common.{◌≡◌, ◌∙◌, ◌+◌, ◌<◌, ℕ, List, [], get_or, length, replicate, true, Vec, Global, ap, arith, subst, sym}
-use Rattle.std.specs.Prelude.{◌↔◌}
-use Rattle.std.proofs.lemmas.List.{take_all, with_items_is, get_or-map}
+use Rattle.std.proofs.Common.{◌≡◌, ◌∙◌, ◌<◌, ℕ, List, [], get_or, length, replicate, true, Vec, Global, ap, arith, subst, sym}
+use Rattle.std.proofs.lemmas.List.{take_all, with_items_is}
 use Rattle.cert_graph.specs.declared.changes.Change.{Change}
 use Rattle.cert_graph.specs.declared.reach.Reach.{Reach}
 use Rattle.cert_graph.specs.declared.reach.Reach.TheVariants.{No}
@@ -9,7 +8,7 @@ use Rattle.cert_graph.specs.Changes.{changed, last_by}
 use Rattle.cert_graph.specs.Groups.{HoldsEachLimit, FollowsRow}
 use Rattle.cert_graph.specs.Nodes.{graph_of}
 use Rattle.cert_graph.specs.Tables.{IsTable}
-use Rattle.cert_graph.proofs.Changing.{items_by, last_more, length-rows}
+use Rattle.cert_graph.proofs.Changing.{items_by, last_more}
 use Rattle.cert_graph.proofs.Following.{step_items, goes_refused, test_of}
 use Rattle.cert_graph.proofs.RowByRow.{row_of_no, rows_in, row_at, no_table, table_more}
 use Rattle.cert_graph.proofs.standing.last_of_table.Goals as goal

@@ -7,7 +7,7 @@ use Rattle.cert_graph.specs.Adequate.{IsAdequate, IsTrueAnswer}
 use Rattle.cert_graph.specs.Nodes.{graph_of}
 use Rattle.cert_graph.proofs.True.{adequate_is_true}
 use Rattle.cert_graph.proofs.NodeFacts.{fit_is_usable}
-use Rattle.cert_search.specs.Exact.{HasExactRows, IsShort}
+use Rattle.cert_search.specs.Exact.{IsShort}
 use Rattle.cert_search.specs.Found.{IsFound, IsAlone}
 use Rattle.cert_search.proofs.Answering.{alone_adequate, none_adequate, one_row_exact, adequate_short}
 use Rattle.cert_search.proofs.find.find_nodes.Goals as goal

@@ -1,17 +1,13 @@
 -- The walk's path, with the rows that it went down.
 use Rattle.std.proofs.Common.{◌≡◌, ℕ, ◌+◌, ◌<◌, List, length, replicate, Vec, Global, subst, sym, arith}
-use Rattle.cert_graph.specs.declared.reach.Reach.{Reach}
 use Rattle.cert_graph.specs.declared.reach.Reach.TheVariants.{No}
 use Rattle.cert_graph.specs.declared.changes.Change.{Change}
-use Rattle.cert_graph.specs.declared.inventory.Verdict.{Verdict}
 use Rattle.cert_graph.specs.Adequate.{row_of, IsAdequatePath}
 use Rattle.cert_graph.specs.Changes.{rows_by}
-use Rattle.cert_graph.specs.Lookup.{IsLookup}
 use Rattle.cert_graph.specs.Nodes.{graph_of}
 use Rattle.cert_graph.proofs.Changing.{items_by}
 use Rattle.cert_search.specs.Exact.{HoldsExactly, HoldsNoElsewhere}
 use Rattle.cert_search.specs.Inventory.{IsPathBy}
-use Rattle.cert_search.specs.Rows.{IsRun, Opens}
 use Rattle.cert_search.proofs.Exactness.{exact_no_elsewhere}
 use Rattle.cert_search.proofs.walk.first_path.Goals as goal
 
