@@ -8,6 +8,10 @@ use Rattle.std.proofs.Math.Seq.{get_or-append_seam}
 use Rattle.std.proofs.lemmas.Bool.{cases_lt, cases_eq}
 use Rattle.std.proofs.lemmas.List.{get_or_default, get_or-map, length-map, length-set, get_or-set_same, get_or-set_other}
 use Rattle.std.proofs.lemmas.List.Elements.{Contains-get_or}
+use Rattle.std.specs.Str.{bytes_eq}
+use Rattle.std.specs.Cmp.Lexicographic.{pointwise}
+use Rattle.std.specs.Cmp.Derive.Mapped.{pointwise-map}
+use Rattle.std.proofs.lemmas.Slice.Eq.{slice_eq-Decides, bytes_eq-Decides}
 use Rattle.std.proofs.lemmas.List.Kept.{AllPairs-from_increasing}
 use Rattle.cert_graph.specs.Entries.{IsAt}
 use Rattle.cert_graph.specs.Lists.{HasLast, IsPut}
@@ -21,6 +25,12 @@ use Rattle.cert_judge.specs.Copies.{IsSameList, AreAlike, AreAlikeAt, IsIn, AreC
 use Rattle.cert_judge.proofs.Grouping.{element}
 use Rattle.cert_judge.proofs.Listed.{in_plain, in_pushed, in_set, pushed}
 use Rattle.cert_judge.proofs.Mapped.{any_to, any_from}
+
+-- texts that are equal one by one
+pub texts_same : (xs ys : List (Bor (List ℕ))) (r : Bool) → r ≡ pointwise (λ a b. bytes_eq a.now b.now) xs ys → r ≡ true → map (λ s. s.now) xs ≡ map (λ s. s.now) ys
+texts_same xs ys r e =
+    let now : Bor (List ℕ) → List ℕ = λ s. s.now in
+    (slice_eq-Decides bytes_eq-Decides (map now xs) (map now ys) r (e ∙ sym (pointwise-map now bytes_eq xs ys))).0
 
 pub alike_itself : (j : JudgedItem) → AreAlike j j
 alike_itself (certificate_judged c) = (refl, refl)

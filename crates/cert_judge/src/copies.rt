@@ -31,6 +31,12 @@ fn is_same_certificate(one: &JudgedCertificate<'_>, other: &JudgedItem<'_>) -> b
     }
 }
 
+fn are_same(one: &[&[u8]], other: &[&[u8]]) -> bool
+    ensures { IsTrue result → map (λ s. s.now) one.now ≡ map (λ s. s.now) other.now }
+{
+    one == other
+}
+
 /// Whether an item is a list with the same octets and serial numbers, and they are both in force or
 /// both not.
 fn is_same_list(one: &JudgedList<'_>, other: &JudgedItem<'_>) -> bool
@@ -44,7 +50,7 @@ fn is_same_list(one: &JudgedList<'_>, other: &JudgedItem<'_>) -> bool
             if one.in_force != other.in_force {
                 return false;
             }
-            one.serials == other.serials
+            are_same(&one.serials, &other.serials)
         }
         _ => false,
     }

@@ -58,13 +58,12 @@ fn keys_of<'a>(alloc: Global, buckets: &[Bucket<'a>]) -> Result<Vec<&'a [u8]>, A
 
 /// The places of buckets.
 fn holders_of(alloc: Global, buckets: Vec<Bucket<'_>>) -> Result<Vec<Vec<usize>>, AllocError>
-    ensures { IfOk result (λ holders. map (λ l. l.items) holders.items ≡ map (λ b. b.places.items) buckets.items) }
+    ensures { IfOk result (λ holders. holders.items ≡ map (λ b. b.places) buckets.entry.items) }
 {
-    let mut holders = Vec::with_capacity(alloc, buckets.len())?;
-    for bucket in buckets {
-        holders.push(bucket.places)?;
-    }
-    Ok(holders)
+    buckets
+        .into_iter()
+        .map(|bucket| bucket.places)
+        .collect(alloc)
 }
 
 /// For each key the certificates at some places that it vouches for and that stand by the lists at
@@ -127,7 +126,8 @@ fn link_name<V: Vouch>(
         &copies.lists,
         &holders,
         &rows,
-    )
+    )?;
+    Ok(())
 }
 
 /// The groups of all items and anchors.

@@ -19,7 +19,7 @@ loop-number-preserved c =
     let at : row.items ≡ get_or rows k [] = sym (list_at c.args.rows.now k row [] lt c.index-rows-number.is) in
     let two = subst (λ z. (d : ℕ) → Contains z d ↔ (Contains f.items d ⊎ Contains m.items d)) c.deref.ensures.value c.in_ok-sides.ensures in
     let next = each_more rows (lists_of few) (lists_of many) k row.items f.items m.items (subst (λ i. k < i) (sym lr) lt) at two c.loop-number.invariant in
-    subst (λ z. EachInTwo rows (k + 1) z (lists_of c.push-2.new.self.items)) (sym (ap lists_of c.in_ok-push.ensures.items ∙ mapped_push few f))
+    subst (λ z. EachInTwo rows (k + 1) z (lists_of c.push-in-loop-number.new.self.items)) (sym (ap lists_of c.in_ok-push.ensures.items ∙ mapped_push few f))
     (subst (λ z. EachInTwo rows (k + 1) (lists_of few ++ f.items ∷ []) z) (sym (ap lists_of c.in_ok-push-2.ensures.items ∙ mapped_push many m)) next)
 
 pub returns-clause-whole : goal.returns-clause-whole
