@@ -16,6 +16,9 @@ pub mod StandingFacts
 pub mod SerialFacts
 pub mod RowFacts
 pub mod Vouched
+pub mod Listed
+pub mod Siding
+pub mod Copying
 pub mod NamedFacts
 pub mod PlaceFacts
 pub mod Bridging

@@ -1,9 +1,10 @@
 -- Links name by name and key by key.
 use Rattle.std.specs.Prelude.{◌↔◌}
-use Rattle.std.proofs.Common.{◌≡◌, sym, subst, ℕ, ◌+◌, ◌<◌, ◌≤◌, Bool, List, [], ◌∷◌, ◌++◌, length, arith, get_or, inl, inr, Some, None}
+use Rattle.std.proofs.Common.{◌≡◌, ◌∙◌, ap, sym, subst, ℕ, ◌+◌, ◌<◌, ◌≤◌, Bool, List, [], ◌∷◌, ◌++◌, length, map, arith, get_or, inl, inr, Some, None, Bor}
 use Rattle.std.specs.List.{All, Any, Contains}
 use Rattle.std.specs.List.Sorted.{IsStrictlyIncreasing}
 use Rattle.std.proofs.lemmas.Bool.{cases_lt}
+use Rattle.std.proofs.lemmas.List.{get_or-map, length-map}
 use Rattle.std.proofs.lemmas.List.Elements.{Contains-append_left, Contains-push, Contains-push_cases, Contains-get_or}
 use Rattle.std.proofs.lemmas.Option.{slice_get_past}
 use Rattle.cert_graph.specs.declared.nodes.Group.{Group}
@@ -13,11 +14,13 @@ use Rattle.cert_graph.specs.declared.places.Part.TheVariants.{Name, Key}
 use Rattle.cert_graph.specs.declared.places.Part.{Part}
 use Rattle.cert_graph.specs.Places.{shown_at, Shows}
 use Rattle.cert_graph.specs.Buckets.{IsBucket, AreBuckets}
-use Rattle.cert_graph.specs.Links.{Adds, AgreeOnId, IsPlaceLink, IsPlaceAnchor}
+use Rattle.cert_graph.specs.Links.{Adds}
 use Rattle.cert_graph.proofs.Sifted.{push_ascends}
 use Rattle.cert_graph.proofs.Adding.{UpTo, up_to_more, adds_then, adds_as}
 use Rattle.cert_judge.specs.declared.judged.JudgedItem.{JudgedItem}
 use Rattle.cert_judge.specs.Standing.{StandsBy, IsIssuedAt}
+use Rattle.cert_judge.specs.Copies.{IsIn, AreCopies, AreIssuedRows, IsSided, IsLinkBy, IsAnchorBy, AreLinkable}
+use Rattle.cert_judge.proofs.Copying.{issued_first}
 use Rattle.cert_judge.specs.NamedLinks.{IsUnder, StandsUnder, IsIssuedFrom, Holds, IsNamedLink, IsNamedAnchor}
 use Rattle.cert_judge.proofs.StandingFacts.{cert_mapped}
 
@@ -50,14 +53,6 @@ shows_within part all v q s = elim (cases_lt v (length all)) [
   | inr past ↦ absurd (nothing_shown (subst (λ o. shown_at part o ≡ Some q) (slice_get_past all v past) s))
 ]
 
--- a bucket's key, under a name
-abbrev pub IsKeyLink : (List ℕ → List ℕ → Type 0) → Bool → List JudgedItem → List Place → List ℕ → Bucket → ℕ → ℕ → Type 0
-IsKeyLink V demand js all name b v w =
-    IsIssuedFrom V demand js all name b.text.now v × Holds all name b.text.now (length js + w) × (w < length js) × AgreeOnId all v (length js + w)
-
-abbrev pub IsKeyAnchor : (List ℕ → List ℕ → Type 0) → Bool → List JudgedItem → List Place → ℕ → List ℕ → Bucket → ℕ → ℕ → Type 0
-IsKeyAnchor V demand js all m name b v a = IsIssuedFrom V demand js all name b.text.now v × Holds all name b.text.now (length js + length js + a) × (a < m)
-
 -- a bucket's name
 abbrev pub IsBucketLink : (List ℕ → List ℕ → Type 0) → Bool → List JudgedItem → List Place → Bucket → ℕ → ℕ → Type 0
 IsBucketLink V demand js all b = IsNamedLink V demand js all b.text.now
@@ -79,61 +74,100 @@ module _ (V : List ℕ → List ℕ → Type 0) (demand : Bool) (js : List Judge
     λ h. ((under v).1 h.0, (h.1.0, λ d. cert_mapped _ _ (λ c x. (x.0, (stands_iff key c.serial.now).1 x.1)) (get_or js v d) (h.1.1 d))),
   )
 
--- the links of one more key
-module _ (V : List ℕ → List ℕ → Type 0) (demand : Bool) (js : List JudgedItem) (all : List Place) (m : ℕ) (name places issued : List ℕ)
-    (named : (v : ℕ) → Contains places v ↔ Shows Name all v name) (under : (v : ℕ) → Contains issued v ↔ IsUnder js all name v) where
-  held : (b : Bucket) → IsBucket (Shows Key all) places b → (p : ℕ) → Contains b.places.items p ↔ Holds all name b.text.now p
-  held b h p = (λ c. let x = (h.exact p).0 c in ((named p).0 x.0, x.1), λ x. (h.exact p).1 ((named p).1 x.0, x.1))
+bucket_in : (bs : List Bucket) (k : ℕ) → k < length bs → Bucket
+bucket_in [] k lt = absurd (omega arith)
+bucket_in (b ∷ bs) k lt = b
 
-  pub key_more : (old mid new : List Group) (bs : List Bucket) (k : ℕ) (b : Bucket) (linked : List ℕ) → AreBuckets (Shows Key all) places bs → b ≡ get_or bs k b → k < length bs
-      → ((v : ℕ) → Contains linked v ↔ (Contains issued v × IsIssuedAt V demand js issued b.text.now v))
-      → Adds (length js) old mid (UpTo (IsKeyLink V demand js all name) bs k) (UpTo (IsKeyAnchor V demand js all m name) bs k)
-      → Adds (length js) mid new (IsPlaceLink all (length js) linked b.places.items) (IsPlaceAnchor (length js) m linked b.places.items)
-      → Adds (length js) old new (UpTo (IsKeyLink V demand js all name) bs (k + 1)) (UpTo (IsKeyAnchor V demand js all m name) bs (k + 1))
-  key_more old mid new bs k b linked are at lt exact before more =
-      let n = length js in
-      let own : IsBucket (Shows Key all) places b = subst (IsBucket (Shows Key all) places) (sym at) (are.each k b lt) in
-      let from = issued_from V demand js all name issued under b.text.now in
-      let here = held b own in
-      let link : (v w : ℕ) → IsPlaceLink all n linked b.places.items v w ↔ IsKeyLink V demand js all name b v w = λ v w. (
-        λ h. ((from v).0 ((exact v).0 h.0), (here (n + w)).0 h.1, h.2, h.3),
-        λ h. ((exact v).1 ((from v).1 h.0), (here (n + w)).1 h.1, h.2, h.3),
-      ) in
-      let anchor : (v a : ℕ) → IsPlaceAnchor n m linked b.places.items v a ↔ IsKeyAnchor V demand js all m name b v a = λ v a. (
-        λ h. ((from v).0 ((exact v).0 h.0), (here (n + n + a)).0 h.1, h.2),
-        λ h. ((exact v).1 ((from v).1 h.0), (here (n + n + a)).1 h.1, h.2),
-      ) in
-      adds_as n old new _ _ _ _ (adds_then n old mid new _ _ _ _ before (adds_as n mid new _ _ _ _ more link anchor))
-      (up_to_more (IsKeyLink V demand js all name) bs k b at lt) (up_to_more (IsKeyAnchor V demand js all m name) bs k b at lt)
+-- the links of a name, by rows for its keys
+module _ (V : List ℕ → List ℕ → Type 0) (demand : Bool) (js : List JudgedItem) (all : List Place) (m : ℕ) (name places issued : List ℕ) (named : (v : ℕ) → Contains places v ↔ Shows Name all v name) (under : (v : ℕ) → Contains issued v ↔ IsUnder js all name v)
+    (bs : List Bucket) (buckets : AreBuckets (Shows Key all) places bs) (keys : List (Bor (List ℕ))) (keys_are : keys ≡ map (λ b. b.text) bs) (holders : List (List ℕ)) (holders_are : holders ≡ map (λ b. b.places.items) bs) where
+  key_at : (k : ℕ) (b : Bucket) (o : Bor (List ℕ)) → k < length bs → get_or keys k o ≡ (get_or bs k b).text
+  key_at k b o lt = ap (λ l. get_or l k o) keys_are ∙ get_or-map (λ (x : Bucket). x.text) bs k b o lt
 
-  bucket_for : (bs : List Bucket) → AreBuckets (Shows Key all) places bs → (p : ℕ) (key : List ℕ) → Holds all name key p → Any (λ (b : Bucket). b.text.now ≡ key) bs
-  bucket_for bs are p key h = are.complete p key ((named p).1 h.0) h.1
+  holder_at : (k : ℕ) (b : Bucket) (d : List ℕ) → k < length bs → get_or holders k d ≡ (get_or bs k b).places.items
+  holder_at k b d lt = ap (λ l. get_or l k d) holders_are ∙ get_or-map (λ (x : Bucket). x.places.items) bs k b d lt
 
-  pub all_keys : (bs : List Bucket) (k : ℕ) → AreBuckets (Shows Key all) places bs → k ≡ length bs → (v w : ℕ) → UpTo (IsKeyLink V demand js all name) bs k v w ↔ IsNamedLink V demand js all name v w
-  all_keys bs k are end v w = (
-    λ u. (u.1.text.now, u.4.0, u.4.1, u.4.2, u.4.3),
-    λ l.
-        let b = bucket_for bs are (length js + w) l.0 l.2 in
-        let lt = b.2 in
-        (b.0, b.1, omega arith, b.3, subst (λ key. IsIssuedFrom V demand js all name key v × Holds all name key (length js + w) × (w < length js) × AgreeOnId all v (length js + w)) (sym b.4) (l.1, l.2, l.3, l.4)),
-  )
+  holder_count : length holders ≡ length bs
+  holder_count = ap length holders_are ∙ length-map bs (λ (x : Bucket). x.places.items)
 
-  pub all_anchor_keys : (bs : List Bucket) (k : ℕ) → AreBuckets (Shows Key all) places bs → k ≡ length bs → (v a : ℕ) → UpTo (IsKeyAnchor V demand js all m name) bs k v a ↔ IsNamedAnchor V demand js all m name v a
-  all_anchor_keys bs k are end v a = (
-    λ u. (u.1.text.now, u.4.0, u.4.1, u.4.2),
-    λ l.
-        let b = bucket_for bs are (length js + length js + a) l.0 l.2 in
-        let lt = b.2 in
-        (b.0, b.1, omega arith, b.3, subst (λ key. IsIssuedFrom V demand js all name key v × Holds all name key (length js + length js + a) × (a < m)) (sym b.4) (l.1, l.2, l.3)),
-  )
+  key_count : length keys ≡ length bs
+  key_count = ap length keys_are ∙ length-map bs (λ (x : Bucket). x.text)
 
-  pub behind : (b : Bucket) → IsBucket (Shows Key all) places b → ((v : ℕ) (key : List ℕ) → v < length js → Shows Key all v key → ⊥) → All (λ v. length js ≤ v) b.places.items
-  behind b h keyless k d lt =
-      let p = get_or b.places.items k d in
-      elim (cases_lt p (length js)) [
-        | inl low ↦ absurd (keyless p b.text.now low ((h.exact p).0 (Contains-get_or b.places.items k d lt)).1)
-        | inr high ↦ omega arith
-      ]
+  held : (k : ℕ) (b : Bucket) → k < length bs → (p : ℕ) → IsIn holders k p ↔ Holds all name (get_or bs k b).text.now p
+  held k b lt p =
+      let e = (buckets.each k b lt).exact p in
+      let n = holder_count in
+      let small : k < length holders = omega arith in (
+        λ c. let x = e.0 (subst (λ z. Contains z p) (holder_at k b [] lt) (c.1 [])) in ((named p).0 x.0, x.1),
+        λ x. (small, λ d. subst (λ z. Contains z p) (sym (holder_at k b d lt)) (e.1 ((named p).1 x.0, x.1))),
+      )
+
+  module _ (firsts : List ℕ) (lists rows : List (List ℕ)) (copies : AreCopies js issued firsts lists) (issues : AreIssuedRows V demand js firsts keys rows) where
+    pub sided_named : (v p : ℕ) → IsSided rows lists holders v p ↔ ((key : List ℕ) × IsIssuedFrom V demand js all name key v × Holds all name key p)
+    sided_named v p = (
+      λ h.
+          let lt = h.4.0 in
+          let n = holder_count in
+          let c = key_count in
+          let within : h.0 < length bs = omega arith in
+          let within2 : h.0 < length keys = omega arith in
+          let b = bucket_in bs h.0 within in
+          let o = b.text in
+          let i = ((issues.each h.0 h.1 o within2).0 h.2).1 in
+          let there = (issued_first V demand js issued firsts lists copies (get_or keys h.0 o).now h.1 v h.3).1 i in
+          let from = (issued_from V demand js all name issued under (get_or keys h.0 o).now v).0 (copies.within h.1 v h.3, there) in
+          ((get_or bs h.0 b).text.now, subst (λ (t : Bor (List ℕ)). IsIssuedFrom V demand js all name t.now v) (key_at h.0 b o within) from, (held h.0 b within p).0 h.4),
+      λ x.
+          let key = x.0 in
+          let some = buckets.complete p key ((named p).1 x.2.0) x.2.1 in
+          let k = some.0 in
+          let b = some.1 in
+          let within = some.2 in
+          let c = key_count in
+          let within2 : k < length keys = omega arith in
+          let is : (get_or bs k b).text.now ≡ key = ap (λ (y : Bucket). y.text.now) some.3 ∙ some.4 in
+          let from = (issued_from V demand js all name issued under key v).1 x.1 in
+          let one = copies.complete v from.0 in
+          let there = (issued_first V demand js issued firsts lists copies key one.0 v one.1).0 from.1 in
+          let count = copies.count in
+          let low = one.1.0 in
+          let small : one.0 < length firsts = omega arith in
+          let o = b.text in
+          let at : key ≡ (get_or keys k o).now = sym is ∙ ap (λ (t : Bor (List ℕ)). t.now) (sym (key_at k b o within)) in
+          (k, one.0, (issues.each k one.0 o within2).1 (small, subst (λ z. IsIssuedAt V demand js firsts z (get_or firsts one.0 0)) at there), one.1, (held k b within p).1 (subst (λ z. Holds all name z p) (sym is) x.2)),
+    )
+
+    pub all_named : (v w : ℕ) → IsLinkBy (IsSided rows lists holders) all (length js) v w ↔ IsNamedLink V demand js all name v w
+    all_named v w = (
+      λ h. let x = (sided_named v (length js + w)).0 h.0 in (x.0, x.1, x.2, h.1, h.2),
+      λ h. ((sided_named v (length js + w)).1 (h.0, h.1, h.2), h.3, h.4),
+    )
+
+    pub all_named_anchors : (v a : ℕ) → IsAnchorBy (IsSided rows lists holders) (length js) m v a ↔ IsNamedAnchor V demand js all m name v a
+    all_named_anchors v a = (
+      λ h. let x = (sided_named v (length js + length js + a)).0 h.0 in (x.0, x.1, x.2, h.1),
+      λ h. ((sided_named v (length js + length js + a)).1 (h.0, h.1, h.2), h.3),
+    )
+
+    pub linkable : ((v : ℕ) (key : List ℕ) → v < length js → Shows Key all v key → ⊥) → AreLinkable (length js) lists holders
+    linkable keyless = record {
+      copies_ascend = copies.ascend;
+      copies_within = λ d v x. ((under v).0 (copies.within d v x)).0;
+      holders_ascend = λ k lt.
+          let n = holder_count in
+          let within : k < length bs = omega arith in
+          let b = bucket_in bs k within in
+          subst IsStrictlyIncreasing (sym (holder_at k b [] within)) (buckets.each k b within).ascends;
+      holders_behind = λ k p x.
+          let lt = x.0 in
+          let n = holder_count in
+          let within : k < length bs = omega arith in
+          let b = bucket_in bs k within in
+          elim (cases_lt p (length js)) [
+            | inl low ↦ absurd (keyless p (get_or bs k b).text.now low ((held k b within p).0 x).1)
+            | inr high ↦ omega arith
+          ];
+    }
 
 -- the links of one more name
 pub name_more : (V : List ℕ → List ℕ → Type 0) (demand : Bool) (js : List JudgedItem) (all : List Place) (m : ℕ) (old mid new : List Group) (bs : List Bucket) (k : ℕ) (b : Bucket) → b ≡ get_or bs k b → k < length bs

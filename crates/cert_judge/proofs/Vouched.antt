@@ -1,16 +1,19 @@
 -- What is issued among the items that a key vouches for is what is issued among all.
 use Rattle.std.specs.Prelude.{◌↔◌}
-use Rattle.std.proofs.Common.{◌≡◌, ◌∙◌, sym, subst, ap, ℕ, ◌<◌, Bool, List, [], length, map, get_or, Bor, Vec, Global}
-use Rattle.std.specs.List.{Any, Contains}
-use Rattle.std.proofs.lemmas.List.{get_or-map, length-map}
+use Rattle.std.proofs.Common.{◌≡◌, ◌∙◌, sym, subst, ap, refl, ℕ, ◌+◌, ◌<◌, Bool, List, [], ◌∷◌, ◌++◌, length, length-append, map, arith, get_or, inl, inr, Bor, Vec, Global}
+use Rattle.std.specs.List.{All, Any, Contains}
+use Rattle.std.proofs.lemmas.Bool.{cases_lt}
+use Rattle.std.proofs.lemmas.List.{get_or-map, length-map, get_or_default}
+use Rattle.std.proofs.lemmas.List.Elements.{Contains-get_or}
 use Rattle.cert_graph.specs.Entries.{IsAt}
 use Rattle.cert_judge.specs.declared.judged.JudgedCertificate.{JudgedCertificate}
 use Rattle.cert_judge.specs.declared.judged.JudgedList.{JudgedList}
 use Rattle.cert_judge.specs.declared.judged.JudgedItem.{JudgedItem}
 use Rattle.cert_judge.specs.declared.judged.JudgedItem.TheVariants.{Certificate as certificate_judged, List as list_judged, Other as other_judged}
 use Rattle.cert_judge.specs.Standing.{octets_in, anything, WithCertificate, WithList, IsUsedBy, HasSerial, StandsBy, IsIssuedAt}
-use Rattle.cert_graph.specs.declared.buckets.Bucket.{Bucket}
 use Rattle.cert_judge.specs.Rows.{VouchesAt, IsRow, AreRows}
+use Rattle.cert_judge.specs.Copies.{IsIn, octets_at, places_at, AreIssuedRows}
+use Rattle.cert_judge.proofs.Listed.{in_pushed}
 use Rattle.cert_judge.proofs.Grouping.{element}
 
 module _ (V : List ℕ → List ℕ → Type 0) (key : List ℕ) where
@@ -93,26 +96,102 @@ module _ (V : List ℕ → List ℕ → Type 0) (key : List ℕ) where
           ((exact v).1 (h.0, here), (h.1.0, λ d. cert_mapped _ _ (λ x s. (tt, stands_to x.serial.now s.1)) (get_or js v d) (h.1.1 d))),
     )
 
--- of a row that a key vouches for
-pub row_issued : (V : List ℕ → List ℕ → Type 0) (demand : Bool) (js : List JudgedItem) (octets : List (Bor (List ℕ))) (issued key row : List ℕ) → map (λ o. o.now) octets ≡ map octets_in js → IsRow V octets issued key row
-    → (v : ℕ) → (Contains row v × IsIssuedAt anything demand js row [] v) ↔ (Contains issued v × IsIssuedAt V demand js issued key v)
-row_issued V demand js octets issued key row e h =
-    issued_among V key demand js issued row (λ v. let i = vouches_iff V key js octets e v in (λ c. let x = (h.exact v).0 c in (x.0, i.0 x.1), λ x. (h.exact v).1 (x.0, i.1 x.1)))
+pub mapped_contains : (f : ℕ → ℕ) (row : List ℕ) (v : ℕ) → Contains (map f row) v ↔ ((d : ℕ) × Contains row d × (f d ≡ v))
+mapped_contains f row v = (
+  λ c.
+      let lt : c.0 < length row = subst (λ n. c.0 < n) (length-map row f) c.1 in
+      let d = get_or row c.0 0 in
+      (d, Contains-get_or row c.0 0 lt, sym (get_or-map f row c.0 0 v lt) ∙ c.2),
+  λ x.
+      let c = x.1 in
+      (c.0, subst (λ n. c.0 < n) (sym (length-map row f)) c.1, get_or-map f row c.0 x.0 v c.1 ∙ ap f c.2 ∙ x.2),
+)
 
--- the row of a bucket's key
-pub row_of_bucket : (V : List ℕ → List ℕ → Type 0) (octets : List (Bor (List ℕ))) (issued issued' : List ℕ) (keys keys' : List (Bor (List ℕ))) (bs bs' : List Bucket) (rows : List (Vec ℕ Global)) (k : ℕ) (b : Bucket) (row : Vec ℕ Global)
-    → keys' ≡ keys → keys ≡ map (λ b. b.text) bs' → bs' ≡ bs → issued' ≡ issued → b ≡ get_or bs k b → k < length bs → row ≡ get_or rows k row → AreRows V keys' octets issued' rows → IsRow V octets issued b.text.now row.items
-row_of_bucket V octets issued issued' keys keys' bs bs' rows k b row e f same chosen at lt here h =
-    let text : Bucket → Bor (List ℕ) = λ b. b.text in
-    let all : keys' ≡ map text bs = e ∙ f ∙ ap (map text) same in
-    let r : AreRows V (map text bs) octets issued rows = subst (λ c. AreRows V (map text bs) octets c rows) chosen (subst (λ ks. AreRows V ks octets issued' rows) all h) in
-    let one = r.each k row b.text (subst (λ n. k < n) (sym (length-map bs text)) lt) in
-    let is : get_or (map text bs) k b.text ≡ b.text = get_or-map text bs k b b.text lt ∙ ap text (sym at) in
-    subst (λ (z : Vec ℕ Global). IsRow V octets issued b.text.now z.items) (sym here) (subst (λ (z : Bor (List ℕ)). IsRow V octets issued z.now (get_or rows k row).items) is one)
+-- the rows of the first keys
+pub record IssuedRowsUpTo (V : List ℕ → List ℕ → Type 0) (demand : Bool) (js : List JudgedItem) (firsts : List ℕ) (keys : List (Bor (List ℕ))) (k : ℕ) (rows : List (List ℕ)) : Type 0 where
+  pub count : length rows ≡ k
+  pub each : (i d : ℕ) (key : Bor (List ℕ)) → i < k → IsIn rows i d ↔ ((d < length firsts) × IsIssuedAt V demand js firsts (get_or keys i key).now (get_or firsts d 0))
 
-pub linked_from : (V : List ℕ → List ℕ → Type 0) (demand : Bool) (js : List JudgedItem) (octets : List (Bor (List ℕ))) (issued key row row' linked : List ℕ) → map (λ o. o.now) octets ≡ map octets_in js → IsRow V octets issued key row → row' ≡ row
-    → ((v : ℕ) → Contains linked v ↔ (Contains row' v × IsIssuedAt anything demand js row' [] v)) → (v : ℕ) → Contains linked v ↔ (Contains issued v × IsIssuedAt V demand js issued key v)
-linked_from V demand js octets issued key row row' linked e h same exact v =
-    let i = row_issued V demand js octets issued key row e h v in
-    let x = subst (λ l. Contains linked v ↔ (Contains l v × IsIssuedAt anything demand js l [] v)) same (exact v) in
-    (λ c. i.0 (x.0 c), λ c. x.1 (i.1 c))
+pub rows_none : (V : List ℕ → List ℕ → Type 0) (demand : Bool) (js : List JudgedItem) (firsts : List ℕ) (keys : List (Bor (List ℕ))) → IssuedRowsUpTo V demand js firsts keys 0 []
+rows_none V demand js firsts keys = record { count = refl; each = λ i d key lt. absurd (omega arith) }
+
+pub rows_whole : (V : List ℕ → List ℕ → Type 0) (demand : Bool) (js : List JudgedItem) (firsts : List ℕ) (keys : List (Bor (List ℕ))) (k : ℕ) (rows : List (List ℕ)) → k ≡ length keys → IssuedRowsUpTo V demand js firsts keys k rows → AreIssuedRows V demand js firsts keys rows
+rows_whole V demand js firsts keys k rows end h = record { count = h.count ∙ end; each = λ i d key lt. h.each i d key (omega arith) }
+
+-- the row of a key
+pub vouched_row : (V : List ℕ → List ℕ → Type 0) (keys octets : List (Bor (List ℕ))) (numbers : List ℕ) (rows : List (Vec ℕ Global)) (k : ℕ) (row : Vec ℕ Global) → AreRows V keys octets numbers rows → k < length keys → row ≡ get_or rows k row → (key : Bor (List ℕ)) → IsRow V octets numbers (get_or keys k key).now row.items
+vouched_row V keys octets numbers rows k row r lt at key = subst (λ (z : Vec ℕ Global). IsRow V octets numbers (get_or keys k key).now z.items) (sym at) (r.each k row key lt)
+
+-- of a row of numbers of places
+module _ (V : List ℕ → List ℕ → Type 0) (demand : Bool) (js : List JudgedItem) (firsts : List ℕ) (octets : List (Bor (List ℕ))) (numbers : List ℕ) (are : map (λ o. o.now) octets ≡ octets_at js firsts)
+    (whole : (d : ℕ) → Contains numbers d ↔ (d < length firsts)) (within : All (λ v. v < length js) firsts) where
+  vouched_iff : (key row : List ℕ) → IsRow V octets numbers key row → (d : ℕ) → Contains row d ↔ ((d < length firsts) × At V key js (get_or firsts d 0))
+  vouched_iff key row h d =
+      let now : Bor (List ℕ) → List ℕ = λ o. o.now in
+      let f : ℕ → List ℕ = λ v. octets_in (get_or js v other_judged) in
+      let n : length octets ≡ length firsts = sym (length-map octets now) ∙ ap length are ∙ length-map firsts f in
+      let same : (o : Bor (List ℕ)) → d < length firsts → (get_or octets d o).now ≡ f (get_or firsts d 0) = λ o lt.
+      sym (get_or-map now octets d o [] (subst (λ k. d < k) (sym n) lt)) ∙ ap (λ l. get_or l d []) are ∙ get_or-map f firsts d 0 [] lt in (
+        λ c.
+            let x = (h.exact d).0 c in
+            let lt = (whole d).0 x.0 in
+            let there = within d 0 lt in
+            let o : Bor (List ℕ) = record { ref_ptr = (0, 0); now = [] } in
+            (lt, (there, λ j. subst (λ i. V key (octets_in i)) (get_or_default js (get_or firsts d 0) other_judged j there) (subst (V key) (same o lt) (x.1.1 o)))),
+        λ x. (h.exact d).1 ((whole d).1 x.0, (subst (λ k. d < k) (sym n) x.0, λ o. subst (V key) (sym (same o x.0)) (x.1.1 other_judged))),
+      )
+
+  places_iff : (key row : List ℕ) → IsRow V octets numbers key row → (v : ℕ) → Contains (places_at firsts row) v ↔ (Contains firsts v × At V key js v)
+  places_iff key row h v =
+      let m = mapped_contains (λ d. get_or firsts d 0) row v in (
+        λ c.
+            let x = m.0 c in
+            let y = (vouched_iff key row h x.0).0 x.1 in
+            (subst (Contains firsts) x.2 (Contains-get_or firsts x.0 0 y.0), subst (At V key js) x.2 y.1),
+        λ x.
+            let c = x.0 in
+            let is : get_or firsts c.0 0 ≡ v = get_or_default firsts c.0 0 v c.1 ∙ c.2 in
+            m.1 (c.0, (vouched_iff key row h c.0).1 (c.1, subst (At V key js) (sym is) x.1), is),
+      )
+
+  pub row_issued : (key row found : List ℕ) → IsRow V octets numbers key row → ((d : ℕ) → Contains found d ↔ (Contains row d × IsIssuedAt anything demand js (places_at firsts row) [] (get_or firsts d 0)))
+      → (d : ℕ) → Contains found d ↔ ((d < length firsts) × IsIssuedAt V demand js firsts key (get_or firsts d 0))
+  row_issued key row found h exact d =
+      let u = get_or firsts d 0 in
+      let among = issued_among V key demand js firsts (places_at firsts row) (places_iff key row h) u in (
+        λ c.
+            let x = (exact d).0 c in
+            let y = (vouched_iff key row h d).0 x.0 in
+            (y.0, (among.0 ((places_iff key row h u).1 (Contains-get_or firsts d 0 y.0, y.1), x.1)).1),
+        λ x.
+            let there : At V key js u = (x.1.0, λ j. cert_vouched V key _ (λ c s. s.0) (get_or js u j) (x.1.1 j)) in
+            (exact d).1 ((vouched_iff key row h d).1 (x.0, there), (among.1 (Contains-get_or firsts d 0 x.0, x.1)).1),
+      )
+
+  pub rows_next : (keys : List (Bor (List ℕ))) (k : ℕ) (rows : List (List ℕ)) (row found : List ℕ) → ((key : Bor (List ℕ)) → IsRow V octets numbers (get_or keys k key).now row)
+      → ((d : ℕ) → Contains found d ↔ (Contains row d × IsIssuedAt anything demand js (places_at firsts row) [] (get_or firsts d 0))) → IssuedRowsUpTo V demand js firsts keys k rows → IssuedRowsUpTo V demand js firsts keys (k + 1) (rows ++ found ∷ [])
+  rows_next keys k rows row found is exact h =
+      let count = h.count in
+      record {
+        count = let long = length-append rows (found ∷ []) in omega arith;
+        each = λ i d key below.
+            let p = in_pushed rows found i d in
+            elim (cases_lt i k) [
+              | inl less ↦
+                  let e = h.each i d key less in (
+                    λ x. elim (p.0 x) [ inl y ↦ e.0 y | inr y ↦ let same = y.0 in absurd (omega arith) ],
+                    λ x. p.1 (inl (e.1 x)),
+                  )
+              | inr past ↦
+                  let same : i ≡ k = omega arith in
+                  let last : i ≡ length rows = omega arith in
+                  let one = row_issued (get_or keys k key).now row found (is key) exact d in
+                  let two = subst (λ j. Contains found d ↔ ((d < length firsts) × IsIssuedAt V demand js firsts (get_or keys j key).now (get_or firsts d 0))) (sym same) one in (
+                    λ x. elim (p.0 x) [ inl y ↦ let lt = y.0 in absurd (omega arith) | inr y ↦ two.0 y.1 ],
+                    λ x. p.1 (inr (last, two.1 x)),
+                  )
+            ];
+      }
+
+  pub row_within : (key row : List ℕ) → IsRow V octets numbers key row → All (λ d. d < length firsts) row
+  row_within key row h k d lt = (whole (get_or row k d)).0 ((h.exact (get_or row k d)).0 (Contains-get_or row k d lt)).0

@@ -15,6 +15,7 @@ pub mod Standing
 pub mod Serials
 pub mod Rows
 pub mod NamedLinks
+pub mod Copies
 pub mod LawsOfItems
 pub mod Examples
 pub mod Windows

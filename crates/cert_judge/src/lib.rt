@@ -7,6 +7,7 @@
 
 mod building;
 mod constraints;
+mod copies;
 mod distinct;
 mod items;
 mod judged;
@@ -19,6 +20,7 @@ mod policy;
 mod reading;
 mod revoking;
 mod serials;
+mod sides;
 mod standing;
 mod usage;
 mod vouch;

@@ -1,18 +1,20 @@
 //! Groups of certificates, name by name and key by key.
 
-ghost use Rattle.std.specs.Prelude.{◌≡◌, ◌↔◌, ◌+◌, ◌++◌, ◌<◌, ℕ, List, [], length, map, Contains, IfOk, OnOk};
+ghost use Rattle.std.specs.Prelude.{◌≡◌, ◌↔◌, ◌+◌, ◌++◌, ◌<◌, ℕ, List, [], length, map, All, Contains, IfOk, OnOk};
 ghost use Rattle.std.specs.List.Sorted.{IsStrictlyIncreasing};
 ghost use Rattle.cert_graph.specs.declared.places.Part.TheVariants.{Name, Key};
 ghost use Rattle.cert_graph.specs.Places.{Shows};
 ghost use Rattle.cert_graph.specs.Links.{Adds};
 ghost use Rattle.cert_judge.specs.JudgedItems.{as_issued, as_member, as_anchor};
-ghost use Rattle.cert_judge.specs.Standing.{octets_in};
+ghost use Rattle.cert_judge.specs.Copies.{AreIssuedRows};
 ghost use Rattle.cert_judge.specs.NamedLinks.{IsNamedLink, IsNamedAnchor, IsSomeLink, IsSomeAnchor};
 
 use crate::Vouch;
+use crate::copies::{copies_of, octets_of};
 use crate::judged::JudgedItem;
+use crate::sides::link_sides;
 use crate::standing::{issued_under, long_lists};
-use cert_graph::{Bucket, Group, Part, Place, alike, between, link_places};
+use cert_graph::{Bucket, Group, Part, Place, alike, between};
 use std::alloc::{AllocError, Global};
 
 /// The places of items as what was issued, then as issuers, and then of anchors.
@@ -47,17 +49,6 @@ fn numbers_below(alloc: Global, count: usize) -> Result<Vec<usize>, AllocError>
     Ok(numbers)
 }
 
-/// The octets of items.
-fn octets_of<'a>(alloc: Global, items: &[JudgedItem<'a>]) -> Result<Vec<&'a [u8]>, AllocError>
-    ensures { IfOk result (λ octets. map (λ o. o.now) octets.items ≡ map octets_in items.now) }
-{
-    let mut octets = Vec::with_capacity(alloc, items.len())?;
-    for item in items {
-        octets.push(item.octets())?;
-    }
-    Ok(octets)
-}
-
 /// The keys of buckets.
 fn keys_of<'a>(alloc: Global, buckets: &[Bucket<'a>]) -> Result<Vec<&'a [u8]>, AllocError>
     ensures { IfOk result (λ keys. keys.items ≡ map (λ b. b.text) buckets.now) }
@@ -65,13 +56,48 @@ fn keys_of<'a>(alloc: Global, buckets: &[Bucket<'a>]) -> Result<Vec<&'a [u8]>, A
     buckets.iter().map(|bucket| bucket.text).collect(alloc)
 }
 
+/// The places of buckets.
+fn holders_of(alloc: Global, buckets: Vec<Bucket<'_>>) -> Result<Vec<Vec<usize>>, AllocError>
+    ensures { IfOk result (λ holders. holders.items ≡ map (λ b. b.places) buckets.entry.items) }
+{
+    buckets
+        .into_iter()
+        .map(|bucket| bucket.places)
+        .collect(alloc)
+}
+
+/// For each key the certificates at some places that it vouches for and that stand by the lists at
+/// these places, by the numbers of the places. Who vouches is asked once.
+fn issued_by_each<V: Vouch>(
+    alloc: Global,
+    items: &[JudgedItem<'_>],
+    firsts: &[usize],
+    keys: &[&[u8]],
+    vouch: &V,
+    demand_lists: bool,
+) -> Result<Vec<Vec<usize>>, AllocError>
+    requires { All (λ v. v < length items.now) firsts.now }
+    ensures { IfOk result (λ rows. AreIssuedRows (V.vouches_for vouch.now).Vouches demand_lists items.now firsts.now keys.now (map (λ l. l.items) rows.items)) }
+{
+    let octets = octets_of(alloc, items, firsts)?;
+    let numbers = numbers_below(alloc, firsts.len())?;
+    let vouched = vouch.vouched_by_each(alloc, keys, &octets, &numbers)?;
+    let long = long_lists(alloc, items, firsts)?;
+    let mut rows = Vec::with_capacity(alloc, vouched.len())?;
+    for number in 0..vouched.len() {
+        let row = &vouched[number];
+        rows.push(issued_under(alloc, items, &long, firsts, row, demand_lists)?)?;
+    }
+    Ok(rows)
+}
+
 /// The groups of one name, whose places these are: for each key under it, what that key vouches for.
+/// Equal items are brought together first.
 fn link_name<V: Vouch>(
     alloc: Global,
     groups: &mut Vec<Group>,
     all: &[Place<'_>],
     items: &[JudgedItem<'_>],
-    octets: &[&[u8]],
     anchors: usize,
     name: &[u8],
     places: &[usize],
@@ -82,27 +108,25 @@ fn link_name<V: Vouch>(
     requires named { (v : ℕ) → Contains places.now v ↔ Shows Name all.now v name.now }
     requires keyless { (v : ℕ) (key : List ℕ) → v < length items.now → Shows Key all.now v key → ⊥ }
     requires counted { length all.now ≡ length items.now + length items.now + anchors }
-    requires octets { map (λ o. o.now) octets.now ≡ map octets_in items.now }
     ensures { OnOk result (Adds (length items.now) groups.old.items groups.new.items (IsNamedLink (V.vouches_for vouch.now).Vouches demand_lists items.now all.now name.now)
         (IsNamedAnchor (V.vouches_for vouch.now).Vouches demand_lists items.now all.now anchors name.now)) }
 {
     let issued = between(alloc, places, 0, items.len())?;
+    let copies = copies_of(alloc, items, &issued)?;
     let buckets = alike(alloc, all, Part::Key, places)?;
     let keys = keys_of(alloc, &buckets)?;
-    let rows = vouch.vouched_by_each(alloc, &keys, octets, &issued)?;
-    let long = long_lists(alloc, items, &issued)?;
-    for (number, bucket) in buckets.iter().enumerate() {
-        let linked = issued_under(alloc, items, &long, &rows[number], demand_lists)?;
-        link_places(
-            alloc,
-            groups,
-            all,
-            items.len(),
-            anchors,
-            &linked,
-            &bucket.places,
-        )?;
-    }
+    let holders = holders_of(alloc, buckets)?;
+    let rows = issued_by_each(alloc, items, &copies.firsts, &keys, vouch, demand_lists)?;
+    link_sides(
+        alloc,
+        groups,
+        all,
+        items.len(),
+        anchors,
+        &copies.lists,
+        &holders,
+        &rows,
+    )?;
     Ok(())
 }
 
@@ -120,7 +144,6 @@ pub(crate) fn groups_of<'a, V: Vouch>(
     let all = places_of(alloc, items, anchors)?;
     let chosen = numbers_below(alloc, all.len())?;
     let buckets = alike(alloc, &all, Part::Name, &chosen)?;
-    let octets = octets_of(alloc, items)?;
     let mut groups = Vec::new(alloc);
     for bucket in &buckets {
         link_name(
@@ -128,7 +151,6 @@ pub(crate) fn groups_of<'a, V: Vouch>(
             &mut groups,
             &all,
             items,
-            &octets,
             anchors.len(),
             bucket.text,
             &bucket.places,

@@ -1,12 +1,13 @@
 //! Which certificates were issued under a name and key, and stand by the lists there.
 
-ghost use Rattle.std.specs.Prelude.{◌≡◌, ◌↔◌, ℕ, Bool, List, [], Any, true, Contains, IsTrue, IfSome, IsNone, IfOk};
+ghost use Rattle.std.specs.Prelude.{◌≡◌, ◌↔◌, ℕ, Bool, List, [], Any, All, true, length, ◌<◌, slice_index_or, Contains, IsTrue, IfSome, IsNone, IfOk};
 ghost use Rattle.cert_graph.specs.Entries.{IsAt};
 ghost use Rattle.cert_judge.specs.declared.judged.JudgedItem.TheVariants.{List as list_judged};
 ghost use Rattle.std.specs.Borrow.{Bor};
 ghost use Rattle.std.specs.BTreeSet as sorted;
 ghost use Rattle.std.specs.List.Sorted.{IsStrictlyIncreasing};
 ghost use Rattle.cert_judge.specs.Serials.{IfCertificate, HasEqual, AreSetsAt, AreAsked};
+ghost use Rattle.cert_judge.specs.Copies.{places_at};
 ghost use Rattle.cert_judge.specs.Standing.{anything, WithCertificate, IsUsedBy, IsUsedAt, IsUsedAgainstAt, IsIssuedAt, IsIssuedBeside};
 
 use crate::judged::{JudgedItem, JudgedList};
@@ -120,28 +121,43 @@ fn is_issued(items: &[JudgedItem<'_>], place: usize, standing: &Standing<'_>) ->
     }
 }
 
-/// Of items that a key vouches for, the certificates that stand by the lists among them.
+/// The places of some numbers.
+fn places_at(alloc: Global, firsts: &[usize], numbers: &[usize]) -> Result<Vec<usize>, AllocError>
+    requires { All (λ d. d < length firsts.now) numbers.now }
+    ensures { IfOk result (λ places. places.items ≡ places_at firsts.now numbers.now) }
+{
+    let mut places = Vec::with_capacity(alloc, numbers.len())?;
+    for number in numbers {
+        places.push(firsts[*number])?;
+    }
+    Ok(places)
+}
+
+/// Of items that a key vouches for, the certificates that stand by the lists among them, each told by
+/// the number of its place.
 pub(crate) fn issued_under<'a>(
     alloc: Global,
     items: &[JudgedItem<'a>],
     long: &BTreeMap<usize, BTreeSet<&'a [u8]>>,
-    places: &[usize],
+    firsts: &[usize],
+    numbers: &[usize],
     demand_lists: bool,
 ) -> Result<Vec<usize>, AllocError>
-    requires ascends { IsStrictlyIncreasing places.now }
+    requires ascends { IsStrictlyIncreasing numbers.now }
+    requires within { All (λ d. d < length firsts.now) numbers.now }
     requires sets { AreSetsAt items.now long.now }
-    ensures ascends { IfOk result (λ found. IsStrictlyIncreasing found.items) }
-    ensures exact { IfOk result (λ found. (v : ℕ) → Contains found.items v ↔ (Contains places.now v × IsIssuedAt anything demand_lists items.now places.now [] v)) }
+    ensures { IfOk result (λ found. (d : ℕ) → Contains found.items d ↔ (Contains numbers.now d × IsIssuedAt anything demand_lists items.now (places_at firsts.now numbers.now) [] (slice_index_or firsts.now d 0))) }
 {
-    let asked = asked_of(alloc, items, places)?;
-    let standing = standing_of(alloc, items, long, places, &asked)?;
+    let places = places_at(alloc, firsts, numbers)?;
+    let asked = asked_of(alloc, items, &places)?;
+    let standing = standing_of(alloc, items, long, &places, &asked)?;
     let mut found = Vec::new(alloc);
     if demand_lists && !standing.listed {
         return Ok(found);
     }
-    for place in places {
-        if is_issued(items, *place, &standing) {
-            found.push(*place)?;
+    for number in numbers {
+        if is_issued(items, firsts[*number], &standing) {
+            found.push(*number)?;
         }
     }
     Ok(found)

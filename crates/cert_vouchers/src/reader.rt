@@ -21,7 +21,8 @@ pub struct VoucherReader {
 impl VoucherReader {
     /// A reader of no octets yet. It takes no memory.
     pub fn new(alloc: Global) -> VoucherReader
-        ensures { HasTaken result [] }
+        ensures takes { HasTaken result [] }
+        ensures ready { HasFailed result → ⊥ }
     {
         VoucherReader {
             reading: Ok(Reading::new(alloc)),

@@ -16,7 +16,7 @@ link_name-requires-clause-ascends g c =
     let S = Shows Name c.in_ok-all.all.items in
     let chosen = c.in_ok-chosen.chosen.items in
     let h = buckets_of Name c.deref.result.now c.in_ok-all.all.items c.deref-2.result.now chosen c.in_ok-buckets.buckets.items c.deref-bucket-items.result.now c.deref.ensures.value c.deref-2.ensures.value c.deref-bucket-items.ensures.value c.in_ok-buckets.ensures in
-    subst IsStrictlyIncreasing (sym c.deref-in-loop-bucket-3.ensures.value) (bucket_at S chosen c.deref-bucket-items.result.now c.loop-bucket.bucket-index c.bucket-item.result c.bucket-item.is c.loop-bucket-test.true h).ascends
+    subst IsStrictlyIncreasing (sym c.deref-in-loop-bucket-2.ensures.value) (bucket_at S chosen c.deref-bucket-items.result.now c.loop-bucket.bucket-index c.bucket-item.result c.bucket-item.is c.loop-bucket-test.true h).ascends
 
 pub link_name-requires-clause-named : goal.link_name-requires-clause-named
 link_name-requires-clause-named g c =
@@ -28,7 +28,7 @@ link_name-requires-clause-named g c =
     let own = bucket_at S chosen c.deref-bucket-items.result.now c.loop-bucket.bucket-index b c.bucket-item.is c.loop-bucket-test.true h in
     let len : c.len.result ≡ length all = search rules in
     let whole = subst (λ k. (v : ℕ) → Contains chosen v ↔ (v < k)) len c.in_ok-chosen.ensures.exact in
-    subst (λ l. (v : ℕ) → Contains l v ↔ Shows Name c.deref-in-loop-bucket.result.now v b.text.now) (sym c.deref-in-loop-bucket-3.ensures.value)
+    subst (λ l. (v : ℕ) → Contains l v ↔ Shows Name c.deref-in-loop-bucket.result.now v b.text.now) (sym c.deref-in-loop-bucket-2.ensures.value)
     (subst (λ (z : List Place). (v : ℕ) → Contains b.places.items v ↔ Shows Name z v b.text.now) (sym c.deref-in-loop-bucket.ensures.value)
     (named_by ((g.V.Vouch.vouches_for c.args.vouch.now).Vouches) c.args.demand_lists c.args.items.now all (length c.args.anchors.now) chosen whole b own))
 

@@ -1,89 +1,108 @@
-use Rattle.std.proofs.Common.{◌≡◌, ◌∙◌, ◌<◌, ◌≤◌, length, arith, sym, subst}
-use Rattle.std.specs.Prelude.{All}
+use Rattle.std.proofs.Common.{◌≡◌, ◌∙◌, ap, sym, subst, ℕ, ◌+◌, ◌<◌, List, [], length, map, Bor, Vec, Global, arith}
+use Rattle.std.specs.Prelude.{All, Contains}
 use Rattle.std.specs.List.Sorted.{IsStrictlyIncreasing}
+use Rattle.std.proofs.lemmas.List.{length-map}
+use Rattle.cert_graph.specs.declared.buckets.Bucket.{Bucket}
 use Rattle.cert_graph.specs.declared.places.Part.TheVariants.{Key}
 use Rattle.cert_graph.specs.Places.{Shows}
 use Rattle.cert_graph.specs.Buckets.{AreBuckets}
-use Rattle.cert_graph.specs.Links.{Adds, IsPlaceLink, IsPlaceAnchor}
+use Rattle.cert_graph.specs.Links.{Adds}
 use Rattle.cert_graph.proofs.Adding.{adds_as}
-use Rattle.cert_graph.proofs.Placing.{all_below}
-use Rattle.cert_judge.proofs.NamedFacts.{under_from, bucket_at, key_more, all_keys, all_anchor_keys, behind}
-use Rattle.cert_judge.proofs.Vouched.{row_of_bucket, linked_from}
+use Rattle.cert_judge.specs.Copies.{AreCopies, AreIssuedRows, IsSided, IsLinkBy, IsAnchorBy, AreLinkable}
+use Rattle.cert_judge.proofs.Listed.{lists_of}
+use Rattle.cert_judge.proofs.Mapped.{map_twice}
+use Rattle.cert_judge.proofs.Siding.{all_from}
+use Rattle.cert_judge.proofs.Copying.{firsts_within}
+use Rattle.cert_judge.proofs.NamedFacts.{under_from, linkable, all_named, all_named_anchors}
 use Rattle.cert_judge.proofs.name_groups.link_name.Goals as goal
 
-pub issued_under-requires-clause-ascends : goal.issued_under-requires-clause-ascends
-issued_under-requires-clause-ascends g c =
-    let V = (g.V.Vouch.vouches_for c.args.vouch.now).Vouches in
-    let own = row_of_bucket V c.args.octets.now c.in_ok-issued.issued.items c.deref-3.result.now c.in_ok-keys.keys.items c.deref-2.result.now c.deref-bucket-items.result.now c.deref.result.now c.in_ok-rows.rows.items c.loop-number.number c.bucket-item.result c.index.result.now
-    c.deref-2.ensures.value c.in_ok-keys.ensures (c.deref.ensures.value ∙ sym c.deref-bucket-items.ensures.value) c.deref-3.ensures.value c.bucket-item.is c.loop-number-test.true c.index.ensures c.in_ok-rows.ensures in
-    subst IsStrictlyIncreasing (sym c.deref-in-loop-number.ensures.value) own.ascends
+pub copies_of-requires-clause-ascends : goal.copies_of-requires-clause-ascends
+copies_of-requires-clause-ascends g c = subst IsStrictlyIncreasing (sym c.deref.ensures.value) c.in_ok-issued.ensures.ascends
 
-pub link_places-requires-clause-holders_ascend : goal.link_places-requires-clause-holders_ascend
-link_places-requires-clause-holders_ascend g c =
-    let S = Shows Key c.args.all.now in
-    let h : AreBuckets S c.args.places.now c.deref-bucket-items.result.now = subst (AreBuckets S c.args.places.now) (sym c.deref-bucket-items.ensures.value) c.in_ok-buckets.ensures in
-    subst IsStrictlyIncreasing (sym c.deref-in-loop-number-3.ensures.value) (bucket_at S c.args.places.now c.deref-bucket-items.result.now c.loop-number.number c.bucket-item.result c.bucket-item.is c.loop-number-test.true h).ascends
-
-pub link_places-requires-clause-linked_within : goal.link_places-requires-clause-linked_within
-link_places-requires-clause-linked_within g c =
+pub copies_of-requires-clause-within : goal.copies_of-requires-clause-within
+copies_of-requires-clause-within g c =
     let js = c.args.items.now in
-    let under = under_from js c.args.all.now c.args.name.now c.args.places.now c.in_ok-issued.issued.items c.requires.named c.in_ok-issued.ensures.exact in
-    let V = (g.V.Vouch.vouches_for c.args.vouch.now).Vouches in
-    let b = c.bucket-item.result in
-    let own = row_of_bucket V c.args.octets.now c.in_ok-issued.issued.items c.deref-3.result.now c.in_ok-keys.keys.items c.deref-2.result.now c.deref-bucket-items.result.now c.deref.result.now c.in_ok-rows.rows.items c.loop-number.number b c.index.result.now
-    c.deref-2.ensures.value c.in_ok-keys.ensures (c.deref.ensures.value ∙ sym c.deref-bucket-items.ensures.value) c.deref-3.ensures.value c.bucket-item.is c.loop-number-test.true c.index.ensures c.in_ok-rows.ensures in
-    let exact = linked_from V c.args.demand_lists js c.args.octets.now c.in_ok-issued.issued.items b.text.now c.index.result.now.items c.deref-in-loop-number.result.now c.in_ok-linked.linked.items c.requires.octets own c.deref-in-loop-number.ensures.value c.in_ok-linked.ensures.exact in
-    subst (All (λ v. v < length js)) (sym c.deref-in-loop-number-2.ensures.value) (all_below (length js) c.in_ok-linked.linked.items (λ v h. ((under v).0 ((exact v).0 h).0).0))
+    let issued = c.in_ok-issued.issued.items in
+    let under = under_from js c.args.all.now c.args.name.now c.args.places.now issued c.requires.named c.in_ok-issued.ensures.exact in
+    subst (All (λ v. v < length js)) (sym c.deref.ensures.value) (all_from (λ v. v < length js) issued (λ v h. ((under v).0 h).0))
 
-pub link_places-requires-clause-holders_behind : goal.link_places-requires-clause-holders_behind
-link_places-requires-clause-holders_behind g c =
-    let V = (g.V.Vouch.vouches_for c.args.vouch.now).Vouches in
+pub issued_by_each-requires : goal.issued_by_each-requires
+issued_by_each-requires g c =
     let js = c.args.items.now in
-    let S = Shows Key c.args.all.now in
-    let h : AreBuckets S c.args.places.now c.deref-bucket-items.result.now = subst (AreBuckets S c.args.places.now) (sym c.deref-bucket-items.ensures.value) c.in_ok-buckets.ensures in
-    let b = bucket_at S c.args.places.now c.deref-bucket-items.result.now c.loop-number.number c.bucket-item.result c.bucket-item.is c.loop-number-test.true h in
-    let under = under_from js c.args.all.now c.args.name.now c.args.places.now c.in_ok-issued.issued.items c.requires.named c.in_ok-issued.ensures.exact in
-    subst (All (λ v. length js ≤ v)) (sym c.deref-in-loop-number-3.ensures.value)
-    (behind V c.args.demand_lists js c.args.all.now c.args.anchors c.args.name.now c.args.places.now c.in_ok-issued.issued.items c.requires.named under c.bucket-item.result b c.requires.keyless)
+    let issued = c.in_ok-issued.issued.items in
+    let firsts = c.in_ok-copies.copies.firsts.items in
+    let lists = lists_of c.in_ok-copies.copies.lists.items in
+    let under = under_from js c.args.all.now c.args.name.now c.args.places.now issued c.requires.named c.in_ok-issued.ensures.exact in
+    let copies = subst (λ l. AreCopies js l firsts lists) c.deref.ensures.value c.in_ok-copies.ensures in
+    subst (All (λ v. v < length js)) (sym c.deref-3.ensures.value) (firsts_within js issued firsts lists copies (λ v h. ((under v).0 h).0))
 
-pub loop-number-preserved : goal.loop-number-preserved
-loop-number-preserved g c =
+pub link_sides-requires-clause-linkable : goal.link_sides-requires-clause-linkable
+link_sides-requires-clause-linkable g c =
     let V = (g.V.Vouch.vouches_for c.args.vouch.now).Vouches in
     let demand = c.args.demand_lists in
     let js = c.args.items.now in
-    let n = length js in
     let all = c.args.all.now in
     let m = c.args.anchors in
+    let name = c.args.name.now in
     let places = c.args.places.now in
-    let S = Shows Key all in
-    let bs = c.deref-bucket-items.result.now in
-    let b = c.bucket-item.result in
     let issued = c.in_ok-issued.issued.items in
-    let linked = c.in_ok-linked.linked.items in
-    let h : AreBuckets S places bs = subst (AreBuckets S places) (sym c.deref-bucket-items.ensures.value) c.in_ok-buckets.ensures in
-    let under = under_from js all c.args.name.now places issued c.requires.named c.in_ok-issued.ensures.exact in
-    let own = row_of_bucket V c.args.octets.now issued c.deref-3.result.now c.in_ok-keys.keys.items c.deref-2.result.now bs c.deref.result.now c.in_ok-rows.rows.items c.loop-number.number b c.index.result.now
-    c.deref-2.ensures.value c.in_ok-keys.ensures (c.deref.ensures.value ∙ sym c.deref-bucket-items.ensures.value) c.deref-3.ensures.value c.bucket-item.is c.loop-number-test.true c.index.ensures c.in_ok-rows.ensures in
-    let exact = linked_from V demand js c.args.octets.now issued b.text.now c.index.result.now.items c.deref-in-loop-number.result.now linked c.requires.octets own c.deref-in-loop-number.ensures.value c.in_ok-linked.ensures.exact in
-    let g1 = c.loop-number.groups.items in
-    let g2 = c.link_places.new.groups.items in
-    let more = subst (λ l. Adds n g1 g2 (IsPlaceLink all n linked l) (IsPlaceAnchor n m linked l)) c.deref-in-loop-number-3.ensures.value
-    (subst (λ l. Adds n g1 g2 (IsPlaceLink all n l c.deref-in-loop-number-3.result.now) (IsPlaceAnchor n m l c.deref-in-loop-number-3.result.now)) c.deref-in-loop-number-2.ensures.value c.in_ok-link_places.ensures) in
-    key_more V demand js all m c.args.name.now places issued c.requires.named under c.args.groups.now.items g1 g2 bs c.loop-number.number b linked h c.bucket-item.is c.loop-number-test.true exact c.loop-number.invariant more
+    let firsts = c.in_ok-copies.copies.firsts.items in
+    let lists = c.in_ok-copies.copies.lists.items in
+    let bs = c.in_ok-buckets.buckets.items in
+    let keys = c.in_ok-keys.keys.items in
+    let holders = c.in_ok-holders.holders.items in
+    let rows = c.in_ok-rows.rows.items in
+    let under = under_from js all name places issued c.requires.named c.in_ok-issued.ensures.exact in
+    let copies = subst (λ l. AreCopies js l firsts (lists_of lists)) c.deref.ensures.value c.in_ok-copies.ensures in
+    let keys_are : keys ≡ map (λ (b : Bucket). b.text) bs = c.in_ok-keys.ensures ∙ ap (map (λ (b : Bucket). b.text)) c.deref-2.ensures.value in
+    let holders_are : lists_of holders ≡ map (λ (b : Bucket). b.places.items) bs = ap lists_of c.in_ok-holders.ensures ∙ map_twice (λ (b : Bucket). b.places) (λ (l : Vec ℕ Global). l.items) bs in
+    let issues = subst (λ (l : List (Bor (List ℕ))). AreIssuedRows V demand js firsts l (lists_of rows)) c.deref-4.ensures.value (subst (λ l. AreIssuedRows V demand js l c.deref-4.result.now (lists_of rows)) c.deref-3.ensures.value c.in_ok-rows.ensures) in
+    let are = linkable V demand js all m name places issued c.requires.named under bs c.in_ok-buckets.ensures keys keys_are (lists_of holders) holders_are firsts (lists_of lists) (lists_of rows) copies issues c.requires.keyless in
+    subst (λ (l : List (Vec ℕ Global)). AreLinkable (length js) (lists_of l) (lists_of c.deref-6.result.now)) (sym c.deref-5.ensures.value)
+    (subst (λ (l : List (Vec ℕ Global)). AreLinkable (length js) (lists_of lists) (lists_of l)) (sym c.deref-6.ensures.value) are)
+
+pub link_sides-requires-clause-count : goal.link_sides-requires-clause-count
+link_sides-requires-clause-count g c =
+    let V = (g.V.Vouch.vouches_for c.args.vouch.now).Vouches in
+    let bs = c.in_ok-buckets.buckets.items in
+    let keys = c.in_ok-keys.keys.items in
+    let holders = c.in_ok-holders.holders.items in
+    let rows = c.in_ok-rows.rows.items in
+    let issues = subst (λ (l : List (Bor (List ℕ))). AreIssuedRows V c.args.demand_lists c.args.items.now c.deref-3.result.now l (lists_of rows)) c.deref-4.ensures.value c.in_ok-rows.ensures in
+    let keys_are : keys ≡ map (λ (b : Bucket). b.text) bs = c.in_ok-keys.ensures ∙ ap (map (λ (b : Bucket). b.text)) c.deref-2.ensures.value in
+    let one : length holders ≡ length bs = ap length c.in_ok-holders.ensures ∙ length-map bs (λ (b : Bucket). b.places) in
+    let two : length keys ≡ length bs = ap length keys_are ∙ length-map bs (λ (b : Bucket). b.text) in
+    let three : length rows ≡ length keys = sym (length-map rows (λ (l : Vec ℕ Global). l.items)) ∙ issues.count in
+    ap length c.deref-6.ensures.value ∙ one ∙ sym two ∙ sym three ∙ sym (ap length c.deref-7.ensures.value)
 
 pub returns : goal.returns
 returns g c =
     let V = (g.V.Vouch.vouches_for c.args.vouch.now).Vouches in
     let demand = c.args.demand_lists in
     let js = c.args.items.now in
+    let n = length js in
     let all = c.args.all.now in
     let m = c.args.anchors in
-    let places = c.args.places.now in
     let name = c.args.name.now in
-    let bs = c.deref-bucket-items.result.now in
+    let places = c.args.places.now in
     let issued = c.in_ok-issued.issued.items in
-    let h : AreBuckets (Shows Key all) places bs = subst (AreBuckets (Shows Key all) places) (sym c.deref-bucket-items.ensures.value) c.in_ok-buckets.ensures in
+    let firsts = c.in_ok-copies.copies.firsts.items in
+    let lists = c.in_ok-copies.copies.lists.items in
+    let bs = c.in_ok-buckets.buckets.items in
+    let keys = c.in_ok-keys.keys.items in
+    let holders = c.in_ok-holders.holders.items in
+    let rows = c.in_ok-rows.rows.items in
     let under = under_from js all name places issued c.requires.named c.in_ok-issued.ensures.exact in
-    let end : c.loop-number.number ≡ length bs = omega arith in
-    adds_as (length js) c.args.groups.now.items c.loop-number.groups.items _ _ _ _ c.loop-number.invariant (all_keys V demand js all m name places issued c.requires.named under bs c.loop-number.number h end)
-    (all_anchor_keys V demand js all m name places issued c.requires.named under bs c.loop-number.number h end)
+    let copies = subst (λ l. AreCopies js l firsts (lists_of lists)) c.deref.ensures.value c.in_ok-copies.ensures in
+    let keys_are : keys ≡ map (λ (b : Bucket). b.text) bs = c.in_ok-keys.ensures ∙ ap (map (λ (b : Bucket). b.text)) c.deref-2.ensures.value in
+    let holders_are : lists_of holders ≡ map (λ (b : Bucket). b.places.items) bs = ap lists_of c.in_ok-holders.ensures ∙ map_twice (λ (b : Bucket). b.places) (λ (l : Vec ℕ Global). l.items) bs in
+    let issues = subst (λ (l : List (Bor (List ℕ))). AreIssuedRows V demand js firsts l (lists_of rows)) c.deref-4.ensures.value (subst (λ l. AreIssuedRows V demand js l c.deref-4.result.now (lists_of rows)) c.deref-3.ensures.value c.in_ok-rows.ensures) in
+    let old = c.args.groups.now.items in
+    let new = c.link_sides.new.groups.items in
+    let S = λ (a b d : List (Vec ℕ Global)). IsSided (lists_of a) (lists_of b) (lists_of d) in
+    let added = subst (λ (d : List (Vec ℕ Global)). Adds n old new (IsLinkBy (S rows lists d) all n) (IsAnchorBy (S rows lists d) n m)) c.deref-6.ensures.value
+    (subst (λ (b : List (Vec ℕ Global)). Adds n old new (IsLinkBy (S rows b c.deref-6.result.now) all n) (IsAnchorBy (S rows b c.deref-6.result.now) n m)) c.deref-5.ensures.value
+    (subst (λ (a : List (Vec ℕ Global)). Adds n old new (IsLinkBy (S a c.deref-5.result.now c.deref-6.result.now) all n) (IsAnchorBy (S a c.deref-5.result.now c.deref-6.result.now) n m)) c.deref-7.ensures.value c.in_ok-link_sides.ensures)) in
+    adds_as n old new _ _ _ _ added
+    (all_named V demand js all m name places issued c.requires.named under bs c.in_ok-buckets.ensures keys keys_are (lists_of holders) holders_are firsts (lists_of lists) (lists_of rows) copies issues)
+    (all_named_anchors V demand js all m name places issued c.requires.named under bs c.in_ok-buckets.ensures keys keys_are (lists_of holders) holders_are firsts (lists_of lists) (lists_of rows) copies issues)
