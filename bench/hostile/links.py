@@ -8,7 +8,7 @@ from parts import (certificate, element, entry, extension, integer, key, name, r
                    voucher)
 from reports import PAIRS, PATHS, RISES, ROWS_READ, SQUARE
 
-# Sizes for reports that have a line for each two items and each list.
+# Sizes for reports that look at each two items and each list.
 CUBE = {"sizes": (25, 50, 100, 200), "small": (25, 50)}
 COPIES = square("each copy is used for each key of its issuer")
 ROW, BELOW, EMPTY = name("row"), name("below"), element(0x30)
@@ -26,7 +26,7 @@ def linked(count):
 
 
 @family("why-links-lists", "n certificates of one name and key, and n used lists that have them all",
-        "why", **CUBE, known=square("a line for each link and each list that revokes", 20_000))
+        "why", **CUBE, known=square("each link is looked at for each list that revokes", 20_000))
 def why_links_lists(count):
     items, lines = linked(count)
     rows = b"".join(entry(integer(it + 1)) for it in range(count))

@@ -5,12 +5,12 @@ from parts import name, p256_keys
 from signed import KEY, ROOT, X, issuers, signed_by_none
 
 # Squares that docs/COST.md states.
-PAIRS = square("a line for each certificate of a name and each issuer of that name", 5_000)
+PAIRS = square("each certificate is looked up under each key of its issuer's name", 5_000)
 LOOKED_UP = square("each list is looked up for each key of its issuer's name")
 LINKS = square("each copy is linked to each key")
 PATHS = square("each path is printed whole")
 RISES = square("a reach rises at n/2 items in n/4 rounds")
-# Sizes for reports that have as many lines as there are pairs of items.
+# Sizes for reports that look at each pair of items.
 SQUARE = {"sizes": (250, 500, 1_000, 2_000), "small": (100, 400)}
 
 also("why", "keys-none", "ids-never", "self-serials", **SQUARE, known=PAIRS)

@@ -637,6 +637,20 @@ class Reasons(Room):
         first = [*map(reasons.obstacle_of, found[reasons.Part.CERTIFICATES, 3]["not linked"].first)]
         self.assertEqual([it.to for it in first], [*range(reasons.MOST_REASONS)])
 
+    def test_ranges(self):
+        """A line of several positions is one obstacle for each of them."""
+        lines = ["none", "check yes", "at 3 to 0, 2-4 not linked: no voucher",
+                 "at 3 to anchor 1-2 not linked: revoked by list 7",
+                 f"at 4 to {', '.join(str(2 * it) for it in range(20))} and 3 more not linked: no voucher",
+                 "at 4 to 5-6 linked", ""]
+        found = reasons.places_of("\n".join(lines))
+        first, total = found[reasons.Part.CERTIFICATES, 3]["not linked"]
+        self.assertEqual((first, total), (
+            [*(f"at 3 to {it} not linked: no voucher" for it in (0, 2, 3, 4)),
+             *(f"at 3 to anchor {it} not linked: revoked by list 7" for it in (1, 2))], 6))
+        first, total = found[reasons.Part.CERTIFICATES, 4]["not linked"]
+        self.assertEqual((len(first), total), (20, 23))
+
     def test_limit(self):
         """A report of too many pairs isn't asked for, nor more than a block may have, where the
         octets that are read count, too."""

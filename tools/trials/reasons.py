@@ -191,8 +191,8 @@ def bound_rows():
               [*no_path, "at 1 CN=b", "at 1 to anchor 0 linked"], 1)
     yield Row("a path length with one that issued itself below",
               [ended, limited, certificate(name("b"), name("b"))], anchors,
-              [*no_path, "at 0 to 2 linked", "at 1 CN=b", "at 1 to anchor 0 linked", "at 2 CN=b",
-               "at 2 no issuer: no authority", "at 2 to 1 linked", "at 2 to 2 linked"], 1)
+              [*no_path[:-1], "at 0 to 1-2 linked", "at 1 CN=b", "at 1 to anchor 0 linked",
+               "at 2 CN=b", "at 2 no issuer: no authority", "at 2 to 1-2 linked"], 1)
     crossed = certificate(name("c"), name("b"), YEAR, [AUTHORITY])
     links = ["at 1 CN=b", "at 1 to 2 linked", "at 1 to anchor 0 linked", "at 2 CN=c",
              "at 2 to 1 linked"]
@@ -200,6 +200,23 @@ def bound_rows():
               [*no_path, *links, "at 1 leads to an anchor with at most 0 below"], 1)
     yield Row("a path length that a path keeps", [LEAF, limited, crossed], anchors,
               ["path 0 1 anchor 0", "at 0 CN=a", "at 0 to 1 linked", *links])
+
+
+def range_rows():
+    """A certificate with several issuers: which of them are in one line."""
+    links = ["none", "at 0 CN=a"]
+    for title, others, lines in (
+            ("one after the other", [1, 1, 1], ["at 0 to 1-3 linked"]),
+            ("with another item between", [1, 0, 1, 1], ["at 0 to 1, 3-4 linked"]),
+            ("each by itself, 21 of them", [1, 0] * 21,
+             ["at 0 to " + ", ".join(str(2 * it + 1) for it in range(20)) + " and 1 more linked"])):
+        items = [LEAF, *(certificate(name("b" if it else "other"), name("c")) for it in others)]
+        issuers = [k + 1 for k, it in enumerate(others) if it]
+        own = [line for k in issuers for line in
+               (f"at {k} CN=b", f"at {k} no issuer: no authority", f"at {k} no issuer here: CN=c")]
+        yield Row(f"issuers {title}", items, [], [*links, *lines, *own], 1)
+    yield Row("two anchors of a name", [LEAF], [ANCHOR, ANCHOR],
+              ["path 0 anchor 0", "at 0 CN=a", "at 0 to anchor 0-1 linked"])
 
 
 class Asking:
@@ -226,7 +243,7 @@ def text_of(lines):
 def try_rows(count, asking):
     """The rows whose dates and names are written out."""
     for row in (*list_rows(), *certificate_rows(), *repeat_rows(), *usage_rows(), *name_rows(),
-                *bound_rows()):
+                *bound_rows(), *range_rows()):
         files = (b"".join(row.items), b"".join(row.anchors),
                  paths.vouchers((KEY, it) for it in row.items))
         answer, *lines = row.lines

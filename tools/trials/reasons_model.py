@@ -6,6 +6,7 @@ leads to an anchor: there is no table.
 """
 import ipaddress
 from datetime import datetime
+from itertools import groupby
 from typing import NamedTuple, Optional
 
 from trials import hosts_model
@@ -25,6 +26,8 @@ TEXTS, WIDE_TEXT = {7, 12, 18, 19, 20, 21, 22, 25, 26, 27}, 30
 PURPOSES = {"1.3.6.1.5.5.7.3.1": "serverAuth", "1.3.6.1.5.5.7.3.2": "clientAuth",
             "1.3.6.1.5.5.7.3.3": "codeSigning", "1.3.6.1.5.5.7.3.4": "emailProtection",
             "1.3.6.1.5.5.7.3.8": "timeStamping", "1.3.6.1.5.5.7.3.9": "OCSPSigning"}
+# Reasons against a link, in their order.
+LINK_REASONS = "no voucher", "key identifiers differ", "revoked by list", "no list used"
 # How many names a list of names has at most, and octets of each.
 MOST_NAMES, MOST_OCTETS = 20, 253
 PATH, NONE, NO_TARGET = 0, 1, 3
@@ -152,6 +155,20 @@ def listed(texts):
     shown = [escaped(it[:MOST_OCTETS], b"\\,") + "..." * (len(it) > MOST_OCTETS) for it in texts]
     more = f" and {len(shown) - MOST_NAMES} more" * (len(shown) > MOST_NAMES)
     return ", ".join(shown[:MOST_NAMES]) + more
+
+
+def ranges(positions):
+    """Positions, of which those that follow each other are shown as the first and the last."""
+    apart = groupby(enumerate(sorted(positions)), lambda it: it[1] - it[0])
+    runs = [[position for _, position in run] for _, run in apart]
+    return listed(("-".join(map(str, run[::len(run) - 1] if run[1:] else run))).encode()
+                  for run in runs)
+
+
+def place_of(reason):
+    """Where a reason against a link comes: of lists the first one first."""
+    words, _, last = reason.text.rpartition(" ")
+    return LINK_REASONS.index(reason.kind), int(last) if words == reason.kind else 0
 
 
 def host_text(kind, content):
@@ -405,15 +422,22 @@ class Model:
         kind = f"path of {len(path)}" if len(path) < 3 else "path of 3 or more"
         return Line(kind, f"path {' '.join(map(str, path))} anchor {anchor}"), PATH
 
-    def link_lines(self, front, to, certificate, issuer):
-        """The lines of a link to a certificate or an anchor."""
-        is_anchor = to.startswith("anchor")
+    def link_lines(self, v, to, holders):
+        """The lines of the links to certificates or anchors, these by their positions: which hold,
+        and for each reason which don't."""
+        certificate, is_anchor = self.certificates[v], to.startswith("anchor")
         kind = "to an anchor" if is_anchor else "to a certificate"
-        reasons = self.unlinked(certificate, issuer, is_anchor)
-        if not reasons:
-            return [Line(f"{kind}: linked", f"{front} to {to} linked")]
-        return [Line(f"{kind}: {it.kind}", f"{front} to {to} not linked: {it.text}")
-                for it in reasons]
+        reasons = {w: self.unlinked(certificate, it, is_anchor) for w, it in holders.items()
+                   if it.subject == certificate.issuer}
+        linked = Line("linked", "linked")
+        each = [linked, *sorted({it for found in reasons.values() for it in found}, key=place_of)]
+        lines = []
+        for reason in each:
+            to_whom = [w for w, found in reasons.items() if reason in (found or [linked])]
+            words = reason.text if reason is linked else f"not linked: {reason.text}"
+            lines += [Line(f"{kind}: {reason.kind}",
+                           f"at {v} to {to}{ranges(to_whom)} {words}")] * bool(to_whom)
+        return lines
 
     def certificate_lines(self, v):
         """All lines of a certificate that is reached."""
@@ -425,13 +449,10 @@ class Model:
         if v != self.asked.target:
             found += [it._replace(text=f"{front} no issuer: {it.text}")
                       for it in unissued(certificate)]
-        issuers = [(str(w), it) for w, it in self.certificates.items()
-                   if it.subject == certificate.issuer]
-        issuers += [(f"anchor {a}", it) for a, it in self.roots.items()
-                    if it.subject == certificate.issuer]
-        for to, issuer in issuers:
-            found += self.link_lines(front, to, certificate, issuer)
-        if not issuers:
+        links = self.link_lines(v, "", self.certificates)
+        links += self.link_lines(v, "anchor ", self.roots)
+        found += links
+        if not links:
             name = shown_name(certificate.issuer)
             found.append(Line("no issuer here", f"{front} no issuer here: {name}"))
         return found

@@ -31,6 +31,7 @@ BLOCKSIZE = "200000"
 SUMMARY = re.compile(r"inventory: (\d+) entries, (\d+) rows \((.*)\)")
 COUNTS = re.compile(r"inventory: (\d+) issuers and lists, (\d+) blocks, (\d+) faults")
 PATH = re.compile(r"\d+ path \d+ ?([\d ]*?) ?anchor (\d+)")
+TO_MANY = re.compile(r"(at \d+ to (?:anchor )?)(\d[-\d]*(?:, \d[-\d]*)*) (.*)")
 OBSTACLE = re.compile(r"not usable|no issuer|not linked|not used|leads to an anchor")
 # How many certificates without a path are asked about over everything, too.
 WHYS = 5
@@ -79,7 +80,8 @@ class Whole:
         """What stands in the way, by digests: as the column `reasons` has it, in any order."""
         position = self.places[place]
         lines = self.report("why", "--target", str(position))
-        return {self.by_digests(it, self.digests[position]) for it in lines if OBSTACLE.search(it)}
+        return {self.by_digests(one, self.digests[position]) for it in lines if OBSTACLE.search(it)
+                for one in spread(it)}
 
     def by_digests(self, line, target):
         def item(position):
@@ -90,6 +92,17 @@ class Whole:
         line = re.sub(r"^at (\d+) to (\d+)", lambda it: f"at {item(it[1])} to {item(it[2])}", line)
         line = re.sub(r"^(at|list) (\d+) ", lambda it: f"{it[1]} {item(it[2])} ", line)
         return re.sub(r"revoked by list (\d+)$", lambda it: f"revoked by list {item(it[1])}", line)
+
+
+def spread(line):
+    """A line for each position of a line of several."""
+    found = TO_MANY.fullmatch(line)
+    if not found:
+        return [line]
+    front, many, said = found.groups()
+    ends = [it.partition("-") for it in many.split(", ")]
+    return [f"{front}{to} {said}" for first, _, last in ends
+            for to in range(int(first), int(last or first) + 1)]
 
 
 def same_answers(count, whole, rows, answers):

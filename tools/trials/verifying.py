@@ -176,7 +176,7 @@ def refused(v, title, root):
     answer, ends, outcome = found[0], 0 if is_accepted else 1, "path" if is_accepted else "refused" if is_path else "none"
     yield title, (status, answer["status"], answer["outcome"], len(answer["path"]) > 0, told), (ends, ends, outcome, is_path, [])
     reasons = {it["reason"] for it in answer["reasons"]}
-    true = {re.sub(r"^at \d+ (?:to (?:anchor )?\d+ )?(?:not usable: |no issuer: |not linked: )?", "", it) for it in wanted.why if obstacle(it)}
+    true = {re.sub(r"^at \d+ (?:to (?:anchor )?\d[-, \d]* )?(?:not usable: |no issuer: |not linked: )?", "", it) for it in wanted.why if obstacle(it)}
     true = {"no issuer here" if it.startswith("no issuer here: ") else it for it in true} or CONCLUDED.get(title, set())
     yield f"{title}: its reasons", reasons, true
     rules = {it["rule"] for it in answer["reasons"]}

@@ -4,10 +4,13 @@ from typing import NamedTuple
 
 ANSWER = re.compile(r"path ((?:\d+ )+)anchor (\d+)")
 AT, LIST = re.compile(r"at (\d+) (.*)"), re.compile(r"list (\d+) (.*)")
-LINK = re.compile(r"to (anchor )?(\d+) (?:(linked)|not linked: (.*))")
+# Positions and ranges of them, and how many of these are left out.
+LINK = re.compile(r"to (anchor )?(\d[-\d]*(?:, \d[-\d]*)*)(?: and \d+ more)? (?:(linked)|not linked: (.*))")
 BOUND = re.compile(r"leads to an anchor with at most (\d+) below")
 REVOKED = re.compile(r"revoked by list (\d+)")
 NOT_USABLE, NO_ISSUER, MISSING, NOT_USED = "not usable: ", "no issuer: ", "no issuer here: ", "not used: "
+# So many links of a report are held; beyond them the first of each line.
+MOST_LINKS = 100_000
 # What is said of a certificate that isn't for the purpose, and of a target that doesn't serve the host.
 UNMET = ("isn't for ", "doesn't serve ")
 
@@ -18,6 +21,28 @@ class Link(NamedTuple):
     is_anchor: bool
 
 
+def positions(words):
+    """The positions of a list of them and of ranges."""
+    for one in words.split(", "):
+        first, _, last = one.partition("-")
+        yield from range(int(first), int(last or first) + 1)
+
+
+class Room:
+    """How many links may still be held."""
+
+    def __init__(self, left):
+        self.left = left
+
+    def first(self, many):
+        """As many as there is room for, at least one."""
+        for count, it in enumerate(many):
+            if count and self.left <= 0:
+                return
+            self.left -= 1
+            yield it
+
+
 class Node:
     """A certificate that the target leads to by names, and what is in its way."""
 
@@ -25,12 +50,12 @@ class Node:
         self.position, self.not_usable, self.unmet, self.no_issuer = position, [], [], []
         self.links, self.most, self.is_missing = {}, None, False
 
-    def take(self, fact):
+    def take(self, fact, room):
         """Takes what a line says of it."""
         link, bound = LINK.fullmatch(fact), BOUND.fullmatch(fact)
         if link:
-            whys = self.links.setdefault(Link(int(link[2]), bool(link[1])), [])
-            whys += [] if link[3] else [link[4]]
+            for to in room.first(positions(link[2])):
+                self.links.setdefault(Link(to, bool(link[1])), []).extend([] if link[3] else [link[4]])
         elif bound:
             self.most = int(bound[1])
         elif fact.startswith(NOT_USABLE):
@@ -59,7 +84,7 @@ class Report:
 
     def __init__(self, lines):
         self.outcome, self.path, self.anchor, self.nodes, self.unused = "no target", None, None, {}, {}
-        self.is_checked = "check yes" in lines
+        self.is_checked, self.room = "check yes" in lines, Room(MOST_LINKS)
         for line in lines:
             self.take(line)
 
@@ -78,7 +103,7 @@ class Report:
     def take_node(self, position, fact):
         """Takes what a line says of a certificate; the first line of each has its name."""
         if position in self.nodes:
-            self.nodes[position].take(fact)
+            self.nodes[position].take(fact, self.room)
         else:
             self.nodes[position] = Node(position)
 

@@ -14,3 +14,7 @@ mod Unmet
 mod Told
 mod WorkedDemands
 mod Hosting
+mod Ranging
+mod Fating
+mod Fated
+mod Revoking

@@ -11,22 +11,17 @@ use Rattle.cert_judge.specs.Items.{item_of, certificate_of, certificate_item}
 use Rattle.cert_judge.specs.ItemGraph.{IsCertificateWith}
 use Rattle.cert_judge.specs.Revoking.{Item}
 use Rattle.cert_reasons.proofs.Certain.{viewed_by}
-use Rattle.cert_model.specs.Octets.{key_octets}
-use Rattle.cert_judge.specs.ItemGraph.{HaveSameKeyId}
 use Rattle.cert_judge.specs.Revoking.{Rules}
-use Rattle.cert_reasons.specs.declared.links.Unlinked.{Unlinked}
 use Rattle.cert_judge.specs.declared.items.ListItem.{ListItem}
 use Rattle.cert_judge.specs.Items.{list_of, list_item}
 use Rattle.cert_reasons.specs.declared.lists.Unused.{Unused}
 use Rattle.cert_reasons.specs.Lists.{HasReasonAmong, list_order}
-use Rattle.certpath_why.specs.Lines.{list_lines}
+use Rattle.certpath_why.specs.Lines.{list_lines, to_items, to_anchors}
 use Rattle.certpath_why.proofs.Texts.{texts_append, texts_one}
 use Rattle.cert_reasons.specs.Order.{AreAll}
-use Rattle.cert_reasons.specs.Links.{HasLinkReason, link_order}
-use Rattle.certpath_why.specs.Lines.{to_item, to_anchor, link_lines}
 use Rattle.certpath_inputs.specs.declared.demand.Demand.{Demand}
 use Rattle.certpath_why.specs.Demanded.{AreDemandLines}
-use Rattle.certpath_why.specs.Why.{TellsLink, TellsAnchor, AreTexts, missing_lines, TellsLinks, TellsUnusable, TellsNoIssuer, TellsCertificate, TellsAt, TellsItem, TellsItemAt, TellsList, AreKeysOf, positions, octets_at}
+use Rattle.certpath_why.specs.Why.{TellsGroups, IsLinkedTo, FailsTo, IsLinkedToAnchor, FailsToAnchor, AreTexts, missing_lines, TellsLinks, TellsUnusable, TellsNoIssuer, TellsCertificate, TellsAt, TellsItem, TellsItemAt, TellsList, AreKeysOf, positions, octets_at}
 use Rattle.certpath_why.specs.Lines.{subject_line}
 use Rattle.certpath_why.specs.Appended.{Appends}
 use Rattle.certpath_why.specs.Reached.{HasSubject, ArePositions}
@@ -41,25 +36,10 @@ told_target place target lines e = ap (λ b. if b then [] else lines) (sym (eq-e
 pub told_other : (place target : ℕ) (lines : List ℕ) → (place ≡ target → ⊥) → lines ≡ (if nat_eq place target then [] else lines)
 told_other place target lines apart = ap (λ b. if b then [] else lines) (sym (ne_eqb place target apart))
 
-pub tells_link : (r : Rules) (read : List ReadItem) (v : ℕ) (x : Item) (c : Certificate) (w : ℕ) (item : CertificateItem) (rs : List Unlinked) (text : List ℕ) → IsAt read w (λ y. y ≡ certificate_read item)
-    → AreAll link_order (HasLinkReason r (map item_of read) x c item.subject.now item.key.now (HaveSameKeyId c (certificate_of item))) rs → text ≡ link_lines (to_item v w) rs → TellsLink r (map item_of read) v x c w text
-tells_link r read v x c w item rs text at all is =
-    let d = certificate_of item in
-    let named : AreAll link_order (HasLinkReason r (map item_of read) x c (name_octets d.subject) item.key.now (HaveSameKeyId c d)) rs = subst (λ name. AreAll link_order (HasLinkReason r (map item_of read) x c name item.key.now (HaveSameKeyId c d)) rs) item.subject_is all in
-    let keyed : AreAll link_order (HasLinkReason r (map item_of read) x c (name_octets d.subject) (key_octets d.key) (HaveSameKeyId c d)) rs = subst (λ key. AreAll link_order (HasLinkReason r (map item_of read) x c (name_octets d.subject) key (HaveSameKeyId c d)) rs) item.key_is named in
-    (with_read (λ e. (reasons : List Unlinked) × AreAll link_order (HasLinkReason r (map item_of read) x c (name_octets e.subject) (key_octets e.key) (HaveSameKeyId c e)) reasons × (text ≡ link_lines (to_item v w) reasons)) read w item at).0 (rs, keyed, is)
-
-pub tells_anchor : (r : Rules) (items : List Item) (read : List ReadItem) (v : ℕ) (x : Item) (c : Certificate) (a : ℕ) (item : CertificateItem) (rs : List Unlinked) (text : List ℕ) → IsAt read a (λ y. y ≡ certificate_read item)
-    → AreAll link_order (HasLinkReason r items x c item.subject.now item.key.now (Unit {0})) rs → text ≡ link_lines (to_anchor v a) rs → TellsAnchor r items (map item_of read) v x c a text
-tells_anchor r items read v x c a item rs text at all is =
-    let d = certificate_of item in
-    let named : AreAll link_order (HasLinkReason r items x c (name_octets d.subject) item.key.now (Unit {0})) rs = subst (λ name. AreAll link_order (HasLinkReason r items x c name item.key.now (Unit {0})) rs) item.subject_is all in
-    let keyed : AreAll link_order (HasLinkReason r items x c (name_octets d.subject) (key_octets d.key) (Unit {0})) rs = subst (λ key. AreAll link_order (HasLinkReason r items x c (name_octets d.subject) key (Unit {0})) rs) item.key_is named in
-    (with_read (λ e. (reasons : List Unlinked) × AreAll link_order (HasLinkReason r items x c (name_octets e.subject) (key_octets e.key) (Unit {0})) reasons × (text ≡ link_lines (to_anchor v a) reasons)) read a item at).0 (rs, keyed, is)
-
 pub tells_links : (r : Rules) (items anchors : List Item) (v : ℕ) (x : CertificateItem) (ws hs : List ℕ) (first one two last : List ℕ)
     → ArePositions (HasSubject items x.issuer.now) ws → ArePositions (HasSubject anchors x.issuer.now) hs
-    → Appends (AreTexts (TellsLink r items v (certificate_item x) (certificate_of x)) ws) first one → Appends (AreTexts (TellsAnchor r items anchors v (certificate_item x) (certificate_of x)) hs) one two
+    → Appends (TellsGroups (to_items v) (IsLinkedTo r items (certificate_item x)) (FailsTo r items (certificate_item x) (certificate_of x))) first one
+    → Appends (TellsGroups (to_anchors v) (IsLinkedToAnchor r items anchors (certificate_item x)) (FailsToAnchor r items anchors (certificate_item x) (certificate_of x))) one two
     → last ≡ two ++ missing_lines v x.issuer.now ws hs → Appends (TellsLinks r items anchors v (certificate_item x) (certificate_of x)) first last
 tells_links r items anchors v x ws hs first one two last w h a b is =
     let c = certificate_of x in

@@ -15,3 +15,5 @@ pub mod Numbered
 pub mod Question
 pub mod Directories
 pub mod Found
+pub mod Ranges
+pub mod Fates

@@ -14,6 +14,9 @@ use Rattle.cert_reasons.specs.declared.links.Unlinked.{Unlinked}
 use Rattle.cert_reasons.specs.declared.links.Unlinked.TheVariants as linking
 use Rattle.cert_reasons.specs.declared.lists.Unused.{Unused}
 use Rattle.cert_reasons.specs.declared.lists.Unused.TheVariants as listing
+use Rattle.certpath_why.specs.Listed.{listed}
+use Rattle.certpath_why.specs.Ranges.{range_text}
+use Rattle.certpath_why.specs.declared.ranges.Range.{Range}
 use Rattle.certpath_why.specs.Texts.{shown_name, shown_moment, shown_identifier}
 
 -- an extension, by its position from 0
@@ -81,20 +84,22 @@ reach_lines v No = []
 reach_lines v (UpTo n) = at_words v ++ (codes " leads to an anchor with at most " ++ (decimal n ++ codes " below\n"))
 reach_lines v Any = []
 
--- `at V to W`, and `at V to anchor A`
-abbrev pub to_item : ℕ → ℕ → List ℕ
-to_item v w = at_words v ++ (codes " to " ++ decimal w)
+-- `at V to `, with positions of certificates after it, and `at V to anchor `, with positions of anchors
+abbrev pub to_items : ℕ → List ℕ
+to_items v = at_words v ++ codes " to "
 
-abbrev pub to_anchor : ℕ → ℕ → List ℕ
-to_anchor v a = at_words v ++ (codes " to anchor " ++ decimal a)
+abbrev pub to_anchors : ℕ → List ℕ
+to_anchors v = at_words v ++ codes " to anchor "
 
-abbrev pub unlinked_line : List ℕ → Unlinked → List ℕ
-unlinked_line link reason = link ++ (codes " not linked: " ++ (link_words reason ++ 10 ∷ []))
+-- what is said of the links: that they hold, or what is against each of them
+abbrev pub link_end : Option Unlinked → List ℕ
+link_end None = codes " linked\n"
+link_end (Some reason) = codes " not linked: " ++ (link_words reason ++ 10 ∷ [])
 
--- one line where it is linked, else a line for each reason
-abbrev pub link_lines : List ℕ → List Unlinked → List ℕ
-link_lines link [] = link ++ codes " linked\n"
-link_lines link (reason ∷ reasons) = flat_map (unlinked_line link) (reason ∷ reasons)
+-- one line for some positions, and nothing for none
+abbrev pub link_lines : List ℕ → Option Unlinked → List Range → List ℕ
+link_lines front what [] = []
+link_lines front what (r ∷ rs) = front ++ (listed range_text (r ∷ rs) ++ link_end what)
 
 abbrev pub unused_line : ℕ → RevocationList → Unused → List ℕ
 unused_line p l reason = codes "list " ++ (decimal p ++ (codes " not used: " ++ (list_words l reason ++ 10 ∷ [])))

@@ -1,9 +1,9 @@
--- The ends of a link. Contracts of private functions cite it.
+-- What comes before the positions of a line of links. Contracts of private functions cite it.
 use Rattle.std.specs.Prelude.{ℕ, List}
-use Rattle.certpath_why.specs.declared.lines.Link.{Link}
-use Rattle.certpath_why.specs.declared.lines.Link.TheVariants.{Item, Anchor}
-use Rattle.certpath_why.specs.Lines.{to_item, to_anchor}
+use Rattle.certpath_why.specs.declared.links.Front.{Front}
+use Rattle.certpath_why.specs.declared.links.Front.TheVariants.{Items, Anchors}
+use Rattle.certpath_why.specs.Lines.{to_items, to_anchors}
 
-abbrev pub link_text : Link → List ℕ
-link_text (Item v w) = to_item v w
-link_text (Anchor v a) = to_anchor v a
+abbrev pub front_text : Front → List ℕ
+front_text (Items v) = to_items v
+front_text (Anchors v) = to_anchors v

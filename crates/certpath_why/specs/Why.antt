@@ -1,29 +1,33 @@
 -- What stands in the way of a path: the lines of a certificate, of a list, and the whole. A text is related
 -- to the items by the definitions of reasons, each list of which is exact and in its order. This page is to
 -- be believed.
-use Rattle.std.specs.Prelude.{◌≡◌, ◌↔◌, ◌⊎◌, ℕ, zero, suc, nat_eq, Bool, if◌then◌else◌, List, [], ◌∷◌, ◌++◌, length, map, Contains, None}
+use Rattle.std.specs.Prelude.{◌≡◌, ◌↔◌, ◌⊎◌, ℕ, zero, suc, nat_eq, Bool, if◌then◌else◌, List, [], ◌∷◌, ◌++◌, length, map, Contains, Option, Some, None}
 use Rattle.std.specs.List.{flat_map}
+use Rattle.std.specs.List.Sorted.{IsStrictlyIncreasing}
 use Rattle.cert_graph.specs.Entries.{IsAt}
 use Rattle.cert_graph.specs.declared.answer.Answer.{Answer}
 use Rattle.cert_model.specs.Class.{Class, certificate, list, other}
 use Rattle.cert_model.specs.Fields.{Certificate, RevocationList}
 use Rattle.cert_model.specs.Octets.{name_octets, key_octets}
 use Rattle.cert_judge.specs.Revoking.{Item, Rules}
-use Rattle.cert_judge.specs.ItemGraph.{IsCertificateWith, HaveSameKeyId}
+use Rattle.cert_judge.specs.ItemGraph.{IsCertificateWith, HaveSameKeyId, IsLink, IsAnchorLink}
 use Rattle.cert_reasons.specs.declared.certificates.Unusable.{Unusable}
 use Rattle.cert_reasons.specs.declared.issuers.NoIssuer.{NoIssuer}
 use Rattle.cert_reasons.specs.declared.links.Unlinked.{Unlinked}
+use Rattle.cert_reasons.specs.declared.links.Unlinked.TheVariants.{NotVouched, KeyIdsDiffer, RevokedBy, NoUsedList}
 use Rattle.cert_reasons.specs.declared.lists.Unused.{Unused}
 use Rattle.cert_reasons.specs.Order.{AreAll}
 use Rattle.cert_reasons.specs.Certificates.{HasReason, order_of}
 use Rattle.cert_reasons.specs.Issuers.{HasIssuerReason, issuer_order}
-use Rattle.cert_reasons.specs.Links.{HasLinkReason, link_order}
+use Rattle.cert_reasons.specs.Links.{HasLinkReason}
 use Rattle.cert_reasons.specs.Lists.{HasReasonAmong, list_order}
 use Rattle.certpath_inputs.specs.Demands.{of_purpose, target_octets}
 use Rattle.certpath_inputs.specs.declared.demand.Demand.{Demand}
 use Rattle.certpath_why.specs.Bounds.{reach_by, IsBound}
 use Rattle.certpath_why.specs.Demanded.{AreDemandLines}
-use Rattle.certpath_why.specs.Lines.{reach_lines, subject_line, unusable_line, issuer_line, missing_line, to_item, to_anchor, link_lines, list_lines}
+use Rattle.certpath_why.specs.Lines.{reach_lines, subject_line, unusable_line, issuer_line, missing_line, to_items, to_anchors, link_lines, list_lines}
+use Rattle.certpath_why.specs.Ranges.{AreRanges}
+use Rattle.certpath_why.specs.declared.ranges.Range.{Range}
 use Rattle.certpath_why.specs.Reached.{HasSubject, IsCertificateAt, IsFurther, ArePositions}
 
 -- a text for each element of a list, one behind the other
@@ -40,17 +44,45 @@ abbrev pub TellsNoIssuer : Bool → ℕ → Certificate → List ℕ → Type 0
 TellsNoIssuer is_target v c text =
     (reasons : List NoIssuer) × AreAll issuer_order (HasIssuerReason c) reasons × (text ≡ (if is_target then [] else flat_map (issuer_line v) reasons))
 
--- how a certificate is linked to one of its issuer's name
-abbrev pub TellsLink : Rules → List Item → ℕ → Item → Certificate → ℕ → List ℕ → Type 0
-TellsLink r items v x c w text = IsAt items w (IsCertificateWith (λ d. (reasons : List Unlinked)
-    × AreAll link_order (HasLinkReason r items x c (name_octets d.subject) (key_octets d.key) (HaveSameKeyId c d)) reasons
-    × (text ≡ link_lines (to_item v w) reasons)))
+-- A line of exactly the positions that are linked, or that a reason is against.
+abbrev pub TellsGroup : List ℕ → Option Unlinked → (ℕ → Type 0) → List ℕ → Type 0
+TellsGroup front what P text = (ranges : List Range) × AreRanges P ranges × (text ≡ link_lines front what ranges)
 
--- how it is linked to an anchor of its issuer's name, of which the subject and the key count and nothing else
-abbrev pub TellsAnchor : Rules → List Item → List Item → ℕ → Item → Certificate → ℕ → List ℕ → Type 0
-TellsAnchor r items anchors v x c a text = IsAt anchors a (IsCertificateWith (λ d. (reasons : List Unlinked)
-    × AreAll link_order (HasLinkReason r items x c (name_octets d.subject) (key_octets d.key) (Unit {0})) reasons
-    × (text ≡ link_lines (to_anchor v a) reasons)))
+-- To which positions a certificate is linked, and then for each reason to which it is not. The lists are those that revoke it for
+-- one of the positions, and it may be others: of a list that revokes it for none there is no line.
+pub record TellsGroups (front : List ℕ) (Linked : ℕ → Type 0) (Fails : Unlinked → ℕ → Type 0) (text : List ℕ) : Type 0 where
+  pub linked : List ℕ
+  pub linked_is : TellsGroup front None Linked linked
+  pub unvouched : List ℕ
+  pub unvouched_is : TellsGroup front (Some NotVouched) (Fails NotVouched) unvouched
+  pub differing : List ℕ
+  pub differing_is : TellsGroup front (Some KeyIdsDiffer) (Fails KeyIdsDiffer) differing
+  pub lists : List ℕ
+  pub lists_ascend : IsStrictlyIncreasing lists
+  pub lists_are_all : (p w : ℕ) → Fails (RevokedBy p) w → Contains lists p
+  pub revoked : List ℕ
+  pub revoked_is : AreTexts (λ p. TellsGroup front (Some (RevokedBy p)) (Fails (RevokedBy p))) lists revoked
+  pub lacking : List ℕ
+  pub lacking_is : TellsGroup front (Some NoUsedList) (Fails NoUsedList) lacking
+  pub text_is : text ≡ linked ++ (unvouched ++ (differing ++ (revoked ++ lacking)))
+
+-- a certificate is linked to the one at a position
+abbrev pub IsLinkedTo : Rules → List Item → Item → ℕ → Type 0
+IsLinkedTo r items x w = IsAt items w (IsLink r items x)
+
+-- a reason is against its link to the one of its issuer's name at a position
+abbrev pub FailsTo : Rules → List Item → Item → Certificate → Unlinked → ℕ → Type 0
+FailsTo r items x c reason w = IsAt items w (IsCertificateWith (λ d. (name_octets d.subject ≡ name_octets c.issuer)
+    × HasLinkReason r items x c (name_octets d.subject) (key_octets d.key) (HaveSameKeyId c d) reason))
+
+-- it is linked to the anchor at a position
+abbrev pub IsLinkedToAnchor : Rules → List Item → List Item → Item → ℕ → Type 0
+IsLinkedToAnchor r items anchors x a = IsAt anchors a (IsAnchorLink r items x)
+
+-- a reason is against its link to the anchor of its issuer's name at a position, of which the subject and the key count and nothing else
+abbrev pub FailsToAnchor : Rules → List Item → List Item → Item → Certificate → Unlinked → ℕ → Type 0
+FailsToAnchor r items anchors x c reason a = IsAt anchors a (IsCertificateWith (λ d. (name_octets d.subject ≡ name_octets c.issuer)
+    × HasLinkReason r items x c (name_octets d.subject) (key_octets d.key) (Unit {0}) reason))
 
 -- a line where no certificate and no anchor has its issuer's name
 abbrev pub missing_lines : ℕ → List ℕ → List ℕ → List ℕ → List ℕ
@@ -65,9 +97,9 @@ pub record TellsLinks (r : Rules) (items anchors : List Item) (v : ℕ) (x : Ite
   pub roots : List ℕ
   pub roots_are : ArePositions (HasSubject anchors (name_octets c.issuer)) roots
   pub to_issuers : List ℕ
-  pub to_issuers_is : AreTexts (TellsLink r items v x c) issuers to_issuers
+  pub to_issuers_is : TellsGroups (to_items v) (IsLinkedTo r items x) (FailsTo r items x c) to_issuers
   pub to_roots : List ℕ
-  pub to_roots_is : AreTexts (TellsAnchor r items anchors v x c) roots to_roots
+  pub to_roots_is : TellsGroups (to_anchors v) (IsLinkedToAnchor r items anchors x) (FailsToAnchor r items anchors x c) to_roots
   pub text_is : text ≡ to_issuers ++ (to_roots ++ missing_lines v (name_octets c.issuer) issuers roots)
 
 -- the octets of the item at a position; none where there is none

@@ -8,17 +8,18 @@ ghost use Rattle.cert_judge.specs.Items.{item_of, certificate_of, certificate_it
 ghost use Rattle.cert_judge.specs.declared.items.ReadItem.TheVariants.{Certificate as certificate_read};
 ghost use Rattle.cert_reasons.specs.Linking.{HasItsLists};
 ghost use Rattle.certpath_why.specs.Reached.{ArePositions, HasSubject, IsCertificateAt};
-ghost use Rattle.certpath_why.specs.Lines.{missing_line};
+ghost use Rattle.certpath_why.specs.Lines.{missing_line, to_items, to_anchors};
 ghost use Rattle.certpath_why.specs.Question.{anchors_in, items_in, link_items, link_rules, rules_in};
-ghost use Rattle.certpath_why.specs.Why.{AreTexts, TellsUnusable, TellsNoIssuer, TellsLink, TellsAnchor, missing_lines, TellsLinks, TellsCertificate, TellsAt, octets_at};
+ghost use Rattle.certpath_why.specs.Why.{TellsUnusable, TellsNoIssuer, TellsGroups, IsLinkedTo, FailsTo, IsLinkedToAnchor, FailsToAnchor, missing_lines, TellsLinks, TellsCertificate, TellsAt, octets_at};
+ghost use Rattle.certpath_why.specs.Fates.{IsFate, AreFates};
 ghost use Rattle.certpath_why.specs.Found.{IsFound};
 ghost use Rattle.certpath_why.specs.Appended.{Appends};
 
 use crate::demanded::push_unmet;
+use crate::fates::Fate;
 use crate::found::{Found, certificate_at};
-use crate::lines::{
-    Link, push_all_no_issuer, push_all_unusable, push_link, push_missing, push_subject,
-};
+use crate::lines::{push_all_no_issuer, push_all_unusable, push_missing, push_subject};
+use crate::links::{Front, push_groups};
 use crate::question::Question;
 use asn1_core::OutOfMemory;
 use cert_judge::{CertificateItem, ReadItem, Vouch};
@@ -66,27 +67,46 @@ fn tell_no_issuer(
     Ok(())
 }
 
-/// The lines of the link to a certificate of the issuer's name.
-fn tell_link<V: Vouch>(
-    text: &mut String,
+/// The link to a certificate of the issuer's name.
+fn fate_of<V: Vouch>(
     alloc: Global,
-    place: usize,
     linking: &Linking<'_, '_>,
     issuer: usize,
     vouch: &V,
-) -> Result<(), AllocError>
+) -> Result<Fate, AllocError>
     requires lists { HasItsLists linking.now }
     requires subject { HasSubject (link_items linking.now) linking.now.certificate.now.issuer.now issuer }
-    ensures { OnOk result (Appends (TellsLink (link_rules V.Vouch linking.now vouch.now)
-        (link_items linking.now) place (certificate_item linking.now.certificate.now) (certificate_of linking.now.certificate.now) issuer)
-        (string_bytes text.old) (string_bytes text.new)) }
+    ensures { IfOk result (IsFate (IsLinkedTo (link_rules V.Vouch linking.now vouch.now) (link_items linking.now) (certificate_item linking.now.certificate.now))
+        (FailsTo (link_rules V.Vouch linking.now vouch.now) (link_items linking.now) (certificate_item linking.now.certificate.now) (certificate_of linking.now.certificate.now)) issuer) }
 {
     let Some(item) = certificate_at(linking.items(), issuer) else {
-        return Ok(());
+        return Ok(Fate::without_reasons(alloc, issuer));
     };
     let reasons = linking.why_unlinked(alloc, item, vouch)?;
-    push_link(text, Link::Item(place, issuer), &reasons)?;
-    Ok(())
+    Ok(Fate {
+        place: issuer,
+        reasons,
+    })
+}
+
+/// The links to all certificates of the issuer's name.
+fn fates_of<V: Vouch>(
+    alloc: Global,
+    linking: &Linking<'_, '_>,
+    issuers: &[usize],
+    vouch: &V,
+) -> Result<Vec<Fate>, AllocError>
+    requires lists { HasItsLists linking.now }
+    requires issuers { ArePositions (HasSubject (link_items linking.now) linking.now.certificate.now.issuer.now) issuers.now }
+    ensures { IfOk result (λ fates. AreFates (IsLinkedTo (link_rules V.Vouch linking.now vouch.now) (link_items linking.now) (certificate_item linking.now.certificate.now))
+        (FailsTo (link_rules V.Vouch linking.now vouch.now) (link_items linking.now) (certificate_item linking.now.certificate.now) (certificate_of linking.now.certificate.now)) issuers.now fates.items) }
+{
+    let mut fates = Vec::new(alloc);
+    for issuer in issuers {
+        let fate = fate_of(alloc, linking, *issuer, vouch)?;
+        fates.push(fate)?;
+    }
+    Ok(fates)
 }
 
 /// Appends the lines of the links to all certificates of the issuer's name.
@@ -97,41 +117,60 @@ fn tell_links<V: Vouch>(
     linking: &Linking<'_, '_>,
     issuers: &[usize],
     vouch: &V,
-) -> Result<(), AllocError>
+) -> Result<(), OutOfMemory>
     requires lists { HasItsLists linking.now }
     requires issuers { ArePositions (HasSubject (link_items linking.now) linking.now.certificate.now.issuer.now) issuers.now }
-    ensures { OnOk result (Appends (AreTexts (TellsLink (link_rules V.Vouch linking.now vouch.now)
-        (link_items linking.now) place (certificate_item linking.now.certificate.now) (certificate_of linking.now.certificate.now)) issuers.now)
+    ensures { OnOk result (Appends (TellsGroups (to_items place) (IsLinkedTo (link_rules V.Vouch linking.now vouch.now) (link_items linking.now) (certificate_item linking.now.certificate.now))
+        (FailsTo (link_rules V.Vouch linking.now vouch.now) (link_items linking.now) (certificate_item linking.now.certificate.now) (certificate_of linking.now.certificate.now)))
         (string_bytes text.old) (string_bytes text.new)) }
 {
-    for issuer in issuers {
-        tell_link(text, alloc, place, linking, *issuer, vouch)?;
-    }
+    let fates = fates_of(alloc, linking, issuers, vouch)?;
+    push_groups(text, alloc, Front::Items(place), &fates)?;
     Ok(())
 }
 
-/// The lines of the link to an anchor of the issuer's name.
-fn tell_anchor<V: Vouch>(
-    text: &mut String,
+/// The link to an anchor of the issuer's name.
+fn root_fate_of<V: Vouch>(
     alloc: Global,
     anchors: &[ReadItem<'_>],
-    place: usize,
     linking: &Linking<'_, '_>,
     root: usize,
     vouch: &V,
-) -> Result<(), AllocError>
+) -> Result<Fate, AllocError>
     requires lists { HasItsLists linking.now }
     requires subject { HasSubject (map item_of anchors.now) linking.now.certificate.now.issuer.now root }
-    ensures { OnOk result (Appends (TellsAnchor (link_rules V.Vouch linking.now vouch.now)
-        (link_items linking.now) (map item_of anchors.now) place (certificate_item linking.now.certificate.now) (certificate_of linking.now.certificate.now) root)
-        (string_bytes text.old) (string_bytes text.new)) }
+    ensures { IfOk result (IsFate (IsLinkedToAnchor (link_rules V.Vouch linking.now vouch.now) (link_items linking.now) (map item_of anchors.now) (certificate_item linking.now.certificate.now))
+        (FailsToAnchor (link_rules V.Vouch linking.now vouch.now) (link_items linking.now) (map item_of anchors.now) (certificate_item linking.now.certificate.now) (certificate_of linking.now.certificate.now)) root) }
 {
     let Some(anchor) = certificate_at(anchors, root) else {
-        return Ok(());
+        return Ok(Fate::without_reasons(alloc, root));
     };
     let reasons = linking.why_unlinked_to_anchor(alloc, anchor, vouch)?;
-    push_link(text, Link::Anchor(place, root), &reasons)?;
-    Ok(())
+    Ok(Fate {
+        place: root,
+        reasons,
+    })
+}
+
+/// The links to all anchors of the issuer's name.
+fn root_fates_of<V: Vouch>(
+    alloc: Global,
+    anchors: &[ReadItem<'_>],
+    linking: &Linking<'_, '_>,
+    roots: &[usize],
+    vouch: &V,
+) -> Result<Vec<Fate>, AllocError>
+    requires lists { HasItsLists linking.now }
+    requires roots { ArePositions (HasSubject (map item_of anchors.now) linking.now.certificate.now.issuer.now) roots.now }
+    ensures { IfOk result (λ fates. AreFates (IsLinkedToAnchor (link_rules V.Vouch linking.now vouch.now) (link_items linking.now) (map item_of anchors.now) (certificate_item linking.now.certificate.now))
+        (FailsToAnchor (link_rules V.Vouch linking.now vouch.now) (link_items linking.now) (map item_of anchors.now) (certificate_item linking.now.certificate.now) (certificate_of linking.now.certificate.now)) roots.now fates.items) }
+{
+    let mut fates = Vec::new(alloc);
+    for root in roots {
+        let fate = root_fate_of(alloc, anchors, linking, *root, vouch)?;
+        fates.push(fate)?;
+    }
+    Ok(fates)
 }
 
 /// Appends the lines of the links to all anchors of the issuer's name.
@@ -143,16 +182,15 @@ fn tell_anchors<V: Vouch>(
     linking: &Linking<'_, '_>,
     roots: &[usize],
     vouch: &V,
-) -> Result<(), AllocError>
+) -> Result<(), OutOfMemory>
     requires lists { HasItsLists linking.now }
     requires roots { ArePositions (HasSubject (map item_of anchors.now) linking.now.certificate.now.issuer.now) roots.now }
-    ensures { OnOk result (Appends (AreTexts (TellsAnchor (link_rules V.Vouch linking.now vouch.now)
-        (link_items linking.now) (map item_of anchors.now) place (certificate_item linking.now.certificate.now) (certificate_of linking.now.certificate.now)) roots.now)
+    ensures { OnOk result (Appends (TellsGroups (to_anchors place) (IsLinkedToAnchor (link_rules V.Vouch linking.now vouch.now) (link_items linking.now) (map item_of anchors.now) (certificate_item linking.now.certificate.now))
+        (FailsToAnchor (link_rules V.Vouch linking.now vouch.now) (link_items linking.now) (map item_of anchors.now) (certificate_item linking.now.certificate.now) (certificate_of linking.now.certificate.now)))
         (string_bytes text.old) (string_bytes text.new)) }
 {
-    for root in roots {
-        tell_anchor(text, alloc, anchors, place, linking, *root, vouch)?;
-    }
+    let fates = root_fates_of(alloc, anchors, linking, roots, vouch)?;
+    push_groups(text, alloc, Front::Anchors(place), &fates)?;
     Ok(())
 }
 

@@ -1,19 +1,18 @@
 //! Appends one line, or the lines of one list of reasons: the subject, why a certificate is not
-//! usable, why it may not issue others, its links, and why a list is not used. Which lines there
-//! are, is for `certificates.rt` and `lists.rt`.
+//! usable, why it may not issue others, and why a list is not used. Which lines there are, is for
+//! `certificates.rt` and `lists.rt`; those of links are in `links.rt`.
 
 ghost use Rattle.std.specs.Prelude.{◌≡◌, ◌++◌, ◌∷◌, [], codes, OnOk, string_bytes};
 ghost use Rattle.std.specs.Fmt.{decimal};
 ghost use Rattle.std.specs.List.{flat_map};
 ghost use Rattle.cert_model.specs.View.{certificate_view, list_view};
-ghost use Rattle.certpath_why.specs.Lines.{unusable_line, issuer_line, missing_line, subject_line, unlinked_line, link_lines, unused_line, list_line, list_lines};
-ghost use Rattle.certpath_why.specs.LinkText.{link_text};
+ghost use Rattle.certpath_why.specs.Lines.{unusable_line, issuer_line, missing_line, subject_line, unused_line, list_line, list_lines};
 
 use crate::names::{Labels, push_name};
-use crate::words::{push_issuer_words, push_link_words, push_list_words, push_unusable_words};
+use crate::words::{push_issuer_words, push_list_words, push_unusable_words};
 use asn1_core::OutOfMemory;
 use cert_model::fields::{CertFields, ListFields};
-use cert_reasons::{NoIssuer, Unlinked, Unusable, Unused};
+use cert_reasons::{NoIssuer, Unusable, Unused};
 use std::alloc::{AllocError, Global};
 
 /// Appends the first line of a certificate: its position and its subject.
@@ -102,69 +101,6 @@ pub(crate) fn push_missing(
     push_name(text, alloc, labels, issuer)?;
     text.push('\n')?;
     Ok(())
-}
-
-/// From the certificate at a position to an item or an anchor.
-#[derive(Clone, Copy, Debug)]
-pub(crate) enum Link {
-    /// To the item at a position.
-    Item(usize, usize),
-    /// To the anchor at a position among the anchors.
-    Anchor(usize, usize),
-}
-
-/// Appends the two ends of a link.
-fn push_ends(text: &mut String, link: Link) -> Result<(), AllocError>
-    ensures { OnOk result (string_bytes text.new ≡ string_bytes text.old ++ link_text link) }
-{
-    match link {
-        Link::Item(from, to) => write!(text, "at {from} to {to}"),
-        Link::Anchor(from, to) => write!(text, "at {from} to anchor {to}"),
-    }
-}
-
-/// Appends the line of a link that holds.
-fn push_linked(text: &mut String, link: Link) -> Result<(), AllocError>
-    ensures { OnOk result (string_bytes text.new ≡ string_bytes text.old ++ (link_text link ++ codes " linked\n")) }
-{
-    push_ends(text, link)?;
-    text.push_str(" linked\n")?;
-    Ok(())
-}
-
-/// Appends the line of one reason why a link doesn't hold.
-fn push_unlinked(text: &mut String, link: Link, reason: Unlinked) -> Result<(), AllocError>
-    ensures { OnOk result (string_bytes text.new ≡ string_bytes text.old ++ unlinked_line (link_text link) reason) }
-{
-    push_ends(text, link)?;
-    text.push_str(" not linked: ")?;
-    push_link_words(text, reason)?;
-    text.push_str("\n")?;
-    Ok(())
-}
-
-/// Appends a line for each of these reasons.
-fn push_all_unlinked(text: &mut String, link: Link, reasons: &[Unlinked]) -> Result<(), AllocError>
-    ensures { OnOk result (string_bytes text.new ≡ string_bytes text.old ++ flat_map (unlinked_line (link_text link)) reasons.now) }
-{
-    for reason in reasons {
-        push_unlinked(text, link, *reason)?;
-    }
-    Ok(())
-}
-
-/// The lines of a link: `linked`, or a line for each reason.
-pub(crate) fn push_link(
-    text: &mut String,
-    link: Link,
-    reasons: &[Unlinked],
-) -> Result<(), AllocError>
-    ensures { OnOk result (string_bytes text.new ≡ string_bytes text.old ++ link_lines (link_text link) reasons.now) }
-{
-    if reasons.is_empty() {
-        return push_linked(text, link);
-    }
-    push_all_unlinked(text, link, reasons)
 }
 
 /// Appends the line of one reason why a list is not used.

@@ -14,11 +14,14 @@ from .signatures import text
 WHY = "certpath_why"
 # A line of a report on what prevents a path. Lines that say `linked` or only a name are none.
 OBSTACLE = re.compile(r"(at|list) (\d+)(?: to (anchor )?(\d+))? (.*)")
+# To how many others: positions, ranges of them, and how many of these are left out.
+MANY_TO = r"\d[-\d]*(?:, \d[-\d]*)*(?: and \d+ more)?"
+TO_MANY = re.compile(rf"(at \d+ to (?:anchor )?)({MANY_TO}) (.*)")
 FRONT_OF_LINE = re.compile(r"^at \d+ ")
-# All such lines of one item and one kind that follow each other: a report may have millions.
-RUN = re.compile(r"\n(at|list) (\d+)(?:(?: to (?:anchor )?\d+)? "
+# All such lines of one item and one kind that follow each other.
+RUN = re.compile(rf"\n(at|list) (\d+)(?:(?: to (?:anchor )?{MANY_TO})? "
                  r"(not usable|no issuer|not linked|no issuer here|not used): .*"
-                 r"(?:\n\1 \2(?: to (?:anchor )?\d+)? \3: .*)*"
+                 rf"(?:\n\1 \2(?: to (?:anchor )?{MANY_TO})? \3: .*)*"
                  r"| leads to an anchor with at most \d+ below(?=\n))")
 REVOKED = re.compile(r"revoked by list (\d+)$")
 LIST, NO_ISSUER, BOUND = "list", "no issuer", "leads to an anchor"
@@ -26,14 +29,14 @@ LIST, NO_ISSUER, BOUND = "list", "no issuer", "leads to an anchor"
 OWN = "not usable", NO_ISSUER, "not linked", "no issuer here"
 # How many obstacles of an item are in the table, at most.
 MOST_REASONS = 20
-# A report has a line for each pair of a certificate and one of its issuer's name, and one of more
-# pairs isn't asked for. Reading so many octets of a bundle takes as long as a pair.
+# A report looks at each pair of a certificate and one of its issuer's name, and one of more pairs
+# isn't asked for. Reading so many octets of a bundle takes as long as a pair.
 MOST_PAIRS, OCTETS_OF_PAIR = 1_200_000, 5
 # Where the reports on all targets of a name take more steps, each a pair or such octets, so many
 # certificates of the name are tried first: they may give all reasons that are in the table. Once the
 # reports of a block have taken so many steps, none is asked for any more.
 MANY, FRONT, MOST_OF_BLOCK = 10_000_000, 24, 100_000_000
-# About how many octets the lines of a pair take: a report is made twice where its room is too small.
+# So many octets the lines of a pair take at most: a report is made twice where its room is too small.
 ROOM_OF_PAIR = 50
 
 
@@ -87,15 +90,29 @@ def place_of(run: re.Match) -> Place:
     return Place(part, int(run[2]))
 
 
+def spread(line: str) -> Few:
+    """A line with several positions as one for each of them: the first, and how many there are."""
+    found = TO_MANY.fullmatch(line)
+    if not found:
+        return Few([line], 1)
+    front, many, said = found.groups()
+    listed, _, left = many.partition(" and ")
+    ends = [it.partition("-") for it in listed.split(", ")]
+    ranges = [range(int(first), int(last or first) + 1) for first, _, last in ends]
+    lines = [f"{front}{it} {said}" for it in islice(chain(*ranges), MOST_REASONS)]
+    return Few(lines, sum(map(len, ranges)) + int(left.partition(" ")[0] or 0))
+
+
 def places_of(report: str) -> Dict[Place, Kinds]:
     """The obstacles of a report, by place. Most of many are only counted."""
     places: Dict[Place, Kinds] = {}
     for run in RUN.finditer(report):
         kinds, kind = places.setdefault(place_of(run), {}), run[3] or BOUND
         held = kinds.get(kind, Few([], 0))
-        room = MOST_REASONS - len(held.first)
-        first = held.first + run[0].split("\n", room + 1)[1:room + 1]
-        kinds[kind] = Few(first, held.total + run[0].count("\n"))
+        for line in run[0].split("\n")[1:]:
+            few = spread(line)
+            held = Few((held.first + few.first)[:MOST_REASONS], held.total + few.total)
+        kinds[kind] = held
     return places
 
 

@@ -1,18 +1,30 @@
 use Rattle.std.proofs.Common.{map}
+use Rattle.cert_judge.specs.ItemGraph.{HaveSameKeyId}
 use Rattle.cert_judge.specs.Items.{item_of, certificate_of, certificate_item, rules_by}
-use Rattle.certpath_why.specs.Why.{TellsLink}
-use Rattle.std.proofs.lemmas.List.Elements.{Contains-get_or}
-use Rattle.certpath_why.proofs.Texts.{texts_none, texts_more, texts_all}
+use Rattle.cert_model.specs.Fields.{Certificate}
+use Rattle.cert_reasons.specs.declared.links.Unlinked.{Unlinked}
+use Rattle.certpath_why.specs.Lines.{to_items}
+use Rattle.certpath_why.specs.Why.{IsLinkedTo, FailsTo}
+use Rattle.certpath_why.proofs.Fating.{fates_sorted, fails_iff, linked_iff, groups_as}
+use Rattle.certpath_why.proofs.Fated.{fails_named, linked_named}
 use Rattle.certpath_why.proofs.certificates.tell_links.Goals as goal
 
-pub tell_link-requires-clause-subject : goal.tell_link-requires-clause-subject
-tell_link-requires-clause-subject g c = (c.requires.issuers.exact _).0 (Contains-get_or c.args.issuers.now c.loop-issuer.issuer-index 0 c.loop-issuer-test.true)
-
-pub loop-issuer-init : goal.loop-issuer-init
-loop-issuer-init g c = let l = c.args.linking.now in texts_none (TellsLink (rules_by l.policy.moment l.policy.demand_lists (g.V.Vouch.vouches_for c.args.vouch.now)) (map item_of l.items.now) c.args.place (certificate_item l.certificate.now) (certificate_of l.certificate.now)) c.args.issuers.now _
-
-pub loop-issuer-preserved : goal.loop-issuer-preserved
-loop-issuer-preserved g c = let l = c.args.linking.now in texts_more (TellsLink (rules_by l.policy.moment l.policy.demand_lists (g.V.Vouch.vouches_for c.args.vouch.now)) (map item_of l.items.now) c.args.place (certificate_item l.certificate.now) (certificate_of l.certificate.now)) c.args.issuers.now c.loop-issuer.issuer-index 0 _ _ _ c.loop-issuer-test.true c.loop-issuer.invariant c.in_ok-tell_link.ensures
+pub push_groups-requires : goal.push_groups-requires
+push_groups-requires g c =
+    let l = c.args.linking.now in
+    let x = l.certificate.now in
+    let r = rules_by l.policy.moment l.policy.demand_lists (g.V.Vouch.vouches_for c.args.vouch.now) in
+    let items = map item_of l.items.now in
+    rw c.deref.ensures.value (fates_sorted (IsLinkedTo r items (certificate_item x)) (FailsTo r items (certificate_item x) (certificate_of x)) c.args.issuers.now c.in_ok-fates.fates.items c.in_ok-fates.ensures c.requires.issuers.ascends)
 
 pub returns : goal.returns
-returns g c = let l = c.args.linking.now in texts_all (TellsLink (rules_by l.policy.moment l.policy.demand_lists (g.V.Vouch.vouches_for c.args.vouch.now)) (map item_of l.items.now) c.args.place (certificate_item l.certificate.now) (certificate_of l.certificate.now)) c.args.issuers.now c.loop-issuer.issuer-index _ _ c.loop-issuer-test.false c.loop-issuer.invariant
+returns g c =
+    let l = c.args.linking.now in
+    let x = l.certificate.now in
+    let r = rules_by l.policy.moment l.policy.demand_lists (g.V.Vouch.vouches_for c.args.vouch.now) in
+    let items = map item_of l.items.now in
+    let fates = c.in_ok-fates.fates.items in
+    let told = rw c.deref.ensures.value at c.in_ok-push_groups.ensures in
+    let linked = linked_iff (IsLinkedTo r items (certificate_item x)) (FailsTo r items (certificate_item x) (certificate_of x)) c.args.issuers.now fates c.in_ok-fates.ensures (λ v h. (c.requires.issuers.exact v).1 (linked_named r items x v h)) in
+    let fails = λ (reason : Unlinked). fails_iff (IsLinkedTo r items (certificate_item x)) (FailsTo r items (certificate_item x) (certificate_of x)) c.args.issuers.now fates reason c.in_ok-fates.ensures (λ v h. (c.requires.issuers.exact v).1 (fails_named r items items (certificate_item x) (certificate_of x) x.issuer.now (λ (d : Certificate). HaveSameKeyId (certificate_of x) d) reason v x.issuer_is h)) in
+    (told.0, told.1, groups_as (to_items c.args.place) _ (IsLinkedTo r items (certificate_item x)) _ (FailsTo r items (certificate_item x) (certificate_of x)) told.0 linked fails told.2)
