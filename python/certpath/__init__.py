@@ -27,14 +27,15 @@ from .paths import Answer, Asked, Outcome, check, find
 from .questions import Holder, Question, holders_by_issuer, questions
 from .reports import path, paths, why
 from .serving import allows, serves
+from .stores import trust_store
 from .verifying import Verified, verify
 from .vouchers import Vouchers
 
 __all__ = [
     "Answer", "Asked", "BadAnswer", "BadHost", "BadItem", "BadLine", "BadMoment", "BadName",
-    "Certificate", "Contents", "End", "Error", "Holder", "Item", "Items", "Kind", "LIMIT", "LeftOut",
-    "LibraryMissing", "Loaded", "Name", "NoField", "Other", "OutOfMemory", "Outcome", "Question",
-    "RevocationList", "Verified", "Vouchers", "allows", "check", "class_of", "find", "frame",
-    "holders_by_issuer", "item_of", "load", "path", "paths", "questions", "serves", "shape_of",
-    "verify", "version", "why",
+    "Certificate", "Contents", "End", "Error", "Holder", "Item", "Items", "Kind", "LIMIT",
+    "LeftOut", "LibraryMissing", "Loaded", "Name", "NoField", "Other", "OutOfMemory", "Outcome",
+    "Question", "RevocationList", "Verified", "Vouchers", "allows", "check", "class_of", "find",
+    "frame", "holders_by_issuer", "item_of", "load", "path", "paths", "questions", "serves",
+    "shape_of", "trust_store", "verify", "version", "why",
 ]

@@ -1,5 +1,6 @@
 """Items: the certificates and revocation lists of a file, and what they hold."""
 import enum
+import hashlib
 from array import array
 from collections.abc import Sequence
 from ctypes import byref, c_size_t, c_uint32
@@ -12,6 +13,7 @@ from .cutting import Cutter, End
 from .fixed import Fixed, kept
 from .moments import datetime_of
 from .names import Name
+from .pem import block_of
 
 LIMIT = 16777216
 # What a call takes as octets.
@@ -46,6 +48,8 @@ FIELDS = range(len(Field))
 
 
 KINDS = tuple(Kind)
+# The labels of PEM blocks (RFC 7468, 5 and 6).
+LABELS = {Kind.CERTIFICATE: "CERTIFICATE", Kind.LIST: "X509 CRL"}
 
 
 class Contents(NamedTuple):
@@ -67,16 +71,17 @@ class Contents(NamedTuple):
 def contents_of(octets: bytes) -> Contents:
     """What the octets of an item are and hold, by one reading."""
     found, buffer = library.contents_of(octets)
-    view, at, fields = memoryview(buffer), 0, []
+    view, at = memoryview(buffer), 0
+    fields: Dict[str, Optional[bytes]] = {}
     for name in library.FIELDS:
         extent = getattr(found, name)
         end = at + extent.length
-        fields.append(bytes(view[at:end]) if extent.is_there else None)
+        fields[name] = bytes(view[at:end]) if extent.is_there else None
         at = end
     times = found.validity
     first = datetime_of(times.first) if found.item_class else None
     last = datetime_of(times.last) if times.has_last else None
-    return Contents(KINDS[found.item_class], first, last, *fields)
+    return Contents(KINDS[found.item_class], first, last, **fields)
 
 
 def class_number(octets: bytes, length: int) -> int:
@@ -134,6 +139,35 @@ class Item(Fixed):
         """The item's DER."""
         return self._octets
 
+    def pem(self) -> str:
+        """The item as a PEM block (RFC 7468, 5 and 6), ended by a line end; BadItem of what is
+        neither a certificate nor a list.
+
+        >>> import certpath
+        >>> text = certpath.load("samples/root.pem").items[0].pem()
+        >>> text == open("samples/root.pem").read()
+        True
+        """
+        label = LABELS.get(self.kind)
+        if label is None:
+            raise library.BadItem("neither a certificate nor a list: PEM has no label for it")
+        return block_of(label, self._octets)
+
+    def fingerprint(self, algorithm: str = "sha256") -> bytes:
+        """The digest of all octets, by a name that `hashlib` knows: 32 octets of SHA-256 by default.
+
+        >>> import certpath
+        >>> leaf = certpath.load("samples/leaf.der").items[0]
+        >>> leaf.fingerprint().hex()[:16], len(leaf.fingerprint("sha1"))
+        ('7bbdf6480e7190bd', 20)
+
+        ValueError of a name that it doesn't know.
+        """
+        if not isinstance(algorithm, str):
+            raise TypeError(f"algorithm: a name is needed, as 'sha256', not "
+                            f"{arguments.type_name(algorithm)}")
+        return hashlib.new(algorithm, self._octets, usedforsecurity=False).digest()
+
     def field(self, field: Field) -> bytes:
         """A field's octets; NoField if the item has no such field."""
         number = arguments.number(field, "the field", arguments.MOST_32)
@@ -183,6 +217,7 @@ class Signed(OfKind):
     def signature_algorithm(self) -> bytes:
         """The identifier of the signature's algorithm, the content of its OBJECT IDENTIFIER."""
         return self.field(Field.ALGORITHM)
+
 
 
 class Certificate(Signed):

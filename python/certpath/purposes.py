@@ -2,6 +2,7 @@
 from typing import Union
 
 from . import arguments
+from .identifiers import octets_of
 
 # Under id-kp, 1.3.6.1.5.5.7.3 (RFC 5280, 4.2.1.12), by the names that it has there.
 NAMES = {"serverAuth": "1.3.6.1.5.5.7.3.1", "clientAuth": "1.3.6.1.5.5.7.3.2",
@@ -11,8 +12,6 @@ NAMES = {"serverAuth": "1.3.6.1.5.5.7.3.1", "clientAuth": "1.3.6.1.5.5.7.3.2",
 OTHERS = {"server": "serverAuth", "client": "clientAuth", "sslserver": "serverAuth",
           "sslclient": "clientAuth", "codesign": "codeSigning", "smimesign": "emailProtection",
           "smimeencrypt": "emailProtection", "timestampsign": "timeStamping"}
-# As many octets has an identifier at most, and as many digits one of its numbers.
-MOST_OCTETS, MOST_DIGITS = 128, 40
 BY_LETTERS = {it.lower(): it for it in NAMES} | OTHERS
 
 
@@ -24,14 +23,6 @@ def name_of(purpose: str) -> str:
     return next((name for name, number in NAMES.items() if number == purpose), purpose)
 
 
-def digits_of(number: int) -> bytes:
-    """A subidentifier: seven bits an octet, the highest first (X.690, 8.19.2)."""
-    found = [number & 0x7f]
-    while number := number >> 7:
-        found.append(0x80 | number & 0x7f)
-    return bytes(reversed(found))
-
-
 def identifier_of(purpose: Union[str, bytes]) -> bytes:
     """The content octets of a purpose's OBJECT IDENTIFIER: of a name as `serverAuth` or
     `sslserver`, a number as `1.3.6.1.5.5.7.3.1`, or those octets themselves.
@@ -41,14 +32,5 @@ def identifier_of(purpose: Union[str, bytes]) -> bytes:
     if not isinstance(purpose, str):
         return arguments.octets(purpose, "the purpose")
     known = BY_LETTERS.get(purpose.lower())
-    parts = (NAMES[known] if known is not None else purpose).split(".")
-    if any(not (it.isascii() and it.isdigit()) or len(it) > MOST_DIGITS or it != str(int(it))
-           for it in parts):
-        raise ValueError(f"the purpose: neither a number nor one of {', '.join([*NAMES, *OTHERS])}")
-    first, *further = map(int, parts)
-    if not further or first > 2 or first < 2 and further[0] > 39:
-        raise ValueError("the purpose: no object identifier begins so (X.690, 8.19.4)")
-    octets = b"".join(map(digits_of, [40 * first + further[0], *further[1:]]))
-    if len(octets) > MOST_OCTETS:
-        raise ValueError(f"the purpose: an identifier of more than {MOST_OCTETS} octets")
-    return octets
+    return octets_of(NAMES[known] if known is not None else purpose, "the purpose",
+                     f"neither a number nor one of {', '.join([*NAMES, *OTHERS])}")

@@ -5,14 +5,15 @@ from datetime import datetime, timezone
 from typing import Iterable, List, Optional, Tuple, Union
 
 from . import library
-from .items import Item, Items, Octets
+from .items import LIMIT, Item, Items, Octets
 from .loading import Loaded, load
 from .openssl import vouch
 from .paths import Answer, HostGiven, PurposeGiven, check, find
 from .reports import why
+from .stores import trust_store
 
-# What is read: a path, the octets of a file, or what `load` returned.
-Source = Union[str, "os.PathLike[str]", Octets, Loaded]
+# What is read: a path, the octets of a file, what `load` returned, or items.
+Source = Union[str, "os.PathLike[str]", Octets, Loaded, Items]
 Sources = Union[Source, Iterable[Source]]
 
 
@@ -41,16 +42,23 @@ class Verified:
                    asked.demand_lists, host=asked.host, purpose=asked.purpose)
 
 
+def loaded_of(source: Source) -> Loaded:
+    """What a source holds."""
+    if isinstance(source, Items):
+        return Loaded(None, "DER", source, [], [])
+    return source if isinstance(source, Loaded) else load(source)
+
+
 def loaded_from(sources: Sources) -> List[Loaded]:
     """What each source holds: one, or several."""
-    if isinstance(sources, (str, os.PathLike, bytes, bytearray, memoryview, Loaded)):
+    if isinstance(sources, (str, os.PathLike, bytes, bytearray, memoryview, Loaded, Items)):
         sources = [sources]
-    return [it if isinstance(it, Loaded) else load(it) for it in sources]
+    return [*map(loaded_of, sources)]
 
 
-def joined(files: List[Loaded], what: str) -> Items:
+def joined(files: List[Loaded], what: str, limit: int) -> Items:
     """The items of all files, in their order; ValueError if there are none."""
-    items = Items(b"".join(bytes(it.items.data) for it in files))
+    items = Items(b"".join(it.items.data[:it.items.end.at] for it in files), limit)
     if not items:
         left = "; ".join(str(one) for it in files for one in it.left)
         raise ValueError(f"{what}: neither certificate nor revocation list"
@@ -58,7 +66,7 @@ def joined(files: List[Loaded], what: str) -> Items:
     return items
 
 
-def verify(chain: Sources, anchors: Sources, *, host: HostGiven = None,
+def verify(chain: Sources, anchors: Optional[Sources] = None, *, host: HostGiven = None,
            purpose: PurposeGiven = None, at: Optional[datetime] = None,
            demand_lists: bool = False, weak: bool = False) -> Verified:
     """Whether the first certificate of a chain is valid: the other items of the chain are what a
@@ -75,16 +83,19 @@ def verify(chain: Sources, anchors: Sources, *, host: HostGiven = None,
     >>> bool(certpath.verify("samples/fullchain.pem", "samples/root.pem", at=at, host="other.test"))
     False
 
-    `chain` and `anchors` are paths of files, octets of files, or what `load` returned; or several of
-    them. Files are of any form that `load` takes. `at` is now if it isn't given. `host`, `purpose`
-    and `demand_lists` are those of `find`, `weak` is that of `certpath.openssl.vouch`.
+    `chain` and `anchors` are paths of files, octets of files, what `load` returned, or Items; or
+    several of them. Files are of any form that `load` takes. The anchors are the system's trust
+    store if they aren't given, and `at` is now. `host`, `purpose` and `demand_lists` are those of
+    `find`, `weak` is that of `certpath.openssl.vouch`.
 
     ValueError if the chain or the anchors have no item; OSError, TypeError, BadHost, BadMoment,
     BadItem and OutOfMemory as `load` and `find` raise them, and certpath.openssl.Missing if there is
     no libcrypto of OpenSSL 3.
     """
-    files, anchor_files = loaded_from(chain), loaded_from(anchors)
-    bundle, trusted = joined(files, "the chain"), joined(anchor_files, "the anchors")
+    files = loaded_from(chain)
+    anchor_files = loaded_from(trust_store() if anchors is None else anchors)
+    limit = max((it.items.limit for it in (*files, *anchor_files)), default=LIMIT)
+    bundle, trusted = joined(files, "the chain", limit), joined(anchor_files, "the anchors", limit)
     at = datetime.now(timezone.utc) if at is None else at
     vouchers = vouch(bundle, trusted, weak=weak).vouchers
     answer = find(bundle, trusted, vouchers, 0, at, demand_lists, host=host, purpose=purpose)

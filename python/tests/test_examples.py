@@ -28,8 +28,10 @@ class Examples(unittest.TestCase):
     def test_there_are_some(self):
         finder = doctest.DocTestFinder()
         for call in (certpath.load, certpath.frame, certpath.find, certpath.item_of,
-                     certpath.allows, certpath.serves, certpath.path, certpath.why, certpath.paths):
-            with self.subTest(call=call.__name__):
+                     certpath.allows, certpath.serves, certpath.path, certpath.why, certpath.paths,
+                     certpath.trust_store, certpath.verify, certpath.Item.pem,
+                     certpath.Item.fingerprint):
+            with self.subTest(call=call.__qualname__):
                 self.assertTrue(any(it.examples for it in finder.find(call)))
 
 

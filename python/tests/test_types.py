@@ -14,8 +14,9 @@ import certpath
 
 FOLDER = os.path.dirname(certpath.__file__)
 # The modules that callers use, by the names that `certpath` and `certpath.openssl` hand on.
-MODULES = ("cutting", "items", "loading", "moments", "names", "openssl", "paths", "purposes",
-           "questions", "reports", "serving", "vouchers")
+MODULES = ("cutting", "identifiers", "items", "loading", "moments", "names", "openssl",
+           "paths", "pem", "purposes", "questions", "reports", "serving", "stores", "verifying",
+           "vouchers")
 CALLER = """\
 from datetime import datetime, timezone
 import certpath

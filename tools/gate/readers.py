@@ -14,6 +14,7 @@ ALLOWED = {
     "examples/python/questions.py": "verifies by the module cryptography, which reads DER",
     "tools/dev/items.py": "writes the items of rows, of what their comments spell",
     "python/certpath/algorithms.py": "knows by identifiers which keys OpenSSL isn't shown",
+    "python/certpath/pem.py": "writes a block of PEM, and reads none",
     "python/certpath/inventory/logs.py": "decodes JSON of a transparency log (RFC 6962, 4.6)",
     "python/certpath/inventory/trees.py": "decodes a root's hash in JSON of a log (RFC 6962, 4.3)",
 }

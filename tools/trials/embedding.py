@@ -16,6 +16,8 @@ from trials.count import Trial, size
 
 # How many changed inputs the calls get under the sanitizers.
 CHANGED, FEW = "100000", "10000"
+# How often each of eight threads makes all calls, on each item of the samples.
+ROUNDS = "100", "10"
 STRICT = ["-std=c99", "-Wall", "-Wextra", "-Werror", "-O1"]
 SANITIZERS = ["-g", "-fsanitize=address,undefined", "-fno-sanitize-recover=all"]
 # What the library asks the C library for memory by goes to the program that counts it.
@@ -106,14 +108,47 @@ def refused_memory(count, room, program):
 
 
 def c_programs(count, room, number):
-    """The C programs, against the static library; the calls under the sanitizers too."""
+    """The C programs, against the static library, under the sanitizers too."""
     static = at(library.STATIC)
     files = [at(BUNDLE), at(ANCHORS), pairs_file(room)]
     calls = os.path.join("tools", "trials", "embedding", "calls.c")
     memory = os.path.join("tools", "trials", "embedding", "memory.c")
     tried(count, compiled(count, room, calls, [], [static]), *files, "1000")
     tried(count, compiled(count, room, calls, SANITIZERS, [static]), *files, number)
+    guards = os.path.join("tools", "trials", "embedding", "guards.c")
+    guarded = compiled(count, room, guards, [*SANITIZERS, "-pthread"], [static])
+    tried(count, guarded, *files, size(*ROUNDS))
     refused_memory(count, room, compiled(count, room, memory, SANITIZERS, [*WRAPPED, static]))
+
+
+# A program that prints the size of each structure, by its name in Python's package.
+SIZES = """#include "certpath.h"
+#include <stdio.h>
+int main(void)
+{
+%s
+    return 0;
+}
+"""
+STRUCTURES = {
+    "Span": "span", "Framed": "framed", "LeftOut": "left_out", "Loaded": "loaded",
+    "Moment": "moment", "Validity": "validity", "Extent": "extent", "Contents": "contents",
+    "QuestionRow": "question", "Settings": "settings", "AnswerRow": "answer", "Report": "report",
+}
+
+
+def structures(count, room):
+    """The structures of the Python package have the sizes that they have in C."""
+    lines = (f'    printf("{name} %zu\\n", sizeof(certpath_{it}));' for name, it in STRUCTURES.items())
+    source = made(room, "sizes.c", (SIZES % "\n".join(lines)).encode())
+    program = compiled(count, room, source, [], [])
+    if not program:
+        return
+    script = ("import ctypes, inspect, certpath.library as it\n"
+              "for name, found in inspect.getmembers(it, inspect.isclass):\n"
+              "    if issubclass(found, ctypes.Structure): print(name, ctypes.sizeof(found))\n")
+    of_python = ran([sys.executable, "-c", script], env=with_package()).stdout.splitlines()
+    count.same("sizes of structures", sorted(ran([program]).stdout.splitlines()), sorted(of_python))
 
 
 def forged_file(room):
@@ -260,11 +295,12 @@ def rust_example(count, room):
     """The crate in examples/rust builds offline, and its example shows items."""
     env = {**os.environ, "CARGO_TARGET_DIR": os.path.join(room, "target")}
     folder = at("examples", "rust")
-    built = subprocess.run(["cargo", "build", "--offline", "--locked", "--examples"], cwd=folder,
-                           env=env, stdin=subprocess.DEVNULL, text=True, stdout=subprocess.PIPE,
-                           stderr=subprocess.STDOUT)
-    count.row(built.returncode == 0, f"cargo build:\n{built.stdout[-2000:]}")
-    if built.returncode == 0:
+    for command in (["build", "--examples"], ["test", "--lib"]):
+        done = subprocess.run(["cargo", *command, "--offline", "--locked"], cwd=folder, env=env,
+                              stdin=subprocess.DEVNULL, text=True, stdout=subprocess.PIPE,
+                              stderr=subprocess.STDOUT)
+        count.row(done.returncode == 0, f"cargo {command[0]}:\n{done.stdout[-2000:]}")
+    if done.returncode == 0:
         shows_items(count, os.path.join(room, "target", "debug", "examples", "show"), room, folder)
 
 
@@ -293,6 +329,10 @@ class Embedding(Trial):
     def test_c(self):
         self.need("cc")
         self.in_room(c_programs, size(CHANGED, FEW))
+
+    def test_structures(self):
+        self.need("cc")
+        self.in_room(structures)
 
     def test_reports(self):
         self.need("cc")

@@ -295,3 +295,32 @@ pub fn name(octets: &[u8]) -> Result<String, Refused> {
         text.resize(size, 0);
     }
 }
+
+#[cfg(test)]
+mod tests {
+    use super::*;
+    use std::mem::size_of;
+
+    /// The structures have the sizes that they have in C, on x86-64.
+    #[test]
+    fn sizes() {
+        assert_eq!(size_of::<Span>(), 16);
+        assert_eq!(size_of::<Framed>(), 24);
+        assert_eq!(size_of::<LeftOut>(), 64);
+        assert_eq!(size_of::<Loaded>(), 32);
+        assert_eq!(size_of::<Validity>(), 20);
+        assert_eq!(size_of::<Contents>(), 144);
+        assert_eq!(size_of::<Question>(), 24);
+        assert_eq!(size_of::<Voucher>(), 64);
+        assert_eq!(size_of::<Settings>(), 56);
+        assert_eq!(size_of::<AnswerRow>(), 32);
+        assert_eq!(size_of::<Report>(), 16);
+    }
+
+    #[test]
+    fn library() {
+        // SAFETY: it takes nothing
+        assert_eq!(unsafe { certpath_version() }, VERSION);
+        assert_eq!(name(&[]), Err(Refused(BAD_NAME)));
+    }
+}

@@ -127,6 +127,20 @@ static int32_t contents(written *to)
                          (certpath_contents *)to->result);
 }
 
+static int32_t allows(written *to)
+{
+    static const unsigned char PURPOSE[] = {0x2b, 6, 1, 5, 5, 7, 3, 1};
+    return certpath_allows(bundle + one.offset, one.length, PURPOSE, sizeof PURPOSE,
+                           (uint32_t *)to->result);
+}
+
+static int32_t serves(written *to)
+{
+    static const char HOST[] = "www.example.test";
+    return certpath_serves(bundle + one.offset, one.length, (const uint8_t *)HOST, sizeof HOST - 1,
+                           (uint32_t *)to->result);
+}
+
 static int32_t load(written *to)
 {
     return certpath_load(bundle, bundle_length, to->buffer, ROOM, NULL, 0,
@@ -261,7 +275,7 @@ typedef struct {
 static const named OF_AN_ITEM[] = {
     {"class", class_of}, {"issuer", issuer}, {"subject", subject},     {"key", key},
     {"serial", serial},  {"times", times},   {"algorithm", algorithm}, {"name", name},
-    {"item", contents}};
+    {"item", contents},  {"allows", allows}, {"serves", serves}};
 
 static const named OF_FILES[] = {
     {"frame", frame}, {"load", load},           {"classes", classes}, {"shapes", shapes},
@@ -310,7 +324,8 @@ static size_t all_refusals(const named *it)
     static written whole, part, blank;
     size_t n = 1;
     int32_t status, done = tried_with(it->make, 0, &whole);
-    tell(it->name, 0, done == CERTPATH_DONE || done == CERTPATH_NO_FIELD,
+    tell(it->name, 0,
+         done == CERTPATH_DONE || done == CERTPATH_NO_FIELD || done == CERTPATH_NOT_CERTIFICATE,
          "it isn't done with all its memory");
     tell(it->name, 0, blocks == 0, "memory is left over");
     memset(&blank, 0x5a, sizeof blank);
