@@ -1,3 +1,4 @@
 pub mod OfElements
 pub mod OfHeaders
 pub mod OfIdentifiers
+pub mod OfValues

@@ -1,5 +1,4 @@
-//! Worked values that meet the premises of the laws of `asn1_core`, `asn1_any` and `asn1_oid`, so that none of them
-//! speaks of nothing.
+//! Worked values that meet the premises of the laws of `asn1_core`, `asn1_any`, `asn1_oid`, `asn1_times` and `asn1_values`.
 //!
 //! Each example is a function that does nothing: its contract says that values meet premises, and the prover works it out.
 #![tactic(auto)]
@@ -7,3 +6,4 @@
 pub mod elements;
 pub mod headers;
 pub mod identifiers;
+pub mod values;
