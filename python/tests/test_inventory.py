@@ -44,8 +44,9 @@ CHAIN = vector(3, vector(3, MIDDLE) + vector(3, ROOT))
 
 
 NAME = bytes.fromhex("300e310c300a06035504030c03") + b"one"
-PRECERTIFICATES, ANY, SERVER = map(bytes.fromhex, (
-    "060a2b06010401d679020404", "0604551d2500", "06082b06010505070301"))
+PRECERTIFICATES, ANY, SERVER, POISON, SCT_LIST = map(bytes.fromhex, (
+    "060a2b06010401d679020404", "0604551d2500", "06082b06010505070301", "060a2b06010401d679020403",
+    "060a2b06010401d679020402"))
 
 
 def element(tag, content):
@@ -69,6 +70,23 @@ def usage(purposes):
     """An extKeyUsage (RFC 5280, 4.2.1.12) as the extensions of a certificate."""
     value = element(0x04, element(0x30, b"".join(purposes)))
     return element(0xa3, element(0x30, element(0x30, bytes.fromhex("0603551d25") + value)))
+
+
+def extension(identifier):
+    """An extension of two octets, by its identifier as an element."""
+    return element(0x30, identifier + element(0x04, b"\x05\0"))
+
+
+def extensions(*each):
+    """Extensions as a certificate has them."""
+    return element(0xa3, element(0x30, b"".join(each)))
+
+
+def tbs_of(item):
+    """The TBSCertificate of a certificate of more than 255 octets, by its length: all that is before
+    the algorithm."""
+    size = int.from_bytes(item[6:8], "big")
+    return item[4:8 + size]
 
 
 def alternative(*names):
@@ -108,7 +126,7 @@ class Logs(unittest.TestCase):
     def test_precertificates(self):
         found = self.read(PRECERT_LEAF, vector(3, LEAF) + CHAIN)
         self.assertEqual(found, Entry(HERE, "precert_entry", LEAF, (MIDDLE, ROOT),
-                                      timestamp=TIMESTAMP, issuer_key_hash=KEY_HASH))
+                                      timestamp=TIMESTAMP, issuer_key_hash=KEY_HASH, tbs=b"\x30\0"))
 
     def test_every_cut(self):
         for length in range(len(X509_LEAF)):
@@ -172,6 +190,25 @@ class Logs(unittest.TestCase):
             entry = Entry(HERE, "precert_entry", LEAF, chain, issuer_key_hash=key_hash)
             self.assertEqual(rows.read(entry, LIMIT).row.cause, cause)
         self.assertEqual(rows.read(Entry(HERE, "x509_entry", LEAF, ()), LIMIT).row.cause, "")
+
+    def test_tbs(self):
+        """The TBSCertificate of a precertificate's entry is the precertificate's without the poison,
+        unless another certificate signs for the issuer; that of a certificate has no time stamps."""
+        poison, stamps, other = (extension(it) for it in (POISON, SCT_LIST, SERVER))
+        pre, final, third = (certificate(1, extensions(it, other)) for it in (poison, stamps, stamps * 2))
+        tbs, signing = tbs_of(certificate(1, extensions(other))), certificate(1, usage([PRECERTIFICATES]))
+        for its, given, chain, cause in (
+                (pre, tbs, (MIDDLE,), ""), (pre, tbs_of(pre), (MIDDLE,), rows.WRONG_TBS),
+                (pre, b"", (MIDDLE,), rows.WRONG_TBS), (pre, tbs_of(final), (MIDDLE,), rows.WRONG_TBS),
+                (final, tbs, (MIDDLE,), rows.WRONG_TBS), (pre, b"0", (signing, MIDDLE), ""),
+                (LEAF, tbs_of(LEAF), (MIDDLE,), ""), (b"\x30\0", b"\x30\0", (MIDDLE,), "")):
+            entry = Entry(HERE, "precert_entry", its, chain, issuer_key_hash=KEY_HASH, tbs=given)
+            row = rows.read(entry, LIMIT).row
+            self.assertEqual((row.cause, row.tbs_sha256),
+                             (cause, files.digest(given) if row.kind == "cert" else ""))
+        for its, of in ((final, tbs), (third, tbs), (pre, tbs_of(pre)), (LEAF, tbs_of(LEAF))):
+            row = rows.read(Entry(HERE, "x509_entry", its), LIMIT).row
+            self.assertEqual((row.cause, row.tbs_sha256), ("", files.digest(of)))
 
     def test_no_answers(self):
         for text, offset, cause in ((b'{"entries": [', 13, "not JSON: Expecting value"),

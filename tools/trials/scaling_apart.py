@@ -163,17 +163,20 @@ class Maker:
         pre = made.add_extension(self.x509.PrecertPoison(), True).sign(signer, digest)
         final = to_issue.sign(signer, digest)
         octets, issued = (it.public_bytes(self.der) for it in (pre, final))
-        yield Made(octets, issuer, final.tbs_certificate_bytes)
+        without_poison = made.sign(signer, digest).tbs_certificate_bytes
+        yield Made(octets, issuer, without_poison)
         if self.one_in(2):
             digests = [hashlib.sha256(it).hexdigest() for it in (octets, issued)]
-            self.issued.append([*digests, self.differing(pre, final)])
+            self.issued.append([*digests, self.differing(pre, final, without_poison)])
             yield Made(issued, issuer)
 
-    def differing(self, pre, final):
-        """Which columns of two certificates of one issuer and serial number differ."""
+    def differing(self, pre, final, tbs):
+        """Which columns differ of a precertificate, for which a TBSCertificate was to be issued, and
+        a certificate of its issuer and serial number."""
         one, other = ((self.public(it.public_key()), it.not_valid_after) for it in (pre, final))
         columns = zip(("key_sha256", "not_after"), one, other)
-        return " ".join(name for name, its, others in columns if its != others)
+        found = [name for name, its, others in columns if its != others]
+        return " ".join(found + ["tbs_sha256"] * (tbs != final.tbs_certificate_bytes))
 
     def public(self, key):
         return key.public_bytes(self.der, self.serialization.PublicFormat.SubjectPublicKeyInfo)

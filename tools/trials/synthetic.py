@@ -72,6 +72,8 @@ class Made(NamedTuple):
     """An item, and the key element that signed it; none where none did."""
     octets: bytes
     signer: Optional[bytes]
+    tbs: bytes = b""
+    """Of a precertificate the TBSCertificate that is to be issued."""
 
 
 class Entry(NamedTuple):
@@ -83,12 +85,17 @@ class Entry(NamedTuple):
     is_precertificate: bool = False
 
 
-def certificate(serial: int, issuer: Authority, subject: bytes, public: bytes, extensions: List[bytes],
-                end: bytes = FUTURE, version: int = 2) -> Made:
+def to_be_signed(serial: int, issuer: Authority, subject: bytes, public: bytes,
+                 extensions: List[bytes], end: bytes = FUTURE, version: int = 2) -> bytes:
     validity = sequence(element(0x17, PAST), element(0x17, end))
     identifier = extension(AUTHORITY_KEY, False, sequence(element(0x80, issuer.identifier)))
-    tbs = sequence(element(0xa0, number(version)), number(serial), ED25519, issuer.name, validity,
-                   subject, public, element(0xa3, sequence(*extensions, identifier)))
+    return sequence(element(0xa0, number(version)), number(serial), ED25519, issuer.name, validity,
+                    subject, public, element(0xa3, sequence(*extensions, identifier)))
+
+
+def certificate(serial: int, issuer: Authority, subject: bytes, public: bytes, extensions: List[bytes],
+                end: bytes = FUTURE, version: int = 2) -> Made:
+    tbs = to_be_signed(serial, issuer, subject, public, extensions, end, version)
     return Made(issuer.signed(tbs), issuer.public)
 
 
@@ -156,10 +163,13 @@ class Authorities:
 def leaf(chance: random.Random, serial: int, issuer: Authority, is_precertificate: bool) -> Made:
     fault = chance.randrange(3 * FAULTY)
     poison = [extension(POISON, True, b"\x05\x00")] * is_precertificate
-    made = certificate(serial, issuer, name(f"{serial}.example.test"), LEAF.public, poison,
-                       EXPIRED if fault == 0 else FUTURE, 3 if fault == 1 else 2)
+    given = name(f"{serial}.example.test"), LEAF.public
+    rest = EXPIRED if fault == 0 else FUTURE, 3 if fault == 1 else 2
+    made = certificate(serial, issuer, *given, poison, *rest)
+    if is_precertificate:
+        made = made._replace(tbs=to_be_signed(serial, issuer, *given, [], *rest))
     if fault == 2:
-        return Made(made.octets[:-1] + bytes([made.octets[-1] ^ 1]), None)
+        return made._replace(octets=made.octets[:-1] + bytes([made.octets[-1] ^ 1]), signer=None)
     return made
 
 
@@ -172,9 +182,8 @@ def answer_of(made: Made, issuer: Authority, chain: tuple, is_precertificate: bo
     front = b"\0\0" + (1700000000000).to_bytes(8, "big") + int(is_precertificate).to_bytes(2, "big")
     links = vector(3, b"".join(vector(3, it.octets) for it in chain))
     if is_precertificate:
-        # (of the TBSCertificate that a log has there nothing is read but its length)
         key_hash = hashlib.sha256(issuer.public).digest()
-        leaf_input = front + key_hash + vector(3, b"\x30\x00") + vector(2, b"")
+        leaf_input = front + key_hash + vector(3, made.tbs) + vector(2, b"")
         extra_data = vector(3, made.octets) + links
     else:
         leaf_input, extra_data = front + vector(3, made.octets) + vector(2, b""), links

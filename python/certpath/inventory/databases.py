@@ -10,13 +10,14 @@ from .work import ENTRIES, ISSUERS
 from .writing import CannotWrite, whole
 
 # The columns of two entries that have to be equal where a certificate was issued for a
-# precertificate: both are of one issuer and serial number, and differ by extensions alone
-# (RFC 6962, 3.1).
-EQUAL = ("subject", "key_sha256", "algorithm", "not_before", "not_after")
+# precertificate (RFC 6962, 3.1 and 3.2): both are of one issuer and serial number, or have one
+# TBSCertificate.
+EQUAL = ("subject", "key_sha256", "algorithm", "not_before", "not_after", "tbs_sha256")
 DIFFERING = " || ".join(f"CASE WHEN pre.{it} IS final.{it} THEN '' ELSE '{it} ' END" for it in EQUAL)
 ISSUED = f"""CREATE VIEW issued AS SELECT DISTINCT
 pre.sha256 AS precertificate, final.sha256 AS certificate, trim({DIFFERING}) AS differing
-FROM entries AS pre JOIN entries AS final ON final.serial = pre.serial AND final.issuer = pre.issuer
+FROM entries AS pre JOIN entries AS final ON final.serial = pre.serial
+AND (final.issuer = pre.issuer OR final.tbs_sha256 = pre.tbs_sha256)
 WHERE pre.source = 'precert_entry' AND final.source <> 'precert_entry' AND final.class = 'cert'"""
 INDEXED = ("sha256", "subject", "issuer", "serial", "key_sha256", "not_after", "outcome",
            "log_index")

@@ -34,6 +34,8 @@ class Entry(NamedTuple):
     can't be read."""
     issuer_key_hash: bytes = b""
     """Of a precertificate the digest of its issuer's key, as the log's tree has it."""
+    tbs: Optional[bytes] = None
+    """Of a precertificate the TBSCertificate to be issued, as the log's tree has it."""
 
 
 def unread(place: Place, cause: str, end: str = FAULT) -> Entry:

@@ -114,7 +114,8 @@ def read_entry(place: Place, entry, number: Optional[int] = None) -> Entry:
         return unread(place, str(error))._replace(number=number, leaf_hash=leaf_hash)
     found = Entry(place, leaf.source, b"" if leaf.source == PRECERT else leaf.certificate,
                   number=number, timestamp=leaf.timestamp, leaf_hash=leaf_hash,
-                  issuer_key_hash=leaf.issuer_key_hash)
+                  issuer_key_hash=leaf.issuer_key_hash,
+                  tbs=leaf.certificate if leaf.source == PRECERT else None)
     try:
         extra = decoded(entry, FIELDS[1])
         # (a PrecertChainEntry begins with the precertificate, an X509ChainEntry with the chain)

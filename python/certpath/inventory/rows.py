@@ -3,8 +3,9 @@ from functools import lru_cache
 from typing import Any, Dict, Iterable, Iterator, NamedTuple, Optional, Set
 
 from ..cutting import is_one
+from ..extensions import POISON, SCT_LIST, tbs_of
 from ..items import Contents, Kind, Name, contents_of, frame
-from ..library import BadItem, BadName
+from ..library import BadItem, BadName, NoField
 from ..serving import allows
 from .entries import CHAIN, Entry
 from .files import digest
@@ -16,6 +17,7 @@ NAMES_KEPT, KEYS_KEPT = 1 << 16, 1 << 12
 BACKSLASH = "\\"
 WRONG_HASH = "leaf_input: its issuer key hash is of another key than its issuer's"
 NO_HASH = "extra_data: no issuer with whose key the issuer key hash could be compared"
+WRONG_TBS = "leaf_input: its TBSCertificate isn't that of the precertificate"
 # The purpose of certificates that sign precertificates alone (RFC 6962, 3.1), and any purpose.
 PRECERTIFICATES, ANY = "1.3.6.1.4.1.11129.2.4.4", "2.5.29.37.0"
 
@@ -38,6 +40,7 @@ class Row(NamedTuple):
     serial: str = ""
     key_sha256: str = ""
     algorithm: str = ""
+    tbs_sha256: str = ""
     outcome: str = ""
     path: str = ""
     anchor: str = ""
@@ -97,15 +100,40 @@ def signs_precertificates(octets: bytes) -> bool:
         return False
 
 
+def is_signed_for_issuer(entry: Entry) -> bool:
+    """Whether the first of a precertificate's chain signs precertificates in the place of their
+    issuer, which is the second one."""
+    return any(map(signs_precertificates, entry.chain[:1]))
+
+
 def fault_of_hash(entry: Entry) -> str:
     """What is wrong with the issuer key hash of a precertificate (RFC 6962, 3.2): its issuer is the
     first of its chain, or the second one where the first signs precertificates for it."""
     if not entry.issuer_key_hash:
         return ""
-    issuers = entry.chain[1:] if any(map(signs_precertificates, entry.chain[:1])) else entry.chain
+    issuers = entry.chain[1:] if is_signed_for_issuer(entry) else entry.chain
     if not issuers:
         return NO_HASH
     return "" if entry.issuer_key_hash.hex() == key_digest(issuers[0]) else WRONG_HASH
+
+
+def to_be_issued(entry: Entry) -> bytes:
+    """The TBSCertificate of a certificate without its list of time stamps, or that which was to be
+    issued for a precertificate: a precertificate and its certificate have one (RFC 6962, 3.2)."""
+    return tbs_of(entry.octets, SCT_LIST) if entry.tbs is None else entry.tbs
+
+
+def fault_of_tbs(entry: Entry) -> str:
+    """What is wrong with the TBSCertificate of a precertificate's entry: it is the precertificate's
+    without the poison (RFC 6962, 3.2). Of one that another certificate signed for the issuer it has
+    other names and identifiers, and isn't compared."""
+    if entry.tbs is None or is_signed_for_issuer(entry):
+        return ""
+    try:
+        return "" if tbs_of(entry.octets, POISON) == entry.tbs else WRONG_TBS
+    except NoField:
+        # (it is no certificate, as its class says)
+        return ""
 
 
 def moment(at) -> str:
@@ -158,10 +186,13 @@ def read(entry: Entry, limit: int) -> Read:
         return Read(row_of(entry, entry.end, cause=entry.cause))
     amiss = end_of(entry.octets, limit)
     contents = None if amiss else contents_of(entry.octets)
-    cause = "; ".join(filter(None, (entry.cause, amiss, fault_of_hash(entry))))
+    causes = (entry.cause, amiss, fault_of_hash(entry), "" if amiss else fault_of_tbs(entry))
+    cause = "; ".join(filter(None, causes))
     own = {"sha256": digest(entry.octets), "cause": cause}
     if contents is None or contents.kind is Kind.OTHER:
         return Read(row_of(entry, OTHER, **own))
+    if contents.kind is Kind.CERTIFICATE:
+        own["tbs_sha256"] = digest(to_be_issued(entry))
     row = row_of(entry, WORDS[contents.kind], **own, **columns_of(contents))
     return Read(row, digest_of(contents.subject), digest_of(contents.issuer))
 
