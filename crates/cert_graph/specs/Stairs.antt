@@ -14,7 +14,7 @@ use Rattle.cert_graph.specs.Least.{IsOpen}
 abbrev pub OpenIn : Graph → List Reach → List ℕ → ℕ → ℕ → Type 0
 OpenIn g row members count w = Contains members w × IsOpen g row count w
 
--- Open members, ascending, of which one stands at or before each open member and takes the same count.
+-- Open members, ascending, of which one is at or before each open member and takes the same count.
 pub record AreStairs (g : Graph) (row : List Reach) (members : List ℕ) (stairs : List Stair) : Type 0 where
   pub ascend : (j k : ℕ) (d : Stair) → j < k → k < length stairs → (slice_index_or stairs j d).position < (slice_index_or stairs k d).position
   pub opened : (k count : ℕ) (d : Stair) → k < length stairs → Takes (slice_index_or stairs k d).reach count → OpenIn g row members count (slice_index_or stairs k d).position
@@ -43,7 +43,7 @@ HasFlightTo g rows row members flights = AreFlightsSoFar g (rows ++ row ∷ []) 
 abbrev pub MayClimb : Graph → List (List Reach) → List Reach → List ℕ → List Flight → Type 0
 MayClimb g rows row members flights = AreFlightsSoFar g rows members flights ⊎ HasFlightTo g rows row members flights
 
--- flights of which those of some groups, told by their places, go on to one row more
+-- flights of which those of some groups, by their places, go on to one row more
 abbrev pub AreClimbing : Graph → List (List Reach) → List Reach → List ℕ → List Group → List (List Flight) → Type 0
 AreClimbing g rows row done groups flights = (length flights ≡ length groups)
     × ((k : ℕ) (group : Group) (own : List Flight) → k < length groups → MayClimb g rows row (slice_index_or groups k group).members.items (slice_index_or flights k own)

@@ -186,7 +186,7 @@ fn climb_all(
     Ok(())
 }
 
-/// Goes on with the flights of some groups, told by their places, by one row.
+/// Goes on with the flights of some groups, by their places, by one row.
 fn climb_at(
     alloc: Global,
     nodes: &Nodes,

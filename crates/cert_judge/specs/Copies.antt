@@ -49,7 +49,7 @@ octets_at js places = map (λ v. octets_in (slice_index_or js v other_judged)) p
 abbrev pub places_at : List ℕ → List ℕ → List ℕ
 places_at firsts numbers = map (λ d. slice_index_or firsts d 0) numbers
 
--- For each key, the numbers of the places whose certificates it vouches for and which stand by the lists at these places.
+-- For each key, the numbers of the places whose certificates it vouches for and which the lists at these places leave valid.
 pub record AreIssuedRows (V : List ℕ → List ℕ → Type 0) (demand : Bool) (js : List JudgedItem) (firsts : List ℕ) (keys : List (Bor (List ℕ))) (rows : List (List ℕ)) : Type 0 where
   pub count : length rows ≡ length keys
   pub each : (k d : ℕ) (key : Bor (List ℕ)) → k < length keys → IsIn rows k d ↔ ((d < length firsts) × IsIssuedAt V demand js firsts (slice_index_or keys k key).now (slice_index_or firsts d 0))
@@ -65,7 +65,7 @@ IsLinkBy R all n v w = R v (n + w) × (w < n) × AgreeOnId all v (n + w)
 abbrev pub IsAnchorBy : (ℕ → ℕ → Type 0) → ℕ → ℕ → ℕ → ℕ → Type 0
 IsAnchorBy R n m v a = R v (n + n + a) × (a < m)
 
--- the lists of the one kind ascend and have places of n items, those of the other ascend and have places behind these
+-- the lists of the one kind ascend and have places of n items, those of the other ascend and have places after these
 pub record AreLinkable (n : ℕ) (copies holders : List (List ℕ)) : Type 0 where
   pub copies_ascend : (d : ℕ) → d < length copies → IsStrictlyIncreasing (slice_index_or copies d [])
   pub copies_within : (d v : ℕ) → IsIn copies d v → v < n

@@ -66,8 +66,8 @@ fn holders_of(alloc: Global, buckets: Vec<Bucket<'_>>) -> Result<Vec<Vec<usize>>
         .collect(alloc)
 }
 
-/// For each key the certificates at some places that it vouches for and that stand by the lists at
-/// these places, by the numbers of the places. Who vouches is asked once.
+/// For each key the certificates at some places that it vouches for and that the lists at these
+/// places leave valid, by the numbers of the places. `vouched_by_each` is called once.
 fn issued_by_each<V: Vouch>(
     alloc: Global,
     items: &[JudgedItem<'_>],

@@ -1,4 +1,4 @@
-//! Which certificates were issued under a name and key, and stand by the lists there.
+//! Which certificates were issued under a name and key, and are left valid by the lists there.
 
 ghost use Rattle.std.specs.Prelude.{◌≡◌, ◌↔◌, ℕ, Bool, List, [], Any, All, true, length, ◌<◌, slice_index_or, Contains, IsTrue, IfSome, IsNone, IfOk};
 ghost use Rattle.cert_graph.specs.Entries.{IsAt};
@@ -133,7 +133,7 @@ fn places_at(alloc: Global, firsts: &[usize], numbers: &[usize]) -> Result<Vec<u
     Ok(places)
 }
 
-/// Of items that a key vouches for, the certificates that stand by the lists among them, each told by
+/// Of items that a key vouches for, the certificates that the lists among them leave valid, each by
 /// the number of its place.
 pub(crate) fn issued_under<'a>(
     alloc: Global,

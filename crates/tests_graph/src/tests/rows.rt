@@ -244,12 +244,12 @@ fn outcome(alloc: Global, nodes: &Nodes, call: &str, want: &str) -> Result<Strin
     }
 }
 
-// A row's outcome is the one that stands behind it.
+// A row's outcome is the one after it.
 fn same<R: Abort>(rt: &R, row: &str, got: &str, want: &str) {
     assert_eq!(rt; got, want, "{row}");
 }
 
-// The rows that stand below a graph.
+// The rows below a graph.
 fn ask<R: Abort>(rt: &R, alloc: Global, graph: &str, rows: &str) -> Result<(), Fail> {
     let nodes = text::graph(alloc, graph)?;
     for row in rows.lines() {

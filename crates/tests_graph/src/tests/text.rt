@@ -1,7 +1,7 @@
 //! Graphs and answers, read from text.
 //!
-//! A graph is the number of its groups, then items and anchors: `3: leaf 0>1; issuer 1>2 0; anchor 2`. Of an item stand its
-//! kind, the groups that it stands in, the groups that it is linked to, and its path length constraint, if any; so many
+//! A graph is the number of its groups, then items and anchors: `3: leaf 0>1; issuer 1>2 0; anchor 2`. Of an item: its
+//! kind, the groups that it is in, the groups that it is linked to, and its path length constraint, if any; so many
 //! equal ones are `equal 300 leaf 0>1`. Of an anchor stands its group. Numbers have a comma between two, and `-` is none.
 //!
 //! An answer is `0,1 to 0 / - 0`, the positions of a path, its anchor and each row of the table after a `/`; or
