@@ -1,2 +1,1 @@
-pub mod OfItems
 pub mod OfParts

@@ -1,13 +1,15 @@
 -- The worked parts are in range, and the worked times are read.
 use Rattle.std.specs.Prelude.{◌&&◌}
-use Rattle.std.proofs.Common.{◌≡◌, ◌<◌, ◌^◌, ℕ, Bool, true, false, nat_lt, List, [], ◌∷◌, length, refl, lit<}
+use Rattle.std.proofs.Common.{◌≡◌, ◌<◌, ◌^◌, ℕ, Bool, true, false, nat_lt, List, [], ◌∷◌, length, refl, arith, lit<}
 use Rattle.std.specs.Int.Digits.{AllBelowBase}
 use Rattle.std.specs.List.{list_all}
 use Rattle.std.proofs.lemmas.Bool.{ltb-true}
+use Rattle.std.proofs.lemmas.Int.{ints}
 use Rattle.asn1_oid.specs.Identifier.{IsOidContent, subidentifier_octets}
-use Rattle.cert_model.specs.Examples.{algorithm, common_name, key}
-use Rattle.cert_model.specs.Octets.{algorithm_octets, attribute_octets, relative_name_octets, name_octets, key_octets}
-use Rattle.cert_model.specs.Range.{IsName}
+use Rattle.der_tree.specs.Time.{IsMoment}
+use Rattle.cert_model.specs.Examples.{algorithm, common_name, key, new_year, one_two_three}
+use Rattle.cert_model.specs.Octets.{algorithm_octets, attribute_octets, relative_name_octets, name_octets, key_octets, moment_in}
+use Rattle.cert_model.specs.Range.{IsAlgorithm, IsKey, IsName, IsTimeField}
 use Rattle.x509_time.specs.Examples.{period_octets, start_octets}
 
 two_true : (a b : Bool) → (a && b) ≡ true → (a ≡ true) × (b ≡ true)
@@ -44,3 +46,20 @@ name_short = lit< tt
 pub key_short : length (key_octets key) < 2 ^ 64
 unfolding algorithm_octets key_octets
 key_short = lit< tt
+
+numbered : IsOidContent one_two_three
+unfolding subidentifier_octets
+numbered = record { subidentifiers = 42 ∷ 3 ∷ []; some = λ e. cc; spelled = refl }
+
+pub algorithm_in_range : IsAlgorithm algorithm
+algorithm_in_range = record { identifier = numbered; parameters = tt }
+
+pub key_in_range : IsKey key
+key_in_range = record { algorithm = algorithm_in_range; key = refl }
+
+-- the first of January of 2025
+first_day : IsMoment (moment_in (new_year 2025))
+first_day = (((omega (arith, ints), omega (arith, ints)), (omega (arith, ints), omega (arith, ints)), (omega (arith, ints), omega (arith, ints))), ((omega (arith, ints), omega (arith, ints)), (omega (arith, ints), omega (arith, ints)), (omega (arith, ints), omega (arith, ints)), (omega (arith, ints), omega (arith, ints))))
+
+pub day_in_range : IsTimeField (new_year 2025)
+day_in_range = record { first = omega (arith, ints); last = omega (arith, ints); real = first_day; whole = refl }
