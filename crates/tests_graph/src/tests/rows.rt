@@ -84,7 +84,7 @@ check 0: none / - - any = no
 graph 3: leaf 0>1; self-issued 1>1; anchor 2
 check 0: none / - - = yes
 
-# an issuer that stands in two groups, one of them named twice: whoever is linked to either has it
+# an issuer in two groups, one of them named twice: whoever is linked to either has it
 graph 4: leaf ->1; leaf 0>2; issuer 1,2,1>3; anchor 3
 check 0: 0,2 to 0 / - - any = yes
 check 1: 1,2 to 0 / - - any = yes
