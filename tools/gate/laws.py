@@ -16,7 +16,7 @@ import re
 from dev import believe
 from gate import calls, syntax
 
-LEFT = 118
+LEFT = 117
 OPEN, CLOSE = "({⟦", ")}⟧"
 ARROW, TIMES, COLON, FALSE = "→", "×", ":", "⊥"
 TOKEN = re.compile(r"""[(){}⟦⟧]|[^\s(){}⟦⟧;,"]+|[;,]""")
@@ -179,7 +179,8 @@ def fits(pattern, value, variables, bound):
         elif value and len(inside((first,))) == 1:
             yield from fits((*inside((first,)), *rest), value, variables, bound)
         return
-    head, dot, field = first.partition(".")
+    # (a variable may have the name of something that the file uses)
+    head, dot, field = (first, "", "") if first in variables else first.partition(".")
     if head not in variables:
         if value and value[0] == first:
             yield from fits(rest, value[1:], variables, bound)
@@ -230,7 +231,7 @@ def words(part):
 
 def has_example(clause):
     """Whether an example meets all premises of a clause."""
-    wanted = {word for part in clause.premises for word in words(part) if word.startswith("Rattle.")}
+    wanted = {word for part in clause.premises for word in words(part) if word.startswith("Rattle.") and word not in clause.variables}
     return any(wanted <= {word for part in parts for word in words(part)} and met(clause.premises, parts, clause.variables, {})
                for parts in examples())
 
