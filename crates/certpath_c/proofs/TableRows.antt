@@ -1,5 +1,6 @@
 -- The rows of a table so far, and entries that are no rows.
-use Rattle.std.proofs.Common.{◌≡◌, ◌∙◌, refl, ℕ, ◌+◌, ◌<◌, ◌≤◌, List, [], ◌∷◌, ◌++◌, length, map, take, drop, get_or, sym, ap, subst, ◌⊎◌, inl, inr, append_assoc, length-append, arith}
+use Rattle.std.proofs.Common.{◌≡◌, ◌∙◌, refl, ℕ, zero, suc, ◌+◌, ◌<◌, ◌≤◌, List, [], ◌∷◌, ◌++◌, length, map, take, drop, get_or, sym, ap, subst, ◌⊎◌, inl, inr, append_assoc, length-append, arith, Vec, slice_index_or}
+use Rattle.std.specs.declared.alloc.Global.{Global}
 use Rattle.std.proofs.lemmas.List.{append-nil, length-map, append_cancel_left, take_at, take-append-drop, drop_more}
 use Rattle.std.specs.List.{AllByRecursion}
 use Rattle.cert_graph.specs.declared.reach.Reach.{Reach}
@@ -110,3 +111,10 @@ pub all_rows : (width : ℕ) (entries rest : List ℕ) (rows : List (List Reach)
 all_rows width entries rest rows s none =
     let read = rows_entries rows in
     record { entries_are = sym (append-nil read) ∙ ap (λ r. read ++ r) (sym none) ∙ s.all; whole = s.whole; fit = s.fit }
+
+-- each of some rows has the width that all have
+pub wide_at : (width : ℕ) (rows : List (Vec Reach Global)) → AllByRecursion (IsWide width) (map (λ (r : Vec Reach Global). r.items) rows) → (k : ℕ) (d : Vec Reach Global) → k < length rows
+    → length (slice_index_or rows k d).items ≡ width
+wide_at width [] all k d within = absurd (omega (arith, within))
+wide_at width (r ∷ rs) all zero d within = all.0
+wide_at width (r ∷ rs) all (suc k) d within = wide_at width rs all.1 k d (omega (arith, within))

@@ -1,10 +1,10 @@
-use Rattle.std.proofs.Common.{◌≡◌, ◌∙◌, ◌<◌, ◌≤◌, length, map, List, Vec, ap, arith, refl, sym, subst}
+use Rattle.std.proofs.Common.{◌≡◌, ◌∙◌, ◌<◌, ◌≤◌, ℕ, length, map, List, Vec, ap, arith, refl, sym, subst, slice_index_or}
 use Rattle.std.specs.declared.alloc.Global.{Global}
 use Rattle.std.proofs.lemmas.List.{map_push}
 use Rattle.cert_graph.specs.declared.reach.Reach.{Reach}
 use Rattle.std.proofs.lemmas.Grind.{common_steps}
 use Rattle.certpath_c.specs.Answers.{AreNoRows}
-use Rattle.certpath_c.proofs.TableRows.{TableSoFar, row_more, no_rows_few, no_rows_front}
+use Rattle.certpath_c.proofs.TableRows.{TableSoFar, row_more, no_rows_few, no_rows_front, wide_at}
 use Rattle.certpath_c.proofs.tables.table_of.Goals as goal
 
 pub loop-rest-preserved : goal.loop-rest-preserved
@@ -27,3 +27,8 @@ returns-in_default-clause-none c =
     let split = c.split_at.ensures in
     let some : 0 < c.args.width = grind (arith, common_steps) in
     c.loop-rest.invariant.none (subst (AreNoRows c.args.width) (sym split.by_index.0) (no_rows_front c.args.width c.split_at.result.0.now c.split_at.result.1.now split.front_len some none))
+
+pub steps_of_rows-requires : goal.steps_of_rows-requires
+steps_of_rows-requires c =
+    subst (λ (rs : List (Vec Reach Global)). (k : ℕ) (d : Vec Reach Global) → k < length rs → length (slice_index_or rs k d).items ≡ c.args.width)
+    (sym c.deref.ensures.value) (wide_at c.args.width c.loop-rest.rows.items c.loop-rest.invariant.whole)
