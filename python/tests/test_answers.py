@@ -163,7 +163,7 @@ class Memory(Chain):
         words = [sys.executable, "-c", MEMORY]
         done = subprocess.run(words, cwd=os.path.join(TOP, "python"), capture_output=True, text=True,
                               check=True)
-        self.assertLess(int(done.stdout), 360)
+        self.assertLess(int(done.stdout), 440)
 
 
 if __name__ == "__main__":

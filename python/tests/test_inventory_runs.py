@@ -20,8 +20,9 @@ from certpath.inventory import (anchors, blocks, databases, files, index, jobs, 
 from certpath.inventory.entries import Entry, Place
 from certpath.items import LIMIT
 
-from .test_inventory import (CHAIN, FRONT, HERE, LEAF, PRECERT_LEAF, ROOT, ROOT_FILE, SERVER, TOP,
-                             X509_LEAF, Room, answer, certificate, sample, usage, vector)
+from .test_inventory import (CHAIN, FRONT, HERE, KEY_HASH, LEAF, POISON, ROOT, ROOT_FILE, SERVER, TOP,
+                             X509_LEAF, Room, answer, certificate, extension, extensions, sample, tbs_of,
+                             vector)
 
 
 class Tasks(Room):
@@ -418,10 +419,12 @@ class Runs(Room):
     def test_issued(self):
         """Of precertificates a database has the certificates of their issuer and serial number, and
         in which fields these differ."""
-        pre, final = certificate(1, usage([SERVER])), certificate(1)
+        poison, other = extension(POISON), extension(SERVER)
+        pre, final = (certificate(1, extensions(*it)) for it in ((poison, other), (other,)))
         later = final.replace(b"\x17\x0d270101", b"\x17\x0d280101")
         leaves = [FRONT + b"\0\0" + vector(3, it) + b"\0\0" for it in (final, later, certificate(2))]
-        entries = [answer(PRECERT_LEAF, vector(3, pre) + CHAIN), *(answer(it, CHAIN) for it in leaves)]
+        first = FRONT + b"\0\1" + KEY_HASH + vector(3, tbs_of(final)) + b"\0\0"
+        entries = [answer(first, vector(3, pre) + CHAIN), *(answer(it, CHAIN) for it in leaves)]
         names = [self.put("log.json", json.dumps({"entries": entries}).encode())]
         self.assertEqual(self.run_with(Here(), names, why=False).faults, 0)
         path = os.path.join(self.folder, "table.sqlite")
@@ -429,7 +432,7 @@ class Runs(Room):
         with closing(sqlite3.connect(path)) as opened:
             found = opened.execute("SELECT * FROM issued ORDER BY differing").fetchall()
         digests = [*map(rows.digest, (pre, final, later))]
-        self.assertEqual(found, [(*digests[:2], ""), (digests[0], digests[2], "not_after")])
+        self.assertEqual(found, [(*digests[:2], ""), (digests[0], digests[2], "not_after tbs_sha256")])
 
     def test_parquet(self):
         """One file has the rows of all parts, and the record."""

@@ -5,7 +5,7 @@ from typing import Any, Dict, Iterable, Iterator, NamedTuple, Optional, Set
 from ..cutting import is_one
 from ..extensions import POISON, SCT_LIST, tbs_of
 from ..items import Contents, Kind, Name, contents_of, frame
-from ..library import BadItem, BadName, NoField
+from ..library import BadItem, BadName
 from ..serving import allows
 from .entries import CHAIN, Entry
 from .files import digest
@@ -131,7 +131,7 @@ def fault_of_tbs(entry: Entry) -> str:
         return ""
     try:
         return "" if tbs_of(entry.octets, POISON) == entry.tbs else WRONG_TBS
-    except NoField:
+    except BadItem:
         # (it is no certificate, as its class says)
         return ""
 
