@@ -146,7 +146,7 @@ def is_whole(family, run):
         return tail_of(run.output, 1) in (b"\n", b"")
     if family.command == "verify":
         return tail_of(run.output, 10).endswith((b"}\n", b"</html>\n", b" lists\n"))
-    return tail_of(run.errors, 10).endswith((b" unverified\n", b" left out\n"))
+    return tail_of(run.errors, len(b" unverified\n")).endswith((b" unverified\n", b" left out\n"))
 
 
 def has_answer(family, run, wanted):
