@@ -123,27 +123,17 @@ LAYERS = (
     ("Trees", "der_tree ber_tree der_parser"),
     ("Certificates: parts", "x509_core x509_objects x509_names x509_time x509_items"),
     ("Certificates: extension values", "x509_ext_flags x509_ext_policies x509_ext_names x509_ext_points x509_ext_basic x509_ext_types x509_ext_sct x509_ext_parse"),
-<<<<<<< HEAD
     ("Certificates: whole", "x509_ext x509_certs x509_lists x509_requests x509_algorithms x509_validate x509_parser"),
-    ("Items, classes, names of hosts and purposes", "cert_framing cert_model host_names purpose_names"),
-=======
-    ("Certificates: whole", "x509_ext x509_certs x509_lists x509_requests x509_algorithms x509_loggers x509_validate x509_parser"),
     ("Items, classes, names of hosts and purposes", "cert_framing cert_model cert_faults host_names purpose_names"),
->>>>>>> 8c8fe7a0aba069ac535a4901223b580a9b8f97c9
     ("Graphs and judging", "cert_graph cert_judge cert_purpose cert_vouchers"),
     ("The check", "certcheck cert_questions cert_serving cert_reasons"),
     ("The search", "x509_links certpath_rebuild certpath_typed cert_search certpath_find"),
     ("The program", "certpath_pem certpath_files certpath_bundle certpath_why certpath_inputs certpath_evidence "
                     "certpath_recheck certpath_run certpath_engine certpath_cli"),
     ("For other languages", "certpath_c"),
-<<<<<<< HEAD
     ("Rows, tests, benches, examples, worked laws", "rows_hex rows_asn1 rows_cert rows_x509 rows_check rows_reasons tests_asn1 tests_der tests_graph "
                                        "tests_run bench_graph bench_item bench_workload example_certificate example_own_type example_path "
                                        "laws_asn1 laws_der laws_graph laws_x509"),
-=======
-    ("Rows, tests, benches, examples", "rows_hex rows_asn1 rows_cert rows_x509 rows_check rows_faults rows_reasons tests_asn1 tests_der tests_graph "
-                                       "tests_run bench_graph bench_item bench_workload example_certificate example_own_type example_path"),
->>>>>>> 8c8fe7a0aba069ac535a4901223b580a9b8f97c9
 )
 
 
