@@ -4,7 +4,7 @@ use Rattle.std.proofs.lemmas.List.{append-nil, length-take-le, drop_all}
 use Rattle.std.specs.List.{concat, AllByRecursion}
 use Rattle.cert_framing.specs.declared.ending.End.{End}
 use Rattle.cert_framing.specs.declared.ending.End.TheVariants.{Clean, Cut, Fault}
-use Rattle.cert_framing.specs.Framing.{IsItem, Splits, IsLongest, IsCut, EndsAs, IsFraming}
+use Rattle.cert_framing.specs.Framing.{IsItem, Splits, IsLongest, IsCutShort, EndsAs, IsFraming}
 use Rattle.cert_framing.specs.Held.{Held, IsKept, StandsFor}
 use Rattle.cert_framing.specs.Pieces.{pieces, RunsTo}
 use Rattle.cert_framing.specs.Fronts.{MeetsNoItem}
@@ -72,7 +72,7 @@ fed_longest limit octets piece ends ends' at at' goes_on stream rest runs within
 pub stands_at_start : (limit : ℕ) (failed : Bool) → failed ≡ false
     → StandsFor (record { limit = limit; items = []; kept = []; has_fault = false; has_failed = failed }) []
 stands_at_start limit failed sound =
-    let cut : IsCut limit [] = nothing_is_cut limit [] refl in
+    let cut : IsCutShort limit [] = nothing_is_cut limit [] refl in
     record {
       rest = [];
       sound = sound;
@@ -81,11 +81,11 @@ stands_at_start limit failed sound =
     }
 
 -- what is kept while no fault was met
-kept_reading : (limit : ℕ) (rest kept : List ℕ) (fault : Bool) → fault ≡ false → IsKept limit rest fault kept → (kept ≡ rest) × IsCut limit rest
+kept_reading : (limit : ℕ) (rest kept : List ℕ) (fault : Bool) → fault ≡ false → IsKept limit rest fault kept → (kept ≡ rest) × IsCutShort limit rest
 kept_reading limit rest kept false is held = held
 kept_reading limit rest kept true is held = absurd cc
 
-kept_faulted : (limit : ℕ) (rest kept : List ℕ) (fault : Bool) → fault ≡ true → IsKept limit rest fault kept → (kept ≡ []) × ¬ (IsCut limit rest)
+kept_faulted : (limit : ℕ) (rest kept : List ℕ) (fault : Bool) → fault ≡ true → IsKept limit rest fault kept → (kept ≡ []) × ¬ (IsCutShort limit rest)
 kept_faulted limit rest kept false is held = absurd cc
 kept_faulted limit rest kept true is held = held
 

@@ -5,7 +5,7 @@ use Rattle.std.proofs.lemmas.List.{append-nil, length-replicate, length-take-le,
 use Rattle.std.proofs.lemmas.Int.Digits.{length-digits_of-le}
 use Rattle.std.specs.Int.Digits.{digits_of}
 use Rattle.asn1_core.specs.Strict.{strict_length}
-use Rattle.cert_framing.specs.Framing.{IsItem, IsCut}
+use Rattle.cert_framing.specs.Framing.{IsItem, IsCutShort}
 use Rattle.cert_framing.specs.Fronts.{MeetsNoItem, IsLongLength}
 use Rattle.cert_framing.proofs.Lists.{front_cases}
 use Rattle.cert_framing.proofs.Numbers.{where_none}
@@ -28,18 +28,18 @@ none_is_some k pos none =
     omega arith
 
 -- nothing at all begins 30 00, and so does 30
-pub nothing_is_cut : (limit : ℕ) (octets : List ℕ) → length octets ≡ 0 → IsCut limit octets
+pub nothing_is_cut : (limit : ℕ) (octets : List ℕ) → length octets ≡ 0 → IsCutShort limit octets
 nothing_is_cut limit [] empty = (48 ∷ 0 ∷ [], (λ none. cc), item_from limit 0 (0 ∷ []) [] refl (omega arith) refl)
 nothing_is_cut limit (x ∷ octets) empty = absurd (omega arith)
 
-pub lone_is_cut : (limit : ℕ) (octets : List ℕ) → length octets ≡ 1 → get_or octets 0 0 ≡ 48 → IsCut limit octets
+pub lone_is_cut : (limit : ℕ) (octets : List ℕ) → length octets ≡ 1 → get_or octets 0 0 ≡ 48 → IsCutShort limit octets
 lone_is_cut limit [] one first = absurd (omega arith)
 lone_is_cut limit (x ∷ y ∷ octets) one first = absurd (omega arith)
 lone_is_cut limit (x ∷ []) one first =
-    subst (λ (y : ℕ). IsCut limit (y ∷ [])) (sym first) (0 ∷ [], (λ none. cc), item_from limit 0 (0 ∷ []) [] refl (omega arith) refl)
+    subst (λ (y : ℕ). IsCutShort limit (y ∷ [])) (sym first) (0 ∷ [], (λ none. cc), item_from limit 0 (0 ∷ []) [] refl (omega arith) refl)
 
 -- the short form, its content not complete
-pub short_is_cut : (limit n : ℕ) (rest : List ℕ) → n < 128 → n ≤ limit → length rest < n → IsCut limit (48 ∷ n ∷ rest)
+pub short_is_cut : (limit n : ℕ) (rest : List ℕ) → n < 128 → n ≤ limit → length rest < n → IsCutShort limit (48 ∷ n ∷ rest)
 short_is_cut limit n rest short small part = (
   replicate (n - length rest) 0,
   none_is_some (n - length rest) (omega arith),
@@ -143,7 +143,7 @@ long_item limit count n ds content digits width large small size =
     item_from limit n ((128 + count) ∷ ds) content size small spelled
 
 header_is_cut : (limit count n : ℕ) (rest : List ℕ) → IsLongLength (take count rest) count n → n ≤ limit → length rest < count
-    → IsCut limit (48 ∷ (128 + count) ∷ rest)
+    → IsCutShort limit (48 ∷ (128 + count) ∷ rest)
 header_is_cut limit count n rest long small cut =
     let zeros : List ℕ = replicate n 0 in
     let width : length zeros ≡ n = length-replicate {A = ℕ} n 0 in
@@ -166,7 +166,7 @@ all_known count n rest long all =
     long.spelled ∙ ap (λ (x : List ℕ). take count rest ++ x) nil ∙ append-nil (take count rest)
 
 content_is_cut : (limit count n : ℕ) (rest : List ℕ) → IsLongLength (take count rest) count n → n ≤ limit → length rest < count + n
-    → count ≤ length rest → IsCut limit (48 ∷ (128 + count) ∷ rest)
+    → count ≤ length rest → IsCutShort limit (48 ∷ (128 + count) ∷ rest)
 content_is_cut limit count n rest long small part all =
     let tail : List ℕ = drop count rest in
     let behind : length tail ≡ length rest - count = length-drop count rest in
@@ -181,7 +181,7 @@ content_is_cut limit count n rest long small part all =
 
 -- the least length is under the limit, and its octets or its content are not complete
 pub long_is_cut : (limit count n : ℕ) (rest : List ℕ) → IsLongLength (take count rest) count n → n ≤ limit → length rest < count + n
-    → IsCut limit (48 ∷ (128 + count) ∷ rest)
+    → IsCutShort limit (48 ∷ (128 + count) ∷ rest)
 long_is_cut limit count n rest long small part =
     elim (cases_lt (length rest) count) [ inl cut ↦ header_is_cut limit count n rest long small cut | inr all ↦ content_is_cut limit count n rest long small part all ]
 

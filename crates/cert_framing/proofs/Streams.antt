@@ -6,7 +6,7 @@ use Rattle.std.proofs.lemmas.List.Folds.{concat-append}
 use Rattle.std.specs.List.{concat, AllByRecursion}
 use Rattle.cert_framing.specs.declared.ending.End.{End}
 use Rattle.cert_framing.specs.declared.ending.End.TheVariants.{Clean, Cut, Fault}
-use Rattle.cert_framing.specs.Framing.{IsItem, Splits, IsLongest, IsCut, EndsAs, IsFraming}
+use Rattle.cert_framing.specs.Framing.{IsItem, Splits, IsLongest, IsCutShort, EndsAs, IsFraming}
 use Rattle.cert_framing.specs.Fronts.{MeetsNoItem}
 use Rattle.cert_framing.proofs.Lists.{front_cases, nil_from_append}
 use Rattle.cert_framing.proofs.Sequences.{one_item}
@@ -16,7 +16,7 @@ abbrev pub HasNoItem : ℕ → List ℕ → Type 0
 HasNoItem limit octets = (item after : List ℕ) → IsItem limit item → octets ≡ item ++ after → ⊥
 
 -- a proper prefix of an item does not begin with one
-pub cut_has_none : (limit : ℕ) (rest : List ℕ) → IsCut limit rest → HasNoItem limit rest
+pub cut_has_none : (limit : ℕ) (rest : List ℕ) → IsCutShort limit rest → HasNoItem limit rest
 cut_has_none limit rest cut item after is e =
     let more : List ℕ = cut.0 in
     let f : (rest ++ more) ++ [] ≡ item ++ (after ++ more) =
@@ -26,11 +26,11 @@ cut_has_none limit rest cut item after is e =
 pub meets_has_none : (limit : ℕ) (rest : List ℕ) → MeetsNoItem limit rest → HasNoItem limit rest
 meets_has_none limit rest none item after is e = none item [] after is (append-nil rest ∙ e)
 
-pub meets_is_no_cut : (limit : ℕ) (rest : List ℕ) → MeetsNoItem limit rest → ¬ (IsCut limit rest)
+pub meets_is_no_cut : (limit : ℕ) (rest : List ℕ) → MeetsNoItem limit rest → ¬ (IsCutShort limit rest)
 meets_is_no_cut limit rest none cut = none (rest ++ cut.0) cut.0 [] cut.2 (sym (append-nil (rest ++ cut.0)))
 
 -- octets that no item begins and that begin none meet none
-pub meets_none : (limit : ℕ) (rest : List ℕ) → HasNoItem limit rest → ¬ (IsCut limit rest) → MeetsNoItem limit rest
+pub meets_none : (limit : ℕ) (rest : List ℕ) → HasNoItem limit rest → ¬ (IsCutShort limit rest) → MeetsNoItem limit rest
 meets_none limit rest none whole item more after is e =
     elim (front_cases rest more item after e) [
       | inl w ↦ none item w.0 is w.1

@@ -1,13 +1,13 @@
 -- What one walk over fresh octets finds.
 use Rattle.std.specs.Prelude.{◌≡◌, ℕ, ◌≤◌, Bool, true, false, length, drop, List, ◌++◌}
 use Rattle.std.specs.List.{AllByRecursion}
-use Rattle.cert_framing.specs.Framing.{IsItem, IsCut}
+use Rattle.cert_framing.specs.Framing.{IsItem, IsCutShort}
 use Rattle.cert_framing.specs.Fronts.{MeetsNoItem}
 use Rattle.cert_framing.specs.Pieces.{pieces, RunsTo}
 
 -- what is left begins an item, or never will
 abbrev pub StopsAs : ℕ → List ℕ → Bool → Type 0
-StopsAs limit rest true = IsCut limit rest
+StopsAs limit rest true = IsCutShort limit rest
 StopsAs limit rest false = MeetsNoItem limit rest
 
 -- the octets from `from` to `at` are items, whose ends were put behind the ends that were there

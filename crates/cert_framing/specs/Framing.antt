@@ -28,14 +28,14 @@ pub record IsLongest (limit : ℕ) (stream : List ℕ) (items : List (List ℕ))
   pub longest : (others : List (List ℕ)) (after : List ℕ) → Splits limit stream others after → length others ≤ length items
 
 -- a proper prefix of some item: more octets, one at least, would make an item of it
-abbrev pub IsCut : ℕ → List ℕ → Type 0
-IsCut limit octets = (more : List ℕ) × (more ≢ []) × IsItem limit (octets ++ more)
+abbrev pub IsCutShort : ℕ → List ℕ → Type 0
+IsCutShort limit octets = (more : List ℕ) × (more ≢ []) × IsItem limit (octets ++ more)
 
 -- how a stream ends whose items are followed by the rest, which begins at the offset
 abbrev pub EndsAs : ℕ → List ℕ → ℕ → End → Type 0
 EndsAs limit rest offset Clean = rest ≡ []
-EndsAs limit rest offset (Cut at) = (rest ≢ []) × IsCut limit rest × (at ≡ offset)
-EndsAs limit rest offset (Fault at) = (rest ≢ []) × ¬ (IsCut limit rest) × (at ≡ offset)
+EndsAs limit rest offset (Cut at) = (rest ≢ []) × IsCutShort limit rest × (at ≡ offset)
+EndsAs limit rest offset (Fault at) = (rest ≢ []) × ¬ (IsCutShort limit rest) × (at ≡ offset)
 
 -- the items of a stream are the longest list of items that begins it, and its end says what is behind them
 pub record IsFraming (limit : ℕ) (stream : List ℕ) (items : List (List ℕ)) (end : End) : Type 0 where

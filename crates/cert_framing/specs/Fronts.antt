@@ -3,7 +3,7 @@ use Rattle.std.specs.Prelude.{◌≡◌, ℕ, ◌<◌, ◌≤◌, Option, Some, 
 use Rattle.std.specs.Int.Digits.{digits_of}
 use Rattle.cert_framing.specs.declared.front.Front.{Front}
 use Rattle.cert_framing.specs.declared.front.Front.TheVariants.{Whole, Part, Nothing}
-use Rattle.cert_framing.specs.Framing.{IsItem, IsCut}
+use Rattle.cert_framing.specs.Framing.{IsItem, IsCutShort}
 
 -- neither an item begins the octets, nor do they begin an item
 abbrev pub MeetsNoItem : ℕ → List ℕ → Type 0
@@ -11,7 +11,7 @@ MeetsNoItem limit octets = (item more after : List ℕ) → IsItem limit item �
 
 abbrev pub StandsAtFront : ℕ → List ℕ → Front → Type 0
 StandsAtFront limit octets (Whole n) = (0 < n) × (n ≤ length octets) × IsItem limit (take n octets)
-StandsAtFront limit octets Part = IsCut limit octets
+StandsAtFront limit octets Part = IsCutShort limit octets
 StandsAtFront limit octets Nothing = MeetsNoItem limit octets
 
 -- n is written in the long form, in so many octets of which these are the first (X.690, 8.1.3.5 and 10.1)

@@ -1,7 +1,7 @@
 -- What a bundle holds, and for which streams it stands.
 use Rattle.std.specs.Prelude.{◌≡◌, ℕ, Bool, true, false, List, [], ◌∷◌, ◌++◌}
 use Rattle.cert_framing.specs.declared.ending.End.{End}
-use Rattle.cert_framing.specs.Framing.{IsLongest, IsCut}
+use Rattle.cert_framing.specs.Framing.{IsLongest, IsCutShort}
 
 -- what a bundle holds in memory: its items, and the octets that it keeps behind them
 pub record Held : Type 0 where
@@ -13,8 +13,8 @@ pub record Held : Type 0 where
 
 -- the octets behind the items are kept while they are a proper prefix of an item; behind a fault none is kept
 abbrev pub IsKept : ℕ → List ℕ → Bool → List ℕ → Type 0
-IsKept limit rest false kept = (kept ≡ rest) × IsCut limit rest
-IsKept limit rest true kept = (kept ≡ []) × ¬ (IsCut limit rest)
+IsKept limit rest false kept = (kept ≡ rest) × IsCutShort limit rest
+IsKept limit rest true kept = (kept ≡ []) × ¬ (IsCutShort limit rest)
 
 -- a bundle that found memory for all that it was fed stands for a stream whose items it holds
 pub record StandsFor (held : Held) (stream : List ℕ) : Type 0 where

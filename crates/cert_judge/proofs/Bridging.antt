@@ -21,9 +21,9 @@ use Rattle.cert_judge.specs.Vouching.{Vouching}
 use Rattle.cert_judge.specs.Judging.{IsFitIssuer}
 use Rattle.cert_judge.specs.Further.{any_identifier}
 use Rattle.cert_judge.specs.Items.{rules_at}
-use Rattle.cert_judge.specs.Revoking.{Item, Rules, IsCurrent, IsPlain, IsUsedList, IsSatisfied}
+use Rattle.cert_judge.specs.Revoking.{Item, JudgingContext, IsCurrent, IsPlain, IsUsedList, IsSatisfied}
 use Rattle.cert_judge.specs.Named.{NamesKeyId, HasKeyId}
-use Rattle.cert_judge.specs.ItemGraph.{IsCertificateWith, IsIssuedUnder, HaveSameKeyId, IsLink, IsAnchorLink}
+use Rattle.cert_judge.specs.ItemGraph.{IsCertificateWith, IsIssuedUnder, KeyIdsAgree, IsLink, IsAnchorLink}
 use Rattle.cert_judge.specs.JudgedItems.{IsJudged, AreJudged, as_issued, as_member, as_anchor}
 use Rattle.cert_judge.specs.Standing.{WithCertificate, WithList, IsUsedBy}
 use Rattle.cert_judge.specs.NamedLinks.{IsUnder, StandsUnder, places_of, IsSomeLink, IsSomeAnchor}
@@ -97,7 +97,7 @@ module _ (moment : CivilTime) (demand : Bool) (W : Vouching) (xs ys : List Item)
   abbrev all : List Place
   all = places_of js hs
 
-  abbrev r : Rules
+  abbrev r : JudgingContext
   r = rules_at moment demand W
 
   as_many : {v : ℕ} → v < length xs → v < length js
@@ -224,10 +224,10 @@ issued_of moment V key P x (certificate_judged z) name c h is_c issuer v p =
 issued_of moment V key P x (list_judged l) name c h is_c issuer v p = absurd (list_is_certificate h.fields c x.class h.class is_c)
 issued_of moment V key P x other_judged name c h is_c issuer v p = absurd (other_is_certificate c x.class h is_c)
 
-ids_to : (c d : Certificate) (o p : Option (List ℕ)) → NamesKeyId c o → HasKeyId d p → ((a s : List ℕ) → o ≡ Some a → p ≡ Some s → a ≡ s) → HaveSameKeyId c d
+ids_to : (c d : Certificate) (o p : Option (List ℕ)) → NamesKeyId c o → HasKeyId d p → ((a s : List ℕ) → o ≡ Some a → p ≡ Some s → a ≡ s) → KeyIdsAgree c d
 ids_to c d o p names has agree a s ha hs = ∥∥₁_elim names (one_name a s) (λ f. ∥∥₁_elim has (one_name a s) (λ h. agree a s ((f a).0 ha) ((h s).0 hs)))
 
-ids_from : (c d : Certificate) (o p : Option (List ℕ)) → NamesKeyId c o → HasKeyId d p → HaveSameKeyId c d → (a s : List ℕ) → o ≡ Some a → p ≡ Some s → a ≡ s
+ids_from : (c d : Certificate) (o p : Option (List ℕ)) → NamesKeyId c o → HasKeyId d p → KeyIdsAgree c d → (a s : List ℕ) → o ≡ Some a → p ≡ Some s → a ≡ s
 ids_from c d o p names has same a s ea es = ∥∥₁_elim names (one_name a s) (λ f. ∥∥₁_elim has (one_name a s) (λ h. same a s ((f a).1 ea) ((h s).1 es)))
 
 issued_is : (js hs : List JudgedItem) (part : Part) (v : ℕ) (j : JudgedItem) → v < length js → j ≡ get_or js v j → text_at part (places_of js hs) v ≡ shown_at part (Some (as_issued j))
@@ -239,7 +239,7 @@ held_is js hs part w j lt at = ap (shown_at part) (member_place js hs w j lt) �
 anchor_is : (js hs : List JudgedItem) (part : Part) (a : ℕ) (j : JudgedItem) → a < length hs → j ≡ get_or hs a j → text_at part (places_of js hs) (length js + length js + a) ≡ shown_at part (Some (as_anchor j))
 anchor_is js hs part a j lt at = ap (shown_at part) (anchor_place js hs a j lt) ∙ ap (λ z. shown_at part (Some (as_anchor z))) (sym at)
 
-under_names : (r : Rules) (items : List Item) (x : Item) (c : Certificate) (m n k l : List ℕ) → m ≡ n → k ≡ l → IsIssuedUnder r items x c m k → IsIssuedUnder r items x c n l
+under_names : (r : JudgingContext) (items : List Item) (x : Item) (c : Certificate) (m n k l : List ℕ) → m ≡ n → k ≡ l → IsIssuedUnder r items x c m k → IsIssuedUnder r items x c n l
 under_names r items x c m n k l e f h = subst (λ z. IsIssuedUnder r items x c n z) f (subst (λ z. IsIssuedUnder r items x c z k) e h)
 
 judged_at : (moment : CivilTime) (xs : List Item) (js : List JudgedItem) → AreJudged moment xs js → (v : ℕ) (x : Item) (j : JudgedItem) → v < length xs → x ≡ get_or xs v x → j ≡ get_or js v j → IsJudged moment x j

@@ -22,7 +22,7 @@ use Rattle.cert_graph.proofs.EntryFacts.{is_at, has_at}
 use Rattle.cert_model.specs.Fields.{Number, Certificate, RevocationList}
 use Rattle.cert_model.specs.Class.{Class, certificate, list, other}
 use Rattle.cert_judge.specs.Judging.{IsUsable, IsFitIssuer}
-use Rattle.cert_judge.specs.Revoking.{Item, Rules, IsCurrent, IsUsedList, IsSatisfied}
+use Rattle.cert_judge.specs.Revoking.{Item, JudgingContext, IsCurrent, IsUsedList, IsSatisfied}
 use Rattle.cert_judge.specs.ItemGraph.{IsCertificateWith, IsIssuedUnder, IsLink, IsAnchorLink, self_issued_of, limit_of, graph_of_items}
 use Rattle.cert_judge.specs.LawsOfItems.{VouchesForMore, Keeps, HasPathsOf, HasPathOf, IsValidAt}
 use Rattle.cert_judge.proofs.Grouping.{element}
@@ -52,7 +52,7 @@ same_shown g z f items others k P v h =
     let here = is_at items v x.0 h.0 x.1 (λ y. y ≡ x.0) refl in
     shown g z others (f v) x.0 (k.certificates v x.0 p.0 here p.1) ∙ sym (shown g z items v x.0 here)
 
-used_more : (r s : Rules) (items : List Item) → VouchesForMore r s items → (name key : List ℕ) (x : Item) (l : RevocationList) → Contains items x → IsUsedList r name key x l → IsUsedList s name key x l
+used_more : (r s : JudgingContext) (items : List Item) → VouchesForMore r s items → (name key : List ℕ) (x : Item) (l : RevocationList) → Contains items x → IsUsedList r name key x l → IsUsedList s name key x l
 used_more r s items m name key x l at u = record {
   is_list = u.is_list;
   issuer = u.issuer;
@@ -61,7 +61,7 @@ used_more r s items m name key x l at u = record {
   plain = u.plain;
 }
 
-used_less : (r s : Rules) (items : List Item) → VouchesForMore r s items → (name key : List ℕ) (x : Item) (l : RevocationList) → Contains items x → IsUsedList s name key x l → IsUsedList r name key x l
+used_less : (r s : JudgingContext) (items : List Item) → VouchesForMore r s items → (name key : List ℕ) (x : Item) (l : RevocationList) → Contains items x → IsUsedList s name key x l → IsUsedList r name key x l
 used_less r s items m name key x l at u = record {
   is_list = u.is_list;
   issuer = u.issuer;
@@ -70,16 +70,16 @@ used_less r s items m name key x l at u = record {
   plain = u.plain;
 }
 
-satisfied_more : (f : ℕ → ℕ) (r s : Rules) (items others : List Item) → VouchesForMore r s items → Keeps f items others → (name key : List ℕ) (serial : Number) → IsSatisfied r items name key serial → IsSatisfied s others name key serial
+satisfied_more : (f : ℕ → ℕ) (r s : JudgingContext) (items others : List Item) → VouchesForMore r s items → Keeps f items others → (name key : List ℕ) (serial : Number) → IsSatisfied r items name key serial → IsSatisfied s others name key serial
 satisfied_more f r s items others m k name key serial h = record {
   kept = λ v. let at = (k.lists v.0 v.1 v.3.is_list).1 v.2 in h.kept (v.0, v.1, at, used_less r s items m name key v.0 v.1 at v.3, v.4);
   listed = λ d. let u = h.listed (m.demand ∙ d) in (u.0, u.1, (k.lists u.0 u.1 u.3.is_list).0 u.2, used_more r s items m name key u.0 u.1 u.2 u.3);
 }
 
-issued_more : (f : ℕ → ℕ) (r s : Rules) (items others : List Item) → VouchesForMore r s items → Keeps f items others → (x : Item) (c : Certificate) (name key : List ℕ) → Contains items x → x.class ≡ certificate c → IsIssuedUnder r items x c name key → IsIssuedUnder s others x c name key
+issued_more : (f : ℕ → ℕ) (r s : JudgingContext) (items others : List Item) → VouchesForMore r s items → Keeps f items others → (x : Item) (c : Certificate) (name key : List ℕ) → Contains items x → x.class ≡ certificate c → IsIssuedUnder r items x c name key → IsIssuedUnder s others x c name key
 issued_more f r s items others m k x c name key at is h = record { issuer = h.issuer; vouched = m.certificates x c key at is h.vouched; satisfied = satisfied_more f r s items others m k name key c.serial h.satisfied }
 
-pub items_carry : (f : ℕ → ℕ) (r s : Rules) (items others anchors : List Item) → VouchesForMore r s items → Keeps f items others → Carries f (graph_of_items r items anchors) (graph_of_items s others anchors)
+pub items_carry : (f : ℕ → ℕ) (r s : JudgingContext) (items others anchors : List Item) → VouchesForMore r s items → Keeps f items others → Carries f (graph_of_items r items anchors) (graph_of_items s others anchors)
 items_carry f r s items others anchors m k = record {
   usable = λ v h.
       moved f items others k (λ x. IsUsable (r.Processes x.octets) r.moment) (λ x. IsUsable (s.Processes x.octets) s.moment)
@@ -108,11 +108,11 @@ items_carry f r s items others anchors m k = record {
       (a.0, λ d. is_at anchors w y.0 h'.0 y.1 (λ y. IsAnchorLink s others (get_or others (f v) d) y) (subst (λ z. IsAnchorLink s others z y.0) (sym (a.1 d)) link));
 }
 
-pub items_keep_paths : (f : ℕ → ℕ) (r s : Rules) (items others anchors : List Item) → VouchesForMore r s items → Keeps f items others → HasPathsOf f r s items others anchors
+pub items_keep_paths : (f : ℕ → ℕ) (r s : JudgingContext) (items others anchors : List Item) → VouchesForMore r s items → Keeps f items others → HasPathsOf f r s items others anchors
 items_keep_paths f r s items others anchors m k = λ target ps a v.
     (map f ps, length-map ps f, path_carried f (graph_of_items r items anchors) (graph_of_items s others anchors) (items_carry f r s items others anchors m k) (fit_is_usable s others anchors) target ps a v)
 
-pub same_rules : (r : Rules) (items : List Item) → VouchesForMore r r items
+pub same_rules : (r : JudgingContext) (items : List Item) → VouchesForMore r r items
 same_rules r items = record { moment = refl; demand = refl; certificates = λ x c key at is v. v; lists = λ x l key at is. (λ v. v, λ v. v); processed = λ x c id at is p. p }
 
 pub same_items : (items : List Item) → Keeps (λ v. v) items items
@@ -141,11 +141,11 @@ one_item_more items y d is_y =
     }
 
 -- of a valid path each certificate is valid at the moment
-pub path_is_valid : (r : Rules) (items anchors : List Item) (target : ℕ) (ps : List ℕ) (a : ℕ) → IsValidPath (graph_of_items r items anchors) target ps a → All (IsValidAt items r.moment) ps
+pub path_is_valid : (r : JudgingContext) (items anchors : List Item) (target : ℕ) (ps : List ℕ) (a : ℕ) → IsValidPath (graph_of_items r items anchors) target ps a → All (IsValidAt items r.moment) ps
 path_is_valid r items anchors target ps a v = λ k d lt. let u = v.usable k d lt in (u.0, λ e. let c = u.1 e in (c.0, c.1, c.2.valid))
 
 -- there and back again
-pub kept_both_ways : (r : Rules) (items others anchors : List Item) (f g : ℕ → ℕ) (target : ℕ) → Keeps f items others → Keeps g others items → g (f target) ≡ target
+pub kept_both_ways : (r : JudgingContext) (items others anchors : List Item) (f g : ℕ → ℕ) (target : ℕ) → Keeps f items others → Keeps g others items → g (f target) ≡ target
     → (n : ℕ) → HasPathOf r items anchors target n ↔ HasPathOf r others anchors (f target) n
 kept_both_ways r items others anchors f g target there back same n = (
   λ h. let v = items_keep_paths f r r items others anchors (same_rules r items) there target h.0 h.1 h.3 in (v.0, h.1, v.1 ∙ h.2, v.2),
@@ -202,7 +202,7 @@ shown_alike : {Z : Type 0} (g : Class → Z) (front back : List Item) (x y : Ite
 shown_alike g [] back x y is_x is_y = ap (λ k. g k ∷ map (λ (i : Item). g i.class) back) (is_x ∙ sym is_y)
 shown_alike g (z ∷ front) back x y is_x is_y = ap (λ l. g z.class ∷ l) (shown_alike g front back x y is_x is_y)
 
-pub exchanged_agrees : (r : Rules) (front back anchors : List Item) (x y : Item) → x.class ≡ other → y.class ≡ other → Agrees (graph_of_items r (front ++ x ∷ back) anchors) (graph_of_items r (front ++ y ∷ back) anchors)
+pub exchanged_agrees : (r : JudgingContext) (front back anchors : List Item) (x y : Item) → x.class ≡ other → y.class ≡ other → Agrees (graph_of_items r (front ++ x ∷ back) anchors) (graph_of_items r (front ++ y ∷ back) anchors)
 exchanged_agrees r front back anchors x y is_x is_y =
     let items = front ++ x ∷ back in
     let others = front ++ y ∷ back in
@@ -221,13 +221,13 @@ exchanged_agrees r front back anchors x y is_x is_y =
       anchored = λ v w. (a.anchored v w, b.anchored v w);
     }
 
-pub exchanged_true : (r : Rules) (front back anchors : List Item) (x y : Item) → x.class ≡ other → y.class ≡ other → (target : ℕ) (answer : Answer)
+pub exchanged_true : (r : JudgingContext) (front back anchors : List Item) (x y : Item) → x.class ≡ other → y.class ≡ other → (target : ℕ) (answer : Answer)
     → IsTrueAnswer (graph_of_items r (front ++ x ∷ back) anchors) target answer ↔ IsTrueAnswer (graph_of_items r (front ++ y ∷ back) anchors) target answer
 exchanged_true r front back anchors x y is_x is_y target answer =
     agreed_true (graph_of_items r (front ++ x ∷ back) anchors) (graph_of_items r (front ++ y ∷ back) anchors) (exchanged_agrees r front back anchors x y is_x is_y) (fit_is_usable r (front ++ x ∷ back) anchors) target answer
 
 -- an anchor item that is no certificate bounds no link, nor does another in its place
-bounds_as_before : (r : Rules) (items front back : List Item) (x y : Item) → ((c : Certificate) → x.class ≡ certificate c → ⊥) → (v a : ℕ) → IsAt items v (λ z. IsAt (front ++ x ∷ back) a (λ b. IsAnchorLink r items z b))
+bounds_as_before : (r : JudgingContext) (items front back : List Item) (x y : Item) → ((c : Certificate) → x.class ≡ certificate c → ⊥) → (v a : ℕ) → IsAt items v (λ z. IsAt (front ++ x ∷ back) a (λ b. IsAnchorLink r items z b))
     → IsAt items v (λ z. IsAt (front ++ y ∷ back) a (λ b. IsAnchorLink r items z b))
 bounds_as_before r items front back x y none v a h = (
   h.0,
@@ -242,7 +242,7 @@ bounds_as_before r items front back x y none v a h = (
       (omega arith, λ e. subst (IsAnchorLink r items (get_or items v d)) (elsewhere front back x y a e apart) (there.1 e)),
 )
 
-anchors_agree : (r : Rules) (items front back : List Item) (x y : Item) → ((c : Certificate) → x.class ≡ certificate c → ⊥) → ((c : Certificate) → y.class ≡ certificate c → ⊥)
+anchors_agree : (r : JudgingContext) (items front back : List Item) (x y : Item) → ((c : Certificate) → x.class ≡ certificate c → ⊥) → ((c : Certificate) → y.class ≡ certificate c → ⊥)
     → Agrees (graph_of_items r items (front ++ x ∷ back)) (graph_of_items r items (front ++ y ∷ back))
 anchors_agree r items front back x y no_x no_y = record {
   items = refl;
@@ -255,14 +255,14 @@ anchors_agree r items front back x y no_x no_y = record {
   anchored = λ v a. (bounds_as_before r items front back x y no_x v a, bounds_as_before r items front back y x no_y v a);
 }
 
-pub exchanged_anchor_true : (r : Rules) (items front back : List Item) (x y : Item) → ((c : Certificate) → x.class ≡ certificate c → ⊥) → ((c : Certificate) → y.class ≡ certificate c → ⊥) → (target : ℕ) (answer : Answer)
+pub exchanged_anchor_true : (r : JudgingContext) (items front back : List Item) (x y : Item) → ((c : Certificate) → x.class ≡ certificate c → ⊥) → ((c : Certificate) → y.class ≡ certificate c → ⊥) → (target : ℕ) (answer : Answer)
     → IsTrueAnswer (graph_of_items r items (front ++ x ∷ back)) target answer ↔ IsTrueAnswer (graph_of_items r items (front ++ y ∷ back)) target answer
 exchanged_anchor_true r items front back x y no_x no_y target answer =
     agreed_true (graph_of_items r items (front ++ x ∷ back)) (graph_of_items r items (front ++ y ∷ back)) (anchors_agree r items front back x y no_x no_y) (fit_is_usable r items (front ++ x ∷ back)) target answer
 
 -- whatever is usable is a certificate
-usable_is_certificate : (r : Rules) (items anchors : List Item) → UsableIsCertificate (graph_of_items r items anchors)
+usable_is_certificate : (r : JudgingContext) (items anchors : List Item) → UsableIsCertificate (graph_of_items r items anchors)
 usable_is_certificate r items anchors v u = (u.0, λ d. let c = u.1 d in (c.0, c.1, tt))
 
-pub one_answer : (r : Rules) (items anchors : List Item) (target : ℕ) (answer another : Answer) → IsTrueAnswer (graph_of_items r items anchors) target answer → IsTrueAnswer (graph_of_items r items anchors) target another → SayTheSame answer another
+pub one_answer : (r : JudgingContext) (items anchors : List Item) (target : ℕ) (answer another : Answer) → IsTrueAnswer (graph_of_items r items anchors) target answer → IsTrueAnswer (graph_of_items r items anchors) target another → SayTheSame answer another
 one_answer r items anchors = one_true_answer (graph_of_items r items anchors) (usable_is_certificate r items anchors)

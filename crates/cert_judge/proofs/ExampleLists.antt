@@ -10,7 +10,7 @@ use Rattle.cert_model.specs.Examples.{key, new_year, plain, issued_by_b, authori
 use Rattle.cert_judge.specs.Revoking.{Item, AreUncritical, IsCurrent, IsPlain, IsSatisfied}
 use Rattle.cert_judge.specs.Judging.{IsUsable}
 use Rattle.cert_judge.specs.Further.{no_identifier}
-use Rattle.cert_judge.specs.ItemGraph.{HaveSameKeyId, graph_of_items}
+use Rattle.cert_judge.specs.ItemGraph.{KeyIdsAgree, graph_of_items}
 use Rattle.cert_judge.specs.Examples.{in_june, revoking_two, anchor_named, certificate_item, list_item, vouching_for_all, vouching_but_for}
 use Rattle.cert_judge.proofs.Linking.{fit_is_usable}
 use Rattle.cert_judge.proofs.Examples.{none, one, june_valid, no_extensions, authority_is_fit}
@@ -94,7 +94,7 @@ no_lists name key serial = record {
   listed = λ d. absurd cc;
 }
 
-pub names_no_key : HaveSameKeyId issued_by_b authority_b
+pub names_no_key : KeyIdsAgree issued_by_b authority_b
 names_no_key = λ a s names own.
     let long = ap (λ (es : List Extension). length es) names.stands.place ∙ length-append names.stands.front (names.stands.extension ∷ names.stands.back) in
     absurd (omega arith)

@@ -12,8 +12,8 @@ use Rattle.cert_model.specs.Class.{certificate}
 use Rattle.cert_model.specs.Examples.{key, common_name, issued_by_b, authority_b}
 use Rattle.cert_judge.specs.Constraints.{BasicConstraints, basic_constraints_octets, IsBasicConstraints}
 use Rattle.cert_judge.specs.Judging.{HasConstraints, HasUsage, IsProcessed, IsSigner, IsFitIssuer}
-use Rattle.cert_judge.specs.Revoking.{Item, Rules, IsSatisfied}
-use Rattle.cert_judge.specs.ItemGraph.{IsIssuedUnder, HaveSameKeyId, IsLink, IsAnchorLink, graph_of_items}
+use Rattle.cert_judge.specs.Revoking.{Item, JudgingContext, IsSatisfied}
+use Rattle.cert_judge.specs.ItemGraph.{IsIssuedUnder, KeyIdsAgree, IsLink, IsAnchorLink, graph_of_items}
 use Rattle.cert_judge.specs.Further.{no_identifier}
 use Rattle.cert_judge.specs.Examples.{in_june, extension, anchor_named, certificate_item, vouching_for_all, key_of, unlimited, limited_to, authority, self_issued_b, limited_above, b_from_c, one_rollover, one_rollover_rules, c_from_d, two_rollovers, two_rollover_rules, equal_issuers}
 use Rattle.cert_judge.proofs.Grouping.{one_certificate}
@@ -73,14 +73,14 @@ only_certificates [] x (k, lt, is) = absurd (omega (arith, lt))
 only_certificates (c ∷ cs) x (zero, lt, is) = (c, sym is)
 only_certificates (c ∷ cs) x (suc k, lt, is) = only_certificates cs x (k, omega (arith, lt), is)
 
-satisfied : (r : Rules) → r.demand_lists ≡ false → (cs : List Certificate) (name own : List ℕ) (serial : Number) → IsSatisfied r (bundle cs) name own serial
+satisfied : (r : JudgingContext) → r.demand_lists ≡ false → (cs : List Certificate) (name own : List ℕ) (serial : Number) → IsSatisfied r (bundle cs) name own serial
 satisfied r free cs name own serial = record {
   kept = λ h. let f = only_certificates cs h.0 h.2 in no_list h.0 f.0 h.1 f.1 h.3.is_list;
   listed = λ d. let e = sym free ∙ d in absurd cc;
 }
 
 -- it names no issuer's key
-names_none : (c d : Certificate) → (c.extensions ≡ []) → HaveSameKeyId c d
+names_none : (c d : Certificate) → (c.extensions ≡ []) → KeyIdsAgree c d
 names_none c d e = λ a s names own.
     let long = ap (λ (es : List Extension). length es) (sym e ∙ names.stands.place) ∙ length-append names.stands.front (names.stands.extension ∷ names.stands.back) in
     absurd (omega arith)
@@ -89,20 +89,20 @@ first_is : (e x : Extension) (front back : List Extension) → e ∷ [] ≡ fron
 first_is e x [] back is = ap (λ (es : List Extension). get_or es 0 e) is
 first_is e x (f ∷ front) back is = let long = ap (λ (es : List Extension). length es) is ∙ ap suc (length-append front (x ∷ back)) in absurd (omega arith)
 
-names_no_issuer : (subject issuer : ℕ) (own : Key) (value : List ℕ) (d : Certificate) → HaveSameKeyId (authority subject issuer own value) d
+names_no_issuer : (subject issuer : ℕ) (own : Key) (value : List ℕ) (d : Certificate) → KeyIdsAgree (authority subject issuer own value) d
 names_no_issuer subject issuer own value d = λ a s names has.
     let is = first_is (extension basic_constraints true value) names.stands.extension names.stands.front names.stands.back names.stands.place in
     let e = ap (λ (x : Extension). x.identifier) is ∙ names.stands.under in
     absurd cc
 
-issued : (r : Rules) → r.demand_lists ≡ false → (cs : List Certificate) (x : Item) (c : Certificate) (name own : List ℕ) → name_octets c.issuer ≡ name → r.Vouches own x.octets → IsIssuedUnder r (bundle cs) x c name own
+issued : (r : JudgingContext) → r.demand_lists ≡ false → (cs : List Certificate) (x : Item) (c : Certificate) (name own : List ℕ) → name_octets c.issuer ≡ name → r.Vouches own x.octets → IsIssuedUnder r (bundle cs) x c name own
 issued r free cs x c name own issuer vouched = record { issuer = issuer; vouched = vouched; satisfied = satisfied r free cs name own c.serial }
 
-link : (r : Rules) → r.demand_lists ≡ false → (cs : List Certificate) (c d : Certificate) → name_octets c.issuer ≡ name_octets d.subject → r.Vouches (key_octets d.key) (certificate_item c).octets → HaveSameKeyId c d
+link : (r : JudgingContext) → r.demand_lists ≡ false → (cs : List Certificate) (c d : Certificate) → name_octets c.issuer ≡ name_octets d.subject → r.Vouches (key_octets d.key) (certificate_item c).octets → KeyIdsAgree c d
     → IsLink r (bundle cs) (certificate_item c) (certificate_item d)
 link r free cs c d issuer vouched keys = (c, refl, (d, refl, (issued r free cs (certificate_item c) c (name_octets d.subject) (key_octets d.key) issuer vouched, keys)))
 
-anchor_link : (r : Rules) → r.demand_lists ≡ false → (cs : List Certificate) (c d : Certificate) → name_octets c.issuer ≡ name_octets d.subject → r.Vouches (key_octets d.key) (certificate_item c).octets
+anchor_link : (r : JudgingContext) → r.demand_lists ≡ false → (cs : List Certificate) (c d : Certificate) → name_octets c.issuer ≡ name_octets d.subject → r.Vouches (key_octets d.key) (certificate_item c).octets
     → IsAnchorLink r (bundle cs) (certificate_item c) (certificate_item d)
 anchor_link r free cs c d issuer vouched = (c, refl, (d, refl, issued r free cs (certificate_item c) c (name_octets d.subject) (key_octets d.key) issuer vouched))
 
@@ -204,13 +204,13 @@ other_road a h =
 
 -- ---- no path, and the first of several
 
-link_names : (r : Rules) (items : List Item) (c d : Certificate) → IsLink r items (certificate_item c) (certificate_item d) → name_octets c.issuer ≡ name_octets d.subject
+link_names : (r : JudgingContext) (items : List Item) (c d : Certificate) → IsLink r items (certificate_item c) (certificate_item d) → name_octets c.issuer ≡ name_octets d.subject
 link_names r items c d h =
     let p = one_certificate (certificate c) h.0 c h.1 refl in
     let q = one_certificate (certificate d) h.2.0 d h.2.1 refl in
     sym (ap (λ (x : Certificate). name_octets x.issuer) p) ∙ h.2.2.0.issuer ∙ ap (λ (x : Certificate). name_octets x.subject) q
 
-anchor_names : (r : Rules) (items : List Item) (c d : Certificate) → IsAnchorLink r items (certificate_item c) (certificate_item d) → name_octets c.issuer ≡ name_octets d.subject
+anchor_names : (r : JudgingContext) (items : List Item) (c d : Certificate) → IsAnchorLink r items (certificate_item c) (certificate_item d) → name_octets c.issuer ≡ name_octets d.subject
 anchor_names r items c d h =
     let p = one_certificate (certificate c) h.0 c h.1 refl in
     let q = one_certificate (certificate d) h.2.0 d h.2.1 refl in

@@ -6,7 +6,7 @@ use Rattle.cert_model.specs.Fields.{Certificate}
 use Rattle.cert_model.specs.KeyIds.{IsAuthorityKeyId, IsSubjectKeyId}
 use Rattle.cert_model.specs.Class.{certificate}
 use Rattle.cert_judge.specs.Named.{NamesKeyId, HasKeyId}
-use Rattle.cert_judge.specs.Revoking.{Item, Rules}
+use Rattle.cert_judge.specs.Revoking.{Item, JudgingContext}
 use Rattle.cert_judge.specs.ItemGraph.{IsCertificateWith, graph_of_items}
 use Rattle.cert_judge.proofs.Grouping.{one_certificate}
 
@@ -21,7 +21,7 @@ not_held : {a : List ℕ} → None ≡ Some a → ⊥
 not_held e = cc
 
 -- whoever is fit is usable
-pub fit_is_usable : (r : Rules) (items anchor_items : List Item) → FitIsUsable (graph_of_items r items anchor_items)
+pub fit_is_usable : (r : JudgingContext) (items anchor_items : List Item) → FitIsUsable (graph_of_items r items anchor_items)
 fit_is_usable r items anchor_items v h = (h.0, λ d. let f = h.1 d in (f.0, f.1, f.2.usable))
 
 -- a reader that finds a key identifier and no other tells whether there is one

@@ -6,7 +6,7 @@ use Rattle.cert_model.specs.Octets.{key_octets, certificate_octets, list_octets}
 use Rattle.cert_model.specs.Class.{certificate, list}
 use Rattle.cert_model.specs.Extended.{basic_constraints, key_usage}
 use Rattle.cert_model.specs.Examples.{key, common_name, plain, issued_by_b, revoking, authority_b}
-use Rattle.cert_judge.specs.Revoking.{Item, Rules}
+use Rattle.cert_judge.specs.Revoking.{Item, JudgingContext}
 use Rattle.cert_judge.specs.Vouching.{nothing}
 
 -- the first of June 2025 at midnight
@@ -66,10 +66,10 @@ abbrev pub list_item : RevocationList → Item
 list_item l = record { octets = list_octets l; class = list l }
 
 -- every key vouches for everything, or for everything but one item
-abbrev pub vouching_for_all : Bool → Rules
+abbrev pub vouching_for_all : Bool → JudgingContext
 vouching_for_all demand = record { moment = in_june; demand_lists = demand; Vouches = λ key item. Unit {0}; Processes = nothing }
 
-abbrev pub vouching_but_for : List ℕ → Rules
+abbrev pub vouching_but_for : List ℕ → JudgingContext
 vouching_but_for octets = record { moment = in_june; demand_lists = false; Vouches = λ key item. item ≡ octets → ⊥; Processes = nothing }
 
 -- ---- paths
@@ -94,7 +94,7 @@ authority subject issuer own constraints =
 abbrev pub vouches_for : Key → Certificate → List ℕ × List ℕ
 vouches_for own c = (key_octets own, certificate_octets c)
 
-abbrev pub vouching_by : List (List ℕ × List ℕ) → Rules
+abbrev pub vouching_by : List (List ℕ × List ℕ) → JudgingContext
 vouching_by pairs = record { moment = in_june; demand_lists = false; Vouches = λ own item. Contains pairs (own, item); Processes = nothing }
 
 abbrev pub self_issued_b : ℕ → Certificate
@@ -111,7 +111,7 @@ b_from_c octet constraints = authority 0x62 0x63 (key_of octet) constraints
 abbrev pub one_rollover : List Certificate
 one_rollover = issued_by_b ∷ self_issued_b 1 ∷ b_from_c 2 (limited_to 0) ∷ []
 
-abbrev pub one_rollover_rules : Rules
+abbrev pub one_rollover_rules : JudgingContext
 one_rollover_rules =
     vouching_by (vouches_for (key_of 1) issued_by_b ∷ vouches_for (key_of 2) (self_issued_b 1) ∷ vouches_for key (b_from_c 2 (limited_to 0)) ∷ [])
 
@@ -128,7 +128,7 @@ c_from_d = authority 0x63 0x64 key (limited_to 1)
 abbrev pub two_rollovers : List Certificate
 two_rollovers = issued_by_b ∷ b_from_e ∷ e_from_c ∷ self_issued_b 2 ∷ self_issued_b 1 ∷ b_from_c 0 unlimited ∷ c_from_d ∷ []
 
-abbrev pub two_rollover_rules : Rules
+abbrev pub two_rollover_rules : JudgingContext
 two_rollover_rules =
     vouching_by (
     vouches_for (key_of 2) issued_by_b ∷ vouches_for (key_of 1) (self_issued_b 2) ∷ vouches_for (key_of 0) (self_issued_b 1)

@@ -11,28 +11,28 @@ use Rattle.cert_model.specs.Class.{Class, certificate, list, other}
 use Rattle.cert_model.specs.KeyIds.{IsAuthorityKeyId, IsSubjectKeyId}
 use Rattle.cert_judge.specs.Judging.{IsUsable, IsFitIssuer}
 use Rattle.cert_judge.specs.Limits.{path_limit}
-use Rattle.cert_judge.specs.Revoking.{Item, Rules, IsSatisfied}
+use Rattle.cert_judge.specs.Revoking.{Item, JudgingContext, IsSatisfied}
 
 -- an item is a certificate with a property
 abbrev pub IsCertificateWith : (Certificate → Type 0) → Item → Type 0
 IsCertificateWith P x = (c : Certificate) × (x.class ≡ certificate c) × P c
 
 -- A certificate was issued under a name and key: its issuer is the name, the key vouches for it, and it is satisfied.
-pub record IsIssuedUnder (r : Rules) (items : List Item) (x : Item) (c : Certificate) (name key : List ℕ) : Type 0 where
+pub record IsIssuedUnder (r : JudgingContext) (items : List Item) (x : Item) (c : Certificate) (name key : List ℕ) : Type 0 where
   pub issuer : name_octets c.issuer ≡ name
   pub vouched : r.Vouches key x.octets
   pub satisfied : IsSatisfied r items name key c.serial
 
 -- where the one names its issuer's key and the other its own, they agree
-abbrev pub HaveSameKeyId : Certificate → Certificate → Type 0
-HaveSameKeyId c d = (a s : List ℕ) → IsAuthorityKeyId c a → IsSubjectKeyId d s → a ≡ s
+abbrev pub KeyIdsAgree : Certificate → Certificate → Type 0
+KeyIdsAgree c d = (a s : List ℕ) → IsAuthorityKeyId c a → IsSubjectKeyId d s → a ≡ s
 
 -- A link from a certificate to one under whose name and key it was issued.
-abbrev pub IsLink : Rules → List Item → Item → Item → Type 0
-IsLink r items x y = IsCertificateWith (λ c. IsCertificateWith (λ d. IsIssuedUnder r items x c (name_octets d.subject) (key_octets d.key) × HaveSameKeyId c d) y) x
+abbrev pub IsLink : JudgingContext → List Item → Item → Item → Type 0
+IsLink r items x y = IsCertificateWith (λ c. IsCertificateWith (λ d. IsIssuedUnder r items x c (name_octets d.subject) (key_octets d.key) × KeyIdsAgree c d) y) x
 
 -- the same to an anchor, of which the subject and the key count and nothing else (RFC 5280, 6.1.1, d)
-abbrev pub IsAnchorLink : Rules → List Item → Item → Item → Type 0
+abbrev pub IsAnchorLink : JudgingContext → List Item → Item → Item → Type 0
 IsAnchorLink r items x a = IsCertificateWith (λ c. IsCertificateWith (λ d. IsIssuedUnder r items x c (name_octets d.subject) (key_octets d.key)) a) x
 
 -- subject and issuer are the same octets (RFC 5280, 6.1)
@@ -48,7 +48,7 @@ limit_of (list l) = No
 limit_of other = No
 
 -- The graph that classed items and anchors stand for.
-abbrev pub graph_of_items : Rules → List Item → List Item → Graph
+abbrev pub graph_of_items : JudgingContext → List Item → List Item → Graph
 graph_of_items r items anchor_items = record {
   items = length items;
   IsCertificate = λ v. IsAt items v (IsCertificateWith (λ c. Unit {0}));

@@ -8,7 +8,7 @@ use Rattle.cert_judge.specs.declared.items.CertificateItem.{CertificateItem}
 use Rattle.cert_judge.specs.declared.items.ListItem.{ListItem}
 use Rattle.cert_judge.specs.declared.items.ReadItem.{ReadItem}
 use Rattle.cert_judge.specs.declared.items.ReadItem.TheVariants.{Certificate as certificate_read, List as list_read, Other as other_read}
-use Rattle.cert_judge.specs.Revoking.{Item, Rules, IsCurrent, IsPlain}
+use Rattle.cert_judge.specs.Revoking.{Item, JudgingContext, IsCurrent, IsPlain}
 use Rattle.cert_judge.specs.Vouching.{Vouching}
 
 abbrev pub certificate_of : CertificateItem → Certificate
@@ -28,10 +28,10 @@ item_of (certificate_read x) = certificate_item x
 item_of (list_read x) = list_item x
 item_of (other_read octets) = record { octets = octets.now; class = other }
 
-abbrev pub rules_at : CivilTime → Bool → Vouching → Rules
+abbrev pub rules_at : CivilTime → Bool → Vouching → JudgingContext
 rules_at moment demand v = record { moment = moment; demand_lists = demand; Vouches = v.Vouches; Processes = v.Processes }
 
-abbrev pub rules_by : DateTime → Bool → Vouching → Rules
+abbrev pub rules_by : DateTime → Bool → Vouching → JudgingContext
 rules_by moment demand v = rules_at (time_view moment) demand v
 
 -- The code's list is used under a name and key.

@@ -5,17 +5,17 @@ use Rattle.cert_graph.specs.Entries.{IsAt}
 use Rattle.cert_model.specs.Fields.{CivilTime, Certificate, RevocationList}
 use Rattle.cert_model.specs.Class.{certificate, list}
 use Rattle.cert_judge.specs.Moments.{IsBetween}
-use Rattle.cert_judge.specs.Revoking.{Item, Rules}
+use Rattle.cert_judge.specs.Revoking.{Item, JudgingContext}
 use Rattle.cert_judge.specs.Vouching.{nothing}
 use Rattle.cert_judge.specs.ItemGraph.{IsCertificateWith, graph_of_items}
 
 -- rules by a test of what is vouched for; no further extension is processed
-abbrev pub rules_from : CivilTime → Bool → (List ℕ → List ℕ → Bool) → Rules
+abbrev pub rules_from : CivilTime → Bool → (List ℕ → List ℕ → Bool) → JudgingContext
 rules_from moment demand vouches = record { moment = moment; demand_lists = demand; Vouches = λ key item. IsTrue (vouches key item); Processes = nothing }
 
 -- the second rules vouch for each certificate among the items that the first vouch for, and for the same lists among them, and
 -- process each extension of the certificates that the first process
-pub record VouchesForMore (r s : Rules) (items : List Item) : Type 0 where
+pub record VouchesForMore (r s : JudgingContext) (items : List Item) : Type 0 where
   pub moment : r.moment ≡ s.moment
   pub demand : r.demand_lists ≡ s.demand_lists
   pub certificates : (x : Item) (c : Certificate) (key : List ℕ) → Contains items x → x.class ≡ certificate c → r.Vouches key x.octets → s.Vouches key x.octets
@@ -28,7 +28,7 @@ pub record Keeps (f : ℕ → ℕ) (items others : List Item) : Type 0 where
   pub lists : (x : Item) (l : RevocationList) → x.class ≡ list l → Contains items x ↔ Contains others x
 
 -- wherever there is a path, there is one of the same length elsewhere
-abbrev pub HasPathsOf : (ℕ → ℕ) → Rules → Rules → List Item → List Item → List Item → Type 0
+abbrev pub HasPathsOf : (ℕ → ℕ) → JudgingContext → JudgingContext → List Item → List Item → List Item → Type 0
 HasPathsOf f r s items others anchors =
     (target : ℕ) (ps : List ℕ) (a : ℕ) → IsValidPath (graph_of_items r items anchors) target ps a
     → (qs : List ℕ) × (length qs ≡ length ps) × IsValidPath (graph_of_items s others anchors) (f target) qs a
@@ -38,5 +38,5 @@ abbrev pub IsValidAt : List Item → CivilTime → ℕ → Type 0
 IsValidAt items moment p = IsAt items p (IsCertificateWith (λ c. IsBetween c.not_before moment c.not_after))
 
 -- there is a path of so many certificates
-abbrev pub HasPathOf : Rules → List Item → List Item → ℕ → ℕ → Type 0
+abbrev pub HasPathOf : JudgingContext → List Item → List Item → ℕ → ℕ → Type 0
 HasPathOf r items anchors target n = (ps : List ℕ) × (a : ℕ) × (length ps ≡ n) × IsValidPath (graph_of_items r items anchors) target ps a

@@ -27,14 +27,14 @@ pub record IsPlain (l : RevocationList) : Type 0 where
 
 -- What is judged by: a moment, whether lists are demanded, for which key and item the keys vouch, and which extensions of an item
 -- the caller processes.
-pub record Rules : Type 1 where
+pub record JudgingContext : Type 1 where
   pub moment : CivilTime
   pub demand_lists : Bool
   pub Vouches : List ℕ → List ℕ → Type 0
   pub Processes : List ℕ → List ℕ → Type 0
 
 -- A list is used under a name and key.
-pub record IsUsedList (r : Rules) (name key : List ℕ) (item : Item) (l : RevocationList) : Type 0 where
+pub record IsUsedList (r : JudgingContext) (name key : List ℕ) (item : Item) (l : RevocationList) : Type 0 where
   pub is_list : item.class ≡ list l
   pub issuer : name_octets l.issuer ≡ name
   pub vouched : r.Vouches key item.octets
@@ -42,15 +42,15 @@ pub record IsUsedList (r : Rules) (name key : List ℕ) (item : Item) (l : Revoc
   pub plain : IsPlain l
 
 -- some list is used under a name and key
-abbrev pub HasUsedList : Rules → List Item → List ℕ → List ℕ → Type 0
+abbrev pub HasUsedList : JudgingContext → List Item → List ℕ → List ℕ → Type 0
 HasUsedList r items name key = (x : Item) × (l : RevocationList) × Contains items x × IsUsedList r name key x l
 
 -- a used list has an entry of this serial number
-abbrev pub IsRevoked : Rules → List Item → List ℕ → List ℕ → Number → Type 0
+abbrev pub IsRevoked : JudgingContext → List Item → List ℕ → List ℕ → Number → Type 0
 IsRevoked r items name key serial =
     (x : Item) × (l : RevocationList) × Contains items x × IsUsedList r name key x l × Any (λ (n : Entry). n.serial ≡ serial) l.entries
 
 -- A certificate of this serial number stands under a name and key.
-pub record IsSatisfied (r : Rules) (items : List Item) (name key : List ℕ) (serial : Number) : Type 0 where
+pub record IsSatisfied (r : JudgingContext) (items : List Item) (name key : List ℕ) (serial : Number) : Type 0 where
   pub kept : IsRevoked r items name key serial → ⊥
   pub listed : r.demand_lists ≡ true → HasUsedList r items name key

@@ -1,4 +1,4 @@
--- Rules that vouch alike, and rules that vouch for less.
+-- JudgingContext that vouch alike, and rules that vouch for less.
 use Rattle.std.specs.Prelude.{◌↔◌}
 use Rattle.std.proofs.Common.{◌≡◌, ◌∙◌, ap, sym, subst, refl, ℕ, ◌+◌, ◌<◌, Bool, List, [], ◌∷◌, ◌++◌, length, length-append, get_or, take, drop, arith}
 use Rattle.std.specs.List.{All, Contains}
@@ -14,7 +14,7 @@ use Rattle.cert_model.specs.Fields.{CivilTime, Number, Certificate, RevocationLi
 use Rattle.cert_model.specs.Class.{certificate, list}
 use Rattle.cert_judge.specs.Vouching.{Vouching, processing_too}
 use Rattle.cert_judge.specs.Items.{rules_at}
-use Rattle.cert_judge.specs.Revoking.{Item, Rules, IsUsedList, IsSatisfied}
+use Rattle.cert_judge.specs.Revoking.{Item, JudgingContext, IsUsedList, IsSatisfied}
 use Rattle.cert_judge.specs.ItemGraph.{IsCertificateWith, IsIssuedUnder, IsLink, IsAnchorLink, graph_of_items}
 use Rattle.cert_judge.specs.LawsOfItems.{VouchesForMore}
 use Rattle.cert_judge.proofs.Carrying.{items_carry, same_items}
@@ -22,10 +22,10 @@ use Rattle.cert_judge.proofs.Grouping.{element, one_certificate}
 use Rattle.cert_judge.proofs.Linking.{fit_is_usable}
 use Rattle.cert_purpose.specs.Restricting.{restricted_by, VouchAlike, HaveSameTrueAnswers, PermitsThose, IsCertificateSuch, HasPathsOfThose}
 
-more_from : (r s : Rules) (items : List Item) → VouchAlike r s items → VouchesForMore r s items
+more_from : (r s : JudgingContext) (items : List Item) → VouchAlike r s items → VouchesForMore r s items
 more_from r s items h = record { moment = h.moment; demand = h.demand; certificates = λ x c key at is. (h.certificates x c key at is).0; lists = λ x l key at is. h.lists x l key at is; processed = λ x c id at is. (h.processed x c id at is).0 }
 
-pub alike_back : (r s : Rules) (items : List Item) → VouchAlike r s items → VouchAlike s r items
+pub alike_back : (r s : JudgingContext) (items : List Item) → VouchAlike r s items → VouchAlike s r items
 alike_back r s items h = record {
   moment = sym h.moment;
   demand = sym h.demand;
@@ -34,7 +34,7 @@ alike_back r s items h = record {
   processed = λ x c id at is. let i = h.processed x c id at is in (i.1, i.0);
 }
 
-pub alike_agrees : (r s : Rules) (items anchors : List Item) → VouchAlike r s items → Agrees (graph_of_items r items anchors) (graph_of_items s items anchors)
+pub alike_agrees : (r s : JudgingContext) (items anchors : List Item) → VouchAlike r s items → Agrees (graph_of_items r items anchors) (graph_of_items s items anchors)
 alike_agrees r s items anchors h =
     let there = items_carry (λ v. v) r s items items anchors (more_from r s items h) (same_items items) in
     let back = items_carry (λ v. v) s r items items anchors (more_from s r items (alike_back r s items h)) (same_items items) in record {
@@ -48,18 +48,18 @@ alike_agrees r s items anchors h =
       anchored = λ v a. (there.anchored v a, back.anchored v a);
     }
 
-pub alike_answers : (r s : Rules) (items : List Item) → VouchAlike r s items → HaveSameTrueAnswers r s items
+pub alike_answers : (r s : JudgingContext) (items : List Item) → VouchAlike r s items → HaveSameTrueAnswers r s items
 alike_answers r s items h = λ anchors target answer.
     agreed_true (graph_of_items r items anchors) (graph_of_items s items anchors) (alike_agrees r s items anchors h) (fit_is_usable r items anchors) target answer
 
-pub alike_valid : (r s : Rules) (items anchors : List Item) → VouchAlike r s items → (target : ℕ) (ps : List ℕ) (a : ℕ) → IsValidPath (graph_of_items r items anchors) target ps a → IsValidPath (graph_of_items s items anchors) target ps a
+pub alike_valid : (r s : JudgingContext) (items anchors : List Item) → VouchAlike r s items → (target : ℕ) (ps : List ℕ) (a : ℕ) → IsValidPath (graph_of_items r items anchors) target ps a → IsValidPath (graph_of_items s items anchors) target ps a
 alike_valid r s items anchors h = valid_same (graph_of_items r items anchors) (graph_of_items s items anchors) (alike_agrees r s items anchors h) (fit_is_usable s items anchors)
 
 module _ (moment : CivilTime) (demand : Bool) (V : Vouching) (P : List ℕ → Type 0) (R : List ℕ → List ℕ → Type 0) (items : List Item) (lists : (x : Item) (l : RevocationList) → Contains items x → x.class ≡ list l → P x.octets) where
-  abbrev base : Rules
+  abbrev base : JudgingContext
   base = rules_at moment demand (processing_too R V)
 
-  abbrev less : Rules
+  abbrev less : JudgingContext
   less = rules_at moment demand (restricted_by P R V)
 
   less_is_less : VouchesForMore less base items
@@ -152,7 +152,7 @@ place_iff P Q items p v is =
       λ h. let s = has_at items v x.0 x.1 S h in is_at items v x.0 is.0 x.1 (λ y. P y.octets) (i.1 (subst (Q x.0) (one_certificate x.0.class s.0 c.0 s.1 c.1) s.2)),
     )
 
-are_certificates : (r : Rules) (items anchors : List Item) (target : ℕ) (ps : List ℕ) (a : ℕ) → IsValidPath (graph_of_items r items anchors) target ps a → All (λ v. IsAt items v (IsCertificateWith (λ c. Unit {0}))) ps
+are_certificates : (r : JudgingContext) (items anchors : List Item) (target : ℕ) (ps : List ℕ) (a : ℕ) → IsValidPath (graph_of_items r items anchors) target ps a → All (λ v. IsAt items v (IsCertificateWith (λ c. Unit {0}))) ps
 are_certificates r items anchors target ps a v = λ k d lt. let u = v.usable k d lt in (u.0, λ e. let c = u.1 e in (c.0, c.1, tt))
 
 pub restricted_paths : (moment : CivilTime) (demand : Bool) (V : Vouching) (P : List ℕ → Type 0) (R : List ℕ → List ℕ → Type 0) (Q : Item → Certificate → Type 0) (items : List Item)

@@ -1,4 +1,4 @@
--- Rules that vouch for less, and rules that vouch alike.
+-- JudgingContext that vouch for less, and rules that vouch alike.
 use Rattle.std.specs.Prelude.{◌≡◌, ◌↔◌, ◌⊎◌, ℕ, List, Contains, All}
 use Rattle.cert_graph.specs.declared.answer.Answer.{Answer}
 use Rattle.cert_graph.specs.Adequate.{IsTrueAnswer}
@@ -6,7 +6,7 @@ use Rattle.cert_graph.specs.Entries.{IsAt}
 use Rattle.cert_graph.specs.Graph.{IsValidPath}
 use Rattle.cert_model.specs.Fields.{Certificate, RevocationList}
 use Rattle.cert_model.specs.Class.{certificate, list}
-use Rattle.cert_judge.specs.Revoking.{Item, Rules}
+use Rattle.cert_judge.specs.Revoking.{Item, JudgingContext}
 use Rattle.cert_judge.specs.Vouching.{Vouching}
 use Rattle.cert_judge.specs.ItemGraph.{graph_of_items}
 
@@ -15,7 +15,7 @@ abbrev pub restricted_by : (List ℕ → Type 0) → (List ℕ → List ℕ → 
 restricted_by P R v = record { Vouches = λ key item. v.Vouches key item × P item; Processes = λ item identifier. v.Processes item identifier ⊎ R item identifier }
 
 -- two rules vouch for the same certificates and the same lists among the items, and process the same extensions of the certificates
-pub record VouchAlike (r s : Rules) (items : List Item) : Type 0 where
+pub record VouchAlike (r s : JudgingContext) (items : List Item) : Type 0 where
   pub moment : r.moment ≡ s.moment
   pub demand : r.demand_lists ≡ s.demand_lists
   pub certificates : (x : Item) (c : Certificate) (key : List ℕ) → Contains items x → x.class ≡ certificate c → r.Vouches key x.octets ↔ s.Vouches key x.octets
@@ -23,7 +23,7 @@ pub record VouchAlike (r s : Rules) (items : List Item) : Type 0 where
   pub processed : (x : Item) (c : Certificate) (identifier : List ℕ) → Contains items x → x.class ≡ certificate c → r.Processes x.octets identifier ↔ s.Processes x.octets identifier
 
 -- whatever the anchors and the target are
-abbrev pub HaveSameTrueAnswers : Rules → Rules → List Item → Type 0
+abbrev pub HaveSameTrueAnswers : JudgingContext → JudgingContext → List Item → Type 0
 HaveSameTrueAnswers r s items =
     (anchors : List Item) (target : ℕ) (answer : Answer) → IsTrueAnswer (graph_of_items r items anchors) target answer ↔ IsTrueAnswer (graph_of_items s items anchors) target answer
 
@@ -37,7 +37,7 @@ abbrev pub IsCertificateSuch : (Item → Certificate → Type 0) → List Item �
 IsCertificateSuch Q items v = IsAt items v (λ x. (c : Certificate) × (x.class ≡ certificate c) × Q x c)
 
 -- the valid paths of the second rules are those of the first all of whose certificates are such
-abbrev pub HasPathsOfThose : Rules → Rules → (Item → Certificate → Type 0) → List Item → Type 0
+abbrev pub HasPathsOfThose : JudgingContext → JudgingContext → (Item → Certificate → Type 0) → List Item → Type 0
 HasPathsOfThose base less Q items =
     (anchors : List Item) (target : ℕ) (ps : List ℕ) (a : ℕ)
     → IsValidPath (graph_of_items less items anchors) target ps a ↔ (IsValidPath (graph_of_items base items anchors) target ps a × All (IsCertificateSuch Q items) ps)

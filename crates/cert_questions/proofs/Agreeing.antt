@@ -1,4 +1,4 @@
--- Rules that agree on the questions have the same links.
+-- JudgingContext that agree on the questions have the same links.
 use Rattle.std.specs.Prelude.{◌↔◌}
 use Rattle.std.proofs.Common.{◌≡◌, ◌∙◌, ap, sym, subst, refl, ℕ, ◌+◌, ◌<◌, List, ◌++◌, length, length-append, get_or, slice_get, Some, arith}
 use Rattle.std.specs.List.{Contains}
@@ -13,7 +13,7 @@ use Rattle.cert_model.specs.Fields.{CivilTime, Number, Certificate, RevocationLi
 use Rattle.cert_model.specs.Octets.{name_octets, key_octets}
 use Rattle.cert_model.specs.Class.{certificate}
 use Rattle.cert_judge.specs.Judging.{IsUsable, IsFitIssuer}
-use Rattle.cert_judge.specs.Revoking.{Item, Rules, IsCurrent, IsUsedList, IsSatisfied}
+use Rattle.cert_judge.specs.Revoking.{Item, JudgingContext, IsCurrent, IsUsedList, IsSatisfied}
 use Rattle.cert_judge.specs.ItemGraph.{IsIssuedUnder, IsLink, IsAnchorLink, graph_of_items}
 use Rattle.cert_judge.proofs.FurtherFacts.{usable_more, fit_more}
 use Rattle.cert_judge.proofs.Linking.{fit_is_usable}
@@ -23,19 +23,19 @@ use Rattle.cert_questions.specs.Agreeing.{AgreeOnQuestions, SayTheSameOf}
 use Rattle.cert_questions.proofs.FirstHolders.{first_holder}
 
 -- under a name and key both rules say the same of each item that was issued there
-record AgreeUnder (r s : Rules) (items : List Item) (name key : List ℕ) : Type 0 where
+record AgreeUnder (r s : JudgingContext) (items : List Item) (name key : List ℕ) : Type 0 where
   moment : r.moment ≡ s.moment
   demand : r.demand_lists ≡ s.demand_lists
   vouches : (x : Item) → Contains items x → issuer_of x.class ≡ Some name → r.Vouches key x.octets ↔ s.Vouches key x.octets
 
-under_back : (r s : Rules) (items : List Item) (name key : List ℕ) → AgreeUnder r s items name key → AgreeUnder s r items name key
+under_back : (r s : JudgingContext) (items : List Item) (name key : List ℕ) → AgreeUnder r s items name key → AgreeUnder s r items name key
 under_back r s items name key a = record {
   moment = sym a.moment;
   demand = sym a.demand;
   vouches = λ x at is. let v = a.vouches x at is in (v.1, v.0);
 }
 
-used_same : (r s : Rules) (items : List Item) (name key : List ℕ) → AgreeUnder r s items name key → (x : Item) (l : RevocationList) → Contains items x → IsUsedList r name key x l → IsUsedList s name key x l
+used_same : (r s : JudgingContext) (items : List Item) (name key : List ℕ) → AgreeUnder r s items name key → (x : Item) (l : RevocationList) → Contains items x → IsUsedList r name key x l → IsUsedList s name key x l
 used_same r s items name key a x l at u = record {
   is_list = u.is_list;
   issuer = u.issuer;
@@ -44,13 +44,13 @@ used_same r s items name key a x l at u = record {
   plain = u.plain;
 }
 
-satisfied_same : (r s : Rules) (items : List Item) (name key : List ℕ) → AgreeUnder r s items name key → (serial : Number) → IsSatisfied r items name key serial → IsSatisfied s items name key serial
+satisfied_same : (r s : JudgingContext) (items : List Item) (name key : List ℕ) → AgreeUnder r s items name key → (serial : Number) → IsSatisfied r items name key serial → IsSatisfied s items name key serial
 satisfied_same r s items name key a serial h = record {
   kept = λ x. h.kept (x.0, x.1, x.2, used_same s r items name key (under_back r s items name key a) x.0 x.1 x.2 x.3, x.4);
   listed = λ d. let x = h.listed (a.demand ∙ d) in (x.0, x.1, x.2, used_same r s items name key a x.0 x.1 x.2 x.3);
 }
 
-issued_same : (r s : Rules) (items : List Item) (name key : List ℕ) → AgreeUnder r s items name key → (x : Item) (c : Certificate) → Contains items x → x.class ≡ certificate c
+issued_same : (r s : JudgingContext) (items : List Item) (name key : List ℕ) → AgreeUnder r s items name key → (x : Item) (c : Certificate) → Contains items x → x.class ≡ certificate c
     → IsIssuedUnder r items x c name key → IsIssuedUnder s items x c name key
 issued_same r s items name key a x c at is i = record {
   issuer = i.issuer;
@@ -66,7 +66,7 @@ holds_from items v y d at is = record {
 }
 
 -- what both say of questions, they say of each item and each holder of a key under its issuer's name
-under_from : (r s : Rules) (items anchors : List Item) → AgreeOnQuestions r s items anchors → (name key : List ℕ) (w : ℕ) → Holds (items ++ anchors) w name key → AgreeUnder r s items name key
+under_from : (r s : JudgingContext) (items anchors : List Item) → AgreeOnQuestions r s items anchors → (name key : List ℕ) (w : ℕ) → Holds (items ++ anchors) w name key → AgreeUnder r s items name key
 under_from r s items anchors a name key w holds =
     let first = first_holder (items ++ anchors) name key w holds in
     record {
@@ -92,7 +92,7 @@ contains_at : (items : List Item) (v : ℕ) (d : Item) → v < length items → 
 contains_at items v d lt = Contains-get_or items v d lt
 
 -- links to certificates and to anchors
-edge_same : (r s : Rules) (items anchors : List Item) → AgreeOnQuestions r s items anchors → (v w : ℕ) → IsAt items v (λ x. IsAt items w (λ y. IsLink r items x y)) → IsAt items v (λ x. IsAt items w (λ y. IsLink s items x y))
+edge_same : (r s : JudgingContext) (items anchors : List Item) → AgreeOnQuestions r s items anchors → (v w : ℕ) → IsAt items v (λ x. IsAt items w (λ y. IsLink r items x y)) → IsAt items v (λ x. IsAt items w (λ y. IsLink s items x y))
 edge_same r s items anchors a v w h = (
   h.0,
   λ d. let inner = h.1 d in (
@@ -107,7 +107,7 @@ edge_same r s items anchors a v w h = (
   ),
 )
 
-anchor_same : (r s : Rules) (items anchors : List Item) → AgreeOnQuestions r s items anchors → (v w : ℕ) → IsAt items v (λ x. IsAt anchors w (λ y. IsAnchorLink r items x y)) → IsAt items v (λ x. IsAt anchors w (λ y. IsAnchorLink s items x y))
+anchor_same : (r s : JudgingContext) (items anchors : List Item) → AgreeOnQuestions r s items anchors → (v w : ℕ) → IsAt items v (λ x. IsAt anchors w (λ y. IsAnchorLink r items x y)) → IsAt items v (λ x. IsAt anchors w (λ y. IsAnchorLink s items x y))
 anchor_same r s items anchors a v w h = (
   h.0,
   λ d. let inner = h.1 d in (
@@ -122,7 +122,7 @@ anchor_same r s items anchors a v w h = (
   ),
 )
 
-back : (r s : Rules) (items anchors : List Item) → AgreeOnQuestions r s items anchors → AgreeOnQuestions s r items anchors
+back : (r s : JudgingContext) (items anchors : List Item) → AgreeOnQuestions r s items anchors → AgreeOnQuestions s r items anchors
 back r s items anchors a = record {
   moment = sym a.moment;
   demand = sym a.demand;
@@ -130,7 +130,7 @@ back r s items anchors a = record {
   processed = λ x c id at is. let p = a.processed x c id at is in (p.1, p.0);
 }
 
-usable_same : (r s : Rules) (items anchors : List Item) → AgreeOnQuestions r s items anchors → (v : ℕ) → (graph_of_items r items anchors).Usable v → (graph_of_items s items anchors).Usable v
+usable_same : (r s : JudgingContext) (items anchors : List Item) → AgreeOnQuestions r s items anchors → (v : ℕ) → (graph_of_items r items anchors).Usable v → (graph_of_items s items anchors).Usable v
 usable_same r s items anchors a v h = (
   h.0,
   λ d.
@@ -140,7 +140,7 @@ usable_same r s items anchors a v h = (
       (u.0, u.1, usable_more (r.Processes x.octets) (s.Processes x.octets) s.moment u.0 (λ id. (a.processed x u.0 id (contains_at items v d h.0) u.1).0) before),
 )
 
-fit_same : (r s : Rules) (items anchors : List Item) → AgreeOnQuestions r s items anchors → (v : ℕ) → (graph_of_items r items anchors).Fit v → (graph_of_items s items anchors).Fit v
+fit_same : (r s : JudgingContext) (items anchors : List Item) → AgreeOnQuestions r s items anchors → (v : ℕ) → (graph_of_items r items anchors).Fit v → (graph_of_items s items anchors).Fit v
 fit_same r s items anchors a v h = (
   h.0,
   λ d.
@@ -150,7 +150,7 @@ fit_same r s items anchors a v h = (
       (u.0, u.1, fit_more (r.Processes x.octets) (s.Processes x.octets) s.moment u.0 (λ id. (a.processed x u.0 id (contains_at items v d h.0) u.1).0) before),
 )
 
-pub links_agree : (r s : Rules) (items anchors : List Item) → AgreeOnQuestions r s items anchors → Agrees (graph_of_items r items anchors) (graph_of_items s items anchors)
+pub links_agree : (r s : JudgingContext) (items anchors : List Item) → AgreeOnQuestions r s items anchors → Agrees (graph_of_items r items anchors) (graph_of_items s items anchors)
 links_agree r s items anchors a = record {
   items = refl;
   certificate = λ v. (λ h. h, λ h. h);
@@ -162,7 +162,7 @@ links_agree r s items anchors a = record {
   anchored = λ v w. (anchor_same r s items anchors a v w, anchor_same s r items anchors (back r s items anchors a) v w);
 }
 
-pub say_the_same : (r s : Rules) (items anchors : List Item) → AgreeOnQuestions r s items anchors → SayTheSameOf r s items anchors
+pub say_the_same : (r s : JudgingContext) (items anchors : List Item) → AgreeOnQuestions r s items anchors → SayTheSameOf r s items anchors
 say_the_same r s items anchors a =
     let g = graph_of_items r items anchors in
     let h = graph_of_items s items anchors in

@@ -1,18 +1,18 @@
--- Rules that say the same of each question.
+-- JudgingContext that say the same of each question.
 use Rattle.std.specs.Prelude.{◌≡◌, ◌↔◌, ℕ, List, ◌++◌, Some, Contains, slice_get}
 use Rattle.cert_graph.specs.declared.answer.Answer.{Answer}
 use Rattle.cert_graph.specs.Graph.{Graph, IsValidPath}
 use Rattle.cert_graph.specs.Adequate.{IsAdequate, IsTrueAnswer}
 use Rattle.cert_model.specs.Fields.{Certificate}
 use Rattle.cert_model.specs.Class.{certificate}
-use Rattle.cert_judge.specs.Revoking.{Item, Rules}
+use Rattle.cert_judge.specs.Revoking.{Item, JudgingContext}
 use Rattle.cert_judge.specs.ItemGraph.{graph_of_items}
 use Rattle.cert_questions.specs.Shown.{key_at}
 use Rattle.cert_questions.specs.Questions.{IsQuestion}
 
 -- the moment and the demand are the same, of each question both say that the key vouches for the item, or neither, and of each
 -- certificate both process the same extensions
-pub record AgreeOnQuestions (r s : Rules) (items anchors : List Item) : Type 0 where
+pub record AgreeOnQuestions (r s : JudgingContext) (items anchors : List Item) : Type 0 where
   pub moment : r.moment ≡ s.moment
   pub demand : r.demand_lists ≡ s.demand_lists
   pub vouches : (v h : ℕ) (x : Item) (key : List ℕ) → IsQuestion items anchors v h → slice_get items v ≡ Some x → key_at (items ++ anchors) h ≡ Some key
@@ -25,5 +25,5 @@ pub record SayTheSameOfAll (g h : Graph) : Type 0 where
   pub holds : (target : ℕ) (answer : Answer) → IsTrueAnswer g target answer ↔ IsTrueAnswer h target answer
   pub adequate : (target : ℕ) (answer : Answer) → IsAdequate g target answer ↔ IsAdequate h target answer
 
-abbrev pub SayTheSameOf : Rules → Rules → List Item → List Item → Type 0
+abbrev pub SayTheSameOf : JudgingContext → JudgingContext → List Item → List Item → Type 0
 SayTheSameOf r s items anchors = SayTheSameOfAll (graph_of_items r items anchors) (graph_of_items s items anchors)

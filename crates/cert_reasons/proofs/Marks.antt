@@ -8,11 +8,11 @@ use Rattle.cert_graph.specs.Entries.{IsAt}
 use Rattle.cert_model.specs.Fields.{Certificate}
 use Rattle.cert_model.specs.Octets.{name_octets, key_octets}
 use Rattle.cert_model.specs.Class.{certificate}
-use Rattle.cert_judge.specs.ItemGraph.{IsCertificateWith, IsIssuedUnder, HaveSameKeyId, IsLink, IsAnchorLink}
+use Rattle.cert_judge.specs.ItemGraph.{IsCertificateWith, IsIssuedUnder, KeyIdsAgree, IsLink, IsAnchorLink}
 use Rattle.cert_judge.specs.Items.{rules_by}
 use Rattle.cert_judge.specs.Vouching.{Vouching}
 use Rattle.cert_judge.specs.Named.{NamesKeyId, HasKeyId}
-use Rattle.cert_judge.specs.Revoking.{Item, Rules, HasUsedList}
+use Rattle.cert_judge.specs.Revoking.{Item, JudgingContext, HasUsedList}
 use Rattle.cert_judge.proofs.Grouping.{one_name}
 use Rattle.cert_judge.proofs.Linking.{with_iff}
 use Rattle.cert_reasons.specs.declared.links.Unlinked.{Unlinked}
@@ -27,16 +27,16 @@ empty e = cc
 
 -- ---- key identifiers
 
-pub both_named : (c d : Certificate) (a s : List ℕ) → NamesKeyId c (Some a) → HasKeyId d (Some s) → (a ≡ s) ↔ HaveSameKeyId c d
+pub both_named : (c d : Certificate) (a s : List ℕ) → NamesKeyId c (Some a) → HasKeyId d (Some s) → (a ≡ s) ↔ KeyIdsAgree c d
 both_named c d a s names has = (
   λ e b t eb et. ∥∥₁_elim names (one_name b t) (λ f. ∥∥₁_elim has (one_name b t) (λ g. sym (held ((f b).0 eb)) ∙ e ∙ held ((g t).0 et))),
   λ same. ∥∥₁_elim names (one_name a s) (λ f. ∥∥₁_elim has (one_name a s) (λ g. same a s ((f a).1 refl) ((g s).1 refl))),
 )
 
-pub none_named : (c d : Certificate) → NamesKeyId c None → HaveSameKeyId c d
+pub none_named : (c d : Certificate) → NamesKeyId c None → KeyIdsAgree c d
 none_named c d names a s ea es = ∥∥₁_elim names (one_name a s) (λ f. absurd (empty ((f a).0 ea)))
 
-pub none_own : (c d : Certificate) → HasKeyId d None → HaveSameKeyId c d
+pub none_own : (c d : Certificate) → HasKeyId d None → KeyIdsAgree c d
 none_own c d has a s ea es = ∥∥₁_elim has (one_name a s) (λ g. absurd (empty ((g s).0 es)))
 
 -- ---- elements
@@ -67,22 +67,22 @@ linked V moment demand items x c name key vouched agree named vouch list none = 
 
 -- ---- links to items and to anchors
 
-pub agreed : (r : Rules) (items : List Item) (x : Item) (c : Certificate) (name key : List ℕ) (A B : Type 0) → (A ↔ B) → (reason : Unlinked) → HasLinkReason r items x c name key A reason ↔ HasLinkReason r items x c name key B reason
+pub agreed : (r : JudgingContext) (items : List Item) (x : Item) (c : Certificate) (name key : List ℕ) (A B : Type 0) → (A ↔ B) → (reason : Unlinked) → HasLinkReason r items x c name key A reason ↔ HasLinkReason r items x c name key B reason
 agreed r items x c name key A B i NotVouched = (λ h. h, λ h. h)
 agreed r items x c name key A B i KeyIdsDiffer = (λ n b. n (i.1 b), λ n a. n (i.0 a))
 agreed r items x c name key A B i (RevokedBy p) = (λ h. h, λ h. h)
 agreed r items x c name key A B i NoUsedList = (λ h. h, λ h. h)
 
-pub link_iff : (r : Rules) (items : List Item) (x y : Item) (c d : Certificate) (name key : List ℕ) (A : Type 0) → x.class ≡ certificate c → y.class ≡ certificate d → name ≡ name_octets d.subject → key ≡ key_octets d.key → (A ↔ HaveSameKeyId c d)
+pub link_iff : (r : JudgingContext) (items : List Item) (x y : Item) (c d : Certificate) (name key : List ℕ) (A : Type 0) → x.class ≡ certificate c → y.class ≡ certificate d → name ≡ name_octets d.subject → key ≡ key_octets d.key → (A ↔ KeyIdsAgree c d)
     → (IsIssuedUnder r items x c name key × A) ↔ IsLink r items x y
 link_iff r items x y c d name key A is_c is_d subject own agree =
-    let outer = with_iff (λ e. IsCertificateWith (λ f. IsIssuedUnder r items x e (name_octets f.subject) (key_octets f.key) × HaveSameKeyId e f) y) x c is_c in
-    let inner = with_iff (λ f. IsIssuedUnder r items x c (name_octets f.subject) (key_octets f.key) × HaveSameKeyId c f) y d is_d in (
+    let outer = with_iff (λ e. IsCertificateWith (λ f. IsIssuedUnder r items x e (name_octets f.subject) (key_octets f.key) × KeyIdsAgree e f) y) x c is_c in
+    let inner = with_iff (λ f. IsIssuedUnder r items x c (name_octets f.subject) (key_octets f.key) × KeyIdsAgree c f) y d is_d in (
       λ h. outer.1 (inner.1 (subst (λ n. IsIssuedUnder r items x c n (key_octets d.key)) subject (subst (λ k. IsIssuedUnder r items x c name k) own h.0), agree.0 h.1)),
       λ l. let i = inner.0 (outer.0 l) in (subst (λ k. IsIssuedUnder r items x c name k) (sym own) (subst (λ n. IsIssuedUnder r items x c n (key_octets d.key)) (sym subject) i.0), agree.1 i.1),
     )
 
-pub anchor_iff : (r : Rules) (items : List Item) (x y : Item) (c d : Certificate) (name key : List ℕ) (A : Type 0) → x.class ≡ certificate c → y.class ≡ certificate d → name ≡ name_octets d.subject → key ≡ key_octets d.key → A
+pub anchor_iff : (r : JudgingContext) (items : List Item) (x y : Item) (c d : Certificate) (name key : List ℕ) (A : Type 0) → x.class ≡ certificate c → y.class ≡ certificate d → name ≡ name_octets d.subject → key ≡ key_octets d.key → A
     → (IsIssuedUnder r items x c name key × A) ↔ IsAnchorLink r items x y
 anchor_iff r items x y c d name key A is_c is_d subject own a =
     let outer = with_iff (λ e. IsCertificateWith (λ f. IsIssuedUnder r items x e (name_octets f.subject) (key_octets f.key)) y) x c is_c in

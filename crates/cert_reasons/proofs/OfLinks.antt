@@ -7,7 +7,7 @@ use Rattle.std.proofs.lemmas.List.Elements.{Contains-get_or}
 use Rattle.std.proofs.lemmas.List.Kept.{AllPairs-from_increasing}
 use Rattle.cert_model.specs.Fields.{Certificate}
 use Rattle.cert_model.specs.Octets.{name_octets}
-use Rattle.cert_judge.specs.Revoking.{Item, Rules, HasUsedList}
+use Rattle.cert_judge.specs.Revoking.{Item, JudgingContext, HasUsedList}
 use Rattle.cert_judge.specs.ItemGraph.{IsIssuedUnder}
 use Rattle.cert_judge.proofs.Grouping.{element}
 use Rattle.cert_reasons.specs.declared.links.Unlinked.{Unlinked}
@@ -18,7 +18,7 @@ use Rattle.cert_reasons.specs.Links.{Revokes, HasLinkReason, link_order}
 use Rattle.cert_reasons.specs.Order.{AreUpTo}
 use Rattle.cert_reasons.proofs.Ordered.{up_more, up_next, up_skip}
 
-pub no_reason : (r : Rules) (items : List Item) (x : Item) (c : Certificate) (name key : List ℕ) (Agree : Type 0) (reason : Unlinked) → IsIssuedUnder r items x c name key → Agree → HasLinkReason r items x c name key Agree reason → ⊥
+pub no_reason : (r : JudgingContext) (items : List Item) (x : Item) (c : Certificate) (name key : List ℕ) (Agree : Type 0) (reason : Unlinked) → IsIssuedUnder r items x c name key → Agree → HasLinkReason r items x c name key Agree reason → ⊥
 no_reason r items x c name key Agree NotVouched i a h = h i.vouched
 no_reason r items x c name key Agree KeyIdsDiffer i a h = h a
 no_reason r items x c name key Agree (RevokedBy p) i a h = let y = element items p h.0 in let l = h.1 y.0 in i.satisfied.kept (get_or items p y.0, l.0, (p, h.0, get_or_default items p (get_or items p y.0) y.0 h.0), l.1, l.2)
@@ -30,7 +30,7 @@ demanded true Has h refuted = h refl (λ y. refuted (λ d. y))
 demanded false Has h refuted = refuted (λ d. absurd (cc))
 
 -- a certificate of this issuer to whose link no reason applies is not unlinked
-pub not_unlinked : (r : Rules) (items : List Item) (x : Item) (c : Certificate) (name key : List ℕ) (Agree : Type 0) → name_octets c.issuer ≡ name → ((reason : Unlinked) → HasLinkReason r items x c name key Agree reason → ⊥) → (IsIssuedUnder r items x c name key → Agree → ⊥) → ⊥
+pub not_unlinked : (r : JudgingContext) (items : List Item) (x : Item) (c : Certificate) (name key : List ℕ) (Agree : Type 0) → name_octets c.issuer ≡ name → ((reason : Unlinked) → HasLinkReason r items x c name key Agree reason → ⊥) → (IsIssuedUnder r items x c name key → Agree → ⊥) → ⊥
 not_unlinked r items x c name key Agree named none refuted =
     none NotVouched (λ vouched. none KeyIdsDiffer (λ agree.
     demanded r.demand_lists (HasUsedList r items name key) (λ d has. none NoUsedList (d, has)) (λ listed.

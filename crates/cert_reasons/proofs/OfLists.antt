@@ -7,7 +7,7 @@ use Rattle.cert_model.specs.Fields.{CivilTime, Extension, Entry, RevocationList}
 use Rattle.cert_model.specs.Octets.{name_octets}
 use Rattle.cert_model.specs.Class.{list}
 use Rattle.cert_judge.specs.Moments.{IsNotAfter}
-use Rattle.cert_judge.specs.Revoking.{Item, Rules, AreUncritical, IsCurrent, IsPlain, IsUsedList}
+use Rattle.cert_judge.specs.Revoking.{Item, JudgingContext, AreUncritical, IsCurrent, IsPlain, IsUsedList}
 use Rattle.cert_judge.proofs.Grouping.{element}
 use Rattle.cert_judge.proofs.Mapped.{not_both}
 use Rattle.cert_reasons.specs.declared.lists.Unused.{Unused}
@@ -36,7 +36,7 @@ next_of : (o : Option CivilTime) → (o ≡ None) ⊎ ((t : CivilTime) × (o ≡
 next_of None = inl refl
 next_of (Some t) = inr (t, refl)
 
-pub no_reason : (r : Rules) (name key : List ℕ) (item : Item) (l : RevocationList) (reason : Unused) → IsUsedList r name key item l → HasListReason r key item l reason → ⊥
+pub no_reason : (r : JudgingContext) (name key : List ℕ) (item : Item) (l : RevocationList) (reason : Unused) → IsUsedList r name key item l → HasListReason r key item l reason → ⊥
 no_reason r name key item l NotVouched u h = h u.vouched
 no_reason r name key item l NoNextUpdate u h = none_some u.current.next (sym u.current.told ∙ h)
 no_reason r name key item l NotYetCurrent u h = h u.current.between.begun
@@ -45,7 +45,7 @@ no_reason r name key item l (CriticalOfList k) u h = let e = element l.extension
 no_reason r name key item l (CriticalOfEntry k) u h = let e = element l.entries k h.0 in h.1 e.0 (u.plain.entries k e.0 h.0)
 
 -- a list of this name to which no reason applies is not unused
-pub not_unused : (r : Rules) (name key : List ℕ) (item : Item) (l : RevocationList) → item.class ≡ list l → name_octets l.issuer ≡ name → ((reason : Unused) → HasListReason r key item l reason → ⊥) → (IsUsedList r name key item l → ⊥) → ⊥
+pub not_unused : (r : JudgingContext) (name key : List ℕ) (item : Item) (l : RevocationList) → item.class ≡ list l → name_octets l.issuer ≡ name → ((reason : Unused) → HasListReason r key item l reason → ⊥) → (IsUsedList r name key item l → ⊥) → ⊥
 not_unused r name key item l is named none refuted =
     none NotVouched (λ vouched. none NotYetCurrent (λ begun. elim (next_of l.next_update) [
       | inl e ↦ none NoNextUpdate e
@@ -106,7 +106,7 @@ kinds_end PastNextUpdate = omega arith
 kinds_end (CriticalOfList k) = omega arith
 kinds_end (CriticalOfEntry k) = omega arith
 
-pub extension_place : (r : Rules) (key : List ℕ) (item : Item) (l : RevocationList) (reason : Unused) (n : ℕ) → HasListReason r key item l reason → (list_order reason).0 ≡ 4 → length l.extensions ≤ n → (list_order reason).1 < n
+pub extension_place : (r : JudgingContext) (key : List ℕ) (item : Item) (l : RevocationList) (reason : Unused) (n : ℕ) → HasListReason r key item l reason → (list_order reason).0 ≡ 4 → length l.extensions ≤ n → (list_order reason).1 < n
 extension_place r key item l NotVouched n h e end = absurd (omega arith)
 extension_place r key item l NoNextUpdate n h e end = absurd (omega arith)
 extension_place r key item l NotYetCurrent n h e end = absurd (omega arith)
@@ -114,7 +114,7 @@ extension_place r key item l PastNextUpdate n h e end = absurd (omega arith)
 extension_place r key item l (CriticalOfList k) n h e end = let lt = h.0 in omega arith
 extension_place r key item l (CriticalOfEntry k) n h e end = absurd (omega arith)
 
-pub entry_place : (r : Rules) (key : List ℕ) (item : Item) (l : RevocationList) (reason : Unused) (n : ℕ) → HasListReason r key item l reason → (list_order reason).0 ≡ 5 → length l.entries ≤ n → (list_order reason).1 < n
+pub entry_place : (r : JudgingContext) (key : List ℕ) (item : Item) (l : RevocationList) (reason : Unused) (n : ℕ) → HasListReason r key item l reason → (list_order reason).0 ≡ 5 → length l.entries ≤ n → (list_order reason).1 < n
 entry_place r key item l NotVouched n h e end = absurd (omega arith)
 entry_place r key item l NoNextUpdate n h e end = absurd (omega arith)
 entry_place r key item l NotYetCurrent n h e end = absurd (omega arith)
@@ -128,19 +128,19 @@ past_iff moment t b h = let n = not_iff b h in (
   λ y. n.1 (subst (λ u. IsNotAfter moment u → ⊥) (sym (one_some t y.0 y.1)) y.2),
 )
 
-pub all_of_used : (r : Rules) (name key : List ℕ) (item : Item) (l : RevocationList) → IsUsedList r name key item l → AreAll list_order (HasListReason r key item l) []
+pub all_of_used : (r : JudgingContext) (name key : List ℕ) (item : Item) (l : RevocationList) → IsUsedList r name key item l → AreAll list_order (HasListReason r key item l) []
 all_of_used r name key item l u = record {
   exact = λ x. (λ h. let lt = h.1 in absurd (omega arith), λ h. absurd (no_reason r name key item l x u h));
   ordered = λ i j d lt end. absurd (omega arith);
 }
 
-pub none_stands : (r : Rules) (key : List ℕ) (item : Item) (l : RevocationList) (rs : List Unused) → AreAll list_order (HasListReason r key item l) rs → rs ≡ [] → (x : Unused) → HasListReason r key item l x → ⊥
+pub none_stands : (r : JudgingContext) (key : List ℕ) (item : Item) (l : RevocationList) (rs : List Unused) → AreAll list_order (HasListReason r key item l) rs → rs ≡ [] → (x : Unused) → HasListReason r key item l x → ⊥
 none_stands r key item l rs all e x h = let at = subst (λ (xs : List Unused). Contains xs x) e ((all.exact x).1 h) in let lt = at.1 in absurd (omega arith)
 
 -- ---- under several keys
 
 -- a reason under a key that vouches for the list applies under all
-keyed : (r : Rules) (keys : List (List ℕ)) (item : Item) (l : RevocationList) (key : List ℕ) → r.Vouches key item.octets → ((reason : Unused) → HasReasonAmong r keys item l reason → ⊥) → (reason : Unused) → HasListReason r key item l reason → ⊥
+keyed : (r : JudgingContext) (keys : List (List ℕ)) (item : Item) (l : RevocationList) (key : List ℕ) → r.Vouches key item.octets → ((reason : Unused) → HasReasonAmong r keys item l reason → ⊥) → (reason : Unused) → HasListReason r key item l reason → ⊥
 keyed r keys item l key v none NotVouched h = h v
 keyed r keys item l key v none NoNextUpdate h = none NoNextUpdate h
 keyed r keys item l key v none NotYetCurrent h = none NotYetCurrent h
@@ -148,7 +148,7 @@ keyed r keys item l key v none PastNextUpdate h = none PastNextUpdate h
 keyed r keys item l key v none (CriticalOfList k) h = none (CriticalOfList k) h
 keyed r keys item l key v none (CriticalOfEntry k) h = none (CriticalOfEntry k) h
 
-pub no_reason_among : (r : Rules) (name : List ℕ) (keys : List (List ℕ)) (item : Item) (l : RevocationList) (reason : Unused) → Any (λ key. IsUsedList r name key item l) keys → HasReasonAmong r keys item l reason → ⊥
+pub no_reason_among : (r : JudgingContext) (name : List ℕ) (keys : List (List ℕ)) (item : Item) (l : RevocationList) (reason : Unused) → Any (λ key. IsUsedList r name key item l) keys → HasReasonAmong r keys item l reason → ⊥
 no_reason_among r name keys item l NotVouched u h = h u.0 u.1 u.2 (subst (λ key. r.Vouches key item.octets) (sym u.3) u.4.vouched)
 no_reason_among r name keys item l NoNextUpdate u h = no_reason r name u.1 item l NoNextUpdate u.4 h
 no_reason_among r name keys item l NotYetCurrent u h = no_reason r name u.1 item l NotYetCurrent u.4 h
@@ -156,7 +156,7 @@ no_reason_among r name keys item l PastNextUpdate u h = no_reason r name u.1 ite
 no_reason_among r name keys item l (CriticalOfList k) u h = no_reason r name u.1 item l (CriticalOfList k) u.4 h
 no_reason_among r name keys item l (CriticalOfEntry k) u h = no_reason r name u.1 item l (CriticalOfEntry k) u.4 h
 
-pub not_unused_among : (r : Rules) (name : List ℕ) (keys : List (List ℕ)) (item : Item) (l : RevocationList) → item.class ≡ list l → name_octets l.issuer ≡ name → ((reason : Unused) → HasReasonAmong r keys item l reason → ⊥) → (Any (λ key. IsUsedList r name key item l) keys → ⊥) → ⊥
+pub not_unused_among : (r : JudgingContext) (name : List ℕ) (keys : List (List ℕ)) (item : Item) (l : RevocationList) → item.class ≡ list l → name_octets l.issuer ≡ name → ((reason : Unused) → HasReasonAmong r keys item l reason → ⊥) → (Any (λ key. IsUsedList r name key item l) keys → ⊥) → ⊥
 not_unused_among r name keys item l is named none refuted =
     none NotVouched
     (λ k d lt v. not_unused r name (get_or keys k d) item l is named (keyed r keys item l (get_or keys k d) v none) (λ u. refuted (k, get_or keys k d, lt, get_or_default keys k (get_or keys k d) d lt, u)))

@@ -11,7 +11,7 @@ use Rattle.cert_judge.specs.Moments.{IsNotAfter}
 use Rattle.cert_judge.specs.Constraints.{BasicConstraints, basic_constraints_octets, IsBasicConstraints}
 use Rattle.cert_judge.specs.Further.{no_identifier}
 use Rattle.cert_judge.specs.Judging.{HasConstraints, HasUsage, IsProcessed, IsAuthority, IsSigner}
-use Rattle.cert_judge.specs.Revoking.{Item, Rules, AreUncritical, IsUsedList}
+use Rattle.cert_judge.specs.Revoking.{Item, JudgingContext, AreUncritical, IsUsedList}
 use Rattle.cert_judge.specs.Examples.{in_june, too_late, extended_by, extension, unconstrained, default_written, extended_key_usage, path_length_zero, certificate_item, list_item, vouching_for_all, vouching_but_for}
 use Rattle.cert_judge.proofs.Examples.{none, one, june_valid, alone_distinct, default_is_written}
 use Rattle.cert_judge.proofs.ExampleLists.{no_list}
@@ -361,6 +361,6 @@ alone =
     two_reasons link_order (HasLinkReason vouching_for_none (certificate_item plain ∷ []) (certificate_item plain) plain (name_octets []) (key_octets key) (Unit {0})) linking.NotVouched linking.NoUsedList (inl (lit< tt)) (λ v. v) (refl, λ u. u.3.vouched) alone_only
 
 -- among certificates no list revokes
-pub no_used : (r : Rules) (c : Certificate) (name own serial : List ℕ) (k : ℕ) → IsAt (certificate_item c ∷ []) k (Revokes r name own serial) → ⊥
+pub no_used : (r : JudgingContext) (c : Certificate) (name own serial : List ℕ) (k : ℕ) → IsAt (certificate_item c ∷ []) k (Revokes r name own serial) → ⊥
 no_used r c name own serial zero h = let u = h.1 (certificate_item c) in no_list (certificate_item c) c u.0 refl u.1.is_list
 no_used r c name own serial (suc k) h = omega (arith, h.0)

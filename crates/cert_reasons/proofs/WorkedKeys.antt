@@ -7,7 +7,7 @@ use Rattle.cert_model.specs.Octets.{name_octets, key_octets}
 use Rattle.cert_model.specs.Extended.{IsWithout, authority_key_identifier, subject_key_identifier}
 use Rattle.cert_model.specs.KeyIds.{IsAuthorityKeyId, IsSubjectKeyId}
 use Rattle.cert_model.specs.Examples.{key}
-use Rattle.cert_judge.specs.ItemGraph.{HaveSameKeyId}
+use Rattle.cert_judge.specs.ItemGraph.{KeyIdsAgree}
 use Rattle.cert_judge.specs.Examples.{certificate_item, extension, vouching_for_all}
 use Rattle.cert_judge.proofs.Examples.{none}
 use Rattle.cert_reasons.specs.declared.links.Unlinked.{Unlinked}
@@ -52,18 +52,18 @@ has_two = record {
   spelled = refl;
 }
 
-differ : HaveSameKeyId naming_key_one having_key_two → ⊥
+differ : KeyIdsAgree naming_key_one having_key_two → ⊥
 differ same = let e = ap (λ (s : List ℕ). get_or s 0 0) (same (1 ∷ []) (2 ∷ []) names_one has_two) in omega arith
 
-keys_only : (r : Unlinked) → HasLinkReason (vouching_for_all false) (certificate_item naming_key_one ∷ []) (certificate_item naming_key_one) naming_key_one (name_octets []) (key_octets key) (HaveSameKeyId naming_key_one having_key_two) r → KeyIdsDiffer ≡ r
+keys_only : (r : Unlinked) → HasLinkReason (vouching_for_all false) (certificate_item naming_key_one ∷ []) (certificate_item naming_key_one) naming_key_one (name_octets []) (key_octets key) (KeyIdsAgree naming_key_one having_key_two) r → KeyIdsDiffer ≡ r
 keys_only NotVouched h = absurd (h tt)
 keys_only KeyIdsDiffer h = refl
 keys_only (RevokedBy k) h = absurd (no_used (vouching_for_all false) naming_key_one _ _ _ k h)
 keys_only NoUsedList h = let d = h.0 in absurd (cc)
 
-pub keys_differ : AreAll link_order (HasLinkReason (vouching_for_all false) (certificate_item naming_key_one ∷ []) (certificate_item naming_key_one) naming_key_one (name_octets []) (key_octets key) (HaveSameKeyId naming_key_one having_key_two)) (KeyIdsDiffer ∷ [])
+pub keys_differ : AreAll link_order (HasLinkReason (vouching_for_all false) (certificate_item naming_key_one ∷ []) (certificate_item naming_key_one) naming_key_one (name_octets []) (key_octets key) (KeyIdsAgree naming_key_one having_key_two)) (KeyIdsDiffer ∷ [])
 keys_differ =
-    one_reason link_order (HasLinkReason (vouching_for_all false) (certificate_item naming_key_one ∷ []) (certificate_item naming_key_one) naming_key_one (name_octets []) (key_octets key) (HaveSameKeyId naming_key_one having_key_two)) KeyIdsDiffer differ keys_only
+    one_reason link_order (HasLinkReason (vouching_for_all false) (certificate_item naming_key_one ∷ []) (certificate_item naming_key_one) naming_key_one (name_octets []) (key_octets key) (KeyIdsAgree naming_key_one having_key_two)) KeyIdsDiffer differ keys_only
 
 -- the key identifier of an anchor is not looked at
 pub anchor_linked : (r : Unlinked) → HasLinkReason (vouching_for_all false) (certificate_item naming_key_one ∷ []) (certificate_item naming_key_one) naming_key_one (name_octets []) (key_octets key) (Unit {0}) r → ⊥

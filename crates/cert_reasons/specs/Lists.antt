@@ -4,12 +4,12 @@ use Rattle.std.specs.Prelude.{◌≡◌, ℕ, List, [], All, true, Some, None}
 use Rattle.cert_graph.specs.Entries.{IsAt}
 use Rattle.cert_model.specs.Fields.{CivilTime, RevocationList}
 use Rattle.cert_judge.specs.Moments.{IsNotAfter}
-use Rattle.cert_judge.specs.Revoking.{Item, Rules, AreUncritical}
+use Rattle.cert_judge.specs.Revoking.{Item, JudgingContext, AreUncritical}
 use Rattle.cert_reasons.specs.declared.lists.Unused.{Unused}
 use Rattle.cert_reasons.specs.declared.lists.Unused.TheVariants.{NotVouched, NoNextUpdate, NotYetCurrent, PastNextUpdate, CriticalOfList, CriticalOfEntry}
 
 -- A reason applies to a list under a key. Extensions and entries are counted from 0.
-abbrev pub HasListReason : Rules → List ℕ → Item → RevocationList → Unused → Type 0
+abbrev pub HasListReason : JudgingContext → List ℕ → Item → RevocationList → Unused → Type 0
 HasListReason r key item l NotVouched = r.Vouches key item.octets → ⊥
 HasListReason r key item l NoNextUpdate = l.next_update ≡ None
 HasListReason r key item l NotYetCurrent = IsNotAfter l.this_update r.moment → ⊥
@@ -27,6 +27,6 @@ list_order (CriticalOfEntry k) = (5, k)
 
 -- A reason applies to a list whoever has its issuer's name: none of their keys vouches for it, as where
 -- there is no key, or another reason applies under any key.
-abbrev pub HasReasonAmong : Rules → List (List ℕ) → Item → RevocationList → Unused → Type 0
+abbrev pub HasReasonAmong : JudgingContext → List (List ℕ) → Item → RevocationList → Unused → Type 0
 HasReasonAmong r keys item l NotVouched = All (λ key. r.Vouches key item.octets → ⊥) keys
 HasReasonAmong r keys item l reason = HasListReason r [] item l reason

@@ -9,7 +9,7 @@ ghost use Rattle.cert_model.specs.Class.{list};
 ghost use Rattle.cert_judge.specs.Further.{no_identifier};
 ghost use Rattle.cert_judge.specs.Judging.{IsUsable, MayIssue};
 ghost use Rattle.cert_judge.specs.Revoking.{Item, IsUsedList};
-ghost use Rattle.cert_judge.specs.ItemGraph.{IsIssuedUnder, HaveSameKeyId};
+ghost use Rattle.cert_judge.specs.ItemGraph.{IsIssuedUnder, KeyIdsAgree};
 ghost use Rattle.cert_judge.specs.LawsOfItems.{rules_from};
 ghost use Rattle.cert_judge.specs.Examples.{in_june, too_late, extended_by, extension, unconstrained, default_written, extended_key_usage, certificate_item, list_item, vouching_for_all, vouching_but_for};
 ghost use Rattle.cert_reasons.specs.Examples.{constrained_twice, authority_with_names, vouching_too_late, vouching_for_none, naming_key_one, having_key_two};
@@ -66,16 +66,16 @@ pub fn list_without_reasons_is_not_unused()
 /// To a link to an item no reason applies.
 pub fn link_has_no_reason()
     ensures { (moment : CivilTime) (demand : Bool) (vouches : List ℕ → List ℕ → Bool) (items : List Item) (x : Item) (c d : Certificate) (reason : Unlinked)
-        → IsIssuedUnder (rules_from moment demand vouches) items x c (name_octets d.subject) (key_octets d.key) → HaveSameKeyId c d
-        → HasLinkReason (rules_from moment demand vouches) items x c (name_octets d.subject) (key_octets d.key) (HaveSameKeyId c d) reason → ⊥ }
+        → IsIssuedUnder (rules_from moment demand vouches) items x c (name_octets d.subject) (key_octets d.key) → KeyIdsAgree c d
+        → HasLinkReason (rules_from moment demand vouches) items x c (name_octets d.subject) (key_octets d.key) (KeyIdsAgree c d) reason → ⊥ }
 {}
 
 /// A certificate is not unlinked from an item that is its issuer by name, where no reason applies.
 pub fn link_without_reasons_is_not_missing()
     ensures { (moment : CivilTime) (demand : Bool) (vouches : List ℕ → List ℕ → Bool) (items : List Item) (x : Item) (c d : Certificate)
         → name_octets c.issuer ≡ name_octets d.subject
-        → ((reason : Unlinked) → HasLinkReason (rules_from moment demand vouches) items x c (name_octets d.subject) (key_octets d.key) (HaveSameKeyId c d) reason → ⊥)
-        → (IsIssuedUnder (rules_from moment demand vouches) items x c (name_octets d.subject) (key_octets d.key) → HaveSameKeyId c d → ⊥) → ⊥ }
+        → ((reason : Unlinked) → HasLinkReason (rules_from moment demand vouches) items x c (name_octets d.subject) (key_octets d.key) (KeyIdsAgree c d) reason → ⊥)
+        → (IsIssuedUnder (rules_from moment demand vouches) items x c (name_octets d.subject) (key_octets d.key) → KeyIdsAgree c d → ⊥) → ⊥ }
 {}
 
 /// A certificate is not unlinked from an anchor that is its issuer by name, where no reason applies.
@@ -129,7 +129,7 @@ pub fn examples_of_lists()
 pub fn examples_of_links()
     ensures revoked { AreAll link_order (HasLinkReason (vouching_for_all false) (certificate_item plain ∷ list_item revoking ∷ []) (certificate_item plain) plain (name_octets []) (key_octets key) (Unit {0})) (linking.RevokedBy 1 ∷ []) }
     ensures alone { AreAll link_order (HasLinkReason vouching_for_none (certificate_item plain ∷ []) (certificate_item plain) plain (name_octets []) (key_octets key) (Unit {0})) (linking.NotVouched ∷ linking.NoUsedList ∷ []) }
-    ensures keys { AreAll link_order (HasLinkReason (vouching_for_all false) (certificate_item naming_key_one ∷ []) (certificate_item naming_key_one) naming_key_one (name_octets []) (key_octets key) (HaveSameKeyId naming_key_one having_key_two)) (linking.KeyIdsDiffer ∷ []) }
+    ensures keys { AreAll link_order (HasLinkReason (vouching_for_all false) (certificate_item naming_key_one ∷ []) (certificate_item naming_key_one) naming_key_one (name_octets []) (key_octets key) (KeyIdsAgree naming_key_one having_key_two)) (linking.KeyIdsDiffer ∷ []) }
     ensures anchor { (r : Unlinked) → HasLinkReason (vouching_for_all false) (certificate_item naming_key_one ∷ []) (certificate_item naming_key_one) naming_key_one (name_octets []) (key_octets key) (Unit {0}) r → ⊥ }
 {}
 
@@ -141,6 +141,6 @@ pub fn one_list_of_reasons()
     ensures lists { (moment : CivilTime) (demand : Bool) (vouches : List ℕ → List ℕ → Bool) (keys : List (List ℕ)) (item : Item) (l : RevocationList) (rs ss : List Unused)
         → let r = rules_from moment demand vouches in AreAll list_order (HasReasonAmong r keys item l) rs → AreAll list_order (HasReasonAmong r keys item l) ss → rs ≡ ss }
     ensures links { (moment : CivilTime) (demand : Bool) (vouches : List ℕ → List ℕ → Bool) (items : List Item) (x : Item) (c d : Certificate) (rs ss : List Unlinked)
-        → let r = rules_from moment demand vouches in AreAll link_order (HasLinkReason r items x c (name_octets d.subject) (key_octets d.key) (HaveSameKeyId c d)) rs
-        → AreAll link_order (HasLinkReason r items x c (name_octets d.subject) (key_octets d.key) (HaveSameKeyId c d)) ss → rs ≡ ss }
+        → let r = rules_from moment demand vouches in AreAll link_order (HasLinkReason r items x c (name_octets d.subject) (key_octets d.key) (KeyIdsAgree c d)) rs
+        → AreAll link_order (HasLinkReason r items x c (name_octets d.subject) (key_octets d.key) (KeyIdsAgree c d)) ss → rs ≡ ss }
 {}

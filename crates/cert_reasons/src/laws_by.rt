@@ -7,7 +7,7 @@ ghost use Rattle.cert_model.specs.Fields.{CivilTime, Certificate, RevocationList
 ghost use Rattle.cert_model.specs.Octets.{name_octets, key_octets};
 ghost use Rattle.cert_judge.specs.Judging.{IsUsable};
 ghost use Rattle.cert_judge.specs.Items.{rules_at};
-ghost use Rattle.cert_judge.specs.ItemGraph.{IsIssuedUnder, HaveSameKeyId};
+ghost use Rattle.cert_judge.specs.ItemGraph.{IsIssuedUnder, KeyIdsAgree};
 ghost use Rattle.cert_judge.specs.Revoking.{Item, IsUsedList};
 ghost use Rattle.cert_reasons.specs.Certificates.{HasReason, order_of};
 ghost use Rattle.cert_reasons.specs.Links.{HasLinkReason, link_order};
@@ -49,12 +49,12 @@ pub fn list_reasons_by<V: Vouch>(_vouch: &V)
 /// link: none applies to a link, and an issuer by name to which none applies isn't unlinked.
 pub fn link_reasons_by<V: Vouch>(_vouch: &V)
     ensures item { (moment : CivilTime) (demand : Bool) (items : List Item) (x : Item) (c d : Certificate) (reason : Unlinked)
-        → let r = rules_at moment demand (V.vouches_for _vouch.now) in IsIssuedUnder r items x c (name_octets d.subject) (key_octets d.key) → HaveSameKeyId c d
-        → HasLinkReason r items x c (name_octets d.subject) (key_octets d.key) (HaveSameKeyId c d) reason → ⊥ }
+        → let r = rules_at moment demand (V.vouches_for _vouch.now) in IsIssuedUnder r items x c (name_octets d.subject) (key_octets d.key) → KeyIdsAgree c d
+        → HasLinkReason r items x c (name_octets d.subject) (key_octets d.key) (KeyIdsAgree c d) reason → ⊥ }
     ensures no_item { (moment : CivilTime) (demand : Bool) (items : List Item) (x : Item) (c d : Certificate)
         → let r = rules_at moment demand (V.vouches_for _vouch.now) in name_octets c.issuer ≡ name_octets d.subject
-        → ((reason : Unlinked) → HasLinkReason r items x c (name_octets d.subject) (key_octets d.key) (HaveSameKeyId c d) reason → ⊥)
-        → (IsIssuedUnder r items x c (name_octets d.subject) (key_octets d.key) → HaveSameKeyId c d → ⊥) → ⊥ }
+        → ((reason : Unlinked) → HasLinkReason r items x c (name_octets d.subject) (key_octets d.key) (KeyIdsAgree c d) reason → ⊥)
+        → (IsIssuedUnder r items x c (name_octets d.subject) (key_octets d.key) → KeyIdsAgree c d → ⊥) → ⊥ }
     ensures anchor { (moment : CivilTime) (demand : Bool) (items : List Item) (x : Item) (c d : Certificate) (reason : Unlinked)
         → let r = rules_at moment demand (V.vouches_for _vouch.now) in IsIssuedUnder r items x c (name_octets d.subject) (key_octets d.key)
         → HasLinkReason r items x c (name_octets d.subject) (key_octets d.key) (Unit {0}) reason → ⊥ }
@@ -72,8 +72,8 @@ pub fn one_list_of_reasons_by<V: Vouch>(_vouch: &V)
     ensures among { (moment : CivilTime) (demand : Bool) (keys : List (List ℕ)) (item : Item) (l : RevocationList) (rs ss : List Unused)
         → let r = rules_at moment demand (V.vouches_for _vouch.now) in AreAll list_order (HasReasonAmong r keys item l) rs → AreAll list_order (HasReasonAmong r keys item l) ss → rs ≡ ss }
     ensures item { (moment : CivilTime) (demand : Bool) (items : List Item) (x : Item) (c d : Certificate) (rs ss : List Unlinked)
-        → let r = rules_at moment demand (V.vouches_for _vouch.now) in AreAll link_order (HasLinkReason r items x c (name_octets d.subject) (key_octets d.key) (HaveSameKeyId c d)) rs
-        → AreAll link_order (HasLinkReason r items x c (name_octets d.subject) (key_octets d.key) (HaveSameKeyId c d)) ss → rs ≡ ss }
+        → let r = rules_at moment demand (V.vouches_for _vouch.now) in AreAll link_order (HasLinkReason r items x c (name_octets d.subject) (key_octets d.key) (KeyIdsAgree c d)) rs
+        → AreAll link_order (HasLinkReason r items x c (name_octets d.subject) (key_octets d.key) (KeyIdsAgree c d)) ss → rs ≡ ss }
     ensures anchor { (moment : CivilTime) (demand : Bool) (items : List Item) (x : Item) (c d : Certificate) (rs ss : List Unlinked)
         → let r = rules_at moment demand (V.vouches_for _vouch.now) in AreAll link_order (HasLinkReason r items x c (name_octets d.subject) (key_octets d.key) (Unit {0})) rs
         → AreAll link_order (HasLinkReason r items x c (name_octets d.subject) (key_octets d.key) (Unit {0})) ss → rs ≡ ss }

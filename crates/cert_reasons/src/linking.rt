@@ -3,7 +3,7 @@
 ghost use Rattle.std.specs.Prelude.{◌≡◌, ◌↔◌, [], ℕ, map, Contains, IfOk};
 ghost use Rattle.std.specs.List.Sorted.{IsStrictlyIncreasing};
 ghost use Rattle.cert_graph.specs.Entries.{IsAt};
-ghost use Rattle.cert_judge.specs.ItemGraph.{HaveSameKeyId, IsLink, IsAnchorLink};
+ghost use Rattle.cert_judge.specs.ItemGraph.{KeyIdsAgree, IsLink, IsAnchorLink};
 ghost use Rattle.cert_judge.specs.Items.{certificate_of, certificate_item, item_of, rules_by, IsListWith};
 ghost use Rattle.cert_reasons.specs.Order.{AreAll};
 ghost use Rattle.cert_reasons.specs.Links.{HasLinkReason, link_order};
@@ -77,7 +77,7 @@ impl<'b, 'a> Linking<'b, 'a> {
     ) -> Result<Vec<Unlinked>, AllocError>
         requires lists { HasItsLists self.now }
         requires issuer { self.now.certificate.now.issuer.now ≡ issuer.now.subject.now }
-        ensures all { IfOk result (λ found. AreAll link_order (HasLinkReason (rules_by self.now.policy.moment self.now.policy.demand_lists (V.vouches_for vouch.now)) (map item_of self.now.items.now) (certificate_item self.now.certificate.now) (certificate_of self.now.certificate.now) issuer.now.subject.now issuer.now.key.now (HaveSameKeyId (certificate_of self.now.certificate.now) (certificate_of issuer.now))) found.items) }
+        ensures all { IfOk result (λ found. AreAll link_order (HasLinkReason (rules_by self.now.policy.moment self.now.policy.demand_lists (V.vouches_for vouch.now)) (map item_of self.now.items.now) (certificate_item self.now.certificate.now) (certificate_of self.now.certificate.now) issuer.now.subject.now issuer.now.key.now (KeyIdsAgree (certificate_of self.now.certificate.now) (certificate_of issuer.now))) found.items) }
         ensures none { IfOk result (λ found. (found.items ≡ [])
             ↔ IsLink (rules_by self.now.policy.moment self.now.policy.demand_lists (V.vouches_for vouch.now)) (map item_of self.now.items.now) (certificate_item self.now.certificate.now) (certificate_item issuer.now)) }
     {

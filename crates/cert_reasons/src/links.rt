@@ -3,7 +3,7 @@
 ghost use Rattle.std.specs.Prelude.{◌≡◌, ◌↔◌, [], map, Any, IsTrue, IfOk, OnOk, true, false};
 ghost use Rattle.std.specs.List.Sorted.{IsStrictlyIncreasing};
 ghost use Rattle.cert_model.specs.Octets.{name_octets};
-ghost use Rattle.cert_judge.specs.ItemGraph.{HaveSameKeyId, IsIssuedUnder, IsLink, IsAnchorLink};
+ghost use Rattle.cert_judge.specs.ItemGraph.{KeyIdsAgree, IsIssuedUnder, IsLink, IsAnchorLink};
 ghost use Rattle.cert_judge.specs.Items.{certificate_of, certificate_item, item_of, rules_by};
 ghost use Rattle.cert_reasons.specs.Order.{AreAll, AreUpTo, behind};
 ghost use Rattle.cert_reasons.specs.Links.{HasLinkReason, link_order};
@@ -61,7 +61,7 @@ pub(crate) fn agree_on_key_id(
     certificate: &CertificateItem<'_>,
     issuer: &CertificateItem<'_>,
 ) -> bool
-    ensures { IsTrue result ↔ HaveSameKeyId (certificate_of certificate.now) (certificate_of issuer.now) }
+    ensures { IsTrue result ↔ KeyIdsAgree (certificate_of certificate.now) (certificate_of issuer.now) }
 {
     match certificate.authority_key_id {
         Some(named) => match issuer.subject_key_id {
@@ -212,7 +212,7 @@ pub fn why_unlinked<V: Vouch>(
     vouch: &V,
     policy: &Policy,
 ) -> Result<Vec<Unlinked>, AllocError>
-    ensures all { IfOk result (λ found. AreAll link_order (HasLinkReason (rules_by policy.now.moment policy.now.demand_lists (V.vouches_for vouch.now)) (map item_of items.now) (certificate_item certificate.now) (certificate_of certificate.now) issuer.now.subject.now issuer.now.key.now (HaveSameKeyId (certificate_of certificate.now) (certificate_of issuer.now))) found.items) }
+    ensures all { IfOk result (λ found. AreAll link_order (HasLinkReason (rules_by policy.now.moment policy.now.demand_lists (V.vouches_for vouch.now)) (map item_of items.now) (certificate_item certificate.now) (certificate_of certificate.now) issuer.now.subject.now issuer.now.key.now (KeyIdsAgree (certificate_of certificate.now) (certificate_of issuer.now))) found.items) }
     ensures none { certificate.now.issuer.now ≡ issuer.now.subject.now → IfOk result (λ found. (found.items ≡ [])
         ↔ IsLink (rules_by policy.now.moment policy.now.demand_lists (V.vouches_for vouch.now)) (map item_of items.now) (certificate_item certificate.now) (certificate_item issuer.now)) }
 {

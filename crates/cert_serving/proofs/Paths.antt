@@ -11,7 +11,7 @@ use Rattle.cert_model.specs.Class.{IsCertificateItem, IsListItem, IsClassOf, cer
 use Rattle.cert_model.proofs.Classes.{certificate_once, not_both_lem}
 use Rattle.cert_judge.specs.Classed.{AreClassed}
 use Rattle.cert_judge.specs.Items.{rules_at}
-use Rattle.cert_judge.specs.Revoking.{Item, Rules}
+use Rattle.cert_judge.specs.Revoking.{Item, JudgingContext}
 use Rattle.cert_judge.specs.ItemGraph.{graph_of_items}
 use Rattle.cert_judge.specs.Vouching.{Vouching, processing_too}
 use Rattle.cert_purpose.specs.Restricting.{restricted_by, VouchAlike, PermitsThose, IsCertificateSuch}
@@ -53,7 +53,7 @@ those_permitted d octets items P h k = record {
 class_here : (octets : List (List ℕ)) (items : List Item) (v : ℕ) (e : Item) (c : Certificate) → AreClassed octets items → v < length items → (get_or items v e).class ≡ certificate c → IsCertificateItem (get_or items v e).octets c
 class_here octets items v e c k lt is = subst (IsClassOf (get_or items v e).octets) is (k.classes v e lt)
 
-module _ (r : Rules) (d : Demanded) (octets : List (List ℕ)) (items anchors : List Item) (target : ℕ) (k : AreClassed octets items) (t : IsAt items target (λ x. x.octets ≡ d.target)) where
+module _ (r : JudgingContext) (d : Demanded) (octets : List (List ℕ)) (items anchors : List Item) (target : ℕ) (k : AreClassed octets items) (t : IsAt items target (λ x. x.octets ≡ d.target)) where
   abbrev Met : ℕ → Type 0
   Met = IsCertificateSuch (λ x c. Meets d x.octets c.extensions) items
 

@@ -4,7 +4,7 @@ use Rattle.cert_graph.specs.Graph.{IsValidPath}
 use Rattle.cert_model.specs.Fields.{Identifier, Extension, Certificate}
 use Rattle.cert_model.specs.Range.{IfThere}
 use Rattle.cert_model.specs.Class.{IsCertificateItem}
-use Rattle.cert_judge.specs.Revoking.{Item, Rules}
+use Rattle.cert_judge.specs.Revoking.{Item, JudgingContext}
 use Rattle.cert_judge.specs.ItemGraph.{graph_of_items}
 use Rattle.cert_purpose.specs.Purposes.{extended_key_usage, Allows}
 use Rattle.cert_purpose.specs.Restricting.{IsCertificateSuch}
@@ -62,7 +62,7 @@ IsAnswer octets P No = (c : Certificate) × IsCertificateItem octets c × ¬ P c
 IsAnswer octets P Yes = (c : Certificate) × IsCertificateItem octets c × P c.extensions
 
 -- A path of certificates that allow the purpose, from a target that serves the host.
-pub record IsServingPath (r : Rules) (d : Demanded) (items anchors : List Item) (target : ℕ) (ps : List ℕ) (a : ℕ) : Type 0 where
+pub record IsServingPath (r : JudgingContext) (d : Demanded) (items anchors : List Item) (target : ℕ) (ps : List ℕ) (a : ℕ) : Type 0 where
   pub path : IsValidPath (graph_of_items r items anchors) target ps a
   pub purpose : All (IsCertificateSuch (λ x c. AllowsIt d c.extensions) items) ps
   pub host : IsCertificateSuch (λ x c. ServesIt d c.extensions) items target

@@ -19,7 +19,7 @@ use Rattle.cert_graph.proofs.Agreeing.{agreed_adequate}
 use Rattle.cert_model.specs.Fields.{CivilTime}
 use Rattle.cert_judge.specs.declared.policy.Policy.{Policy}
 use Rattle.cert_judge.specs.Classed.{AreClassed}
-use Rattle.cert_judge.specs.Revoking.{Item, Rules}
+use Rattle.cert_judge.specs.Revoking.{Item, JudgingContext}
 use Rattle.cert_judge.specs.ItemGraph.{graph_of_items}
 use Rattle.cert_judge.proofs.Linking.{fit_is_usable}
 use Rattle.cert_model.specs.View.{time_view}
@@ -187,14 +187,14 @@ octets_of x = x.octets
 as_many : (octets : List (List ℕ)) (items : List Item) → AreClassed octets items → length items ≡ length octets
 as_many octets items classed = sym (length-map items octets_of) ∙ ap length classed.octets_are
 
-adequate_whole : (r : Rules) (octets : List (List ℕ)) (items anchors : List Item) (target : ℕ) (answer : Answer) → AreClassed octets items → IsAdequate (graph_of_items r items anchors) target answer → HasWholeRows (length octets) answer
+adequate_whole : (r : JudgingContext) (octets : List (List ℕ)) (items anchors : List Item) (target : ℕ) (answer : Answer) → AreClassed octets items → IsAdequate (graph_of_items r items anchors) target answer → HasWholeRows (length octets) answer
 adequate_whole r octets items anchors target (Path ps a table) classed h =
     whole_rows (length octets) (rows_of table) (subst (λ n. All (λ (row : List Reach). length row ≡ n) (rows_of table)) (as_many octets items classed) h.whole)
 adequate_whole r octets items anchors target (NoPath table) classed h = one_whole (length octets) (rows_of table) h.row h.one (h.whole ∙ as_many octets items classed)
 adequate_whole r octets items anchors target NoTarget classed h = tt
 
 -- an answer with a table has an item at least
-some_item : (r : Rules) (octets : List (List ℕ)) (items anchors : List Item) (target : ℕ) (answer : Answer) → AreClassed octets items → IsAdequate (graph_of_items r items anchors) target answer → answer ≡ NoTarget ⊎ (0 < length octets)
+some_item : (r : JudgingContext) (octets : List (List ℕ)) (items anchors : List Item) (target : ℕ) (answer : Answer) → AreClassed octets items → IsAdequate (graph_of_items r items anchors) target answer → answer ≡ NoTarget ⊎ (0 < length octets)
 some_item r octets items anchors target (Path ps a table) classed h =
     let first : 0 < length ps.items = omega (arith, h.count) in
     let at = h.valid.usable 0 0 first in
@@ -203,13 +203,13 @@ some_item r octets items anchors target (NoPath table) classed h = inr (omega (a
 some_item r octets items anchors target NoTarget classed h = inl refl
 
 -- a found answer, as its numbers are given
-pub found_given : (r : Rules) (octets anchors : List (List ℕ)) (target : ℕ) (answer : Answer) (row : AnswerRow) → HoldsOfItems r octets anchors (λ g. IsAdequate g target answer) → IsRowOf answer row → FitsAnswer answer
+pub found_given : (r : JudgingContext) (octets anchors : List (List ℕ)) (target : ℕ) (answer : Answer) (row : AnswerRow) → HoldsOfItems r octets anchors (λ g. IsAdequate g target answer) → IsRowOf answer row → FitsAnswer answer
     → IsAnswerOf (length octets) row (positions_of answer) (answer_entries answer) answer
 found_given r octets anchors target answer row h is_row fits =
     record { is_row = is_row; positions_are = refl; entries_are = refl; whole = adequate_whole r octets h.0 h.1 target answer h.2 h.4; fits = fits }
 
 -- what was found of some items is adequate by other rules that vouch alike, and as another answer of the same numbers
-carried : (r s : Rules) (octets anchors : List (List ℕ)) (target : ℕ) (row : AnswerRow) (answer other : Answer) → ((items : List Item) → VouchAlike r s items) → IsRowOf answer row → FitsAnswer answer
+carried : (r s : JudgingContext) (octets anchors : List (List ℕ)) (target : ℕ) (row : AnswerRow) (answer other : Answer) → ((items : List Item) → VouchAlike r s items) → IsRowOf answer row → FitsAnswer answer
     → IsAnswerOf (length octets) row (positions_of answer) (answer_entries answer) other → HoldsOfItems r octets anchors (λ g. IsAdequate g target answer) → HoldsOfItems s octets anchors (λ g. IsAdequate g target other)
 carried r s octets anchors target row answer other alike is_row fits is h =
     let g = graph_of_items r h.0 h.1 in

@@ -21,7 +21,7 @@ abbrev pub row_of : Question → QuestionRow
 row_of q = row_by q.item q.holder
 
 -- octets that are cut into items, each with its class
-pub record IsCut (octets : List ℕ) (limit : ℕ) (classed : List Item) : Type 0 where
+pub record SplitsInto (octets : List ℕ) (limit : ℕ) (classed : List Item) : Type 0 where
   pub items : List (List ℕ)
   pub end : End
   pub framing : IsFraming limit octets items end
@@ -31,8 +31,8 @@ pub record IsCut (octets : List ℕ) (limit : ℕ) (classed : List Item) : Type 
 pub record AreAsked (bundle anchors : List ℕ) (limit : ℕ) (rows rows' : List QuestionRow) (count' : ℕ) (fits : Bool) : Type 0 where
   pub classed : List Item
   pub classed_anchors : List Item
-  pub items_cut : IsCut bundle limit classed
-  pub anchors_cut : IsCut anchors limit classed_anchors
+  pub items_cut : SplitsInto bundle limit classed
+  pub anchors_cut : SplitsInto anchors limit classed_anchors
   pub questions : List Question
   pub are_questions : AreQuestions classed classed_anchors questions
   pub count_is : count' ≡ length questions

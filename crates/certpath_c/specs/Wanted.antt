@@ -6,7 +6,7 @@ use Rattle.host_names.specs.Asked.{host_view, AsksFor}
 use Rattle.host_names.specs.Refusals.{IsRefusedFor}
 use Rattle.cert_judge.specs.declared.policy.Policy.{Policy}
 use Rattle.cert_judge.specs.Items.{rules_by}
-use Rattle.cert_judge.specs.Revoking.{Rules}
+use Rattle.cert_judge.specs.Revoking.{JudgingContext}
 use Rattle.cert_serving.specs.declared.permits.Permits.{Permits}
 use Rattle.cert_purpose.specs.Restricting.{restricted_by}
 use Rattle.cert_serving.specs.Demanding.{Demanded, PermitsOf, ProcessesFor}
@@ -51,5 +51,5 @@ pub record ArePermits (settings : Settings) (items : List (List ℕ)) (permits :
   pub processed : ProcessesFor (demanded wanted (slice_index_or items settings.target [])) (are_processed permits)
 
 -- the pairs vouch for an item that is permitted, and what the permit looks at is processed
-abbrev pub rules_in : Policy → Vouchers → Permits → Rules
+abbrev pub rules_in : Policy → Vouchers → Permits → JudgingContext
 rules_in policy pairs permits = rules_by policy.moment policy.demand_lists (restricted_by (are_permitted permits) (are_processed permits) (VouchesBy pairs))

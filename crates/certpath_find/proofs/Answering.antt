@@ -12,7 +12,7 @@ use Rattle.cert_model.specs.Fields.{Certificate}
 use Rattle.cert_model.specs.Class.{Class, IsClassOf, IsCertificateItem}
 use Rattle.cert_model.proofs.Classes.{class_once}
 use Rattle.cert_judge.specs.Judging.{IsUsable}
-use Rattle.cert_judge.specs.Revoking.{Item, Rules}
+use Rattle.cert_judge.specs.Revoking.{Item, JudgingContext}
 use Rattle.cert_judge.specs.Classed.{AreClassed}
 use Rattle.cert_judge.specs.ItemGraph.{IsCertificateWith, graph_of_items}
 use Rattle.certpath_find.specs.Answered.{HoldsOfItems, NamesCertificates}
@@ -41,7 +41,7 @@ same_items (x ∷ xs) (y ∷ ys) e p q =
 pub one_classing : (octets : List (List ℕ)) (items others : List Item) → AreClassed octets items → AreClassed octets others → items ≡ others
 one_classing octets items others p q = same_items items others (p.octets_are ∙ sym q.octets_are) p.classes q.classes
 
-pub check_says_yes : (r : Rules) (items anchors : List (List ℕ)) (target : ℕ) (answer : Answer) (said : Bool) → HoldsOfItems r items anchors (λ g. IsTrue said ↔ IsAdequate g target answer)
+pub check_says_yes : (r : JudgingContext) (items anchors : List (List ℕ)) (target : ℕ) (answer : Answer) (said : Bool) → HoldsOfItems r items anchors (λ g. IsTrue said ↔ IsAdequate g target answer)
     → HoldsOfItems r items anchors (λ g. IsAdequate g target answer) → IsTrue said
 check_says_yes r items anchors target answer said check find =
     let a = one_classing items find.0 check.0 find.2 check.2 in
@@ -62,7 +62,7 @@ certificate_at octets items P p classed at =
           (c, subst (λ s. IsCertificateItem s c) same is),
     )
 
-pub names_certificates : (r : Rules) (octets : List (List ℕ)) (items anchors : List Item) (target : ℕ) (answer : Answer) → AreClassed octets items → IsTrueAnswer (graph_of_items r items anchors) target answer → NamesCertificates octets answer
+pub names_certificates : (r : JudgingContext) (octets : List (List ℕ)) (items anchors : List Item) (target : ℕ) (answer : Answer) → AreClassed octets items → IsTrueAnswer (graph_of_items r items anchors) target answer → NamesCertificates octets answer
 names_certificates r octets items anchors target (Path ps a table) classed true_answer =
     λ k d lt. certificate_at octets items (λ x. IsUsable (r.Processes x.octets) r.moment) (get_or ps.items k d) classed (true_answer.valid.usable k d lt)
 names_certificates r octets items anchors target (NoPath table) classed true_answer = tt

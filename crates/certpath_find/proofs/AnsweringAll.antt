@@ -20,7 +20,7 @@ use Rattle.cert_graph.proofs.OneInventory.{inventory_answers}
 use Rattle.cert_graph.proofs.Sharing.{inventory_true}
 use Rattle.std.proofs.lemmas.List.{length-map}
 use Rattle.cert_judge.specs.Judging.{IsUsable}
-use Rattle.cert_judge.specs.Revoking.{Item, Rules}
+use Rattle.cert_judge.specs.Revoking.{Item, JudgingContext}
 use Rattle.cert_judge.specs.Classed.{AreClassed}
 use Rattle.cert_judge.specs.ItemGraph.{graph_of_items}
 use Rattle.cert_search.specs.Inventory.{HasExactTable, IsShortVerdict}
@@ -56,27 +56,27 @@ found_of_all g h e fit inventory adequate exact short =
       short = λ k d lt. short_same g h e (get_or inventory.verdicts.items k d) (short k d lt);
     }
 
-names_certificates_at : (r : Rules) (octets : List (List ℕ)) (items anchors : List Item) (target : ℕ) (verdict : Verdict) → AreClassed octets items → IsTrueVerdict (graph_of_items r items anchors) target verdict
+names_certificates_at : (r : JudgingContext) (octets : List (List ℕ)) (items anchors : List Item) (target : ℕ) (verdict : Verdict) → AreClassed octets items → IsTrueVerdict (graph_of_items r items anchors) target verdict
     → VerdictNamesCertificates octets verdict
 names_certificates_at r octets items anchors target (FirstPath ps a) classed first = λ k d lt. certificate_at octets items (λ x. IsUsable (r.Processes x.octets) r.moment) (get_or ps.items k d) classed (first.valid.usable k d lt)
 names_certificates_at r octets items anchors target Pathless classed none = tt
 names_certificates_at r octets items anchors target NoCertificate classed none = tt
 
-pub all_name_certificates : (r : Rules) (octets : List (List ℕ)) (items anchors : List Item) (inventory : Inventory) → AreClassed octets items → IsTrueInventory (graph_of_items r items anchors) inventory
+pub all_name_certificates : (r : JudgingContext) (octets : List (List ℕ)) (items anchors : List Item) (inventory : Inventory) → AreClassed octets items → IsTrueInventory (graph_of_items r items anchors) inventory
     → All (VerdictNamesCertificates octets) inventory.verdicts.items
 all_name_certificates r octets items anchors inventory classed holds = λ k d lt. names_certificates_at r octets items anchors k (get_or inventory.verdicts.items k d) classed (holds.each k lt d)
 
-pub check_all_says_yes : (r : Rules) (items anchors : List (List ℕ)) (inventory : Inventory) (said : Bool) → HoldsOfItems r items anchors (λ g. IsTrue said ↔ IsAdequateInventory g inventory)
+pub check_all_says_yes : (r : JudgingContext) (items anchors : List (List ℕ)) (inventory : Inventory) (said : Bool) → HoldsOfItems r items anchors (λ g. IsTrue said ↔ IsAdequateInventory g inventory)
     → HoldsOfItems r items anchors (λ g. IsAdequateInventory g inventory) → IsTrue said
 check_all_says_yes r items anchors inventory said check find =
     let a = one_classing items find.0 check.0 find.2 check.2 in
     let b = one_classing anchors find.1 check.1 find.3 check.3 in
     check.4.1 (subst (λ xs. IsAdequateInventory (graph_of_items r xs check.1) inventory) a (subst (λ ys. IsAdequateInventory (graph_of_items r find.0 ys) inventory) b find.4))
 
-usable_is_certificate : (r : Rules) (items anchors : List Item) → UsableIsCertificate (graph_of_items r items anchors)
+usable_is_certificate : (r : JudgingContext) (items anchors : List Item) → UsableIsCertificate (graph_of_items r items anchors)
 usable_is_certificate r items anchors v u = (u.0, λ d. let c = u.1 d in (c.0, c.1, tt))
 
-pub says_what_find_says : (r : Rules) (items anchors : List (List ℕ)) (inventory : Inventory) (target : ℕ) (answer : Answer) → target < length items → HoldsOfItems r items anchors (λ g. IsTrueInventory g inventory)
+pub says_what_find_says : (r : JudgingContext) (items anchors : List (List ℕ)) (inventory : Inventory) (target : ℕ) (answer : Answer) → target < length items → HoldsOfItems r items anchors (λ g. IsTrueInventory g inventory)
     → HoldsOfItems r items anchors (λ g. IsTrueAnswer g target answer) → HoldsAt (IsVerdictOf answer) inventory.verdicts.items target
 says_what_find_says r items anchors inventory target answer lt all one =
     let a = one_classing items one.0 all.0 one.2 all.2 in

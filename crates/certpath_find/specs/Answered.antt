@@ -8,12 +8,12 @@ use Rattle.cert_graph.specs.Entries.{IsAt}
 use Rattle.cert_model.specs.Fields.{Certificate}
 use Rattle.cert_model.specs.Class.{IsCertificateItem}
 use Rattle.cert_search.specs.Exact.{HasExactRows, IsShort}
-use Rattle.cert_judge.specs.Revoking.{Item, Rules}
+use Rattle.cert_judge.specs.Revoking.{Item, JudgingContext}
 use Rattle.cert_judge.specs.Classed.{AreClassed}
 use Rattle.cert_judge.specs.ItemGraph.{graph_of_items}
 
 -- the graph of these items and anchors, by their classes, has a property
-abbrev pub HoldsOfItems : Rules → List (List ℕ) → List (List ℕ) → (Graph → Type 0) → Type 0
+abbrev pub HoldsOfItems : JudgingContext → List (List ℕ) → List (List ℕ) → (Graph → Type 0) → Type 0
 HoldsOfItems r items anchors P =
     (classed classed_anchors : List Item) × AreClassed items classed × AreClassed anchors classed_anchors × P (graph_of_items r classed classed_anchors)
 

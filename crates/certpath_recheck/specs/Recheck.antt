@@ -8,7 +8,7 @@ use Rattle.cert_graph.specs.Inventory.{IsAdequateInventory, IsTrueInventory}
 use Rattle.cert_judge.specs.Classed.{AreClassed}
 use Rattle.cert_judge.specs.ItemGraph.{graph_of_items}
 use Rattle.cert_judge.specs.Items.{rules_by}
-use Rattle.cert_judge.specs.Revoking.{Item, Rules}
+use Rattle.cert_judge.specs.Revoking.{Item, JudgingContext}
 use Rattle.cert_vouchers.specs.declared.vouchers.Vouchers.{Vouchers}
 use Rattle.certpath_evidence.specs.Answers.{IsEvidenceOf, HasFirstBad}
 use Rattle.certpath_inputs.specs.Reads.{ReadsAll}
@@ -21,7 +21,7 @@ use Rattle.certpath_recheck.specs.declared.rechecking.RecheckError.{RecheckError
 use Rattle.certpath_recheck.specs.declared.rechecking.RecheckError.TheVariants.{Run, Read, TooLong, BadLine, OtherPurpose}
 
 -- what is said of an inventory: yes exactly where its one table shows each of its verdicts, by the classes of items and anchors; and then each is true
-pub record IsSaidOf (r : Rules) (items anchors : Framed) (inventory : Inventory) (said : Bool) : Type 0 where
+pub record IsSaidOf (r : JudgingContext) (items anchors : Framed) (inventory : Inventory) (said : Bool) : Type 0 where
   pub classed : List Item
   pub classed_anchors : List Item
   pub are_classed : AreClassed items.items classed

@@ -14,7 +14,7 @@ use Rattle.cert_judge.specs.Vouching.{Vouching}
 use Rattle.cert_judge.specs.Classed.{AreClassed}
 use Rattle.cert_judge.specs.ItemGraph.{graph_of_items}
 use Rattle.cert_judge.specs.JudgedItems.{AreJudged}
-use Rattle.cert_judge.specs.Revoking.{Item, Rules}
+use Rattle.cert_judge.specs.Revoking.{Item, JudgingContext}
 use Rattle.cert_judge.specs.declared.judged.JudgedItem.{JudgedItem}
 use Rattle.cert_vouchers.specs.declared.vouchers.Vouchers.{Vouchers}
 use Rattle.certpath_evidence.specs.Evidence.{evidence, told_by}
@@ -95,7 +95,7 @@ same_all_report lines moment xs ys js hs end anchors_end vs said a b =
     ∙ ap (λ n. verdict_lines 0 xs vs ++ (end_line end ++ (counts_line (certificates_among ys) n anchors_end ++ behind))) b.count
 
 -- what the check of all says of an adequate inventory
-pub all_said_yes : (r : Rules) (items anchors : List (List ℕ)) (xs ys cs ds : List Item) (inventory : Inventory) (said : Bool) → AreClassed items xs → AreClassed anchors ys → AreClassed items cs → AreClassed anchors ds
+pub all_said_yes : (r : JudgingContext) (items anchors : List (List ℕ)) (xs ys cs ds : List Item) (inventory : Inventory) (said : Bool) → AreClassed items xs → AreClassed anchors ys → AreClassed items cs → AreClassed anchors ds
     → (IsTrue said ↔ IsAdequateInventory (graph_of_items r cs ds) inventory) → IsAdequateInventory (graph_of_items r xs ys) inventory → IsTrue said
 all_said_yes r items anchors xs ys cs ds inventory said p q p' q' exact adequate =
     let a = one_classing items xs cs p p' in

@@ -11,7 +11,7 @@ use Rattle.cert_graph.specs.Graph.{Graph, IsReached}
 use Rattle.cert_graph.specs.Reach.{Takes}
 use Rattle.cert_search.specs.Exact.{HoldsAll}
 use Rattle.cert_judge.specs.ItemGraph.{graph_of_items}
-use Rattle.cert_judge.specs.Revoking.{Item, Rules}
+use Rattle.cert_judge.specs.Revoking.{Item, JudgingContext}
 use Rattle.certpath_find.specs.Answered.{IsFound}
 use Rattle.certpath_why.specs.Bounds.{reach_by, IsHeldBack}
 use Rattle.certpath_run.specs.Reaching.{LeadsNowhere, LeadsWithNoneBelow, IsHeldBackByPaths}
@@ -47,7 +47,7 @@ below_iff g target table found v =
       λ h. none.1 ((exact 0).1 h.leads, λ c t. let r = (exact (suc c)).0 t in h.no_more r.0 c r.1),
     )
 
-pub held_back_iff : (r search : Rules) (items anchors : List Item) (target : ℕ) (table : Table) → IsFound (graph_of_items search items anchors) target (NoPath table)
+pub held_back_iff : (r search : JudgingContext) (items anchors : List Item) (target : ℕ) (table : Table) → IsFound (graph_of_items search items anchors) target (NoPath table)
     → (w v : ℕ) → IsHeldBack r items (reach_by (NoPath table)) w v ↔ IsHeldBackByPaths r search items anchors w v
 held_back_iff r search items anchors target table found w v =
     let g = graph_of_items search items anchors in (

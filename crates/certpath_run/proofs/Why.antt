@@ -4,7 +4,7 @@ use Rattle.cert_framing.specs.Held.{Framed}
 use Rattle.cert_graph.specs.declared.answer.Answer.{Answer}
 use Rattle.cert_judge.specs.Classed.{AreClassed}
 use Rattle.cert_judge.specs.ItemGraph.{graph_of_items}
-use Rattle.cert_judge.specs.Revoking.{Item, Rules}
+use Rattle.cert_judge.specs.Revoking.{Item, JudgingContext}
 use Rattle.certpath_find.specs.Answered.{IsFound}
 use Rattle.certpath_find.proofs.Answering.{one_classing}
 use Rattle.certpath_inputs.specs.Check.{check_line}
@@ -15,7 +15,7 @@ use Rattle.certpath_run.specs.Report.{answer_line}
 use Rattle.certpath_run.specs.Runs.{IsWhyReportWith, kind_of}
 use Rattle.certpath_run.specs.declared.settings.Outcome.{Outcome}
 
-pub reported : (demand : Demand) (r search : Rules) (items anchors : Framed) (target : ℕ) (xs ys read roots : List Item) (answer : Answer) (said : Bool) (begun text : List ℕ) (outcome : Outcome)
+pub reported : (demand : Demand) (r search : JudgingContext) (items anchors : Framed) (target : ℕ) (xs ys read roots : List Item) (answer : Answer) (said : Bool) (begun text : List ℕ) (outcome : Outcome)
     → AreClassed items.items xs → AreClassed anchors.items ys → AreClassed items.items read → AreClassed anchors.items roots
     → (said ≡ true) × IsFound (graph_of_items search xs ys) target answer → begun ≡ demand_lines demand ++ (answer_line answer ++ check_line said)
     → AppendsWhyFor demand r search read roots target answer begun text → outcome ≡ kind_of answer → IsWhyReportWith demand r search items anchors target text outcome

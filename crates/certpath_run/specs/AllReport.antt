@@ -11,7 +11,7 @@ use Rattle.cert_judge.specs.Vouching.{Vouching}
 use Rattle.cert_judge.specs.Classed.{AreClassed}
 use Rattle.cert_judge.specs.ItemGraph.{graph_of_items}
 use Rattle.cert_judge.specs.Items.{rules_by}
-use Rattle.cert_judge.specs.Revoking.{Item, Rules}
+use Rattle.cert_judge.specs.Revoking.{Item, JudgingContext}
 use Rattle.cert_model.specs.Class.{Class}
 use Rattle.cert_vouchers.specs.declared.vouchers.Vouchers.{Vouchers}
 use Rattle.certpath_evidence.specs.Evidence.{evidence, told_by}
@@ -59,7 +59,7 @@ abbrev pub outcome_of_all : List Verdict → AllOutcome
 outcome_of_all verdicts = if has_pathless verdicts then NotEach else Each
 
 -- the report of true verdicts that one table shows, by the classes of items and anchors, with what the check says of them: yes
-pub record IsAllReportWith (lines : List ℕ) (r : Rules) (items anchors : Framed) (text : List ℕ) (outcome : AllOutcome) : Type 0 where
+pub record IsAllReportWith (lines : List ℕ) (r : JudgingContext) (items anchors : Framed) (text : List ℕ) (outcome : AllOutcome) : Type 0 where
   pub classed : List Item
   pub classed_anchors : List Item
   pub inventory : Inventory
@@ -71,7 +71,7 @@ pub record IsAllReportWith (lines : List ℕ) (r : Rules) (items anchors : Frame
   pub outcome_is : outcome ≡ outcome_of_all inventory.verdicts.items
 
 -- without a demand
-abbrev pub IsAllReport : Rules → Framed → Framed → List ℕ → AllOutcome → Type 0
+abbrev pub IsAllReport : JudgingContext → Framed → Framed → List ℕ → AllOutcome → Type 0
 IsAllReport = IsAllReportWith []
 
 -- the text is the report on all items by these settings, and the outcome is its own

@@ -9,7 +9,7 @@ use Rattle.cert_graph.specs.Adequate.{IsTrueAnswer}
 use Rattle.cert_judge.specs.Classed.{AreClassed}
 use Rattle.cert_judge.specs.ItemGraph.{graph_of_items}
 use Rattle.cert_judge.specs.Items.{rules_by}
-use Rattle.cert_judge.specs.Revoking.{Item, Rules}
+use Rattle.cert_judge.specs.Revoking.{Item, JudgingContext}
 use Rattle.cert_judge.specs.Vouching.{Vouching, processing_too}
 use Rattle.cert_serving.specs.Refusing.{are_processed}
 use Rattle.cert_serving.specs.declared.permits.Permits.{Permits}
@@ -31,7 +31,7 @@ kind_of (answers.NoPath table) = NoPath
 kind_of answers.NoTarget = NoTarget
 
 -- the report of the true answer, by the classes of items and anchors, with what the check says of it: yes; and the answer's kind
-pub record IsReportWith (lines : List ℕ) (r : Rules) (items anchors : Framed) (target : ℕ) (text : List ℕ) (outcome : Outcome) : Type 0 where
+pub record IsReportWith (lines : List ℕ) (r : JudgingContext) (items anchors : Framed) (target : ℕ) (text : List ℕ) (outcome : Outcome) : Type 0 where
   pub classed : List Item
   pub classed_anchors : List Item
   pub answer : Answer
@@ -42,13 +42,13 @@ pub record IsReportWith (lines : List ℕ) (r : Rules) (items anchors : Framed) 
   pub outcome_is : outcome ≡ kind_of answer
 
 -- without a demand
-abbrev pub IsReport : Rules → Framed → Framed → ℕ → List ℕ → Outcome → Type 0
+abbrev pub IsReport : JudgingContext → Framed → Framed → ℕ → List ℕ → Outcome → Type 0
 IsReport = IsReportWith []
 
 -- The lines of what is demanded, the answer, what the check says of it: yes; and what stands in the way of a path. The answer is true,
 -- and its rows hold exactly how far each issuer leads, so the lines of path lengths are fixed. The lines of
 -- certificates are by the first rules, and the answer is by the second: these vouch for less where something is demanded.
-pub record IsWhyReportWith (demand : Demand) (r search : Rules) (items anchors : Framed) (target : ℕ) (text : List ℕ) (outcome : Outcome) : Type 0 where
+pub record IsWhyReportWith (demand : Demand) (r search : JudgingContext) (items anchors : Framed) (target : ℕ) (text : List ℕ) (outcome : Outcome) : Type 0 where
   pub classed : List Item
   pub classed_anchors : List Item
   pub answer : Answer
@@ -61,7 +61,7 @@ pub record IsWhyReportWith (demand : Demand) (r search : Rules) (items anchors :
   pub outcome_is : outcome ≡ kind_of answer
 
 -- without a demand
-abbrev pub IsWhyReport : Rules → Framed → Framed → ℕ → List ℕ → Outcome → Type 0
+abbrev pub IsWhyReport : JudgingContext → Framed → Framed → ℕ → List ℕ → Outcome → Type 0
 IsWhyReport r = IsWhyReportWith (of_purpose None) r r
 
 -- the inputs were read, and exactly their text was written

@@ -12,8 +12,8 @@ use Rattle.cert_judge.specs.declared.items.CertificateItem.{CertificateItem}
 use Rattle.cert_judge.specs.declared.items.ReadItem.{ReadItem}
 use Rattle.cert_judge.specs.declared.items.ReadItem.TheVariants.{Certificate as certificate_read}
 use Rattle.cert_judge.specs.Items.{item_of, certificate_of, certificate_item}
-use Rattle.cert_judge.specs.ItemGraph.{IsCertificateWith, IsIssuedUnder, HaveSameKeyId, IsLink}
-use Rattle.cert_judge.specs.Revoking.{Item, Rules}
+use Rattle.cert_judge.specs.ItemGraph.{IsCertificateWith, IsIssuedUnder, KeyIdsAgree, IsLink}
+use Rattle.cert_judge.specs.Revoking.{Item, JudgingContext}
 use Rattle.cert_judge.proofs.Linking.{with_iff}
 use Rattle.certpath_why.specs.Bounds.{IsCounted, IsHeldBack, IsBound}
 use Rattle.certpath_why.specs.Found.{IsMarked, AreMarked}
@@ -111,9 +111,9 @@ module _ (R : ℕ → ℕ → Type 0) (ws : List ℕ) where
 -- ---- who is held back
 
 -- an issuer that a certificate is linked to has its issuer's name
-linked_named : (r : Rules) (items : List Item) (x : CertificateItem) (y : Item) → IsLink r items (certificate_item x) y → IsCertificateWith (λ d. name_octets d.subject ≡ x.issuer.now) y
+linked_named : (r : JudgingContext) (items : List Item) (x : CertificateItem) (y : Item) → IsLink r items (certificate_item x) y → IsCertificateWith (λ d. name_octets d.subject ≡ x.issuer.now) y
 linked_named r items x y l =
-    let inner = (with_iff (λ c. IsCertificateWith (λ d. IsIssuedUnder r items (certificate_item x) c (name_octets d.subject) (key_octets d.key) × HaveSameKeyId c d) y) (certificate_item x) (certificate_of x) refl).0 l in
+    let inner = (with_iff (λ c. IsCertificateWith (λ d. IsIssuedUnder r items (certificate_item x) c (name_octets d.subject) (key_octets d.key) × KeyIdsAgree c d) y) (certificate_item x) (certificate_of x) refl).0 l in
     (inner.0, inner.1, sym inner.2.0.issuer ∙ sym x.issuer_is)
 
 -- the code's names are those of the definitions
@@ -124,11 +124,11 @@ counted_iff items w x at =
       λ h e. with.1 h (sym x.subject_is ∙ e ∙ x.issuer_is),
     )
 
-pub not_counted : (r : Rules) (items : List ReadItem) (reach : ℕ → Reach) (w : ℕ) (x : CertificateItem) → IsAt items w (λ y. y ≡ certificate_read x) → ((x.subject.now ≢ x.issuer.now) → ⊥)
+pub not_counted : (r : JudgingContext) (items : List ReadItem) (reach : ℕ → Reach) (w : ℕ) (x : CertificateItem) → IsAt items w (λ y. y ≡ certificate_read x) → ((x.subject.now ≢ x.issuer.now) → ⊥)
     → (v : ℕ) → IsHeldBack r (map item_of items) reach w v → ⊥
 not_counted r items reach w x at never v h = never ((counted_iff items w x at).1 h.counts)
 
-pub held_iff : (r : Rules) (read : List ReadItem) (reach : ℕ → Reach) (w : ℕ) (x : CertificateItem) (issuers : List ℕ) → IsAt read w (λ y. y ≡ certificate_read x) → reach w ≡ No → (x.subject.now ≢ x.issuer.now)
+pub held_iff : (r : JudgingContext) (read : List ReadItem) (reach : ℕ → Reach) (w : ℕ) (x : CertificateItem) (issuers : List ℕ) → IsAt read w (λ y. y ≡ certificate_read x) → reach w ≡ No → (x.subject.now ≢ x.issuer.now)
     → ArePositions (HasSubject (map item_of read) x.issuer.now) issuers
     → (v : ℕ) → (Contains issuers v × ((reach v ≡ UpTo 0) × IsAt (map item_of read) v (IsLink r (map item_of read) (certificate_item x)))) ↔ IsHeldBack r (map item_of read) reach w v
 held_iff r read reach w x issuers at nowhere counts named v =
@@ -146,7 +146,7 @@ held_iff r read reach w x issuers at nowhere counts named v =
     )
 
 -- whether the code finds no reason against a link
-pub link_there : (r : Rules) (read : List ReadItem) (x y : CertificateItem) (v : ℕ) (none : Type 0) → IsAt read v (λ z. z ≡ certificate_read y) → HasSubject (map item_of read) x.issuer.now v
+pub link_there : (r : JudgingContext) (read : List ReadItem) (x y : CertificateItem) (v : ℕ) (none : Type 0) → IsAt read v (λ z. z ≡ certificate_read y) → HasSubject (map item_of read) x.issuer.now v
     → (x.issuer.now ≡ y.subject.now → none ↔ IsLink r (map item_of read) (certificate_item x) (certificate_item y)) → none ↔ IsAt (map item_of read) v (IsLink r (map item_of read) (certificate_item x))
 link_there r read x y v none at named iff =
     let items = map item_of read in
@@ -155,7 +155,7 @@ link_there r read x y v none at named iff =
     let there = at_read (IsLink r items (certificate_item x)) read v y at in
     (λ n. there.0 (link.0 n), λ l. link.1 (there.1 l))
 
-pub bound_iff : (r : Rules) (items : List Item) (target : ℕ) (reach : ℕ → Reach) (marks : List Bool) (further : List ℕ) → ArePositions (IsFurther items target) further
+pub bound_iff : (r : JudgingContext) (items : List Item) (target : ℕ) (reach : ℕ → Reach) (marks : List Bool) (further : List ℕ) → ArePositions (IsFurther items target) further
     → ((v : ℕ) → IsMarked marks v ↔ ((w : ℕ) × Contains further w × IsHeldBack r items reach w v)) → (v : ℕ) → (IsMarked marks v × (v ≢ target)) ↔ IsBound r items target reach v
 bound_iff r items target reach marks further are marked v = (
   λ m. let p = (marked v).0 m.0 in ((p.0, (are.exact p.0).0 p.1, p.2), m.1),

@@ -20,7 +20,7 @@ use Rattle.cert_model.specs.Class.{Class, certificate}
 use Rattle.cert_model.specs.Fields.{Certificate}
 use Rattle.cert_model.specs.Octets.{name_octets}
 use Rattle.cert_judge.specs.ItemGraph.{self_issued_of, limit_of, graph_of_items}
-use Rattle.cert_judge.specs.Revoking.{Item, Rules}
+use Rattle.cert_judge.specs.Revoking.{Item, JudgingContext}
 use Rattle.cert_judge.proofs.Grouping.{element, one_certificate}
 use Rattle.certpath_why.specs.Bounds.{reach_by, IsCounted, IsBound}
 use Rattle.certpath_why.specs.Laws.{without_lengths, IsUncountedPath, IsFreePath}
@@ -88,7 +88,7 @@ some_limit k c is e = either_limit _ _ (sym (ap limit_of is) ∙ e)
 differs : (k : Class) (c : Certificate) → k ≡ certificate c → self_issued_of k ≡ false → name_octets c.subject ≢ name_octets c.issuer
 differs k c is e same = false≢true (sym e ∙ ap self_issued_of is ∙ (bytes_eq-Decides (name_octets c.subject) (name_octets c.issuer)).1 same)
 
-module _ (r : Rules) (items anchors : List Item) where
+module _ (r : JudgingContext) (items anchors : List Item) where
   abbrev G : Graph
   G = graph_of_items r items anchors
 

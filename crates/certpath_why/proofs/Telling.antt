@@ -11,7 +11,7 @@ use Rattle.cert_judge.specs.Items.{item_of, certificate_of, certificate_item}
 use Rattle.cert_judge.specs.ItemGraph.{IsCertificateWith}
 use Rattle.cert_judge.specs.Revoking.{Item}
 use Rattle.cert_reasons.proofs.Certain.{viewed_by}
-use Rattle.cert_judge.specs.Revoking.{Rules}
+use Rattle.cert_judge.specs.Revoking.{JudgingContext}
 use Rattle.cert_judge.specs.declared.items.ListItem.{ListItem}
 use Rattle.cert_judge.specs.Items.{list_of, list_item}
 use Rattle.cert_reasons.specs.declared.lists.Unused.{Unused}
@@ -36,7 +36,7 @@ told_target place target lines e = ap (λ b. if b then [] else lines) (sym (eq-e
 pub told_other : (place target : ℕ) (lines : List ℕ) → (place ≡ target → ⊥) → lines ≡ (if nat_eq place target then [] else lines)
 told_other place target lines apart = ap (λ b. if b then [] else lines) (sym (ne_eqb place target apart))
 
-pub tells_links : (r : Rules) (items anchors : List Item) (v : ℕ) (x : CertificateItem) (ws hs : List ℕ) (first one two last : List ℕ)
+pub tells_links : (r : JudgingContext) (items anchors : List Item) (v : ℕ) (x : CertificateItem) (ws hs : List ℕ) (first one two last : List ℕ)
     → ArePositions (HasSubject items x.issuer.now) ws → ArePositions (HasSubject anchors x.issuer.now) hs
     → Appends (TellsGroups (to_items v) (IsLinkedTo r items (certificate_item x)) (FailsTo r items (certificate_item x) (certificate_of x))) first one
     → Appends (TellsGroups (to_anchors v) (IsLinkedToAnchor r items anchors (certificate_item x)) (FailsToAnchor r items anchors (certificate_item x) (certificate_of x))) one two
@@ -61,7 +61,7 @@ tells_links r items anchors v x ws hs first one two last w h a b is =
       },
     )
 
-pub tells_certificate : (demand : Demand) (r : Rules) (items anchors : List Item) (own : List ℕ) (target v : ℕ) (x : CertificateItem) (first one two three four last : List ℕ)
+pub tells_certificate : (demand : Demand) (r : JudgingContext) (items anchors : List Item) (own : List ℕ) (target v : ℕ) (x : CertificateItem) (first one two three four last : List ℕ)
     → own ≡ octets_at items target
     → one ≡ first ++ subject_line v x.subject.now → Appends (TellsUnusable r v (certificate_item x) (certificate_of x)) one two → Appends (AreDemandLines demand own v (certificate_item x) (certificate_of x)) two three
     → Appends (TellsNoIssuer (nat_eq v target) v (certificate_of x)) three four
@@ -87,7 +87,7 @@ tells_certificate demand r items anchors own target v x first one two three four
       },
     )
 
-pub tells_at : (demand : Demand) (r : Rules) (read : List ReadItem) (anchors : List Item) (target v : ℕ) (x : CertificateItem) (first last : List ℕ) → IsAt read v (λ y. y ≡ certificate_read x)
+pub tells_at : (demand : Demand) (r : JudgingContext) (read : List ReadItem) (anchors : List Item) (target v : ℕ) (x : CertificateItem) (first last : List ℕ) → IsAt read v (λ y. y ≡ certificate_read x)
     → Appends (TellsCertificate demand r (map item_of read) anchors target v (certificate_item x) (certificate_of x)) first last → Appends (TellsAt demand r (map item_of read) anchors target v) first last
 tells_at demand r read anchors target v x first last at t = (
   t.0,
@@ -95,7 +95,7 @@ tells_at demand r read anchors target v x first last at t = (
   (at_read (λ y. IsCertificateWith (λ c. TellsCertificate demand r (map item_of read) anchors target v y c t.0) y) read v x at).0 (certificate_of x, refl, t.2),
 )
 
-pub tells_list : (r : Rules) (items anchors : List Item) (p : ℕ) (x : ListItem) (keys : List (List ℕ)) (rs : List Unused) (first last : List ℕ) → AreKeysOf items anchors x.issuer.now keys
+pub tells_list : (r : JudgingContext) (items anchors : List Item) (p : ℕ) (x : ListItem) (keys : List (List ℕ)) (rs : List Unused) (first last : List ℕ) → AreKeysOf items anchors x.issuer.now keys
     → AreAll list_order (HasReasonAmong r keys (list_item x) (list_of x)) rs → last ≡ first ++ list_lines p x.issuer.now (list_of x) rs → Appends (TellsList r items anchors p (list_item x) (list_of x)) first last
 tells_list r items anchors p x keys rs first last are all is =
     let l = list_of x in (
@@ -104,7 +104,7 @@ tells_list r items anchors p x keys rs first last are all is =
       (keys, rs, subst (λ n. AreKeysOf items anchors n keys) x.issuer_is are, all, refl),
     )
 
-pub items_more : (r : Rules) (read : List ReadItem) (anchors : List Item) (k : ℕ) (x : ReadItem) (first text more : List ℕ) → k < length read → x ≡ get_or read k x
+pub items_more : (r : JudgingContext) (read : List ReadItem) (anchors : List Item) (k : ℕ) (x : ReadItem) (first text more : List ℕ) → k < length read → x ≡ get_or read k x
     → Appends (AreTexts (TellsItemAt r (map item_of read) anchors) (positions k)) first text → Appends (TellsItem r (map item_of read) anchors k (item_of x) (item_of x).class) text more
     → Appends (AreTexts (TellsItemAt r (map item_of read) anchors) (positions (k + 1))) first more
 items_more r read anchors k x first text more lt at h t =

@@ -10,7 +10,7 @@ use Rattle.cert_model.specs.Extended.{basic_constraints}
 use Rattle.cert_model.specs.Fields.{Extension, Certificate}
 use Rattle.cert_model.specs.Octets.{name_octets, relative_name_octets, attribute_octets, key_octets}
 use Rattle.cert_judge.specs.Examples.{certificate_item, extension, vouching_for_all, unlimited, limited_to, authority, limited_above}
-use Rattle.cert_judge.specs.ItemGraph.{HaveSameKeyId, IsLink}
+use Rattle.cert_judge.specs.ItemGraph.{KeyIdsAgree, IsLink}
 use Rattle.cert_judge.specs.Revoking.{Item, IsSatisfied}
 use Rattle.cert_judge.proofs.ExampleLists.{no_list}
 use Rattle.cert_judge.proofs.Grouping.{one_certificate}
@@ -47,7 +47,7 @@ first_is e x [] back is = ap (λ (es : List Extension). get_or es 0 e) is
 first_is e x (f ∷ front) back is = let long = ap (λ (es : List Extension). length es) is ∙ ap suc (length-append front (x ∷ back)) in absurd (omega arith)
 
 -- it names no issuer's key
-names_none : HaveSameKeyId plain_b limited_c
+names_none : KeyIdsAgree plain_b limited_c
 names_none = λ a s names has.
     let is = first_is (extension basic_constraints true unlimited) names.stands.extension names.stands.front names.stands.back names.stands.place in
     let e = ap (λ (x : Extension). x.identifier) is ∙ names.stands.under in

@@ -1,7 +1,7 @@
 -- What a question is about. Contracts of private functions cite it.
 use Rattle.std.specs.Prelude.{List, map}
 use Rattle.cert_judge.specs.Items.{item_of, rules_by}
-use Rattle.cert_judge.specs.Revoking.{Item, Rules}
+use Rattle.cert_judge.specs.Revoking.{Item, JudgingContext}
 use Rattle.cert_judge.specs.declared.vouch.Vouch.{Ghosts}
 use Rattle.cert_reasons.specs.declared.linking.Linking.{Linking}
 use Rattle.certpath_why.specs.declared.question.Question.{Question}
@@ -14,11 +14,11 @@ abbrev pub anchors_in : {V : Type 0} → Question V → List Item
 anchors_in question = map item_of question.found.now.anchors.now
 
 -- the rules by which they are judged
-abbrev pub rules_in : {V : Type 0} → Ghosts V → Question V → Rules
+abbrev pub rules_in : {V : Type 0} → Ghosts V → Question V → JudgingContext
 rules_in vouch question = rules_by question.policy.now.moment question.policy.now.demand_lists (vouch.vouches_for question.vouch.now)
 
 -- those by which a certificate is linked, and the items among which it is
-abbrev pub link_rules : {V : Type 0} → Ghosts V → Linking → V → Rules
+abbrev pub link_rules : {V : Type 0} → Ghosts V → Linking → V → JudgingContext
 link_rules vouch linking by = rules_by linking.policy.moment linking.policy.demand_lists (vouch.vouches_for by)
 
 abbrev pub link_items : Linking → List Item

@@ -9,8 +9,8 @@ use Rattle.cert_graph.specs.declared.answer.Answer.{Answer}
 use Rattle.cert_model.specs.Class.{Class, certificate, list, other}
 use Rattle.cert_model.specs.Fields.{Certificate, RevocationList}
 use Rattle.cert_model.specs.Octets.{name_octets, key_octets}
-use Rattle.cert_judge.specs.Revoking.{Item, Rules}
-use Rattle.cert_judge.specs.ItemGraph.{IsCertificateWith, HaveSameKeyId, IsLink, IsAnchorLink}
+use Rattle.cert_judge.specs.Revoking.{Item, JudgingContext}
+use Rattle.cert_judge.specs.ItemGraph.{IsCertificateWith, KeyIdsAgree, IsLink, IsAnchorLink}
 use Rattle.cert_reasons.specs.declared.certificates.Unusable.{Unusable}
 use Rattle.cert_reasons.specs.declared.issuers.NoIssuer.{NoIssuer}
 use Rattle.cert_reasons.specs.declared.links.Unlinked.{Unlinked}
@@ -36,7 +36,7 @@ AreTexts IsText [] text = text ≡ []
 AreTexts IsText (x ∷ xs) text = (first : List ℕ) × (rest : List ℕ) × IsText x first × AreTexts IsText xs rest × (text ≡ first ++ rest)
 
 -- a line for each reason why the certificate at a position is not usable
-abbrev pub TellsUnusable : Rules → ℕ → Item → Certificate → List ℕ → Type 0
+abbrev pub TellsUnusable : JudgingContext → ℕ → Item → Certificate → List ℕ → Type 0
 TellsUnusable r v x c text = (reasons : List Unusable) × AreAll order_of (HasReason (r.Processes x.octets) r.moment c) reasons × (text ≡ flat_map (unusable_line v c) reasons)
 
 -- a line for each reason why it may not issue others; none of the target, which needs to issue nothing
@@ -67,20 +67,20 @@ pub record TellsGroups (front : List ℕ) (Linked : ℕ → Type 0) (Fails : Unl
   pub text_is : text ≡ linked ++ (unvouched ++ (differing ++ (revoked ++ lacking)))
 
 -- a certificate is linked to the one at a position
-abbrev pub IsLinkedTo : Rules → List Item → Item → ℕ → Type 0
+abbrev pub IsLinkedTo : JudgingContext → List Item → Item → ℕ → Type 0
 IsLinkedTo r items x w = IsAt items w (IsLink r items x)
 
 -- a reason is against its link to the one of its issuer's name at a position
-abbrev pub FailsTo : Rules → List Item → Item → Certificate → Unlinked → ℕ → Type 0
+abbrev pub FailsTo : JudgingContext → List Item → Item → Certificate → Unlinked → ℕ → Type 0
 FailsTo r items x c reason w = IsAt items w (IsCertificateWith (λ d. (name_octets d.subject ≡ name_octets c.issuer)
-    × HasLinkReason r items x c (name_octets d.subject) (key_octets d.key) (HaveSameKeyId c d) reason))
+    × HasLinkReason r items x c (name_octets d.subject) (key_octets d.key) (KeyIdsAgree c d) reason))
 
 -- it is linked to the anchor at a position
-abbrev pub IsLinkedToAnchor : Rules → List Item → List Item → Item → ℕ → Type 0
+abbrev pub IsLinkedToAnchor : JudgingContext → List Item → List Item → Item → ℕ → Type 0
 IsLinkedToAnchor r items anchors x a = IsAt anchors a (IsAnchorLink r items x)
 
 -- a reason is against its link to the anchor of its issuer's name at a position, of which the subject and the key count and nothing else
-abbrev pub FailsToAnchor : Rules → List Item → List Item → Item → Certificate → Unlinked → ℕ → Type 0
+abbrev pub FailsToAnchor : JudgingContext → List Item → List Item → Item → Certificate → Unlinked → ℕ → Type 0
 FailsToAnchor r items anchors x c reason a = IsAt anchors a (IsCertificateWith (λ d. (name_octets d.subject ≡ name_octets c.issuer)
     × HasLinkReason r items x c (name_octets d.subject) (key_octets d.key) (Unit {0}) reason))
 
@@ -91,7 +91,7 @@ missing_lines v issuer (w ∷ ws) roots = []
 missing_lines v issuer [] (a ∷ roots) = []
 
 -- What is told of a certificate, given the certificates and anchors of its issuer's name.
-pub record TellsLinks (r : Rules) (items anchors : List Item) (v : ℕ) (x : Item) (c : Certificate) (text : List ℕ) : Type 0 where
+pub record TellsLinks (r : JudgingContext) (items anchors : List Item) (v : ℕ) (x : Item) (c : Certificate) (text : List ℕ) : Type 0 where
   pub issuers : List ℕ
   pub issuers_are : ArePositions (HasSubject items (name_octets c.issuer)) issuers
   pub roots : List ℕ
@@ -107,7 +107,7 @@ abbrev pub octets_at : List Item → ℕ → List ℕ
 octets_at items v = target_octets (map (λ x. x.octets) items) v
 
 -- All lines of a certificate.
-pub record TellsCertificate (demand : Demand) (r : Rules) (items anchors : List Item) (target v : ℕ) (x : Item) (c : Certificate) (text : List ℕ) : Type 0 where
+pub record TellsCertificate (demand : Demand) (r : JudgingContext) (items anchors : List Item) (target v : ℕ) (x : Item) (c : Certificate) (text : List ℕ) : Type 0 where
   pub unusable : List ℕ
   pub unusable_is : TellsUnusable r v x c unusable
   pub unmet : List ℕ
@@ -118,7 +118,7 @@ pub record TellsCertificate (demand : Demand) (r : Rules) (items anchors : List 
   pub links_are : TellsLinks r items anchors v x c links
   pub text_is : text ≡ subject_line v (name_octets c.subject) ++ (unusable ++ (unmet ++ (no_issuer ++ links)))
 
-abbrev pub TellsAt : Demand → Rules → List Item → List Item → ℕ → ℕ → List ℕ → Type 0
+abbrev pub TellsAt : Demand → JudgingContext → List Item → List Item → ℕ → ℕ → List ℕ → Type 0
 TellsAt demand r items anchors target v text = IsAt items v (λ x. IsCertificateWith (λ c. TellsCertificate demand r items anchors target v x c text) x)
 
 -- a certificate among these has this subject and key
@@ -130,18 +130,18 @@ abbrev pub AreKeysOf : List Item → List Item → List ℕ → List (List ℕ) 
 AreKeysOf items anchors name keys = (key : List ℕ) → Contains keys key ↔ (HasKeyHere items name key ⊎ HasKeyHere anchors name key)
 
 -- what is told of a list: nothing where it is used under one of the keys of its issuer's name
-abbrev pub TellsList : Rules → List Item → List Item → ℕ → Item → RevocationList → List ℕ → Type 0
+abbrev pub TellsList : JudgingContext → List Item → List Item → ℕ → Item → RevocationList → List ℕ → Type 0
 TellsList r items anchors p x l text =
     (keys : List (List ℕ)) × (reasons : List Unused) × AreKeysOf items anchors (name_octets l.issuer) keys
     × AreAll list_order (HasReasonAmong r keys x l) reasons × (text ≡ list_lines p (name_octets l.issuer) l reasons)
 
 -- what is told of an item that is a list; of others nothing
-abbrev pub TellsItem : Rules → List Item → List Item → ℕ → Item → Class → List ℕ → Type 0
+abbrev pub TellsItem : JudgingContext → List Item → List Item → ℕ → Item → Class → List ℕ → Type 0
 TellsItem r items anchors p x (certificate c) text = text ≡ []
 TellsItem r items anchors p x (list l) text = TellsList r items anchors p x l text
 TellsItem r items anchors p x other text = text ≡ []
 
-abbrev pub TellsItemAt : Rules → List Item → List Item → ℕ → List ℕ → Type 0
+abbrev pub TellsItemAt : JudgingContext → List Item → List Item → ℕ → List ℕ → Type 0
 TellsItemAt r items anchors p text = IsAt items p (λ x. TellsItem r items anchors p x x.class text)
 
 -- the positions from the first on
@@ -152,7 +152,7 @@ positions (suc k) = positions k ++ k ∷ []
 -- The lines of the target, where it is a certificate, and then of each further one that is reached from it; then how
 -- far each of those leads whose path length, or that of an issuer above it, stands in the way. The lines
 -- of certificates are by the first rules, and the answer is by the second: these vouch for less where something is demanded.
-pub record TellsReached (demand : Demand) (r search : Rules) (items anchors : List Item) (target : ℕ) (answer : Answer) (text : List ℕ) : Type 0 where
+pub record TellsReached (demand : Demand) (r search : JudgingContext) (items anchors : List Item) (target : ℕ) (answer : Answer) (text : List ℕ) : Type 0 where
   pub further : List ℕ
   pub further_are : ArePositions (IsFurther items target) further
   pub own : List ℕ
@@ -164,7 +164,7 @@ pub record TellsReached (demand : Demand) (r search : Rules) (items anchors : Li
   pub text_is : text ≡ own ++ (rest ++ flat_map (λ v. reach_lines v (reach_by answer v)) bound)
 
 -- The whole: what is reached, and the lists that nobody uses.
-pub record IsWhyFor (demand : Demand) (r search : Rules) (items anchors : List Item) (target : ℕ) (answer : Answer) (text : List ℕ) : Type 0 where
+pub record IsWhyFor (demand : Demand) (r search : JudgingContext) (items anchors : List Item) (target : ℕ) (answer : Answer) (text : List ℕ) : Type 0 where
   pub reached : List ℕ
   pub reached_is : TellsReached demand r search items anchors target answer reached
   pub lists : List ℕ
@@ -172,12 +172,12 @@ pub record IsWhyFor (demand : Demand) (r search : Rules) (items anchors : List I
   pub text_is : text ≡ reached ++ lists
 
 -- exactly those lines are appended
-abbrev pub AppendsWhyFor : Demand → Rules → Rules → List Item → List Item → ℕ → Answer → List ℕ → List ℕ → Type 0
+abbrev pub AppendsWhyFor : Demand → JudgingContext → JudgingContext → List Item → List Item → ℕ → Answer → List ℕ → List ℕ → Type 0
 AppendsWhyFor demand r search items anchors target answer old new = (text : List ℕ) × (new ≡ old ++ text) × IsWhyFor demand r search items anchors target answer text
 
 -- without a demand
-abbrev pub IsWhy : Rules → List Item → List Item → ℕ → Answer → List ℕ → Type 0
+abbrev pub IsWhy : JudgingContext → List Item → List Item → ℕ → Answer → List ℕ → Type 0
 IsWhy r = IsWhyFor (of_purpose None) r r
 
-abbrev pub AppendsWhy : Rules → List Item → List Item → ℕ → Answer → List ℕ → List ℕ → Type 0
+abbrev pub AppendsWhy : JudgingContext → List Item → List Item → ℕ → Answer → List ℕ → List ℕ → Type 0
 AppendsWhy r = AppendsWhyFor (of_purpose None) r r

@@ -3,17 +3,17 @@ use Rattle.std.proofs.Common.{◌≡◌, ◌≤◌, ◌<◌, ◌*◌, ◌+◌, �
 use Rattle.std.specs.List.{concat, AllByRecursion}
 use Rattle.std.specs.Int.Digits.{digits_of}
 use Rattle.asn1_core.specs.Strict.{strict_length}
-use Rattle.cert_framing.specs.Framing.{IsItem, Splits, IsLongest, IsCut, IsFraming}
+use Rattle.cert_framing.specs.Framing.{IsItem, Splits, IsLongest, IsCutShort, IsFraming}
 use Rattle.cert_framing.specs.Held.{StandsFor, TakesPiece, TakesPieces}
 use Rattle.laws_graph.specs.Worked.{cut_end, empty_item, fed, stream, unfed}
 
 pub item : IsItem 10 empty_item
 item = record { content = []; small = omega arith; spelled = refl }
 
-cut : IsCut 10 (0x30 ∷ [])
+cut : IsCutShort 10 (0x30 ∷ [])
 cut = (0x00 ∷ [], λ e. cc, item)
 
-nothing : IsCut 10 []
+nothing : IsCutShort 10 []
 nothing = (empty_item, λ e. cc, item)
 
 -- an item has two octets at least

@@ -1,5 +1,5 @@
 use Rattle.std.specs.Prelude.{IsTrue}
-use Rattle.cert_judge.specs.ItemGraph.{HaveSameKeyId}
+use Rattle.cert_judge.specs.ItemGraph.{KeyIdsAgree}
 use Rattle.cert_judge.specs.LawsOfItems.{rules_from}
 use Rattle.cert_model.specs.Octets.{name_octets, key_octets}
 use Rattle.cert_reasons.specs.Certificates.{HasReason, order_of}
@@ -19,4 +19,4 @@ pub returns-clause-lists : goal.returns-clause-lists
 returns-clause-lists c = λ m d v keys item l. one_list list_order (HasReasonAmong (rules_from m d v) keys item l)
 
 pub returns-clause-links : goal.returns-clause-links
-returns-clause-links c = λ m d v items x f g. one_list link_order (HasLinkReason (rules_from m d v) items x f (name_octets g.subject) (key_octets g.key) (HaveSameKeyId f g))
+returns-clause-links c = λ m d v items x f g. one_list link_order (HasLinkReason (rules_from m d v) items x f (name_octets g.subject) (key_octets g.key) (KeyIdsAgree f g))

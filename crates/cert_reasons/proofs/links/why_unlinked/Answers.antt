@@ -1,6 +1,6 @@
 use Rattle.std.specs.Prelude.{IsTrue}
 use Rattle.std.proofs.Common.{map, sym, ◌∙◌, refl}
-use Rattle.cert_judge.specs.ItemGraph.{HaveSameKeyId}
+use Rattle.cert_judge.specs.ItemGraph.{KeyIdsAgree}
 use Rattle.cert_judge.specs.Items.{certificate_of, certificate_item, item_of, rules_by}
 use Rattle.cert_reasons.specs.Links.{HasLinkReason, link_order}
 use Rattle.cert_reasons.proofs.Marks.{agreed, link_iff}
@@ -13,8 +13,8 @@ returns-clause-all g c =
     let x = c.args.certificate.now in
     let y = c.args.issuer.now in
     let items = map item_of c.args.items.now in
-    all_as link_order (HasLinkReason r items (certificate_item x) (certificate_of x) y.subject.now y.key.now (IsTrue c.agree_on_key_id.result)) (HasLinkReason r items (certificate_item x) (certificate_of x) y.subject.now y.key.now (HaveSameKeyId (certificate_of x) (certificate_of y)))
-    c.in_ok-found.found.items c.in_ok-found.ensures.all (agreed r items (certificate_item x) (certificate_of x) y.subject.now y.key.now (IsTrue c.agree_on_key_id.result) (HaveSameKeyId (certificate_of x) (certificate_of y)) c.agree_on_key_id.ensures)
+    all_as link_order (HasLinkReason r items (certificate_item x) (certificate_of x) y.subject.now y.key.now (IsTrue c.agree_on_key_id.result)) (HasLinkReason r items (certificate_item x) (certificate_of x) y.subject.now y.key.now (KeyIdsAgree (certificate_of x) (certificate_of y)))
+    c.in_ok-found.found.items c.in_ok-found.ensures.all (agreed r items (certificate_item x) (certificate_of x) y.subject.now y.key.now (IsTrue c.agree_on_key_id.result) (KeyIdsAgree (certificate_of x) (certificate_of y)) c.agree_on_key_id.ensures)
 
 pub returns-clause-none : goal.returns-clause-none
 returns-clause-none g c = λ named.

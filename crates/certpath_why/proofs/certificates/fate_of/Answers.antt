@@ -1,6 +1,6 @@
 use Rattle.std.proofs.Common.{map, refl, ◌∙◌, sym}
 use Rattle.cert_graph.specs.Entries.{IsAt}
-use Rattle.cert_judge.specs.ItemGraph.{IsLink, IsAnchorLink, HaveSameKeyId}
+use Rattle.cert_judge.specs.ItemGraph.{IsLink, IsAnchorLink, KeyIdsAgree}
 use Rattle.cert_judge.specs.Items.{item_of, certificate_of, certificate_item, rules_by}
 use Rattle.cert_model.specs.Fields.{Certificate}
 use Rattle.certpath_why.proofs.Items.{none_read, read_subject, subject_certificate}
@@ -29,5 +29,5 @@ returns g c =
     record {
       place_is = refl;
       linked = there_iff (IsLink r items (certificate_item x)) _ l.items.now c.args.issuer y at c.in_ok-reasons.ensures.none;
-      fails = λ reason. fails_there r items x (λ (d : Certificate). HaveSameKeyId (certificate_of x) d) reason _ l.items.now c.args.issuer y at named (c.in_ok-reasons.ensures.all.exact reason);
+      fails = λ reason. fails_there r items x (λ (d : Certificate). KeyIdsAgree (certificate_of x) d) reason _ l.items.now c.args.issuer y at named (c.in_ok-reasons.ensures.all.exact reason);
     }

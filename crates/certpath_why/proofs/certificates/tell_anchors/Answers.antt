@@ -1,5 +1,5 @@
 use Rattle.std.proofs.Common.{map}
-use Rattle.cert_judge.specs.ItemGraph.{HaveSameKeyId}
+use Rattle.cert_judge.specs.ItemGraph.{KeyIdsAgree}
 use Rattle.cert_judge.specs.Items.{item_of, certificate_of, certificate_item, rules_by}
 use Rattle.cert_model.specs.Fields.{Certificate}
 use Rattle.cert_reasons.specs.declared.links.Unlinked.{Unlinked}

@@ -1,5 +1,5 @@
 use Rattle.std.proofs.Common.{map}
-use Rattle.cert_judge.specs.ItemGraph.{HaveSameKeyId}
+use Rattle.cert_judge.specs.ItemGraph.{KeyIdsAgree}
 use Rattle.cert_judge.specs.Items.{item_of, certificate_of, certificate_item, rules_by}
 use Rattle.cert_model.specs.Fields.{Certificate}
 use Rattle.cert_reasons.specs.declared.links.Unlinked.{Unlinked}
@@ -26,5 +26,5 @@ returns g c =
     let fates = c.in_ok-fates.fates.items in
     let told = rw c.deref.ensures.value at c.in_ok-push_groups.ensures in
     let linked = linked_iff (IsLinkedTo r items (certificate_item x)) (FailsTo r items (certificate_item x) (certificate_of x)) c.args.issuers.now fates c.in_ok-fates.ensures (λ v h. (c.requires.issuers.exact v).1 (linked_named r items x v h)) in
-    let fails = λ (reason : Unlinked). fails_iff (IsLinkedTo r items (certificate_item x)) (FailsTo r items (certificate_item x) (certificate_of x)) c.args.issuers.now fates reason c.in_ok-fates.ensures (λ v h. (c.requires.issuers.exact v).1 (fails_named r items items (certificate_item x) (certificate_of x) x.issuer.now (λ (d : Certificate). HaveSameKeyId (certificate_of x) d) reason v x.issuer_is h)) in
+    let fails = λ (reason : Unlinked). fails_iff (IsLinkedTo r items (certificate_item x)) (FailsTo r items (certificate_item x) (certificate_of x)) c.args.issuers.now fates reason c.in_ok-fates.ensures (λ v h. (c.requires.issuers.exact v).1 (fails_named r items items (certificate_item x) (certificate_of x) x.issuer.now (λ (d : Certificate). KeyIdsAgree (certificate_of x) d) reason v x.issuer_is h)) in
     (told.0, told.1, groups_as (to_items c.args.place) _ (IsLinkedTo r items (certificate_item x)) _ (FailsTo r items (certificate_item x) (certificate_of x)) told.0 linked fails told.2)

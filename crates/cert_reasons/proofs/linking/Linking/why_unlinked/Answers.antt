@@ -1,6 +1,6 @@
 use Rattle.std.specs.Prelude.{IsTrue}
 use Rattle.std.proofs.Common.{map, sym, subst, ◌∙◌, refl}
-use Rattle.cert_judge.specs.ItemGraph.{HaveSameKeyId}
+use Rattle.cert_judge.specs.ItemGraph.{KeyIdsAgree}
 use Rattle.cert_judge.specs.Items.{certificate_of, certificate_item, item_of, rules_by}
 use Rattle.cert_reasons.specs.Links.{HasLinkReason, link_order}
 use Rattle.cert_reasons.specs.Listed.{AreListed}
@@ -21,7 +21,7 @@ returns-clause-all g c =
     let y = c.args.issuer.now in
     let items = map item_of s.items.now in
     let A = IsTrue c.agree_on_key_id.result in
-    let B = (HaveSameKeyId (certificate_of x) (certificate_of y)) in
+    let B = (KeyIdsAgree (certificate_of x) (certificate_of y)) in
     all_as link_order (HasLinkReason r items (certificate_item x) (certificate_of x) y.subject.now y.key.now A) (HasLinkReason r items (certificate_item x) (certificate_of x) y.subject.now y.key.now B) c.in_ok-found.found.items c.in_ok-found.ensures.all
     (agreed r items (certificate_item x) (certificate_of x) y.subject.now y.key.now A B c.agree_on_key_id.ensures)
 
