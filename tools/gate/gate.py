@@ -89,7 +89,7 @@ def gate(is_anew=False):
 def without_toolchain():
     """Runs all that needs no toolchain; gives the status."""
     from gate import quick
-    looks, trials = quick.looked(), running.run(is_small=True)
+    looks, trials = quick.looked(), running.run_apart()
     passed, failed, left = looks[0] + trials[0], looks[1] + trials[1], trials[2]
     print(NO_PROOF)
     return counted(passed, failed, left)
@@ -101,9 +101,9 @@ def counted(passed, failed, left):
     return programs.OUTDATED if programs.is_outdated() else 1 if failed else 0
 
 
-def trials(names):
-    """Runs single trials, or all, at the sizes of the gate; gives the status."""
-    return counted(*running.run(names))
+def trials(names, is_small=False):
+    """Runs single trials, or all, at the sizes of the gate or at small ones; gives the status."""
+    return counted(*(running.run_apart() if is_small and not names else running.run(names, is_small=is_small)))
 
 
 def main(words):
@@ -113,8 +113,8 @@ def main(words):
     if first == "quick":
         from gate import quick
         return quick.main()
-    if first == "trial":
-        return trials(rest)
+    if first in ("trial", "small"):
+        return trials(rest, first == "small")
     if not shutil.which("rt"):
         print("./test: rt, the Rattle toolchain, which proves crates, isn't on the path\n0 passed, 1 failed")
         return 1

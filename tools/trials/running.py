@@ -3,13 +3,17 @@
     ./test trial            all of them, at the sizes of the gate
     ./test trial NAME..     single ones: a file, as commands or test_names, or a part of it after
                             dots, as vouching.Vouching.test_items
+    ./test small [NAME..]   likewise at smaller sizes; all of them several at a time
 """
 import os
+import re
 import resource
+import subprocess
 import sys
 import time
 import traceback
 import unittest
+from concurrent.futures import ThreadPoolExecutor, as_completed
 
 from program import programs, repo, streams
 from trials import count
@@ -18,6 +22,10 @@ from trials import count
 FOLDERS = ((os.path.join("tools", "trials"), "*.py", "tools"),
            (os.path.join("python", "tests"), "test_*.py", "python"))
 MOST_SHOWN = 3_000
+# Files that take longest begin first, where several run at a time; and how many do at most.
+LONGEST = ("scaling", "verifying", "readme", "embedding", "installing_prefix", "vouching", "stores")
+MOST_AT_A_TIME = 4
+LAST_LINE = re.compile(r"(\d+) passed, (\d+) failed(?:, (\d+) skipped)?\n\Z")
 
 
 class Result(unittest.TestResult):
@@ -125,3 +133,37 @@ def run(names=(), is_gate=False, is_small=False):
     tests.run(result)
     result.show()
     return result.passed, result.failed, result.left
+
+
+def files():
+    """The names of all files that have tests, those that take longest first."""
+    def tests_in(suite):
+        for part in suite:
+            yield from tests_in(part) if isinstance(part, unittest.TestSuite) else (part,)
+    names = [*dict.fromkeys(map(file_of, tests_in(found(())[0])))]
+    return sorted(names, key=lambda name: LONGEST.index(name) if name in LONGEST else len(LONGEST))
+
+
+def run_file(name):
+    """Runs the trials of a file in a process of its own, at small sizes; gives what it printed, and its counts."""
+    ran = subprocess.run([sys.executable, os.path.join(repo.TOP, "test"), "small", name], stdin=subprocess.DEVNULL,
+                         stdout=subprocess.PIPE, stderr=subprocess.STDOUT, text=True, errors="replace")
+    counted = LAST_LINE.search(ran.stdout)
+    if counted is None:
+        return f"{ran.stdout}{name}: FAILED: it ended with status {ran.returncode}, and no count\n", (0, 1, 0)
+    return ran.stdout[:counted.start()], tuple(int(count or 0) for count in counted.groups())
+
+
+def run_apart():
+    """Runs all trials at small sizes, each file in a process of its own; gives how many rows passed and failed, and
+    how many were skipped."""
+    if programs.is_outdated():
+        return run()
+    at_a_time = min(MOST_AT_A_TIME, len(os.sched_getaffinity(0)))
+    counts = [(0, 0, 0)]
+    with ThreadPoolExecutor(at_a_time) as pool:
+        for running in as_completed([pool.submit(run_file, name) for name in files()]):
+            text, counted = running.result()
+            print(text, end="", flush=True)
+            counts.append(counted)
+    return tuple(map(sum, zip(*counts)))
