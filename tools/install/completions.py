@@ -49,8 +49,9 @@ def of_parser(made):
 
 
 def section_of(name):
-    """The section of the page that is on a command."""
-    return re.search(rf"(?ms)^## `{name}`\n(.*?)(?=^## |\Z)", repo.read(PAGE))[1]
+    """The section of the page that is on a command; tools/gate/helps.py looks whether there is one."""
+    found = re.search(rf"(?ms)^## `{name}`\n(.*?)(?=^## |\Z)", repo.read(PAGE))
+    return found[1] if found else ""
 
 
 def of_text(text):
@@ -70,7 +71,7 @@ def subcommands():
     """What each command of certpath does, by its name."""
     listed = usage.GENERAL.partition("Commands:\n")[2].partition("\n\n")[0]
     said = dict(COMMAND.findall(listed))
-    return {it: short(said[it]) for it in sorted(usage.COMMANDS)}
+    return {name: short(said.get(name, "")) for name in sorted(usage.COMMANDS)}
 
 
 def of_subcommand(name):
@@ -78,7 +79,7 @@ def of_subcommand(name):
     does may be said in the section of another command."""
     described = {it.name: it for command in usage.COMMANDS for it in of_text(section_of(f"certpath {command}"))}
     form = section_of(f"certpath {name}").strip().partition("\n\n")[0]
-    return [*(described[it] for it in OPTION.findall(form)), Option(*HELP)]
+    return [*(described[option] for option in OPTION.findall(form) if option in described), Option(*HELP)]
 
 
 def scripts():
