@@ -35,16 +35,16 @@ def files():
     """Each file of the repository but for what checks leave behind, by its path from the top."""
     found = []
     for at, folders, names in os.walk(repo.TOP):
-        folders[:] = sorted(it for it in folders if it not in (".git", "out", "__pycache__"))
-        found += [os.path.relpath(os.path.join(at, it), repo.TOP) for it in sorted(names)]
+        folders[:] = sorted(folder for folder in folders if folder not in (".git", "out", "__pycache__"))
+        found += [os.path.relpath(os.path.join(at, name), repo.TOP) for name in sorted(names)]
     return found
 
 
 FILES = files()
-OF_RATTLE = [it for it in FILES if it.endswith((".rt", ".antt"))]
-SCRIPTS = [it for it in FILES if it.endswith((".py", ".sh")) or it in ("test", "certpath", "rows", "bundle", "vouch", "verify", "install", "tools/install/inventory", ".ci/run")]
-TEXTS = [it for it in FILES if it.endswith((".md", ".edit")) or it == "crates.txt"]
-DOCS = [it for it in FILES if it.endswith(".md")]
+OF_RATTLE = [file for file in FILES if file.endswith((".rt", ".antt"))]
+SCRIPTS = [file for file in FILES if file.endswith((".py", ".sh")) or file in ("test", "certpath", "rows", "bundle", "vouch", "verify", "install", "tools/install/inventory", ".ci/run")]
+TEXTS = [file for file in FILES if file.endswith((".md", ".edit")) or file == "crates.txt"]
+DOCS = [file for file in FILES if file.endswith(".md")]
 CRATES = repo.crates()
 
 
@@ -65,7 +65,7 @@ def edits_apply():
 
 def few_edits():
     """The gate tries few edits in few crates, and none that lies in wrong/ too."""
-    counts = {it: len(edits.names(it, "must-fail")) for it in CRATES if edits.names(it, "must-fail")}
+    counts = {name: len(edits.names(name, "must-fail")) for name in CRATES if edits.names(name, "must-fail")}
     if sum(counts.values()) > MOST_EDITS or len(counts) > MOST_CRATES:
         yield f"must-fail/ has {sum(counts.values())} edits in {len(counts)} crates, and at most {MOST_EDITS} in {MOST_CRATES} are kept there: move others to wrong/"
     for crate in CRATES:
@@ -76,11 +76,11 @@ def few_edits():
 def modules(crate):
     """The .rt files of a crate that its root reaches by `mod`."""
     inside = f"crates/{crate}/src/"
-    found = [inside + it for it in ("lib.rt", "main.rt") if inside + it in FILES]
+    found = [inside + entry for entry in ("lib.rt", "main.rt") if inside + entry in FILES]
     for path in found:
         folder = path[:-len(os.path.basename(path))] if path.endswith(("/lib.rt", "/main.rt", "/mod.rt")) else path[:-len(".rt")] + "/"
         for name in re.findall(r"(?m)^[^/\n]*\bmod (\w+)\s*;", repo.read(path)):
-            found += [it for it in (f"{folder}{name}.rt", f"{folder}{name}/mod.rt") if it in FILES and it not in found]
+            found += [value for value in (f"{folder}{name}.rt", f"{folder}{name}/mod.rt") if value in FILES and value not in found]
     return found
 
 
@@ -99,10 +99,10 @@ def is_read(path, reached, words):
         return path in reached
     if part in ("specs", "proofs"):
         if part == "proofs" and name in OF_FUNCTION:
-            return len(inner) > 1 and all(is_joined(it.lstrip("+"), words) for it in inner[:-1])
+            return len(inner) > 1 and all(is_joined(entry.lstrip("+"), words) for entry in inner[:-1])
         above = f"crates/{crate}/{'/'.join([part, *inner[:-1]])}"
         lists = [f"{above}/Lib.antt", f"{above}.antt"]
-        listed = "\n".join(repo.read(it) for it in lists if it in FILES)
+        listed = "\n".join(repo.read(crl) for crl in lists if crl in FILES)
         return path == lists[0] or bool(re.search(rf"(?m)^(?:pub )?mod {re.escape(name[:-len('.antt')])}\s*$", listed))
     return not inner and part in (*BESIDE_SRC, *PAGES) or part == "data" and not name.endswith((".rt", ".antt"))
 
@@ -111,7 +111,7 @@ def all_read():
     """Each file of a crate is read by its check or its run."""
     for crate in CRATES:
         reached = modules(crate)
-        sources = [it for it in FILES if it.startswith(f"crates/{crate}/src/")]
+        sources = [file for file in FILES if file.startswith(f"crates/{crate}/src/")]
         words = {*re.findall(r"\w+", "\n".join([*sources, *map(repo.read, reached)]))}
         for path in FILES:
             if path.startswith(f"crates/{crate}/") and not is_read(path, reached, words):
@@ -174,9 +174,9 @@ def few_ways():
     """What the gate reads for its sums stays in bounds: `rt` goes down every way from a library, each time anew, twice a library."""
     reads = {}
     for crate in repo.below(CRATES, CRATES):
-        own = sum(it.startswith(tuple(f"crates/{crate}/{part}/" for part in ("src", "specs", "proofs"))) for it in FILES)
-        reads[crate] = own + sum(reads[it] for it in CRATES[crate])
-    total = sum(2 * reads[it] for it in CRATES if f"crates/{it}/src/main.rt" not in FILES)
+        own = sum(file.startswith(tuple(f"crates/{crate}/{part}/" for part in ("src", "specs", "proofs"))) for file in FILES)
+        reads[crate] = own + sum(reads[name] for name in CRATES[crate])
+    total = sum(2 * reads[name] for name in CRATES if f"crates/{name}/src/main.rt" not in FILES)
     if total > MOST_READS:
         yield f"crates.txt: sums of what libraries are made from read {total:,} files, and at most {MOST_READS:,} are allowed: let a crate name what it uses through another"
 
@@ -273,9 +273,9 @@ def checks():
 
 def looked():
     """Looks, and prints what is amiss; gives how many looks passed and failed."""
-    amiss = {it: [*it()] for it in checks()}
+    amiss = {check: [*check()] for check in checks()}
     for lines in amiss.values():
-        print("".join(f"quick: {it}\n" for it in lines), end="", flush=True)
+        print("".join(f"quick: {line}\n" for line in lines), end="", flush=True)
     failed = sum(map(bool, amiss.values()))
     return len(amiss) - failed, failed
 

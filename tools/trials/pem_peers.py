@@ -137,7 +137,7 @@ FILES = {
     "blanks for newlines": ONE.replace(b"\n", b" ") + b"\n" + TWO,
     "a BEGIN within a line": b"see -----BEGIN CERTIFICATE-----\n" + TWO,
     "six hyphens": ONE.replace(b"-----", b"------") + TWO,
-    "quoted lines": b"".join(b"> " + it + b"\n" for it in ONE.split(b"\n")) + TWO,
+    "quoted lines": b"".join(b"> " + entry + b"\n" for entry in ONE.split(b"\n")) + TWO,
     "an octet that is no base64": ONE.replace(b"MII", b"M*I", 1) + TWO,
     "no padding": ONE.replace(b"=", b""),
     "padding too much": block([SYMBOLS.rstrip(b"=") + b"===="]),

@@ -32,8 +32,8 @@ class Planted(Trial):
 
     def test_lists(self):
         """Each crate has one line of crates.txt."""
-        for it in ("one", "two", "three"):
-            os.makedirs(os.path.join(self.room, "crates", it))
+        for name in ("one", "two", "three"):
+            os.makedirs(os.path.join(self.room, "crates", name))
 
         def said(text):
             sources.put(os.path.join(self.room, "crates.txt"), text.encode())
@@ -42,7 +42,7 @@ class Planted(Trial):
         self.same("a list as it should be", said(GOOD), [])
         for old, new, wanted in LISTS:
             found = said(GOOD.replace(old, new))
-            self.same(f"{new!r} planted: {found}", sum(wanted in it for it in found), 1)
+            self.same(f"{new!r} planted: {found}", sum(wanted in entry for entry in found), 1)
 
     def test_scripts(self):
         """No script reaches around the toolchain's commands."""
@@ -52,7 +52,7 @@ class Planted(Trial):
                 sources.put(os.path.join(self.room, "tools", name), f"{head}{line}\n".encode(), 0o755)
                 place = f"{os.path.join('tools', name)}:{2 if head else 1}:"
                 found = [*source_checks.toolchain_by_commands(self.room)]
-                self.same(f"{name} with {line}", [it.startswith(place) for it in found], [True])
+                self.same(f"{name} with {line}", [entry.startswith(place) for entry in found], [True])
             os.remove(os.path.join(self.room, "tools", name))
 
     def test_readers(self):
@@ -63,7 +63,7 @@ class Planted(Trial):
                 text = f"#!/usr/bin/env python3\n\"\"\"Reads -----BEGIN blocks.\"\"\"\n{line}\n"
                 sources.put(os.path.join(self.room, path), text.encode(), 0o755)
                 found = [*readers.files_by_library(self.room)]
-                self.same(f"{path} with {line}", [it.startswith(f"{path}:3: it ") for it in found], [True])
+                self.same(f"{path} with {line}", [entry.startswith(f"{path}:3: it ") for entry in found], [True])
             os.remove(os.path.join(self.room, path))
         for path in ("tools/trials/planted.py", "python/tests/planted.py", "bench/planted.py"):
             sources.put(os.path.join(self.room, path), readers.PLANTED[0].encode())
@@ -77,8 +77,8 @@ class Planted(Trial):
         sources.put(other, sources.octets_of(program)[:-1] + b"x", 0o755)
         with contextlib.redirect_stdout(io.StringIO()):
             self.same("equal octets", [*dist.unequal(program)], [])
-            self.same("other octets", ["differ first" in it for it in dist.unequal(other)], [True])
+            self.same("other octets", ["differ first" in entry for entry in dist.unequal(other)], [True])
             self.same("what the same program does", [*dist.unlike(program, "a kit", "another kit")], [])
             sources.put(other, b"#!/bin/sh\nexec %s \"$@\" --demand-lists\n" % program.encode(), 0o755)
-            is_found = any("by the other program" in it for it in dist.unlike(other, "a kit", "another kit"))
+            is_found = any("by the other program" in entry for entry in dist.unlike(other, "a kit", "another kit"))
         self.row(is_found, "another program passes")
