@@ -106,7 +106,7 @@ class Tried:
             folder = copied(os.path.join(room, "copy"), self.crate)
             status, said = check(folder)
             if status and not STOPPED.is_set():
-                self.say(f"it isn't proved as it stands, so no edit was tried: {said.strip()[-SHOWN:]}")
+                self.say(f"it isn't proved as it is, so no edit was tried: {said.strip()[-SHOWN:]}")
             if not status:
                 self.try_together(folder)
                 self.try_alone(folder)

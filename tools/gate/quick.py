@@ -24,7 +24,7 @@ PAGES = ("README.md", "CALLING.md")
 SEARCH = ("cert_search", "x509_links", "certpath_rebuild", "certpath_typed", "certpath_find")
 APART = {"certpath_typed": ("certcheck",), "certpath_find": ("certcheck",), "certcheck": SEARCH, "certpath_recheck": SEARCH}
 LABEL = re.compile(r"(?:^|[^\w/.-])((?:[DTLW]\d{1,2}|R\d{1,2}(?:\.\d+)?|0[1-4], ?\d|document 0[1-4]))(?:\W|$)")
-# What stands in quotes in code: octets and words of a test, and no label.
+# What is in quotes in code: octets and words of a test, and no label.
 QUOTED = re.compile(r"""b?'[^'\n]{1,4}'|"(?:[^"\\\n]|\\.)*\"""")
 MACHINE = re.compile(r"""(?:^|[\s"'`(=:])(?:/(?:opt|work|farm|home|root|tmp|Users)/\w|\.\./shared)""")
 NAMED_FILE = re.compile(r"`([\w.+-]*(?:/[\w.+-]*)+|[\w.+-]+\.(?:md|py|sh|rt|antt|edit|der|txt|frame))`")
@@ -32,7 +32,7 @@ LINK = re.compile(r"\]\(([^)\s#]+)[^)]*\)")
 
 
 def files():
-    """Each file of the repository but for what checks leave behind, by its path from the top."""
+    """Each file of the repository but for what checks leave, by its path from the top."""
     found = []
     for at, folders, names in os.walk(repo.TOP):
         folders[:] = sorted(folder for folder in folders if folder not in (".git", "out", "__pycache__"))
@@ -70,7 +70,7 @@ def few_edits():
         yield f"must-fail/ has {sum(counts.values())} edits in {len(counts)} crates, and at most {MOST_EDITS} in {MOST_CRATES} are kept there: move others to wrong/"
     for crate in CRATES:
         for edit in {*edits.names(crate, "must-fail")} & {*edits.names(crate, "wrong")}:
-            yield f"crates/{crate}: {edit} stands in must-fail/ and in wrong/"
+            yield f"crates/{crate}: {edit} is in must-fail/ and in wrong/"
 
 
 def modules(crate):
@@ -85,7 +85,7 @@ def modules(crate):
 
 
 def is_joined(word, words):
-    """Whether a word is one of the words, or several of them one behind the other, as a folder of a trait's impl is named."""
+    """Whether a word is one of the words, or several of them one after another, as a folder of a trait's impl is named."""
     return word in words or any(word[:at] in words and is_joined(word[at:], words) for at in range(1, len(word)))
 
 
@@ -118,7 +118,7 @@ def all_read():
                 yield f"{path}: nothing reads it"
     for path in OF_RATTLE:
         if not path.startswith("crates/"):
-            yield f"{path}: it stands outside the crates, so nothing reads it"
+            yield f"{path}: it is outside the crates, so nothing reads it"
 
 
 def no_labels():
@@ -162,12 +162,12 @@ def docs_name_files():
 
 
 def crates_listed():
-    """crates.txt has one line for each folder of crates/, and docs/CRATES.md tells of each."""
-    told = repo.read("docs/CRATES.md")
+    """crates.txt has one line for each folder of crates/, and docs/CRATES.md names each."""
+    page = repo.read("docs/CRATES.md")
     yield from listed.faults()
     for name in CRATES:
-        if f"`{name}`" not in told:
-            yield f"docs/CRATES.md: it tells nothing of the crate {name}"
+        if f"`{name}`" not in page:
+            yield f"docs/CRATES.md: it doesn't name the crate {name}"
 
 
 def few_ways():
@@ -182,10 +182,10 @@ def few_ways():
 
 
 def judge_alone():
-    """`certcheck` shares nothing with the search and the typed readers: beside its own crates it stands on parts of `asn1_rs` and `der_parser` alone."""
+    """`certcheck` shares nothing with the search and the typed readers: beside its own crates it depends on parts of `asn1_rs` and `der_parser` alone."""
     own = {"certcheck", "cert_framing", "cert_graph", "cert_judge", "cert_model", "cert_vouchers"}
     for name in sorted({*repo.below(["certcheck"], CRATES)} - own - {*repo.below(["asn1_rs", "der_parser"], CRATES)}):
-        yield f"crates.txt: certcheck stands on {name}"
+        yield f"crates.txt: certcheck depends on {name}"
 
 
 def roads_apart():
@@ -222,7 +222,7 @@ def short_files():
 
 
 def worked_causes():
-    """Each worked row that docs/OTHER.md names stands in rows_cert, and is other."""
+    """Each worked row that docs/OTHER.md names is in rows_cert, and is other."""
     lines = repo.read("crates/rows_cert/stdout").splitlines()
     answers = {title.removeprefix("# ").partition(": ")[0]: answer for title, answer in zip(lines, lines[1:])}
     named = [" ".join(row.split()) for row in re.findall(r"\*Rows\*:\s+([^.]*)\.", repo.read("docs/OTHER.md"))]

@@ -107,7 +107,7 @@ def is_limited():
 
 
 def wrote(octets):
-    """Writes the octets on standard output, and tells whether all of them went there."""
+    """Writes the octets on standard output, and returns whether all of them went there."""
     try:
         if sys.stdout is None:
             raise OSError("standard output is closed")
@@ -117,6 +117,6 @@ def wrote(octets):
     except OSError:
         report("cannot write")
     if sys.stdout is not None:
-        # what is left in the buffer would be tried again, and told, when Python ends
+        # what is left in the buffer would be tried again, and reported, when Python ends
         os.dup2(os.open(os.devnull, os.O_WRONLY), sys.stdout.fileno())
     return False

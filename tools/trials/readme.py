@@ -24,7 +24,7 @@ PROMPT, INDENT, GOES_ON = "$ ", "    ", "\\"
 SECONDS = 600
 # What a command line calls that is no script of the repository, once what is in quotes is away.
 CALLED, QUOTED = re.compile(r"(?:^|[|;&])\s*([a-z][\w-]*)(?![\w/-])"), re.compile(r"'[^']*'|\"[^\"]*\"")
-# What stands in the place of `rt`.
+# What is in the place of `rt`.
 HIDDEN = """#!/bin/sh
 echo "rt: the commands of a page build nothing" >&2
 exit 1
@@ -63,7 +63,7 @@ def commands(page):
 
 
 def copied(room):
-    """Copies the repository without what checks leave behind; gives the copy."""
+    """Copies the repository without what checks leave; gives the copy."""
     top = os.path.join(room, "copy")
     shutil.copytree(repo.TOP, top, ignore=shutil.ignore_patterns(".git", "out", "__pycache__"))
     return top

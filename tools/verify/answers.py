@@ -33,7 +33,7 @@ OTHER_SPELLING = "issuer spelled otherwise"
 
 
 class Obstacle(NamedTuple):
-    """What stands in the way: of which certificate, towards which other one if it is of a link, the words of `why`, the sentence."""
+    """What prevents a path: of which certificate, towards which other one if it is of a link, the words of `why`, the sentence."""
     of: Shown
     to: Shown
     words: str

@@ -42,7 +42,7 @@ def nodes_of(answer):
 
 
 def text(answer, moment):
-    """The graph of one target: certificates, issuers above, the path in green, what stands in the way in red."""
+    """The graph of one target: certificates, issuers above, the path in green, what prevents one in red."""
     path = [entry.place for entry in [*answer.path, answer.anchor] if entry]
     steps, said, against, nodes = {*zip(path, path[1:])}, said_of(answer), answer.against(), nodes_of(answer)
     shown = dict([*nodes.items()][:max(MOST_NODES, len(path))])

@@ -69,7 +69,7 @@ def of_obstacle(obstacle):
 
 
 def why_not(answer):
-    """The lines of what stands in the way."""
+    """The lines of what prevents a path."""
     if answer.is_refused or not answer.is_asked_why:
         return map(escape, people.why_not(answer))
     further = len(answer.obstacles) - people.MOST_OBSTACLES

@@ -113,7 +113,7 @@ def of_certificate(certificate):
 
 
 def of_obstacle(obstacle):
-    """The lines of what stands in the way."""
+    """The lines of what prevents a path."""
     if obstacle.to:
         yield f"{obstacle.of.place} {obstacle.of.name}"
         yield f"    to {obstacle.to.place} {obstacle.to.name}: {obstacle.sentence.text}"
@@ -169,7 +169,7 @@ def why_refused(answer):
 
 
 def why_not(answer):
-    """The lines of all that stands in the way."""
+    """The lines of all that prevents a path."""
     if answer.is_refused:
         yield from why_refused(answer)
         return

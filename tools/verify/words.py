@@ -143,7 +143,7 @@ def is_same(one, other):
 
 
 def split(words):
-    """The words up to --, and the files behind it."""
+    """The words up to --, and the files after it."""
     at = words.index("--") if "--" in words else len(words)
     return words[:at], words[at + 1:]
 
@@ -159,7 +159,7 @@ def read(words):
     options, files = split(words)
     made.refuse_unknown(options)
     given, further = made.parse_known_args(options)
-    # (what argparse doesn't know are FILEs that stand behind options)
+    # (what argparse doesn't know are FILEs that come after options)
     given.files += [*further, *files]
     if not given.files:
         made.error("a FILE is missing")
