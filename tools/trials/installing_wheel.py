@@ -34,8 +34,8 @@ def python():
 
 
 def lines_of(page):
-    """The two lines of a page that make a virtual environment and install the package there."""
-    return [line.strip() for line in repo.read(page).splitlines() if line.startswith("    ") and "certpath-env" in line][:2]
+    """The lines of a page that make a virtual environment, install the package there, and use it."""
+    return [line.strip() for line in repo.read(page).splitlines() if line.startswith("    ") and "certpath-env" in line]
 
 
 class Wheel(places.InRoom):
@@ -48,14 +48,15 @@ class Wheel(places.InRoom):
 
     def test_lines_of_pages(self):
         """The lines of both pages work as they are printed, and leave nothing in the checkout."""
-        self.same("the lines of the pages", lines_of(PAGES[0]), lines_of(PAGES[1]))
+        first, second = map(lines_of, PAGES)
+        self.same("the lines of both pages", first, second[:len(first)])
         folder = os.path.join(self.room, "python3")
         os.mkdir(folder)
         os.symlink(self.python, os.path.join(folder, "python3"))
         before, env = places.held(self.top), places.environment(folder)
-        for line in lines_of(PAGES[0]):
+        for line in second:
             status, text = places.ran(["bash", "-c", line], self.top, env)
-            self.row(status == 0, f"{PAGES[0]}: {line}: status {status}: {text[-2000:]}")
+            self.row(status == 0, f"{PAGES[1]}: {line}: status {status}: {text[-2000:]}")
         there = os.path.join(self.top, "certpath-env")
         status, text = places.ran([os.path.join(there, "bin", "certpath-verify"), "--help"], self.room, env)
         self.row(status == 0 and text.startswith("usage: certpath-verify "), f"certpath-verify --help: {text[:1000]}")

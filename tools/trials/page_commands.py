@@ -14,7 +14,8 @@ INDENT, PROMPT, GOES_ON = "    ", "$ ", "\\"
 FENCE, OF_SHELL = re.compile(r"```(\w*)"), ("", "sh", "bash", "console")
 HEADERS = "/usr/include/openssl/x509.h"
 # How a line begins that is a command.
-COMMAND = re.compile(r"(?:\(\w|\./\w|bench/|examples/|tools/|(?:python3?|pip|apt-get|apt|rt|openssl|cc|git|grep|od|echo|cat|export|curl|sudo|docker|go|rustc|cargo) )")
+COMMAND = re.compile(r"(?:\(\w|\./\w|bench/|examples/|tools/|certpath-\w|[A-Z_]+=|(?:python3?|pip|apt-get|apt|rt|openssl|cc|git|grep|od|echo|cat|cd|cp|"
+                     r"dask|export|curl|sudo|docker|go|rustc|cargo|tail|time) )")
 # What no command line is: it has a word for something else.
 FORM = re.compile(r"\[|\.\.(?:\s|$)|\b(?:BUNDLE|CERTIFICATES|COMMAND|CRATE|FILE|FOLDER|HEX|KEYS|KIND|LINES|N|NAME|NEW|OLD|PAGE|PREFIX|WORD)\b")
 NEEDS_RT, IS_GATE = "it needs rt", "it runs the looks and trials, of which this is one"
@@ -24,17 +25,20 @@ NOT_RUN = (
     ("CONTRIBUTING.md", "rt ", NEEDS_RT),
     ("CONTRIBUTING.md", "./test ", IS_GATE),
     ("README.md", "python3 -m venv", WHEEL),
+    ("README.md", "certpath-env/", WHEEL),
     ("bench/hostile/README.md", "", "it takes minutes, and the gate runs it"),
     ("docs/CLI.md", "./certpath --version", "it prints the digest of the sources, which each change of one changes"),
     ("docs/CLI.md", "./certpath --build", NEEDS_RT),
     ("docs/GATE.md", "", NEEDS_RT),
     ("docs/INSTALL.md", "python3 -m ", WHEEL),
+    ("docs/INSTALL.md", "certpath-env/", WHEEL),
     ("docs/INSTALL.md", "python3 tools/install/debian.py", "tools/trials/installing_prefix.py runs it, into a folder that goes away"),
     ("docs/INSTALL.md", "sudo apt-get", "it changes the machine; tools/trials/installing_prefix.py unpacks the package elsewhere"),
     ("docs/INSTALL.md", "docker ", "it needs docker, or podman; tools/trials/installing_prefix.py runs it if that works"),
     ("docs/PERF.md", "", "it needs rt, and another checkout"),
     ("docs/SCALE.md", "", "it is about logs of the reader's, and needs Dask; tools/trials/scaling.py runs such lines"),
     ("examples/c/README.md", "", "tools/trials/embedding.py compiles and runs what it does"),
+    ("python/README.md", "certpath-verify", "it is about files of the reader's; tools/trials/installing_wheel.py runs the command where it is installed"),
     ("", "echo 'der:u32 02 03 00 00 01' | ./rows", "its program isn't in dist/, and rt builds it"),
     ("", "od -An -v -tx1 samples/leaf.der | tr -d ' \\n' | ./rows", "its program isn't in dist/, and rt builds it"),
 )
