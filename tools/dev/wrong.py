@@ -52,8 +52,8 @@ def say(text):
 def stop(number, _):
     """Ends what runs, so that the copies are removed."""
     STOPPED.set()
-    for value in [*RUNNING]:
-        value.terminate()
+    for child in [*RUNNING]:
+        child.terminate()
     sys.exit(128 + number)
 
 

@@ -94,7 +94,7 @@ def are_built_below():
     listed = repo.crates()
     crates, done, running = repo.below(listed[CRATE], listed), set(), {}
     chain = chains(crates, listed)
-    left, count = sorted(crates, key=lambda link: -chain[link]), len(crates)
+    left, count = sorted(crates, key=lambda name: -chain[name]), len(crates)
     side_by_side = lanes.lanes(lanes.FROM_NOTHING)
     print(f"dist: rt proves {count} crates below {CRATE}, {side_by_side} at a time", flush=True)
     with ThreadPoolExecutor(side_by_side) as pool:

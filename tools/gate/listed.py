@@ -21,6 +21,6 @@ def faults(top=repo.TOP):
         elif words:
             yield f"crates.txt:{number}: it isn't the line of one crate, as `NAME: USED..`: {words[:80]}"
     folders = {name for name in os.listdir(os.path.join(top, "crates")) if os.path.isdir(os.path.join(top, "crates", name))}
-    yield from (f"crates.txt: there are {count} lines for {item}" for item, count in sorted(counts.items()) if count > 1)
+    yield from (f"crates.txt: there are {count} lines for {name}" for name, count in sorted(counts.items()) if count > 1)
     yield from (f"crates.txt: there is no folder crates/{folder}" for folder in sorted({*counts} - folders))
     yield from (f"crates/{folder}: crates.txt has no line for it" for folder in sorted(folders - {*counts}))

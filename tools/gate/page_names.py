@@ -115,17 +115,17 @@ def options_there():
     """A command line of a page has options that its command knows, and an option named elsewhere is in some script or source."""
     known = {name: {*OPTION.findall(repo.read(path))} for name, path in GRAMMARS.items()}
     known["certpath"] |= {option.name for entry in usage.COMMANDS for option in completions.of_subcommand(entry)}
-    found = [(place, letter) for place, text in spans() for letter in OPTION.findall(text)]
+    found = [(place, option) for place, text in spans() for option in OPTION.findall(text)]
     for path, place, line in lines():
         command = COMMAND.match(line)
-        for match in OPTION.findall(command[2]) if command else ():
-            if match not in known[command[1]]:
-                yield f"{place}: ./{command[1]} has no option {match}"
+        for name in OPTION.findall(command[2]) if command else ():
+            if name not in known[command[1]]:
+                yield f"{place}: ./{command[1]} has no option {name}"
     scripts = b"\n".join(octets(entry) for entry in walked() if is_script(entry))
     there = {entry for entry in {one for _, one in found} if entry.encode() in scripts or f'"{entry[2:]}"'.encode() in scripts}
-    for place, match in found:
-        if match not in there:
-            yield f"{place}: nothing has the option {match}"
+    for place, name in found:
+        if name not in there:
+            yield f"{place}: nothing has the option {name}"
 
 
 def is_script(path):

@@ -102,7 +102,7 @@ def is_read(path, reached, words):
             return len(inner) > 1 and all(is_joined(entry.lstrip("+"), words) for entry in inner[:-1])
         above = f"crates/{crate}/{'/'.join([part, *inner[:-1]])}"
         lists = [f"{above}/Lib.antt", f"{above}.antt"]
-        listed = "\n".join(repo.read(crl) for crl in lists if crl in FILES)
+        listed = "\n".join(repo.read(place) for place in lists if place in FILES)
         return path == lists[0] or bool(re.search(rf"(?m)^(?:pub )?mod {re.escape(name[:-len('.antt')])}\s*$", listed))
     return not inner and part in (*BESIDE_SRC, *PAGES) or part == "data" and not name.endswith((".rt", ".antt"))
 

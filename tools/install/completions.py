@@ -77,7 +77,7 @@ def subcommands():
 def of_subcommand(name):
     """The options of a command of certpath: those of the form that its section begins with. What one
     does may be said in the section of another command."""
-    described = {step.name: step for command in usage.COMMANDS for step in of_text(section_of(f"certpath {command}"))}
+    described = {option.name: option for command in usage.COMMANDS for option in of_text(section_of(f"certpath {command}"))}
     form = section_of(f"certpath {name}").strip().partition("\n\n")[0]
     return [*(described[option] for option in OPTION.findall(form) if option in described), Option(*HELP)]
 
@@ -96,8 +96,8 @@ def bash(is_installed):
     """The completion of bash: for the commands of an installation, or for the scripts of a checkout."""
     further = FURTHER if is_installed else FURTHER + OF_CHECKOUT
     cases = "".join(f'    {subcommand}) words="{names(of_subcommand(subcommand))}" ;;\n' for subcommand in subcommands())
-    others = {(installed.COMMANDS[item] if is_installed else item): options for item, options in scripts().items()
-              if is_installed or os.path.exists(os.path.join(repo.TOP, item))}
+    others = {(installed.COMMANDS[script] if is_installed else script): options for script, options in scripts().items()
+              if is_installed or os.path.exists(os.path.join(repo.TOP, script))}
     tables = "".join(f'    {name}) words="{names(options)}" ;;\n' for name, options in others.items())
     return f"""# Completion of bash for certpath, {', '.join(others)}. Made of the commands' helps.
 _certpath() {{

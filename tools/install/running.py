@@ -131,7 +131,7 @@ class Place:
                 shutil.rmtree(os.path.join(at, "__pycache__"))
         # (the list goes last, so that a run that ends early can be repeated)
         remove(self.list())
-        for folder in sorted(self.folders, key=lambda step: os.path.normpath(self.at(step)).count(os.sep), reverse=True):
+        for folder in sorted(self.folders, key=lambda folder: os.path.normpath(self.at(folder)).count(os.sep), reverse=True):
             try:
                 os.rmdir(os.path.normpath(self.at(folder)))
             except OSError:

@@ -39,7 +39,7 @@ def of_crate(crate, top):
     crates, lines = repo.below([crate], repo.crates(top)), repo.lines(top)
     head = "\n".join([repo.read("HANDLES", top), *(lines[entry] for entry in sorted(crates))])
     folders = (os.path.join(top, "crates", name, part) for name in crates for part in PARTS)
-    return head, sorted((entry for part in folders for entry in scanned(part)), key=lambda folder: folder[0])
+    return head, sorted((entry for part in folders for entry in scanned(part)), key=lambda file: file[0])
 
 
 def octets_of(path):

@@ -108,7 +108,7 @@ class Answer(NamedTuple):
         """The places of certificates that something speaks against, and not against a link alone: they aren't usable, have no issuer, or are
         revoked, or may be."""
         if self.path:
-            return {entry.of.place for entry in self.false_comfort()}
+            return {crl.of.place for crl in self.false_comfort()}
         return {obstacle.of.place for obstacle in self.obstacles if obstacle.to is None or REVOKED.fullmatch(obstacle.words)}
 
 
@@ -146,7 +146,7 @@ class Judge:
         is_asked = report is None
         report = report or Report(self.workspace.why(target))
         shown = self.bundle.certificate(target)
-        path = [self.bundle.certificate(value) for value in report.path or []]
+        path = [self.bundle.certificate(step) for step in report.path or []]
         anchor = self.anchors.certificate(report.anchor) if report.path else None
         self.take_unused(report.unused)
         unused = [*self.unused(report, path or [shown], bool(path))]
@@ -220,8 +220,8 @@ class Judge:
             found.update(self.other_keys[issuer, key])
         return sorted(found)
 
-    def is_vouched(self, holder, entry):
-        return f"{fingerprint(holder.public_key_bytes)} {fingerprint(entry.public_bytes())}" in self.pairs
+    def is_vouched(self, holder, item):
+        return f"{fingerprint(holder.public_key_bytes)} {fingerprint(item.public_bytes())}" in self.pairs
 
     def end(self, link):
         """The certificate that a link leads to."""
@@ -280,9 +280,9 @@ class Judge:
 
     def weak_target(self, target):
         """A warning if the target's own key is weak, which is no matter of any signature of the path."""
-        weak, value = self.signatures.weak_key(self.bundle.items[target]), self.bundle.certificate(target)
+        weak, shown = self.signatures.weak_key(self.bundle.items[target]), self.bundle.certificate(target)
         if weak:
-            yield f"{value.place} {value.subject}: its own key is weak: {weak}; a target isn't refused for that"
+            yield f"{shown.place} {shown.subject}: its own key is weak: {weak}; a target isn't refused for that"
 
     def unused(self, report, certificates, is_path):
         """The lists that aren't used and concern one of these certificates, in the order of their positions: the path's, or if there is none
@@ -327,19 +327,19 @@ class Judge:
             return found._replace(text=f"its signature is weak: {weak}", advice=TAKES_WEAK)
         return found
 
-    def revokes(self, position, entry, words, concerned, is_asked):
+    def revokes(self, position, crl, words, concerned, is_asked):
         """Whether a list that isn't used would revoke one of the certificates that it concerns, and which: `certpath why` is asked again, at a
         moment of the list and with a voucher for it. Nobody knows where a critical extension says how the list is to be read."""
         self.asked += len(concerned) if is_asked else 0
         if not is_asked or self.asked > MOST_ASKED or any(not one.startswith(MENDED) for one in words):
             return UNKNOWN, concerned[0]
         vouchers = certpath.Vouchers.from_text(self.signatures.vouchers.text())
-        for holder in self.holders.certificates(entry.issuer):
-            vouchers.add(holder.public_key_bytes, entry.public_bytes())
+        for holder in self.holders.certificates(crl.issuer):
+            vouchers.add(holder.public_key_bytes, crl.public_bytes())
         self.workspace.vouch(vouchers)
         try:
             for one in concerned:
-                again = Report(self.workspace.why(one.position, moment=entry.last_update_utc))
+                again = Report(self.workspace.why(one.position, moment=crl.last_update_utc))
                 found = again.nodes[one.position].links.values()
                 if any((its := REVOKED.fullmatch(why)) and int(its[1]) == position for whys in found for why in whys):
                     return YES, one

@@ -96,8 +96,8 @@ class Side:
             self.too_large = [item for item in items if not self.framed([item]).end.is_clean]
             self.items = self.framed(self.given)
         self.of_kind = {kind: [] for kind in Kind}
-        for position, count in enumerate(waiting.counted("reading items", self.items, len(self.items))):
-            self.of_kind[count.kind].append(position)
+        for position, item in enumerate(waiting.counted("reading items", self.items, len(self.items))):
+            self.of_kind[item.kind].append(position)
         self.shown = OrderedDict()
 
     def framed(self, items):

@@ -22,7 +22,7 @@ def of_obstacle(obstacle):
 
 
 def of_list(unused):
-    return {"position": unused.position, "file": unused.file, "issuer": unused.issuer, "reasons": unused.words, "texts": [one.text for one in unused.sentences],
+    return {"position": unused.position, "file": unused.file, "issuer": unused.issuer, "reasons": unused.words, "texts": [sentence.text for sentence in unused.sentences],
             "revokes": unused.revokes, "of": unused.of.place if unused.of and unused.revokes != "no" else None}
 
 
@@ -61,7 +61,7 @@ def texts(answers, moment, beside):
 
 def text(answer, moment, beside, further, notes):
     """The line of one target, with further lists that aren't used, and notes of the files."""
-    lists = sorted([*answer.unused, *further], key=lambda value: value.position)
+    lists = sorted([*answer.unused, *further], key=lambda crl: crl.position)
     warnings = [*people.warnings(answer, moment), *map(people.of_list, further), *notes]
     return json.dumps({
         "version": VERSION, "headline": people.headline(answer, moment), "status": status_of(answer), "outcome": answer.outcome, "checked": answer.is_checked,
