@@ -122,7 +122,6 @@ def of_certpath(names):
         title, program = f"{CLI}, certpath {name}", f"{PROGRAM} {name} {HELP}"
         shape = form(page)
         yield name, {title: options(shape)} | completed(name) | ({program: listed(own)} if own else {})
-        yield name, {title: {*ROW.findall(page)} - options(shape), "its form": set()}
         if own:
             used = form(own)
             yield name, {title: files(shape), program: files(used)}
@@ -151,11 +150,15 @@ def shown(names):
 
 
 def undescribed():
-    """Options of the forms of the page that no table of it describes."""
+    """Options of a command's form that no table of the page describes, and those of its table that its form hasn't."""
     described = {*ROW.findall(repo.read(CLI))}
     for name in usage.COMMANDS:
-        for option in sorted(options(form(section(f"certpath {name}"))) - described):
+        page = section(f"certpath {name}")
+        taken = options(form(page))
+        for option in sorted(taken - described):
             yield f"{CLI}: certpath {name} takes {option}, and no table says what that does"
+        for option in sorted({*ROW.findall(page)} - taken):
+            yield f"{CLI}: certpath {name} has {option} in its table, and not in its form"
 
 
 def faults():
