@@ -23,7 +23,7 @@ def sequence(*parts):
 
 def identifier(text):
     """An OBJECT IDENTIFIER, from its dotted form."""
-    first, second, *others = (int(it) for it in text.split("."))
+    first, second, *others = (int(part) for part in text.split("."))
     octets = b""
     for number in (40 * first + second, *others):
         digits = [number & 0x7F]
@@ -91,7 +91,7 @@ def usage(bits, unused):
 
 
 def purposes(*last):
-    return extension("2.5.29.37", sequence(*(identifier(f"1.3.6.1.5.5.7.3.{it}") for it in last)))
+    return extension("2.5.29.37", sequence(*(identifier(f"1.3.6.1.5.5.7.3.{entry}") for entry in last)))
 
 
 def constraints(*parts):
@@ -168,7 +168,7 @@ def shapes():
         alternative((0x82, host(SUBJECT)), (0x82, b"www." + host(SUBJECT))), policies(), timestamps(2))
     yield certificate(
         issuing(ISSUER), plain, ec_key(), SHA384_EC, 104, *leaf,
-        alternative(*((0x82, b"%d." % it + host(SUBJECT)) for it in range(12)), (0x87, b"\x0a\x00\x00\x01")),
+        alternative(*((0x82, b"%d." % number + host(SUBJECT)) for number in range(12)), (0x87, b"\x0a\x00\x00\x01")),
         policies(), points(), timestamps(3))
     yield certificate(
         issuing(ISSUER), long, rsa_key(2048), SHA256_RSA, 256, usage(b"\xe0", 5), purposes(2, 4), subject_key(), authority_key(),

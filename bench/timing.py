@@ -34,7 +34,7 @@ def built(crate):
 
 def yardstick(room):
     """The path of the loop's program."""
-    compiler = next((it for it in ("cc", "gcc", "clang") if shutil.which(it)), None)
+    compiler = next((name for name in ("cc", "gcc", "clang") if shutil.which(name)), None)
     if not compiler:
         sys.exit("the yardstick is a loop in C: put cc, gcc or clang on the path")
     program = os.path.join(room, "touch")
@@ -68,8 +68,8 @@ def run(name, words, expect, times, memory_times=None):
         for _ in range(RUNS):
             loops.append(timed([loop, bundle])[0])
             runs.append(timed(words + [bundle]))
-    seconds, touched = statistics.median(it[0] for it in runs), statistics.median(loops)
-    memory = statistics.median(it[1] for it in runs)
+    seconds, touched = statistics.median(entry[0] for entry in runs), statistics.median(loops)
+    memory = statistics.median(entry[1] for entry in runs)
     print(f"bundle: {COPIES} items, {size / 1e6:.1f} MB")
     print(f"{name}: {seconds:.3f} s, {COPIES / seconds:.0f} items/s, {size / 1e6 / seconds:.0f} MB/s, peak {memory / 1e6:.0f} MB, {memory / size:.2f} times the file")
     print(f"yardstick: {touched:.3f} s, {size / 1e6 / touched:.0f} MB/s")

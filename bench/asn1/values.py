@@ -20,7 +20,7 @@ ROUNDS, FILES = 1_000, 20
 def utc_times(numbers):
     """So many UTCTimes, one after the other."""
     ranges = ((0, 99), (1, 12), (1, 28), (0, 23), (0, 59), (0, 59))
-    texts = ("".join(f"{numbers.randint(*it):02d}" for it in ranges) for _ in range(VALUES))
+    texts = ("".join(f"{numbers.randint(*span):02d}" for span in ranges) for _ in range(VALUES))
     return b"".join(b"\x17\x0d" + text.encode() + b"Z" for text in texts)
 
 

@@ -50,7 +50,7 @@ def files_of(room):
 
 def compiled(room):
     """The path of the C program."""
-    compiler = next((it for it in ("cc", "gcc", "clang") if shutil.which(it)), None)
+    compiler = next((name for name in ("cc", "gcc", "clang") if shutil.which(name)), None)
     if not compiler:
         sys.exit("the calls are timed beside C: put cc, gcc or clang on the path")
     program, top = os.path.join(room, "calls"), timing.TOP
@@ -62,7 +62,7 @@ def compiled(room):
 def said_by(words):
     """What a program prints: seconds by name, and what was found."""
     lines = subprocess.run(words, stdin=subprocess.DEVNULL, capture_output=True, text=True, check=True).stdout.splitlines()
-    rows = dict(it.split(" ", 1) for it in lines)
+    rows = dict(line.split(" ", 1) for line in lines)
     if rows.pop("found") != f"{COUNT} {LENGTH}":
         sys.exit(f"{words[0]} found something else: {lines[-1]}")
     return {name: float(seconds) for name, seconds in rows.items()}
@@ -90,7 +90,7 @@ def main():
         programs = {name: statistics.median(seconds_of(its) for _ in range(timing.RUNS)) for name, its in whole.items()}
     missed = False
     for call in CALLS:
-        of_c, of_python = (statistics.median(it[call] for it in runs[name]) for name in words)
+        of_c, of_python = (statistics.median(run[call] for run in runs[name]) for name in words)
         missed |= of_python > MOST * of_c
         beside = f"; the program {1000 * programs[call]:.1f} ms" if call in programs else ""
         print(f"{call}: C {1000 * of_c:.1f} ms, Python {1000 * of_python:.1f} ms, {of_python / of_c:.2f} times{beside}")

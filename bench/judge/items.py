@@ -90,8 +90,8 @@ def write(room, stem, octets):
 def resident(process):
     """The peak resident octets of a process so far, 0 once it has ended. (What a parent learns of a child counts the parent's own memory too, until the child becomes the program.)"""
     try:
-        with open(f"/proc/{process}/status", encoding="ascii") as it:
-            peak = re.search(r"VmHWM:\s+(\d+)", it.read())
+        with open(f"/proc/{process}/status", encoding="ascii") as file:
+            peak = re.search(r"VmHWM:\s+(\d+)", file.read())
     except OSError:
         return 0
     return 1024 * int(peak[1]) if peak else 0
@@ -112,7 +112,7 @@ def measured(program, words):
         sys.exit(f"{program} failed, with status {child.returncode}: {times}")
     if not said.endswith("check true"):
         sys.exit(f"the check says no: {said}")
-    parse, answer, check = (int(it) / 1000 for it in re.findall(r"(\d+) us", times))
+    parse, answer, check = (int(match) / 1000 for match in re.findall(r"(\d+) us", times))
     return check, parse, memory, answer
 
 
@@ -122,7 +122,7 @@ def line(program, room, kind, count, answer):
     bundle = write(room, "items.der", octets)
     root = write(room, "root.der", certificate("root" if answer == "path" else "another", "root"))
     runs = [measured(program, ["anchors", root, answer, bundle]) for _ in range(timing.RUNS)]
-    check, parse, memory = (statistics.median(it[i] for it in runs) for i in range(3))
+    check, parse, memory = (statistics.median(run[i] for run in runs) for i in range(3))
     times = memory / len(octets)
     print(f"{kind} {count} {answer}: check {check:.1f} ms, parse_der {parse:.1f} ms, peak {memory / 1e6:.0f} MB, {times:.1f} times {len(octets) / 1e6:.1f} MB", flush=True)
     return check, parse, times
@@ -141,7 +141,7 @@ def main():
                 rows = [line(program, room, kind, count, answer) for count in (10_000, 20_000, 40_000)]
                 growth = rows[-1][0] / max(rows[0][0], 1)
                 print(f"{kind} {answer}, 4n to n: {growth:.2f}", flush=True)
-                missed = missed or growth > MOST_GROWTH or max(it[2] for it in rows) > MOST_MEMORY
+                missed = missed or growth > MOST_GROWTH or max(row[2] for row in rows) > MOST_MEMORY
         for kind in ("self", "lists"):
             check, parse, _ = line(program, room, kind, 100_000, "none")
             print(f"{kind}: {check / parse:.1f} times parse_der", flush=True)

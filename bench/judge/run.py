@@ -34,7 +34,7 @@ def measured(program, kind, count):
         said, times = out.read().splitlines()
     if not said.endswith("check true"):
         sys.exit(f"the check says no: {said}")
-    found, check = (int(it) / 1000 for it in re.findall(r"(\d+) us", times))
+    found, check = (int(match) / 1000 for match in re.findall(r"(\d+) us", times))
     return said, found, check, memory
 
 
@@ -45,7 +45,7 @@ def main():
         first = None
         for count in (start, 2 * start, 4 * start):
             runs = [measured(program, kind, count) for _ in range(timing.RUNS)]
-            found, check, memory = (statistics.median(it[i] for it in runs) for i in (1, 2, 3))
+            found, check, memory = (statistics.median(run[i] for run in runs) for i in (1, 2, 3))
             print(f"{runs[0][0]}; find {found:.1f} ms, check {check:.1f} ms, peak {memory / 1e6:.0f} MB", flush=True)
             now = (max(found, 1), max(check, 1), memory)
             first = first or now

@@ -26,7 +26,7 @@ MOST_GROWTH, MOST_OF_PARSE, MOST_MEMORY = 18.3, 15, 12
 def levels(width, depth, top):
     """Each name of a level certified by each of the next; the last by one name."""
     for level in range(depth):
-        issuers = [top] if level == depth - 1 else [f"{level + 1}.{it}" for it in range(width)]
+        issuers = [top] if level == depth - 1 else [f"{level + 1}.{number}" for number in range(width)]
         for subject in range(width):
             for issuer in issuers:
                 yield certificate(f"{level}.{subject}", issuer)
@@ -34,7 +34,7 @@ def levels(width, depth, top):
 
 def alone(count):
     """Certificates whose issuers aren't there."""
-    return (certificate(f"n{it}", f"m{it}") for it in range(count))
+    return (certificate(f"n{number}", f"m{number}") for number in range(count))
 
 
 def items_of(kind, count):
@@ -43,7 +43,7 @@ def items_of(kind, count):
         width = round((count / LEVELS) ** 0.5)
         found = list(levels(width, LEVELS, "root"))
     elif kind == "chain":
-        found = [certificate(f"c{it}", "root" if it == LEVELS - 1 else f"c{it + 1}") for it in range(LEVELS)]
+        found = [certificate(f"c{number}", "root" if number == LEVELS - 1 else f"c{number + 1}") for number in range(LEVELS)]
     elif kind == "dead end":
         found = list(levels(WIDTH, DEPTH, "nowhere"))
     else:
@@ -58,7 +58,7 @@ def line(program, room, kind, count):
     bundle = write(room, "items.der", octets)
     root = write(room, "root.der", certificate("root", "root"))
     runs = [measured(program, ["anchors", root, "find", bundle]) for _ in range(timing.RUNS)]
-    check, parse, memory, answer = (statistics.median(it[i] for it in runs) for i in range(4))
+    check, parse, memory, answer = (statistics.median(run[i] for run in runs) for i in range(4))
     times = memory / len(octets)
     print(f"{kind}, {len(found)} items: answer {answer:.1f} ms, {answer / parse:.1f} times parse_der's {parse:.1f} ms; check {check:.1f} ms; "
           f"peak {times:.1f} times {len(octets) / 1e6:.1f} MB", flush=True)

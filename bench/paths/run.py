@@ -44,9 +44,9 @@ class Family(NamedTuple):
 
 def one_issuer(count):
     """Leaves of one authority, a key each."""
-    leaves = [certificate(LEAF, X, key(it), it) for it in range(count - 1)]
+    leaves = [certificate(LEAF, X, key(number), number) for number in range(count - 1)]
     issuer = certificate(X, ROOT, COMMON_KEY)
-    return Files([*leaves, issuer], [ANCHOR], [voucher(COMMON_KEY, it) for it in leaves] + [voucher(ROOT_KEY, issuer)]), count
+    return Files([*leaves, issuer], [ANCHOR], [voucher(COMMON_KEY, leave) for leave in leaves] + [voucher(ROOT_KEY, issuer)]), count
 
 
 def equal(count):
@@ -59,7 +59,7 @@ def chains(count):
     """Chains of ten, each with names of its own."""
     items, lines = [], []
     for chain in range(count // LENGTH):
-        names = [name(f"c{chain}.{it}") for it in range(LENGTH)] + [ROOT]
+        names = [name(f"c{chain}.{number}") for number in range(LENGTH)] + [ROOT]
         for place in range(LENGTH):
             items.append(certificate(names[place], names[place + 1], COMMON_KEY))
             lines.append(voucher(ROOT_KEY if place == LENGTH - 1 else COMMON_KEY, items[-1]))
@@ -70,7 +70,7 @@ def chains(count):
 def web(count):
     """Authorities that certify each other, five certificates each, the first of every ten by the root; and leaves below them."""
     tops = count * ISSUERS // 100 // 5
-    names = [name(f"w{it}") for it in range(tops)]
+    names = [name(f"w{number}") for number in range(tops)]
     items, lines = [], []
     for top in range(tops):
         for step in range(5):
@@ -90,9 +90,9 @@ def limits(count):
     items, lines = [], []
     for number in range(count // 5):
         low, high = name(f"l{number}"), name(f"h{number}")
-        five = [certificate(LEAF, low, COMMON_KEY, number), certificate(low, high, COMMON_KEY), *(certificate(high, ROOT, COMMON_KEY, it, limit=it // 2) for it in range(3))]
+        five = [certificate(LEAF, low, COMMON_KEY, number), certificate(low, high, COMMON_KEY), *(certificate(high, ROOT, COMMON_KEY, index, limit=index // 2) for index in range(3))]
         items += five
-        lines += [voucher(COMMON_KEY, it) for it in five[:2]] + [voucher(ROOT_KEY, it) for it in five[2:]]
+        lines += [voucher(COMMON_KEY, entry) for entry in five[:2]] + [voucher(ROOT_KEY, entry) for entry in five[2:]]
     name.cache_clear()
     return Files(items, [ANCHOR], lines), len(items)
 
@@ -121,7 +121,7 @@ def write_files(family, size, room):
 
 def best(words, room, runs):
     """The quickest of some runs."""
-    return min((measured(words, room, SECONDS) for _ in range(runs)), key=lambda it: it.seconds)
+    return min((measured(words, room, SECONDS) for _ in range(runs)), key=lambda run: run.seconds)
 
 
 def fault_of(run, room):
@@ -151,13 +151,13 @@ def growths(points):
 
 def missed(family, points):
     """What a family doesn't reach."""
-    found = [it.fault for it in points if it.fault]
+    found = [mark.fault for mark in points if mark.fault]
     last = points[-1]
     if max(growths(points), default=0) > MOST_GROWTH:
         found.append("growth")
     if family.is_beside_path and last.seconds > MOST_OF_PATH * max(last.of_path, LEAST_SECONDS):
         found.append("over path")
-    if any(it.memory > max(MOST_TIMES * it.octets, LEAST_MEMORY) for it in points):
+    if any(mark.memory > max(MOST_TIMES * mark.octets, LEAST_MEMORY) for mark in points):
         found.append("memory")
     return found
 
@@ -165,8 +165,8 @@ def missed(family, points):
 def row(family, points, found):
     """The cells of a family's row."""
     last = points[-1]
-    large = [it.memory / it.octets for it in points if it.memory > LEAST_MEMORY]
-    return (family.name, ", ".join(f"{it.seconds:.2f}" for it in points), f"{max(growths(points), default=0):.1f}", f"{last.seconds / max(last.of_path, LEAST_SECONDS):.2f}",
+    large = [mark.memory / mark.octets for mark in points if mark.memory > LEAST_MEMORY]
+    return (family.name, ", ".join(f"{mark.seconds:.2f}" for mark in points), f"{max(growths(points), default=0):.1f}", f"{last.seconds / max(last.of_path, LEAST_SECONDS):.2f}",
             f"{last.memory / MEGABYTE:.0f}", f"{max(large):.1f}" if large else "", f"{last.printed / MEGABYTE:.1f}", f"FAIL: {', '.join(found)}" if found else "pass")
 
 
@@ -185,10 +185,10 @@ def main():
     is_missed = False
     print("| " + " | ".join(HEAD) + " |\n|" + "---|" * len(HEAD), flush=True)
     for family in FAMILIES:
-        if words.only and not any(family.name.startswith(it) for it in words.only):
+        if words.only and not any(family.name.startswith(text) for text in words.only):
             continue
         with tempfile.TemporaryDirectory(prefix="paths-") as room:
-            points = [point(family, int(it), os.path.abspath(program), words.runs, room) for it in words.sizes.split(",")]
+            points = [point(family, int(part), os.path.abspath(program), words.runs, room) for part in words.sizes.split(",")]
         found = missed(family, points)
         is_missed |= bool(found)
         print("| " + " | ".join(row(family, points, found)) + " |", flush=True)

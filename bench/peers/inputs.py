@@ -8,7 +8,7 @@ from typing import NamedTuple
 
 BENCH = os.path.dirname(os.path.dirname(os.path.abspath(__file__)))
 TOP = os.path.dirname(BENCH)
-sys.path[:0] = [os.path.join(TOP, "tools"), *(os.path.join(BENCH, it) for it in ("", "asn1"))]
+sys.path[:0] = [os.path.join(TOP, "tools"), *(os.path.join(BENCH, entry) for entry in ("", "asn1"))]
 import values
 from trials import synthetic
 
@@ -33,7 +33,7 @@ def certificates(count):
     for sample in SAMPLES:
         with open(os.path.join(TOP, "samples", sample), "rb") as file:
             octets.append(file.read())
-    return b"".join(octets[it % len(octets)] for it in range(count))
+    return b"".join(octets[number % len(octets)] for number in range(count))
 
 
 def name(number):
@@ -50,16 +50,16 @@ def web(width):
     """A leaf, and on each level each name certified by each of the next one, the last by the root;
     the root; and which key signed which item."""
     root = synthetic.Authority("root")
-    levels = [[synthetic.Authority(f"{level}.{it}") for it in range(width)] for level in range(LEVELS)]
+    levels = [[synthetic.Authority(f"{level}.{index}") for index in range(width)] for level in range(LEVELS)]
     above = [*levels[1:], [root]]
     pairs = [(subject, issuer) for level, issuers in zip(levels, above)
              for subject in level for issuer in issuers]
     leaf = synthetic.certificate(1, levels[0][0], synthetic.name("leaf"), synthetic.LEAF.public, [])
     made = [leaf, *(synthetic.authority(number, issuer, subject)
                     for number, (subject, issuer) in enumerate(pairs, 2))]
-    vouchers = "".join(f"{digest(it.signer)} {digest(it.octets)}\n" for it in made)
+    vouchers = "".join(f"{digest(entry.signer)} {digest(entry.octets)}\n" for entry in made)
     anchor = synthetic.authority(1, root, root).octets
-    return b"".join(it.octets for it in made), anchor, vouchers.encode()
+    return b"".join(entry.octets for entry in made), anchor, vouchers.encode()
 
 
 def digest(octets):
@@ -78,6 +78,6 @@ def written(room, sizes):
     for title, octets in files.items():
         with open(os.path.join(room, title), "wb") as file:
             file.write(octets)
-    paths = {it: [os.path.join(room, it)] for it in files}
-    paths["web"] += [os.path.join(room, it) for it in ("web-anchors", "web-vouchers")]
+    paths = {path: [os.path.join(room, path)] for path in files}
+    paths["web"] += [os.path.join(room, anchor) for anchor in ("web-anchors", "web-vouchers")]
     return paths

@@ -62,9 +62,9 @@ class Row(NamedTuple):
 def rows():
     """The rows of rows.txt."""
     with open(os.path.join(HERE, "rows.txt"), encoding="ascii") as file:
-        lines = [it for it in file.read().splitlines() if not it.startswith("#")]
+        lines = [row for row in file.read().splitlines() if not row.startswith("#")]
     for line in lines:
-        name, given, *words, crate, compared = (it.strip() for it in line.split("|"))
+        name, given, *words, crate, compared = (part.strip() for part in line.split("|"))
         beside, most = compared.split()
         yield Row(name, given, dict(zip(COLUMNS, words)), crate, beside, float(most))
 
@@ -80,7 +80,7 @@ def done(words, **how):
 
 def of_rust(room, registry):
     """Builds the program of Rust; whether it is there."""
-    has_crates = os.path.isdir(registry) and any(it.startswith("x509-parser-") for it in os.listdir(registry))
+    has_crates = os.path.isdir(registry) and any(name.startswith("x509-parser-") for name in os.listdir(registry))
     if not shutil.which("cargo") or not has_crates:
         return False
     folder, target = os.path.join(room, "rust-sources"), os.path.join(room, "rust-target")
@@ -104,7 +104,7 @@ def of_go(room):
 
 
 def of_openssl(room):
-    compiler = next((it for it in ("cc", "gcc", "clang") if shutil.which(it)), None)
+    compiler = next((name for name in ("cc", "gcc", "clang") if shutil.which(name)), None)
     source = os.path.join(HERE, "c", "peer.c")
     return bool(compiler) and done([compiler, "-O2", "-o", os.path.join(room, "openssl"), source, "-lcrypto"])
 
@@ -118,7 +118,7 @@ def programs(room, ours, registry, columns):
         path = os.path.join(room, column)
         is_there = column in columns and (os.path.exists(path) or build())
         found[column] = path if is_there else None
-    return {it: path if path and os.path.exists(path) else None for it, path in found.items()}
+    return {name: path if path and os.path.exists(path) else None for name, path in found.items()}
 
 
 def path_of(ours):
@@ -151,15 +151,15 @@ def count_in(printed, word):
     last = printed.splitlines()[-1]
     if last == "check yes":
         # (the items of a path, and the anchor)
-        line = next(it for it in printed.splitlines() if it.startswith("path "))
+        line = next(row for row in printed.splitlines() if row.startswith("path "))
         return str(len(line[:line.index("anchor")].split()[1:]) + 1)
     return last.split(": ")[-1].split()[0]
 
 
 def compared(row, found, ours, files, turns):
     """The median of each column that isn't empty, and what each has counted."""
-    commands = {it: command(row, it, found, ours, files) for it in COLUMNS}
-    seconds, counts = {it: [] for it in COLUMNS}, {}
+    commands = {entry: command(row, entry, found, ours, files) for entry in COLUMNS}
+    seconds, counts = {entry: [] for entry in COLUMNS}, {}
     for _ in range(turns):
         for column, words in commands.items():
             run = measured(words) if words else None
@@ -168,12 +168,12 @@ def compared(row, found, ours, files, turns):
                 continue
             seconds[column].append(run[0])
             counts[column] = count_in(run[1], row.words[column])
-    return {it: statistics.median(taken) for it, taken in seconds.items() if commands[it]}, counts
+    return {name: statistics.median(taken) for name, taken in seconds.items() if commands[name]}, counts
 
 
 def cells(row, medians):
     """The cells of a row, and whether it keeps within what is named."""
-    shown = [f"{medians[it] * 1000:.1f}" if it in medians else "" for it in COLUMNS]
+    shown = [f"{medians[column] * 1000:.1f}" if column in medians else "" for column in COLUMNS]
     ratio = medians["ours"] / medians[row.beside] if {"ours", row.beside} <= {*medians} and medians[row.beside] else None
     beside = row.crate or HEADS[COLUMNS.index(row.beside)]
     is_missed = ratio is not None and ratio > row.most
@@ -198,7 +198,7 @@ def table(room, words):
     paths, amiss = inputs.written(room, inputs.SMALL if words.small else inputs.FULL), 0
     print(f"| milliseconds | {' | '.join(HEADS)} | ours over | ratio | at most |\n{'|---' * 8}|", flush=True)
     for row in rows():
-        if words.only and not any(row.name.startswith(it) for it in words.only):
+        if words.only and not any(row.name.startswith(text) for text in words.only):
             continue
         medians, counts = compared(row, found, words.ours, paths[row.given], words.turns)
         shown, is_missed = cells(row, medians)

@@ -48,7 +48,7 @@ def of_bundle(program, room):
     with open(timing.SAMPLE, "rb") as sample:
         item = sample.read()
     bundle = write(room, "bundle.der", item * ITEMS)
-    typed, tree, road = (seconds(program, it, bundle, ITEMS, ITEMS * len(item)) for it in ("typed", "tree", "road"))
+    typed, tree, road = (seconds(program, name, bundle, ITEMS, ITEMS * len(item)) for name in ("typed", "tree", "road"))
     print(f"{ITEMS} items: X509Certificate::from_der {typed:.4f} s; read_tree {tree:.4f} s, {tree / typed:.2f} times; read_typed {road:.4f} s, "
           f"{road / typed:.2f} times, {1e6 * road / ITEMS:.2f} microseconds an item", flush=True)
     return road / typed

@@ -58,7 +58,7 @@ def main():
             if not said.endswith(f": 1 list in {size} octets\n"):
                 sys.exit(f"something else was printed: {said[-200:]}")
             runs = [timing.timed([program, "list", path]) for _ in range(timing.RUNS)]
-            took, memory = (statistics.median(it) for it in zip(*runs))
+            took, memory = (statistics.median(pair) for pair in zip(*runs))
             growth = f", {took / seconds[-1]:.1f} times the last" if seconds else ""
             print(f"{count} entries: {took:.4f} s, {count / took:.0f} entries/s{growth}, peak {memory / size:.1f} times the file", flush=True)
             is_reached &= not seconds or took <= MOST_GROWTH * seconds[-1]

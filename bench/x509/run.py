@@ -39,7 +39,7 @@ def main():
                 said = subprocess.run([program, reader, bundle], check=True, capture_output=True, text=True).stdout
                 if not said.endswith(f": {count} {reader} in {count * len(item)} octets\n"):
                     sys.exit(f"{reader} printed something else: {said[-200:]}")
-            typed, plain, tree = (median([program, it, bundle]) for it in ("typed", "plain", "tree"))
+            typed, plain, tree = (median([program, name, bundle]) for name in ("typed", "plain", "tree"))
             touched = median([loop, bundle])
             times.append(typed)
             print(f"{count} items: X509Certificate::from_der {typed:.3f} s, {count / typed:.0f} items/s; values unparsed {plain:.3f} s; read_tree {tree:.3f} s, ratios {typed / tree:.2f}, {plain / tree:.2f}; yardstick {touched:.3f} s", flush=True)

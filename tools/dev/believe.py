@@ -290,11 +290,10 @@ their words name, on to the standard library and the crates of the kit. Which th
     $ python3 tools/dev/believe.py cert_questions
     {OF_CRATE}
 
-The first prints each page of one call, with the definitions on it; `CRATE::Type::function` names a
-function of a type, and a law can be named too. The second prints, for each public call of a crate,
-its own pages and those of others. Types of the sources count beside them: their fields, their
-`Model`, and of a trait what its functions promise. On no page is what [isn't
-proved](PROMISES.md#what-is-run-and-said-by-no-clause).
+The first prints each page of one call or law, with the definitions on it; `CRATE::Type::function`
+names a function of a type. The second prints, for each public call of a crate, its own pages and
+those of others. Types of the sources count beside them: their fields, their `Model`, and of a trait
+what its functions promise.
 
 """
 

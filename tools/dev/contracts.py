@@ -19,10 +19,9 @@ ONE, PREMISE = "one clause", "*a premise*"
 HEADER = """# Contracts by name
 
 For anyone who looks for the clause that says something: the public calls whose clauses have names,
-and the laws of each crate, made by `python3 tools/dev/contracts.py`. A clause is in the source,
-after `ensures` or `requires`; a premise is what a caller has to show. A law is a public function
-that does nothing: its clauses are what it says. Not listed are calls with one clause without a
-name, and those with the clauses of their trait. [TRUST.md](TRUST.md) says what clauses rest on.
+and the laws of each crate, made by `python3 tools/dev/contracts.py`. A premise is what a caller has
+to show. A law is a public function that does nothing: its clauses are what it says. Not listed are
+calls with one clause without a name, and those with the clauses of their trait.
 
 """
 

@@ -57,13 +57,13 @@ def synopsis(text):
     for name, section in SECTION.findall(text):
         first = blocks(section)[0]
         if name in NAMES and first[0].startswith("    "):
-            yield from (plain(it[4:]) for it in first)
+            yield from (plain(entry[4:]) for entry in first)
     yield ".fi"
 
 
 def row_of(line):
     """The cells of a table's line."""
-    return [it.strip().replace("\\|", "|") for it in re.split(r"(?<!\\)\|", line.strip().strip("|"))]
+    return [part.strip().replace("\\|", "|") for part in re.split(r"(?<!\\)\|", line.strip().strip("|"))]
 
 
 def table(lines):
@@ -71,7 +71,7 @@ def table(lines):
     titles = row_of(lines[0])
     for line in lines[2:]:
         first, *rest = row_of(line)
-        said = [it if number == 1 else f"{title}: {it}" for number, (title, it) in enumerate(zip(titles[1:], rest), 1) if it]
+        said = [entry if number == 1 else f"{title}: {entry}" for number, (title, entry) in enumerate(zip(titles[1:], rest), 1) if entry]
         yield from (".TP", plain(first), plain("; ".join(said)) or "\\&")
 
 
@@ -88,7 +88,7 @@ def blocks(text):
                 found.append([line])
         else:
             found.append([])
-    return [it for it in found if it]
+    return [entry for entry in found if entry]
 
 
 def of_block(lines):
@@ -101,7 +101,7 @@ def of_block(lines):
         if lines[1:]:
             yield from of_block(lines[1:])
     elif first.startswith("    "):
-        yield from (".PP", ".nf", ".RS 4", *(plain(it[4:]) for it in lines), ".RE", ".fi")
+        yield from (".PP", ".nf", ".RS 4", *(plain(line[4:]) for line in lines), ".RE", ".fi")
     elif first.startswith("|") and len(lines) > 1 and RULE.fullmatch(lines[1]):
         yield from table(lines)
     elif re.match(r"(?:[-*]|\d+\.) ", first):
@@ -127,7 +127,7 @@ def fitted(lines):
                 yield line
             else:
                 cut = textwrap.wrap(line, WIDTH, break_long_words=False, break_on_hyphens=False)
-                yield from (f"\\&{it}" if it.startswith((".", "'")) else it for it in cut)
+                yield from (f"\\&{entry}" if entry.startswith((".", "'")) else entry for entry in cut)
         before = line
 
 

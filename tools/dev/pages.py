@@ -151,11 +151,14 @@ def layer_of():
 
 
 def crates():
-    """A line for each crate, by layers, in each in the order of crates.txt."""
+    """A line for each crate, by layers, in each in the order of crates.txt; of the crates that others aren't built on the names."""
     layers = layer_of()
     parts = []
     for number, (title, _) in enumerate(LAYERS):
-        lines = (believe.wrapped(f"- [`{it}`](../{note(it)}): {described(it)}") for it in repo.crates() if layers[it] == number)
+        names = [crate for crate in repo.crates() if layers[crate] == number]
+        lines = [believe.wrapped(f"- [`{crate}`](../{note(crate)}): {described(crate)}") for crate in names]
+        if all(crate.startswith((*TOPS, EXAMPLES)) for crate in names):
+            lines = [wrapped(", ".join(f"[`{crate}`](../{note(crate)})" for crate in sorted(names)), indent="").rstrip("\n")]
         parts.append(f"### {title}\n\n" + "".join(f"{line}\n" for line in lines))
     return "\n".join(parts)
 
@@ -188,12 +191,11 @@ def runs(crate):
     return direct or sorted(users, key=lambda user: len(repo.below([user], listed)))[:2]
 
 
-INDEX_HEAD = """# From a section of a standard to its code
+INDEX_HEAD = """# From a section of a standard to its definitions
 
-For anyone who wants to see a rule in the code: each section that definitions of public contracts
-cite, with these pages of `specs/`, and in brackets the first source in `src/` whose contracts name
-it. `tools/dev/pages.py`, which makes this page, prints all of a crate by `index CRATE`.
-[RULES.md](RULES.md) and [RULES_PORTS.md](RULES_PORTS.md) have the rules in words.
+For anyone who looks for a rule: each section that definitions of public contracts cite, with these
+pages of `specs/`. `python3 tools/dev/pages.py index CRATE` prints what each page of a crate
+defines, and sources whose contracts name it.
 
 """
 # The standards that have a section of their own; all others come last.
@@ -226,11 +228,10 @@ def by_section():
     """Each standard with its sections, and with each of these the pages that cite it."""
     found = {standard: {} for standard in (*STANDARDS, OTHERS)}
     for crate, page in ((crate, page) for crate, pages in believed() for page in pages if not NO_RULE.search(page)):
-        used = "".join(f" ({code(user)})" for user in users_of(crate, page)[:1])
         for section in cited_by(crate, page):
             standard, _, number = section.partition(", ")
             place = (standard, number) if standard in STANDARDS else (OTHERS, section)
-            found[place[0]].setdefault(place[1], []).append(f"{code(f'{crate}/specs/{page}')}{used}")
+            found[place[0]].setdefault(place[1], []).append(code(f"{crate}/specs/{page}"))
     return found
 
 
@@ -252,7 +253,8 @@ def index():
 # ---- the page of a crate
 
 # What is below the first mark is made. Of a page of an older form, what is below the second one is written by hand.
-NOTE_BEGIN, NOTE_END = "<!-- lines: made by tools/dev/pages.py -->\n", "<!-- end of lines -->\n"
+NOTE_BEGIN, NOTE_END = "<!-- pages.py -->\n", "<!-- end of lines -->\n"
+FORMER_BEGIN = "<!-- lines: made by tools/dev/pages.py -->\n"
 
 
 def note(crate):
@@ -264,16 +266,16 @@ def linked(names):
     return ", ".join(f"[`{name}`](../{name}/README.md)" for name in names)
 
 
-def wrapped(line):
+def wrapped(line, indent="  "):
     """A line of a list, cut before column 100 at commas."""
     found = [""]
     for word in re.split(r"(?<=,) ", line):
         joined = f"{found[-1]} {word}".strip() if found[-1] else word
-        if found[-1] and len(joined) + (0 if len(found) == 1 else 2) > 98:
+        if found[-1] and len(joined) + (0 if len(found) == 1 else len(indent)) > 98:
             found.append(word)
         else:
             found[-1] = joined
-    return "\n  ".join(found) + "\n"
+    return f"\n{indent}".join(found) + "\n"
 
 
 def note_lines(crate):
@@ -297,9 +299,10 @@ def written_note(crate, page):
     """A crate's page with its lines as crates.txt says."""
     if page is None:
         page = f"# `{crate}`\n\n{NOTE_BEGIN}"
-    before, _, after = page.partition(NOTE_BEGIN)
+    before, _, after = page.replace(FORMER_BEGIN, NOTE_BEGIN).partition(NOTE_BEGIN)
     by_hand = "\n\n".join(filter(None, (before.strip("\n"), after.partition(NOTE_END)[2].strip("\n"))))
-    return f"{by_hand}\n\n{NOTE_BEGIN}{note_lines(crate)}"
+    lines = note_lines(crate).strip("\n")
+    return f"{by_hand}\n\n{NOTE_BEGIN}{lines}\n" if lines else f"{by_hand}\n"
 
 
 def notes():

@@ -21,7 +21,7 @@ OF_NAMES = re.compile(r"in scope|no field|no such|unknown")
 
 
 def bodies(lines):
-    """The functions of a source that is laid out: the first and the last line of the body, from 0, and the name; inner ones behind outer ones."""
+    """The functions of a source that is laid out: the first and the last line of the body, from 0, and the name; inner ones after outer ones."""
     found = []
     for number, line in enumerate(lines):
         head = FUNCTION.match(line)
@@ -78,7 +78,7 @@ def groups(crate, folder, edits):
 
 
 def failing(said):
-    """The functions that a check told to fail by themselves, as pairs of module and name."""
+    """The functions that a check said to fail by themselves, as pairs of module and name."""
     paths = [path.split("::")[1:] for path, _, why in TOLD.findall(said) if "did not prove" in why or not OF_OTHERS.search(why)]
     broken = [(folder.replace("+", "").split("/"), why) for folder, why in OWN_PROOF.findall(said)]
     named = [path for path, why in broken if OF_NAMES.search(why)]
@@ -88,7 +88,7 @@ def failing(said):
 
 
 def refused(said, group):
-    """The edits of a group whose functions a check told to fail by themselves."""
+    """The edits of a group whose functions a check said to fail by themselves."""
     found = failing(said)
     return [edit for edit, places in group.items() if places & found]
 

@@ -52,8 +52,8 @@ def say(text):
 def stop(number, _):
     """Ends what runs, so that the copies are removed."""
     STOPPED.set()
-    for it in [*RUNNING]:
-        it.terminate()
+    for child in [*RUNNING]:
+        child.terminate()
     sys.exit(128 + number)
 
 
@@ -80,9 +80,9 @@ def copied(room, crate):
     os.makedirs(os.path.join(room, ".git"))
     shutil.copyfile(os.path.join(repo.TOP, "HANDLES"), os.path.join(room, "HANDLES"))
     with open(os.path.join(room, "crates.txt"), "w", encoding="utf-8") as to:
-        to.write("".join(f"{lines[it]}\n" for it in taken))
-    for it in taken:
-        shutil.copytree(os.path.join(repo.TOP, "crates", it), os.path.join(room, "crates", it), ignore=shutil.ignore_patterns(*LEFT_OUT))
+        to.write("".join(f"{lines[one]}\n" for one in taken))
+    for entry in taken:
+        shutil.copytree(os.path.join(repo.TOP, "crates", entry), os.path.join(room, "crates", entry), ignore=shutil.ignore_patterns(*LEFT_OUT))
     return os.path.join(room, "crates", crate)
 
 
@@ -106,12 +106,12 @@ class Tried:
             folder = copied(os.path.join(room, "copy"), self.crate)
             status, said = check(folder)
             if status and not STOPPED.is_set():
-                self.say(f"it isn't proved as it stands, so no edit was tried: {said.strip()[-SHOWN:]}")
+                self.say(f"it isn't proved as it is, so no edit was tried: {said.strip()[-SHOWN:]}")
             if not status:
                 self.try_together(folder)
                 self.try_alone(folder)
         self.ends["not tried"] += len(self.left)
-        told = ", ".join(f"{self.ends[it]} {it}" for it in ENDS if self.ends[it])
+        told = ", ".join(f"{self.ends[end]} {end}" for end in ENDS if self.ends[end])
         self.say(f"{told}; {self.together} of them together with others")
         return self
 
@@ -122,10 +122,10 @@ class Tried:
     def try_together(self, folder):
         """Tries edits of different functions by one check, while any is refused so. (What one hides of another shows where those that were refused are left out.)"""
         while True:
-            groups = [it for it in together.groups(self.crate, "wrong", self.left)[0] if len(it) > 1]
+            groups = [one for one in together.groups(self.crate, "wrong", self.left)[0] if len(one) > 1]
             found = [edit for group in groups for edit in self.at_once(folder, group)]
-            for it in found:
-                self.take(it, "refused")
+            for entry in found:
+                self.take(entry, "refused")
             self.together += len(found)
             if not found or STOPPED.is_set():
                 return
@@ -146,19 +146,19 @@ class Tried:
             self.say(f"{len(found)} of {len(group)} refused by one check")
             return found
         if not STOPPED.is_set():
-            why = [it for it in said.splitlines() if "error" in it] or said.strip().splitlines()[-1:]
+            why = [line for line in said.splitlines() if "error" in line] or said.strip().splitlines()[-1:]
             self.say(f"{len(group)} edits can't be checked together: {' | '.join(why[:2])[:SHOWN]}")
         edits = [*group]
         halves = edits[:len(edits) // 2], edits[len(edits) // 2:]
-        return [it for half in halves for it in self.at_once(folder, {edit: group[edit] for edit in half})]
+        return [entry for half in halves for entry in self.at_once(folder, {edit: group[edit] for edit in half})]
 
     def try_alone(self, folder):
         """Tries each edit that is left alone, by `rt must-fail`."""
         if not self.left or STOPPED.is_set():
             return
         os.makedirs(os.path.join(folder, "must-fail"))
-        for it in self.left:
-            shutil.copy(os.path.join(repo.TOP, "crates", self.crate, "wrong", it), os.path.join(folder, "must-fail", it))
+        for entry in self.left:
+            shutil.copy(os.path.join(repo.TOP, "crates", self.crate, "wrong", entry), os.path.join(folder, "must-fail", entry))
         top = os.path.dirname(os.path.dirname(folder))
         with ALONE:
             self.say(f"{len(self.left)} edits are tried alone")
@@ -173,7 +173,7 @@ def end_of(said):
     """How an edit ended, by what `rt` says of it."""
     if said.startswith(REFUSED):
         return "refused"
-    return next((it for it, word in (("bad", "BAD EDIT"), ("not refused", "NOT REFUSED")) if word in said), "not tried")
+    return next((case for case, word in (("bad", "BAD EDIT"), ("not refused", "NOT REFUSED")) if word in said), "not tried")
 
 
 class Teller:
@@ -200,19 +200,19 @@ class Teller:
 
 def main(names):
     listed = repo.crates()
-    unknown = [it for it in names if it not in listed]
+    unknown = [name for name in names if name not in listed]
     if unknown:
         say(f"crates.txt has no crate {' '.join(unknown)}")
         print(f"0 passed, {len(unknown)} failed")
         return 1
-    crates = [it for it in dict.fromkeys(names or listed) if edits.names(it, "wrong")]
+    crates = [name for name in dict.fromkeys(names or listed) if edits.names(name, "wrong")]
     costs, side_by_side = weights(repo.TOP, crates), lanes(OVER_KEPT)
-    say(f"{sum(len(edits.names(it, 'wrong')) for it in crates)} edits of {len(crates)} crates, {side_by_side} crates at a time")
+    say(f"{sum(len(edits.names(crate, 'wrong')) for crate in crates)} edits of {len(crates)} crates, {side_by_side} crates at a time")
     # (the dearest first, so that the lanes end together)
-    crates.sort(key=lambda it: -costs[it] * len(edits.names(it, "wrong")))
+    crates.sort(key=lambda crate: -costs[crate] * len(edits.names(crate, "wrong")))
     with tempfile.TemporaryDirectory(prefix="wrong-") as above, ThreadPoolExecutor(side_by_side) as pool:
-        total = sum((it.ends for it in pool.map(lambda it: Tried(it).run(above), crates)), collections.Counter())
-    say("all: " + ", ".join(f"{total[it]} {it}" for it in ENDS))
+        total = sum((value.ends for value in pool.map(lambda crate: Tried(crate).run(above), crates)), collections.Counter())
+    say("all: " + ", ".join(f"{total[end]} {end}" for end in ENDS))
     failed = sum(total.values()) - total["refused"]
     print(f"{total['refused']} passed, {failed} failed")
     return 1 if failed else 0

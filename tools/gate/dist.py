@@ -91,7 +91,7 @@ def unlike(program, of_record, kit):
     print(f"dist: {programs.SHIPPED} was built by {of_record}, and this is {kit}: both are run")
     with tempfile.TemporaryDirectory(prefix="dist-") as room:
         for words, octets, *_ in commands.table(room):
-            one, other = (commands.ran(it, words, room, octets, subprocess.PIPE) for it in both)
+            one, other = (commands.ran(entry, words, room, octets, subprocess.PIPE) for entry in both)
             count += 1
             if one != other:
                 yield f"certpath {words}: {one} by {programs.SHIPPED}, {other} by the other program"

@@ -10,7 +10,7 @@ FOLDERS = ("must-fail", "wrong")
 def names(crate, folder):
     """The names of a crate's edits in must-fail/ or in wrong/."""
     at = os.path.join(repo.TOP, "crates", crate, folder)
-    return sorted(it for it in os.listdir(at) if it.endswith(".edit")) if os.path.isdir(at) else []
+    return sorted(name for name in os.listdir(at) if name.endswith(".edit")) if os.path.isdir(at) else []
 
 
 def amiss(crate, edit):

@@ -35,8 +35,8 @@ def words_of(is_anew):
 
 def digests():
     """The digests of the sources of all programs but certpath, which dist/ has."""
-    is_program = {it: os.path.isfile(os.path.join(repo.TOP, "crates", it, "src", "main.rt")) for it in repo.crates()}
-    return {it: sources.digest(it) for it in is_program if is_program[it] and it != programs.CERTPATH}
+    is_program = {crate: os.path.isfile(os.path.join(repo.TOP, "crates", crate, "src", "main.rt")) for crate in repo.crates()}
+    return {entry: sources.digest(entry) for entry in is_program if is_program[entry] and entry != programs.CERTPATH}
 
 
 def keep_programs(before):

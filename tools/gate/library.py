@@ -82,9 +82,9 @@ def chains(crates, listed):
     """What the proof of each of the crates weighs, lowest first, with the heaviest chain of those
     above it."""
     weights, found = lanes.weights(repo.TOP, crates), {}
-    for it in reversed(crates):
-        above = (found[other] for other in crates if it in listed[other])
-        found[it] = weights[it] + max(above, default=0)
+    for name in reversed(crates):
+        above = (found[other] for other in crates if name in listed[other])
+        found[name] = weights[name] + max(above, default=0)
     return found
 
 
@@ -94,18 +94,18 @@ def are_built_below():
     listed = repo.crates()
     crates, done, running = repo.below(listed[CRATE], listed), set(), {}
     chain = chains(crates, listed)
-    left, count = sorted(crates, key=lambda it: -chain[it]), len(crates)
+    left, count = sorted(crates, key=lambda name: -chain[name]), len(crates)
     side_by_side = lanes.lanes(lanes.FROM_NOTHING)
     print(f"dist: rt proves {count} crates below {CRATE}, {side_by_side} at a time", flush=True)
     with ThreadPoolExecutor(side_by_side) as pool:
         while left or running:
-            ready = [it for it in left if done.issuperset(listed[it])]
-            for it in ready[:side_by_side - len(running)]:
-                left.remove(it)
-                running[pool.submit(rt_lib, it, "--jobs", "1")] = it
-            for it in wait(running, return_when=FIRST_COMPLETED).done:
-                crate = running.pop(it)
-                if not it.result():
+            ready = [one for one in left if done.issuperset(listed[one])]
+            for entry in ready[:side_by_side - len(running)]:
+                left.remove(entry)
+                running[pool.submit(rt_lib, entry, "--jobs", "1")] = entry
+            for entry in wait(running, return_when=FIRST_COMPLETED).done:
+                crate = running.pop(entry)
+                if not entry.result():
                     return False
                 done.add(crate)
                 print(f"dist: {crate}: {len(done)} of {count} proved", flush=True)
@@ -142,7 +142,7 @@ def linked(archive, room):
     run(room, "ar", "rcsD", "static", "certpath.o")
     run(room, "cc", *LINKED, f"-Wl,-soname,{contents.soname()}", "-Wl,--version-script=seen",
         "-o", "shared", "certpath.o", "-lc")
-    return [sources.octets_of(os.path.join(room, it)) for it in ("shared", "static")]
+    return [sources.octets_of(os.path.join(room, entry)) for entry in ("shared", "static")]
 
 
 def made():
@@ -169,7 +169,7 @@ def make():
 
 def put(shared, static, record):
     """Writes the libraries and their record."""
-    text = "".join(f"{it} {record[it]}\n" for it in WORDS)
+    text = "".join(f"{word} {record[word]}\n" for word in WORDS)
     for path, octets in ((SHARED, shared), (PACKAGED, shared), (STATIC, static),
                          (RECORD, text.encode())):
         sources.put(os.path.join(repo.TOP, path), octets)
@@ -202,7 +202,7 @@ def check():
     yield from amiss
     if amiss:
         return
-    lacks = [it for it in NEEDED if not shutil.which(it)]
+    lacks = [entry for entry in NEEDED if not shutil.which(entry)]
     if not os.path.isfile(os.path.join(repo.TOP, BUILT)):
         lacks = [f"{BUILT}, which `rt lib` makes in the crate's folder"]
     if lacks:
@@ -218,7 +218,7 @@ def check():
 
 def compared(record, shared, static, made_now):
     """Where the libraries of dist/ differ from those that were just made."""
-    others = [f"{record[it]}, and this is {made_now[it]}" for it in TOOLS if record[it] != made_now[it]]
+    others = [f"{record[tool]}, and this is {made_now[tool]}" for tool in TOOLS if record[tool] != made_now[tool]]
     if others:
         print(f"dist: {SHARED} was made by {'; '.join(others)}: what the libraries answer is "
               "compared, and not their octets")
@@ -237,7 +237,7 @@ def unlike(shared, static):
     if wanted[0] or not wanted[1]:
         yield f"the library that was just made gives no answers: {wanted[2].decode(errors='replace')}"
         return
-    in_dist = [sources.octets_of(os.path.join(repo.TOP, it)) for it in (SHARED, STATIC)]
+    in_dist = [sources.octets_of(os.path.join(repo.TOP, value)) for value in (SHARED, STATIC)]
     for what, octets in ((SHARED, in_dist[0]), (STATIC, shared_of(in_dist[1])),
                          ("the static library that was just made", shared_of(static))):
         if answers(octets)[:2] != wanted[:2]:

@@ -20,7 +20,7 @@ def faults(top=repo.TOP):
             counts[form[1]] += 1
         elif words:
             yield f"crates.txt:{number}: it isn't the line of one crate, as `NAME: USED..`: {words[:80]}"
-    folders = {it for it in os.listdir(os.path.join(top, "crates")) if os.path.isdir(os.path.join(top, "crates", it))}
-    yield from (f"crates.txt: there are {count} lines for {it}" for it, count in sorted(counts.items()) if count > 1)
-    yield from (f"crates.txt: there is no folder crates/{it}" for it in sorted({*counts} - folders))
-    yield from (f"crates/{it}: crates.txt has no line for it" for it in sorted(folders - {*counts}))
+    folders = {name for name in os.listdir(os.path.join(top, "crates")) if os.path.isdir(os.path.join(top, "crates", name))}
+    yield from (f"crates.txt: there are {count} lines for {name}" for name, count in sorted(counts.items()) if count > 1)
+    yield from (f"crates.txt: there is no folder crates/{folder}" for folder in sorted({*counts} - folders))
+    yield from (f"crates/{folder}: crates.txt has no line for it" for folder in sorted(folders - {*counts}))

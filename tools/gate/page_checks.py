@@ -89,7 +89,7 @@ def short_readme():
         yield f"{README}: {lines} lines, and at most {README_LINES} are kept there"
 
 
-def contents_stand():
+def contents_there():
     """A page of more than two screens has links to all its sections above the first one."""
     for path in found_pages():
         page = repo.read(path)
@@ -146,7 +146,7 @@ def anchors_lead():
                     yield f"{path}:{number}: {target} has no heading #{name}"
 
 
-def walk_stands():
+def walk_there():
     """The functions that the walks name are in the files beside them: of crates, and of scripts by their paths from the top."""
     rows = WALK_ROW.findall(repo.read(WALK))
     if not rows:
@@ -211,5 +211,5 @@ def one_list_to_believe():
                     yield f"{path}:{number}: a list of pages to believe, which {believe.PAGE} has: delete it"
 
 
-CHECKS = (narrow_pages, short_sentences, short_readme, contents_stand, claims_named, anchors_lead,
-          walk_stands, commands_run, helps_agree, one_list_to_believe, one_version, tables_made, notes_made, calling_made, *page_names.CHECKS)
+CHECKS = (narrow_pages, short_sentences, short_readme, contents_there, claims_named, anchors_lead,
+          walk_there, commands_run, helps_agree, one_list_to_believe, one_version, tables_made, notes_made, calling_made, *page_names.CHECKS)

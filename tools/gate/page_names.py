@@ -37,15 +37,15 @@ PRUNED = (".git", "out", "__pycache__", "samples")
 def walked():
     """Each file of the tree, but for what checks and runs leave."""
     for at, folders, names in os.walk(repo.TOP):
-        folders[:] = sorted(it for it in folders if it not in PRUNED)
-        yield from (os.path.join(at, it) for it in sorted(names))
+        folders[:] = sorted(folder for folder in folders if folder not in PRUNED)
+        yield from (os.path.join(at, name) for name in sorted(names))
 
 
 @functools.cache
 def lines():
     """Each line of the pages with its place, but of those of the past."""
     found = []
-    for path in (os.path.relpath(it, repo.TOP) for it in walked() if it.endswith(".md")):
+    for path in (os.path.relpath(entry, repo.TOP) for entry in walked() if entry.endswith(".md")):
         if path not in PAST:
             found += [(path, f"{path}:{number}", line) for number, line in enumerate(repo.read(path).splitlines(), 1)]
     return found
@@ -64,7 +64,7 @@ def words():
         found.add(os.path.splitext(os.path.basename(path))[0])
         if not path.endswith(NO_SOURCE):
             found |= {*WORD.findall(octets(path))}
-    return {it.decode() if isinstance(it, bytes) else it for it in found}
+    return {entry.decode() if isinstance(entry, bytes) else entry for entry in found}
 
 
 def octets(path):
@@ -75,7 +75,7 @@ def octets(path):
 def is_part(name):
     """Whether a name is a part of a word of the tree, between underscores."""
     begin, end = f"{name.rstrip('_')}_", f"_{name.lstrip('_')}"
-    return any(it.startswith(begin) or it.endswith(end) for it in words())
+    return any(word.startswith(begin) or word.endswith(end) for word in words())
 
 
 def names_there():
@@ -89,7 +89,7 @@ def names_there():
 @functools.cache
 def words_of(crate):
     """The words of a crate's sources, and of those that it names, which it may hand on."""
-    return {it for name in (crate, *syntax.CRATES[crate]) for source in syntax.files(name) for it in re.findall(r"\w+", source.text)}
+    return {match for name in (crate, *syntax.CRATES[crate]) for source in syntax.files(name) for match in re.findall(r"\w+", source.text)}
 
 
 def calls_there():
@@ -97,14 +97,14 @@ def calls_there():
     for place, text in spans():
         for crate, *parts in CALL.findall(text):
             if crate in syntax.CRATES:
-                for name in {it for part in parts for it in re.findall(r"\w+", part)} - words_of(crate):
+                for name in {match for part in parts for match in re.findall(r"\w+", part)} - words_of(crate):
                     yield f"{place}: the crate {crate} has no {name}"
 
 
 def crates_counted():
     """How many crates there are is a number that crates.txt gives: of all, or of those below a program or the library."""
     listed = syntax.CRATES
-    right = {len(listed), *(len(repo.below([it], listed)) for it in listed)}
+    right = {len(listed), *(len(repo.below([entry], listed)) for entry in listed)}
     for path, place, line in lines():
         for number in COUNT.findall(line):
             if int(number.replace(",", "")) not in right:
@@ -113,19 +113,19 @@ def crates_counted():
 
 def options_there():
     """A command line of a page has options that its command knows, and an option named elsewhere is in some script or source."""
-    known = {it: {*OPTION.findall(repo.read(path))} for it, path in GRAMMARS.items()}
-    known["certpath"] |= {option.name for it in usage.COMMANDS for option in completions.of_subcommand(it)}
-    found = [(place, it) for place, text in spans() for it in OPTION.findall(text)]
+    known = {name: {*OPTION.findall(repo.read(path))} for name, path in GRAMMARS.items()}
+    known["certpath"] |= {option.name for entry in usage.COMMANDS for option in completions.of_subcommand(entry)}
+    found = [(place, option) for place, text in spans() for option in OPTION.findall(text)]
     for path, place, line in lines():
         command = COMMAND.match(line)
-        for it in OPTION.findall(command[2]) if command else ():
-            if it not in known[command[1]]:
-                yield f"{place}: ./{command[1]} has no option {it}"
-    scripts = b"\n".join(octets(it) for it in walked() if is_script(it))
-    there = {it for it in {it for _, it in found} if it.encode() in scripts or f'"{it[2:]}"'.encode() in scripts}
-    for place, it in found:
-        if it not in there:
-            yield f"{place}: nothing has the option {it}"
+        for name in OPTION.findall(command[2]) if command else ():
+            if name not in known[command[1]]:
+                yield f"{place}: ./{command[1]} has no option {name}"
+    scripts = b"\n".join(octets(entry) for entry in walked() if is_script(entry))
+    there = {entry for entry in {one for _, one in found} if entry.encode() in scripts or f'"{entry[2:]}"'.encode() in scripts}
+    for place, name in found:
+        if name not in there:
+            yield f"{place}: nothing has the option {name}"
 
 
 def is_script(path):
@@ -135,7 +135,7 @@ def is_script(path):
 def statuses_there():
     """An exit status that a page names is one that a command names in its help."""
     helps = [usage.GENERAL, *map(repo.read, GRAMMARS.values())]
-    named = {it for one in helps for text in NUMBERED.findall(one) for it in re.findall(r"(?:^|[;,] )\s*(\d+)\b", " ".join(text.split()))}
+    named = {match for one in helps for text in NUMBERED.findall(one) for match in re.findall(r"(?:^|[;,] )\s*(\d+)\b", " ".join(text.split()))}
     for path, place, line in lines():
         for number in STATUS.findall(line):
             if number not in named | FOREIGN_STATUSES:

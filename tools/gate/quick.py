@@ -24,7 +24,7 @@ PAGES = ("README.md", "CALLING.md")
 SEARCH = ("cert_search", "x509_links", "certpath_rebuild", "certpath_typed", "certpath_find")
 APART = {"certpath_typed": ("certcheck",), "certpath_find": ("certcheck",), "certcheck": SEARCH, "certpath_recheck": SEARCH}
 LABEL = re.compile(r"(?:^|[^\w/.-])((?:[DTLW]\d{1,2}|R\d{1,2}(?:\.\d+)?|0[1-4], ?\d|document 0[1-4]))(?:\W|$)")
-# What stands in quotes in code: octets and words of a test, and no label.
+# What is in quotes in code: octets and words of a test, and no label.
 QUOTED = re.compile(r"""b?'[^'\n]{1,4}'|"(?:[^"\\\n]|\\.)*\"""")
 MACHINE = re.compile(r"""(?:^|[\s"'`(=:])(?:/(?:opt|work|farm|home|root|tmp|Users)/\w|\.\./shared)""")
 NAMED_FILE = re.compile(r"`([\w.+-]*(?:/[\w.+-]*)+|[\w.+-]+\.(?:md|py|sh|rt|antt|edit|der|txt|frame))`")
@@ -32,19 +32,19 @@ LINK = re.compile(r"\]\(([^)\s#]+)[^)]*\)")
 
 
 def files():
-    """Each file of the repository but for what checks leave behind, by its path from the top."""
+    """Each file of the repository but for what checks leave, by its path from the top."""
     found = []
     for at, folders, names in os.walk(repo.TOP):
-        folders[:] = sorted(it for it in folders if it not in (".git", "out", "__pycache__"))
-        found += [os.path.relpath(os.path.join(at, it), repo.TOP) for it in sorted(names)]
+        folders[:] = sorted(folder for folder in folders if folder not in (".git", "out", "__pycache__"))
+        found += [os.path.relpath(os.path.join(at, name), repo.TOP) for name in sorted(names)]
     return found
 
 
 FILES = files()
-OF_RATTLE = [it for it in FILES if it.endswith((".rt", ".antt"))]
-SCRIPTS = [it for it in FILES if it.endswith((".py", ".sh")) or it in ("test", "certpath", "rows", "bundle", "vouch", "verify", "install", "tools/install/inventory", ".ci/run")]
-TEXTS = [it for it in FILES if it.endswith((".md", ".edit")) or it == "crates.txt"]
-DOCS = [it for it in FILES if it.endswith(".md")]
+OF_RATTLE = [file for file in FILES if file.endswith((".rt", ".antt"))]
+SCRIPTS = [file for file in FILES if file.endswith((".py", ".sh")) or file in ("test", "certpath", "rows", "bundle", "vouch", "verify", "install", "tools/install/inventory", ".ci/run")]
+TEXTS = [file for file in FILES if file.endswith((".md", ".edit")) or file == "crates.txt"]
+DOCS = [file for file in FILES if file.endswith(".md")]
 CRATES = repo.crates()
 
 
@@ -65,27 +65,27 @@ def edits_apply():
 
 def few_edits():
     """The gate tries few edits in few crates, and none that lies in wrong/ too."""
-    counts = {it: len(edits.names(it, "must-fail")) for it in CRATES if edits.names(it, "must-fail")}
+    counts = {name: len(edits.names(name, "must-fail")) for name in CRATES if edits.names(name, "must-fail")}
     if sum(counts.values()) > MOST_EDITS or len(counts) > MOST_CRATES:
         yield f"must-fail/ has {sum(counts.values())} edits in {len(counts)} crates, and at most {MOST_EDITS} in {MOST_CRATES} are kept there: move others to wrong/"
     for crate in CRATES:
         for edit in {*edits.names(crate, "must-fail")} & {*edits.names(crate, "wrong")}:
-            yield f"crates/{crate}: {edit} stands in must-fail/ and in wrong/"
+            yield f"crates/{crate}: {edit} is in must-fail/ and in wrong/"
 
 
 def modules(crate):
     """The .rt files of a crate that its root reaches by `mod`."""
     inside = f"crates/{crate}/src/"
-    found = [inside + it for it in ("lib.rt", "main.rt") if inside + it in FILES]
+    found = [inside + entry for entry in ("lib.rt", "main.rt") if inside + entry in FILES]
     for path in found:
         folder = path[:-len(os.path.basename(path))] if path.endswith(("/lib.rt", "/main.rt", "/mod.rt")) else path[:-len(".rt")] + "/"
         for name in re.findall(r"(?m)^[^/\n]*\bmod (\w+)\s*;", repo.read(path)):
-            found += [it for it in (f"{folder}{name}.rt", f"{folder}{name}/mod.rt") if it in FILES and it not in found]
+            found += [value for value in (f"{folder}{name}.rt", f"{folder}{name}/mod.rt") if value in FILES and value not in found]
     return found
 
 
 def is_joined(word, words):
-    """Whether a word is one of the words, or several of them one behind the other, as a folder of a trait's impl is named."""
+    """Whether a word is one of the words, or several of them one after another, as a folder of a trait's impl is named."""
     return word in words or any(word[:at] in words and is_joined(word[at:], words) for at in range(1, len(word)))
 
 
@@ -99,10 +99,10 @@ def is_read(path, reached, words):
         return path in reached
     if part in ("specs", "proofs"):
         if part == "proofs" and name in OF_FUNCTION:
-            return len(inner) > 1 and all(is_joined(it.lstrip("+"), words) for it in inner[:-1])
+            return len(inner) > 1 and all(is_joined(entry.lstrip("+"), words) for entry in inner[:-1])
         above = f"crates/{crate}/{'/'.join([part, *inner[:-1]])}"
         lists = [f"{above}/Lib.antt", f"{above}.antt"]
-        listed = "\n".join(repo.read(it) for it in lists if it in FILES)
+        listed = "\n".join(repo.read(place) for place in lists if place in FILES)
         return path == lists[0] or bool(re.search(rf"(?m)^(?:pub )?mod {re.escape(name[:-len('.antt')])}\s*$", listed))
     return not inner and part in (*BESIDE_SRC, *PAGES) or part == "data" and not name.endswith((".rt", ".antt"))
 
@@ -111,14 +111,14 @@ def all_read():
     """Each file of a crate is read by its check or its run."""
     for crate in CRATES:
         reached = modules(crate)
-        sources = [it for it in FILES if it.startswith(f"crates/{crate}/src/")]
+        sources = [file for file in FILES if file.startswith(f"crates/{crate}/src/")]
         words = {*re.findall(r"\w+", "\n".join([*sources, *map(repo.read, reached)]))}
         for path in FILES:
             if path.startswith(f"crates/{crate}/") and not is_read(path, reached, words):
                 yield f"{path}: nothing reads it"
     for path in OF_RATTLE:
         if not path.startswith("crates/"):
-            yield f"{path}: it stands outside the crates, so nothing reads it"
+            yield f"{path}: it is outside the crates, so nothing reads it"
 
 
 def no_labels():
@@ -162,30 +162,30 @@ def docs_name_files():
 
 
 def crates_listed():
-    """crates.txt has one line for each folder of crates/, and docs/CRATES.md tells of each."""
-    told = repo.read("docs/CRATES.md")
+    """crates.txt has one line for each folder of crates/, and docs/CRATES.md names each."""
+    page = repo.read("docs/CRATES.md")
     yield from listed.faults()
     for name in CRATES:
-        if f"`{name}`" not in told:
-            yield f"docs/CRATES.md: it tells nothing of the crate {name}"
+        if f"`{name}`" not in page:
+            yield f"docs/CRATES.md: it doesn't name the crate {name}"
 
 
 def few_ways():
     """What the gate reads for its sums stays in bounds: `rt` goes down every way from a library, each time anew, twice a library."""
     reads = {}
     for crate in repo.below(CRATES, CRATES):
-        own = sum(it.startswith(tuple(f"crates/{crate}/{part}/" for part in ("src", "specs", "proofs"))) for it in FILES)
-        reads[crate] = own + sum(reads[it] for it in CRATES[crate])
-    total = sum(2 * reads[it] for it in CRATES if f"crates/{it}/src/main.rt" not in FILES)
+        own = sum(file.startswith(tuple(f"crates/{crate}/{part}/" for part in ("src", "specs", "proofs"))) for file in FILES)
+        reads[crate] = own + sum(reads[name] for name in CRATES[crate])
+    total = sum(2 * reads[name] for name in CRATES if f"crates/{name}/src/main.rt" not in FILES)
     if total > MOST_READS:
         yield f"crates.txt: sums of what libraries are made from read {total:,} files, and at most {MOST_READS:,} are allowed: let a crate name what it uses through another"
 
 
 def judge_alone():
-    """`certcheck` shares nothing with the search and the typed readers: beside its own crates it stands on parts of `asn1_rs` and `der_parser` alone."""
+    """`certcheck` shares nothing with the search and the typed readers: beside its own crates it depends on parts of `asn1_rs` and `der_parser` alone."""
     own = {"certcheck", "cert_framing", "cert_graph", "cert_judge", "cert_model", "cert_vouchers"}
     for name in sorted({*repo.below(["certcheck"], CRATES)} - own - {*repo.below(["asn1_rs", "der_parser"], CRATES)}):
-        yield f"crates.txt: certcheck stands on {name}"
+        yield f"crates.txt: certcheck depends on {name}"
 
 
 def roads_apart():
@@ -222,7 +222,7 @@ def short_files():
 
 
 def worked_causes():
-    """Each worked row that docs/OTHER.md names stands in rows_cert, and is other."""
+    """Each worked row that docs/OTHER.md names is in rows_cert, and is other."""
     lines = repo.read("crates/rows_cert/stdout").splitlines()
     answers = {title.removeprefix("# ").partition(": ")[0]: answer for title, answer in zip(lines, lines[1:])}
     named = [" ".join(row.split()) for row in re.findall(r"\*Rows\*:\s+([^.]*)\.", repo.read("docs/OTHER.md"))]
@@ -273,9 +273,9 @@ def checks():
 
 def looked():
     """Looks, and prints what is amiss; gives how many looks passed and failed."""
-    amiss = {it: [*it()] for it in checks()}
+    amiss = {check: [*check()] for check in checks()}
     for lines in amiss.values():
-        print("".join(f"quick: {it}\n" for it in lines), end="", flush=True)
+        print("".join(f"quick: {line}\n" for line in lines), end="", flush=True)
     failed = sum(map(bool, amiss.values()))
     return len(amiss) - failed, failed
 

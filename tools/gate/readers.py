@@ -53,7 +53,7 @@ HARMLESS = ('print("-----")', "base64.b64encode(octets)", "number = 0x1F & 0x7F"
 
 def of_docs(tree):
     """The nodes of a script that are texts about it."""
-    return {id(it.value) for it in ast.walk(tree) if isinstance(it, ast.Expr)}
+    return {id(entry.value) for entry in ast.walk(tree) if isinstance(entry, ast.Expr)}
 
 
 def begins_with_tag(node, source):
@@ -78,7 +78,7 @@ def is_hex_of_der(node):
 def names_in(node):
     """The names that a node of a script has."""
     if isinstance(node, (ast.Import, ast.ImportFrom)):
-        yield from (it.name for it in node.names)
+        yield from (name.name for name in node.names)
     elif isinstance(node, (ast.Attribute, ast.Name)):
         yield node.attr if isinstance(node, ast.Attribute) else node.id
 
@@ -107,17 +107,17 @@ def reading(text):
                     for number, line in enumerate(text.splitlines(), 1) if OF_SHELL.search(line))
         return
     docs = of_docs(tree)
-    nodes = (it for it in ast.walk(tree) if hasattr(it, "lineno") and id(it) not in docs)
-    found = ((it.lineno, why_of(it, text)) for it in nodes)
-    yield from sorted({it for it in found if it[1]})
+    nodes = (entry for entry in ast.walk(tree) if hasattr(entry, "lineno") and id(entry) not in docs)
+    found = ((node.lineno, why_of(node, text)) for node in nodes)
+    yield from sorted({entry for entry in found if entry[1]})
 
 
 def files_by_library(top=repo.TOP):
     """No script reads PEM, base64 or DER but those that are allowed, with a reason, and do."""
-    yield from (f"{THIS}: a script with the line {it} isn't refused"
-                for it in PLANTED if not [*reading(it)])
-    yield from (f"{THIS}: a script with the line {it} is refused"
-                for it in HARMLESS if [*reading(it)])
+    yield from (f"{THIS}: a script with the line {entry} isn't refused"
+                for entry in PLANTED if not [*reading(entry)])
+    yield from (f"{THIS}: a script with the line {entry} is refused"
+                for entry in HARMLESS if [*reading(entry)])
     allowed = {*ALLOWED}
     for path in source_checks.scripts(top):
         if path.startswith(MAKERS):
@@ -129,7 +129,7 @@ def files_by_library(top=repo.TOP):
         elif found:
             allowed.discard(path)
     if top == repo.TOP:
-        yield from (f"{THIS}: {it} needs no leave" for it in sorted(allowed))
+        yield from (f"{THIS}: {entry} needs no leave" for entry in sorted(allowed))
 
 
 CHECKS = (files_by_library,)

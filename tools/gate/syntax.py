@@ -108,7 +108,7 @@ class File:
         return Function(self, found[1], found.start(), self.owner_at(found.start() + len(found[0])), signature, clauses, body, clause.start())
 
     def generics_end(self, at):
-        """Behind the type parameters that begin at a place, or the place itself."""
+        """After the type parameters that begin at a place, or the place itself."""
         if self.code[at] != "<":
             return at
         depth = 0

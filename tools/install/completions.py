@@ -40,17 +40,18 @@ def short(text):
 def of_parser(made):
     """The options of a parser of Python's argparse."""
     found = []
-    for it in made._actions:
-        name = next((one for one in it.option_strings if one.startswith("--")), None)
-        if name and it.help != argparse.SUPPRESS:
-            takes = None if it.nargs == 0 else it.metavar or it.dest.upper()
-            found.append(Option(name, takes, short((it.help or "").replace("%(default)s", ""))))
+    for action in made._actions:
+        name = next((one for one in action.option_strings if one.startswith("--")), None)
+        if name and action.help != argparse.SUPPRESS:
+            takes = None if action.nargs == 0 else action.metavar or action.dest.upper()
+            found.append(Option(name, takes, short((action.help or "").replace("%(default)s", ""))))
     return found
 
 
 def section_of(name):
-    """The section of the page that is on a command."""
-    return re.search(rf"(?ms)^## `{name}`\n(.*?)(?=^## |\Z)", repo.read(PAGE))[1]
+    """The section of the page that is on a command; tools/gate/helps.py looks whether there is one."""
+    found = re.search(rf"(?ms)^## `{name}`\n(.*?)(?=^## |\Z)", repo.read(PAGE))
+    return found[1] if found else ""
 
 
 def of_text(text):
@@ -70,15 +71,15 @@ def subcommands():
     """What each command of certpath does, by its name."""
     listed = usage.GENERAL.partition("Commands:\n")[2].partition("\n\n")[0]
     said = dict(COMMAND.findall(listed))
-    return {it: short(said[it]) for it in sorted(usage.COMMANDS)}
+    return {name: short(said.get(name, "")) for name in sorted(usage.COMMANDS)}
 
 
 def of_subcommand(name):
     """The options of a command of certpath: those of the form that its section begins with. What one
     does may be said in the section of another command."""
-    described = {it.name: it for command in usage.COMMANDS for it in of_text(section_of(f"certpath {command}"))}
+    described = {option.name: option for command in usage.COMMANDS for option in of_text(section_of(f"certpath {command}"))}
     form = section_of(f"certpath {name}").strip().partition("\n\n")[0]
-    return [*(described[it] for it in OPTION.findall(form)), Option(*HELP)]
+    return [*(described[option] for option in OPTION.findall(form) if option in described), Option(*HELP)]
 
 
 def scripts():
@@ -88,15 +89,15 @@ def scripts():
 
 
 def names(options):
-    return " ".join(sorted(it.name for it in options))
+    return " ".join(sorted(option.name for option in options))
 
 
 def bash(is_installed):
     """The completion of bash: for the commands of an installation, or for the scripts of a checkout."""
     further = FURTHER if is_installed else FURTHER + OF_CHECKOUT
-    cases = "".join(f'    {it}) words="{names(of_subcommand(it))}" ;;\n' for it in subcommands())
-    others = {(installed.COMMANDS[it] if is_installed else it): options for it, options in scripts().items()
-              if is_installed or os.path.exists(os.path.join(repo.TOP, it))}
+    cases = "".join(f'    {subcommand}) words="{names(of_subcommand(subcommand))}" ;;\n' for subcommand in subcommands())
+    others = {(installed.COMMANDS[script] if is_installed else script): options for script, options in scripts().items()
+              if is_installed or os.path.exists(os.path.join(repo.TOP, script))}
     tables = "".join(f'    {name}) words="{names(options)}" ;;\n' for name, options in others.items())
     return f"""# Completion of bash for certpath, {', '.join(others)}. Made of the commands' helps.
 _certpath() {{
@@ -152,7 +153,7 @@ def zsh_arguments(options, indent):
 def zsh():
     """The completion of zsh."""
     listed = " ".join(quoted(f"{name}:{says}") for name, says in subcommands().items())
-    cases = "".join(f"    {it})\n{zsh_arguments(of_subcommand(it), '      ')} ;;\n" for it in subcommands())
+    cases = "".join(f"    {subcommand})\n{zsh_arguments(of_subcommand(subcommand), '      ')} ;;\n" for subcommand in subcommands())
     others = "".join(f"  {installed.COMMANDS[name]})\n{zsh_arguments(options, '    ')} ;;\n"
                      for name, options in scripts().items())
     return f"""#compdef {' '.join(installed.COMMANDS.values())}
@@ -179,9 +180,9 @@ case $service in
 
 
 def fish_options(command, condition, options):
-    for it in options:
-        takes = "" if not it.takes else " -r -F" if it.is_of_files() else " -x"
-        yield f"complete -c {command}{condition} -l {it.name[2:]}{takes} -d {quoted(it.says)}"
+    for option in options:
+        takes = "" if not option.takes else " -r -F" if option.is_of_files() else " -x"
+        yield f"complete -c {command}{condition} -l {option.name[2:]}{takes} -d {quoted(option.says)}"
 
 
 def fish():
@@ -190,8 +191,8 @@ def fish():
     for name, says in subcommands().items():
         lines.append(f"complete -c certpath -n __fish_use_subcommand -f -a {name} -d {quoted(says)}")
         lines += fish_options("certpath", f" -n '__fish_seen_subcommand_from {name}'", of_subcommand(name))
-    lines += [f"complete -c certpath -n __fish_use_subcommand {'-l' if it.startswith('--') else '-f -a'} {it.lstrip('-')}"
-              for it in FURTHER]
+    lines += [f"complete -c certpath -n __fish_use_subcommand {'-l' if entry.startswith('--') else '-f -a'} {entry.lstrip('-')}"
+              for entry in FURTHER]
     for name, options in scripts().items():
         lines += fish_options(installed.COMMANDS[name], "", options)
     lines.append("complete -c certpath-verify -l anchors -x -a \"system (__fish_complete_path)\"")

@@ -9,7 +9,7 @@ from program import installed, programs, repo
 SCRIPTS = os.path.join("certpath", "scripts")
 COMMANDS = ("certpath", "verify", "vouch", "bundle")
 INVENTORY = os.path.join("tools", "install", "inventory")
-MODULES = tuple(os.path.join("tools", it) for it in ("pki", "program", "verify"))
+MODULES = tuple(os.path.join("tools", entry) for entry in ("pki", "program", "verify"))
 # Modules that build and prove, of which an installation has no use.
 OF_BUILDS = ("building.py",)
 # The page that a warning of ./verify names.
@@ -30,9 +30,9 @@ def python_files(folder):
     """The Python files of a folder and of those in it, by their paths from the top."""
     top = os.path.join(repo.TOP, folder)
     for at, folders, names in os.walk(top):
-        folders[:] = sorted(it for it in folders if it != "__pycache__")
-        yield from (os.path.relpath(os.path.join(at, it), repo.TOP)
-                    for it in sorted(names) if it.endswith(".py"))
+        folders[:] = sorted(entry for entry in folders if entry != "__pycache__")
+        yield from (os.path.relpath(os.path.join(at, name), repo.TOP)
+                    for name in sorted(names) if name.endswith(".py"))
 
 
 def beside_library():

@@ -22,7 +22,7 @@ ARCHITECTURES = {"x86_64": "amd64"}
 SHEBANG = re.compile(rb"\A#!/usr/bin/env (?:-S )?python3(.*)\n")
 INTERPRETER = b"#!/usr/bin/python3"
 # Licences are in the file `copyright`, and the system has the text of one of them.
-LEFT_OUT = tuple(os.path.join(folder, it) for it in contents.NOTICES
+LEFT_OUT = tuple(os.path.join(folder, notice) for notice in contents.NOTICES
                  for folder in (placing.DOCUMENTS, os.path.join(placing.ROOT, contents.SCRIPTS)))
 CONTROL = """\
 Package: certpath
@@ -84,7 +84,7 @@ MAINTAINER = "The Lovzeteny authors <certpath@packages.invalid>"
 
 def paragraph(text):
     """Lines of a control file's field, each with the blank before it."""
-    return "\n".join(f" {it}" if it.strip() else " ." for it in text.strip().splitlines())
+    return "\n".join(f" {line}" if line.strip() else " ." for line in text.strip().splitlines())
 
 
 def epoch():
@@ -109,9 +109,9 @@ def packaged(placed):
 
 def files(version):
     """All files of the package, below /usr."""
-    for it in placing.files(PREFIX):
-        if it.path not in LEFT_OUT:
-            yield packaged(it)
+    for file in placing.files(PREFIX):
+        if file.path not in LEFT_OUT:
+            yield packaged(file)
     own, licence = os.path.join("share", "doc", "certpath"), repo.read("LICENSE-MIT")
     holder = re.search(r"(?m)^Copyright \(c\) (.*)$", licence)[1]
     made = COPYRIGHT.format(holder=holder, notice=paragraph(repo.read("NOTICE")), expat=paragraph(licence.partition("\n\n")[2]))
@@ -144,7 +144,7 @@ def control(room, version, size):
 def sums(placed):
     """The digests that dpkg --verify compares."""
     import hashlib
-    lines = (f"{hashlib.md5(it.octets, usedforsecurity=False).hexdigest()}  usr/{it.path}\n" for it in placed if it.link is None)
+    lines = (f"{hashlib.md5(entry.octets, usedforsecurity=False).hexdigest()}  usr/{entry.path}\n" for entry in placed if entry.link is None)
     return "".join(lines).encode()
 
 
@@ -155,10 +155,10 @@ def make(folder):
         os.chmod(room, running.FOLDER_MODE)
         placed = [*files(version)]
         place = running.Place(PREFIX, room)
-        place.make_folders([it.path for it in placed])
-        for it in placed:
-            place.put(it)
-        name = control(room, version, sum(len(it.octets) for it in placed) // 1024)
+        place.make_folders([one.path for one in placed])
+        for entry in placed:
+            place.put(entry)
+        name = control(room, version, sum(len(one.octets) for one in placed) // 1024)
         with open(os.path.join(room, "DEBIAN", "md5sums"), "wb") as file:
             file.write(sums(placed))
         path = os.path.join(os.path.abspath(folder), name)

@@ -24,7 +24,7 @@ FENCE = re.compile(r"(?ms)^```\w*\n(.*?)^```\n")
 
 def section_of(page, name):
     """The section of a page that is on a command, without its heading."""
-    return next(it[0] for it in SECTION.finditer(page) if it[1] == name).partition("\n")[2]
+    return next(match[0] for match in SECTION.finditer(page) if match[1] == name).partition("\n")[2]
 
 
 def text_of(name):
@@ -36,19 +36,19 @@ def text_of(name):
     else:
         page = page.partition("\n")[2]
     if name == "certpath":
-        page = SECTION.sub(lambda it: "" if it[1] in OTHERS else it[0], page)
+        page = SECTION.sub(lambda match: "" if match[1] in OTHERS else match[0], page)
     page = PICTURE.sub("", CONTENTS.sub("", page))
-    page = FENCE.sub(lambda it: "".join(f"    {line}\n" for line in it[1].splitlines()), page)
+    page = FENCE.sub(lambda match: "".join(f"    {line}\n" for line in match[1].splitlines()), page)
     return installed.renamed(page)
 
 
 def synopsis(name, page):
     """The forms of a command: the blocks to type that its sections begin with, or its page's first."""
     if name != "certpath":
-        first = next((it for it in manual.blocks(page) if it[0].startswith("    ")), [])
-        return [it[4:] for it in first if it.startswith(f"    {installed.COMMANDS[name]}")] or [installed.COMMANDS[name]]
-    sections = [it[0] for it in SECTION.finditer(page) if it[1]]
-    firsts = [manual.blocks(it)[1] for it in sections if len(manual.blocks(it)) > 1]
+        first = next((entry for entry in manual.blocks(page) if entry[0].startswith("    ")), [])
+        return [entry[4:] for entry in first if entry.startswith(f"    {installed.COMMANDS[name]}")] or [installed.COMMANDS[name]]
+    sections = [match[0] for match in SECTION.finditer(page) if match[1]]
+    firsts = [manual.blocks(section)[1] for section in sections if len(manual.blocks(section)) > 1]
     return [line[4:] for block in firsts for line in block if line.startswith("    ")]
 
 
@@ -60,7 +60,7 @@ def page_of(name):
              f"{manual.plain(command)} \\- {manual.plain(PAGES[name][1])}", ".SH SYNOPSIS", ".nf",
              *map(manual.plain, synopsis(name, page)), ".fi", ".SH DESCRIPTION",
              *(line for block in manual.blocks(page) for line in manual.of_block(block)), '.SH "SEE ALSO"']
-    others = [f"{manual.plain(it)}(1)" for it in installed.COMMANDS.values() if it != command]
+    others = [f"{manual.plain(entry)}(1)" for entry in installed.COMMANDS.values() if entry != command]
     return "\n".join(manual.fitted([*lines, ", ".join([*others, "openssl\\-verify(1ssl)"])])) + "\n"
 
 

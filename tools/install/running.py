@@ -73,14 +73,14 @@ class Place:
 
     def write(self):
         """Writes the list of what is there."""
-        lines = [*(f"{FILE} {it}\n" for it in self.files), *(f"{FOLDER} {it}\n" for it in self.folders)]
+        lines = [*(f"{FILE} {file}\n" for file in self.files), *(f"{FOLDER} {folder}\n" for folder in self.folders)]
         self.put(placing.Placed(placing.LIST, "".join(lines).encode(), contents.PLAIN))
 
     def make_folders(self, paths):
         """Makes the folders that paths need and that aren't there, once the list of files has them."""
-        needed = {os.path.dirname(self.at(it)) for it in paths}
-        missing = sorted({above for it in needed for above in with_those_above(it) if not os.path.isdir(above)})
-        self.folders += [os.path.relpath(it, self.top) for it in missing]
+        needed = {os.path.dirname(self.at(path)) for path in paths}
+        missing = sorted({above for entry in needed for above in with_those_above(entry) if not os.path.isdir(above)})
+        self.folders += [os.path.relpath(part, self.top) for part in missing]
         for folder in missing:
             os.mkdir(folder, FOLDER_MODE)
             os.chmod(folder, FOLDER_MODE)
@@ -103,16 +103,16 @@ class Place:
 
     def install(self, files):
         """Puts all files in place, and takes away those of an earlier run that are there no more."""
-        foreign = next((it.path for it in files if os.path.lexists(self.at(it.path)) and it.path not in self.files), None)
+        foreign = next((entry.path for entry in files if os.path.lexists(self.at(entry.path)) and entry.path not in self.files), None)
         if foreign is not None:
             raise Failed(UNWRITTEN, f"{self.at(foreign)} is there, and no list of ./install has it: move it away first")
-        old, new = self.files, [it.path for it in files] + [placing.LIST]
+        old, new = self.files, [entry.path for entry in files] + [placing.LIST]
         self.make_folders(new)
         # (a run that ends early can be repeated, or undone)
-        self.files = [*new, *(it for it in old if it not in new)]
+        self.files = [*new, *(entry for entry in old if entry not in new)]
         self.write()
-        for it in files:
-            self.put(it)
+        for file in files:
+            self.put(file)
         for path in {*old} - {*new}:
             remove(self.at(path))
         self.files = new
@@ -131,7 +131,7 @@ class Place:
                 shutil.rmtree(os.path.join(at, "__pycache__"))
         # (the list goes last, so that a run that ends early can be repeated)
         remove(self.list())
-        for folder in sorted(self.folders, key=lambda it: os.path.normpath(self.at(it)).count(os.sep), reverse=True):
+        for folder in sorted(self.folders, key=lambda folder: os.path.normpath(self.at(folder)).count(os.sep), reverse=True):
             try:
                 os.rmdir(os.path.normpath(self.at(folder)))
             except OSError:
@@ -198,4 +198,4 @@ def main(words):
     except OSError as error:
         streams.report(f"install: {error.filename}: {error.strerror}")
         return UNWRITTEN
-    return WELL if streams.wrote("".join(f"install: {streams.shown(it)}\n" for it in lines).encode()) else UNWRITTEN
+    return WELL if streams.wrote("".join(f"install: {streams.shown(line)}\n" for line in lines).encode()) else UNWRITTEN

@@ -112,7 +112,7 @@ def vouched_by(certpath, openssl, given, files):
     """Vouches for the items of files by the package."""
     from pki.vouchers import Vouching
     limit = certpath.LIMIT if given.limit is None else int(given.limit)
-    bundle, anchors = (certpath.frame(it, limit) for it in files)
+    bundle, anchors = (certpath.frame(file, limit) for file in files)
     report, tries = Report(given.verbose), int(given.tries or certpath.openssl.MOST_TRIES)
     vouching = Vouching(bundle, anchors, certpath.openssl.Judge(openssl, tries), given.weak, report)
     ends = ends_of(bundle, anchors)

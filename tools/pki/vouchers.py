@@ -1,4 +1,4 @@
-"""Which key vouches for which item of a bundle, and why none does: what ./vouch writes and tells."""
+"""Which key vouches for which item of a bundle, and why none does: what ./vouch writes and says."""
 from typing import NamedTuple
 
 from pki import package

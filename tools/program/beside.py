@@ -38,7 +38,7 @@ def run(words):
         programs.become(programs.CERTPATH, words)
     begun = f"{file}.{os.getpid()}.begun"
     signal.signal(signal.SIGCHLD, signal.SIG_DFL)
-    watched = {signal.SIGCHLD, *(it for it in SIGNALS if signal.getsignal(it) != signal.SIG_IGN)}
+    watched = {signal.SIGCHLD, *(entry for entry in SIGNALS if signal.getsignal(entry) != signal.SIG_IGN)}
     read, written = os.pipe()
     # (signals are waited for, so that none is missed, however early it comes)
     signal.pthread_sigmask(signal.SIG_BLOCK, watched)

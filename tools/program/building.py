@@ -24,10 +24,10 @@ def copied(crate, to):
     # (`rt ci` runs at the top of a repository)
     os.makedirs(os.path.join(to, ".git"))
     shutil.copyfile(os.path.join(repo.TOP, "HANDLES"), os.path.join(to, "HANDLES"))
-    sources.put(os.path.join(to, "crates.txt"), "".join(f"{lines[it]}\n" for it in crates).encode())
-    for it in crates:
-        shutil.copytree(*(os.path.join(top, "crates", it) for top in (repo.TOP, to)), ignore=lambda _,
-                        names: {it for it in names if it in LEFT_OUT or not sources.is_source(it)})
+    sources.put(os.path.join(to, "crates.txt"), "".join(f"{lines[entry]}\n" for entry in crates).encode())
+    for name in crates:
+        shutil.copytree(*(os.path.join(top, "crates", name) for top in (repo.TOP, to)), ignore=lambda _,
+                        names: {word for word in names if word in LEFT_OUT or not sources.is_source(word)})
     return len(crates)
 
 
@@ -42,7 +42,7 @@ def kit():
 
 def needs_of(octets):
     """The machine that a program needs, by the versions of the C library that it names."""
-    versions = [[*map(int, it.decode().split("."))] for it in VERSION_OF_LIBC.findall(octets)]
+    versions = [[*map(int, match.decode().split("."))] for match in VERSION_OF_LIBC.findall(octets)]
     return f"Linux x86_64 glibc {'.'.join(map(str, max(versions, default=[2, 0])))}"
 
 
@@ -50,16 +50,16 @@ def keep(crate, program, digest):
     """Puts a program that was built from sources of the digest in its place, with its record."""
     octets = sources.octets_of(program)
     record = (kit(), digest, sources.sum_of_octets(octets), needs_of(octets))
-    text = "".join(f"{word} {it}\n" for word, it in zip(programs.WORDS, record))
-    path, record_path = (os.path.join(repo.TOP, it) for it in programs.paths(crate))
+    text = "".join(f"{word} {entry}\n" for word, entry in zip(programs.WORDS, record))
+    path, record_path = (os.path.join(repo.TOP, entry) for entry in programs.paths(crate))
     sources.put(path, octets, 0o755)
     sources.put(record_path, text.encode())
 
 
 def stop(number, _):
     """Ends this process once a signal came; what it began it ends and removes first."""
-    for it in SIGNALS:
-        signal.signal(it, signal.SIG_IGN)
+    for entry in SIGNALS:
+        signal.signal(entry, signal.SIG_IGN)
     streams.report(f"stopped by {signal.Signals(number).name}")
     sys.exit(128 + number)
 
@@ -81,9 +81,9 @@ def build(crate):
     process ends with a line that says why not."""
     if not shutil.which("rt"):
         programs.end(crate, "rt, the toolchain that builds it, isn't on the path")
-    for it in SIGNALS:
-        if signal.getsignal(it) != signal.SIG_IGN:
-            signal.signal(it, stop)
+    for entry in SIGNALS:
+        if signal.getsignal(entry) != signal.SIG_IGN:
+            signal.signal(entry, stop)
     try:
         with tempfile.TemporaryDirectory(prefix="certpath-build-") as top:
             copy = os.path.join(top, "copy")

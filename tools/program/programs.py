@@ -39,7 +39,7 @@ def paths(crate):
 def read_record(path):
     """What the lines of a record say, by their words; nothing if it can't be read."""
     text = sources.octets_if_any(os.path.join(repo.TOP, path)).decode(errors="replace")
-    return dict(it.split(" ", 1) for it in text.splitlines() if " " in it)
+    return dict(line.split(" ", 1) for line in text.splitlines() if " " in line)
 
 
 def sum_of(path):

@@ -15,14 +15,14 @@ def read(path, top=TOP):
 
 def lines(top=TOP):
     """The lines of crates.txt by the crate that each is of, without comments and further blanks."""
-    listed = [" ".join(it.partition("#")[0].split()) for it in read("crates.txt", top).splitlines()]
-    return {it.partition(":")[0].split()[0]: it for it in listed if it}
+    listed = [" ".join(line.partition("#")[0].split()) for line in read("crates.txt", top).splitlines()]
+    return {entry.partition(":")[0].split()[0]: entry for entry in listed if entry}
 
 
 def crates(top=TOP):
     """The crates of crates.txt, each with the crates of the repository that its line lists."""
-    listed = {name: it.partition(":")[2].split() for name, it in lines(top).items()}
-    return {name: [it for it in uses if it in listed] for name, uses in listed.items()}
+    listed = {name: line.partition(":")[2].split() for name, line in lines(top).items()}
+    return {name: [use for use in uses if use in listed] for name, uses in listed.items()}
 
 
 def below(names, listed):
@@ -31,8 +31,8 @@ def below(names, listed):
 
     def take(name):
         if name not in found:
-            for it in listed[name]:
-                take(it)
+            for entry in listed[name]:
+                take(entry)
             found.append(name)
 
     for name in names:

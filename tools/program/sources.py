@@ -19,9 +19,9 @@ def scanned(folder):
     found = []
     try:
         with os.scandir(folder) as entries:
-            for it in entries:
-                if is_source(it.name):
-                    found += scanned(it.path) if it.is_dir(follow_symlinks=False) else [(it.path, it.stat())]
+            for entry in entries:
+                if is_source(entry.name):
+                    found += scanned(entry.path) if entry.is_dir(follow_symlinks=False) else [(entry.path, entry.stat())]
     except (FileNotFoundError, NotADirectoryError):
         pass
     return found
@@ -37,9 +37,9 @@ def of_crate(crate, top):
     """HANDLES and the lines of crates.txt, as one text; and the files of a crate and of all below
     it with their `os.stat_result`, sorted by path."""
     crates, lines = repo.below([crate], repo.crates(top)), repo.lines(top)
-    head = "\n".join([repo.read("HANDLES", top), *(lines[it] for it in sorted(crates))])
+    head = "\n".join([repo.read("HANDLES", top), *(lines[entry] for entry in sorted(crates))])
     folders = (os.path.join(top, "crates", name, part) for name in crates for part in PARTS)
-    return head, sorted((it for part in folders for it in scanned(part)), key=lambda it: it[0])
+    return head, sorted((entry for part in folders for entry in scanned(part)), key=lambda file: file[0])
 
 
 def octets_of(path):
@@ -62,7 +62,7 @@ def sum_of_octets(octets):
 def digest(crate, top=repo.TOP):
     """The digest in hex digits, made anew only if a file changed since it was made last."""
     head, files = of_crate(crate, top)
-    rows = (f"{path} {it.st_size} {it.st_mtime_ns} {it.st_ctime_ns} {it.st_ino}" for path, it in files)
+    rows = (f"{path} {entry.st_size} {entry.st_mtime_ns} {entry.st_ctime_ns} {entry.st_ino}" for path, entry in files)
     looks = sum_of_octets("\n".join([head, *rows]).encode(errors="surrogateescape"))
     kept = os.path.join(top, KEPT, crate)
     words = octets_if_any(kept).decode("ascii", "replace").split()
@@ -73,7 +73,7 @@ def digest(crate, top=repo.TOP):
         octets, name = octets_of(path), os.path.relpath(path, top)
         summed.update(f"\n{name} {len(octets)}\n".encode(errors="surrogateescape"))
         summed.update(octets)
-    youngest = max((max(it.st_mtime_ns, it.st_ctime_ns) for _, it in files), default=0)
+    youngest = max((max(entry.st_mtime_ns, entry.st_ctime_ns) for _, entry in files), default=0)
     if time.time_ns() - youngest > YOUNG:
         try:
             put(kept, f"{looks} {summed.hexdigest()}\n".encode())

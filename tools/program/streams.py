@@ -18,7 +18,7 @@ def shown(text):
     """A text for a terminal: what isn't printable, such as control characters, is escaped."""
     if text.isprintable():
         return text
-    return "".join(it if it.isprintable() else it.encode("unicode_escape").decode() for it in text)
+    return "".join(letter if letter.isprintable() else letter.encode("unicode_escape").decode() for letter in text)
 
 
 def report(text):
@@ -29,7 +29,7 @@ def report(text):
 def write_lines(lines):
     """Writes lines that are fit to be shown on standard error."""
     try:
-        sys.stderr.write("".join(f"{it}\n" for it in lines))
+        sys.stderr.write("".join(f"{line}\n" for line in lines))
         sys.stderr.flush()
     except OSError:
         pass
@@ -67,7 +67,7 @@ def lacks_memory(error):
         is_of_loader = isinstance(error, (ImportError, OSError)) and number is None
         if isinstance(error, MemoryError) or number == errno.ENOMEM:
             return True
-        if is_of_loader and any(it in str(error) for it in NO_ROOM):
+        if is_of_loader and any(entry in str(error) for entry in NO_ROOM):
             return True
         if isinstance(error, Exception) and is_limited() and is_of_loading(error):
             return True
@@ -100,14 +100,14 @@ def is_limited():
     try:
         import resource
         limits = (resource.RLIMIT_AS, resource.RLIMIT_DATA)
-        return any(resource.getrlimit(it)[0] != resource.RLIM_INFINITY for it in limits)
+        return any(resource.getrlimit(limit)[0] != resource.RLIM_INFINITY for limit in limits)
     except (ImportError, MemoryError):
         # (there is no memory for the module)
         return True
 
 
 def wrote(octets):
-    """Writes the octets on standard output, and tells whether all of them went there."""
+    """Writes the octets on standard output, and returns whether all of them went there."""
     try:
         if sys.stdout is None:
             raise OSError("standard output is closed")
@@ -117,6 +117,6 @@ def wrote(octets):
     except OSError:
         report("cannot write")
     if sys.stdout is not None:
-        # what is left in the buffer would be tried again, and told, when Python ends
+        # what is left in the buffer would be tried again, and reported, when Python ends
         os.dup2(os.open(os.devnull, os.O_WRONLY), sys.stdout.fileno())
     return False

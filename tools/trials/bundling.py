@@ -41,7 +41,7 @@ def pem(octets, label=CERTIFICATE, end=b"\n"):
     """A PEM block, with lines that end so."""
     digits = base64.b64encode(octets)
     lines = [b"-----BEGIN %s-----" % label.encode(), *(digits[at:at + 64] for at in range(0, len(digits), 64)), b"-----END %s-----" % label.encode()]
-    return b"".join(it + end for it in lines)
+    return b"".join(row + end for row in lines)
 
 
 LEAF, INTERMEDIATE, ROOT, LIST = map(sample, ("leaf", "intermediate", "root", "list"))
@@ -140,7 +140,7 @@ CASES = (
      [left("seven.p7b octet 0 certificate 1", NO_ITEM), left("seven.pem line 1 (PKCS7) certificate 1", NO_ITEM),
       left("bare.pem line 1 (PKCS7)", "no SignedData in DER"), left("two.der octet 813 certificate 1", NO_ITEM), summary(8, 3, 4)], 1),
     ({"wide": pem(LEAF).decode().encode("utf-16"), "low": pem(LEAF).decode().encode("utf-16-le"), "high": pem(LEAF).decode().encode("utf-16-be")},
-     ["wide", "low", "high"], b"", [*(left(it, "the file is a text in UTF-16") for it in ("wide", "low", "high")), summary(0, 0, 3)], 1),
+     ["wide", "low", "high"], b"", [*(left(entry, "the file is a text in UTF-16") for entry in ("wide", "low", "high")), summary(0, 0, 3)], 1),
     ({"zeros": b"\0" * 100 + b"\n" + pem(LEAF), "within": pem(LEAF).replace(b"MII", b"M\0I", 1) + pem(ROOT)}, ["zeros", "within"], LEAF + ROOT,
      [left("zeros line 1", "octets around the blocks that are no text"), left("within line 1 (CERTIFICATE)", "not base64"), summary(2, 0, 2)], 1),
     ({"escape\x1b[2J\n\u202e\u00e4": b"junk\n"}, ["escape\x1b[2J\n\u202e\u00e4", "leaf"], LEAF,
@@ -173,8 +173,8 @@ def kept(room, files):
 class Bundling(Trial):
     def ran(self, words, room, octets=b"", output=subprocess.PIPE):
         """A run's output, the lines that it said, and its status."""
-        it = subprocess.run([self.program(), "bundle", *words], cwd=room, input=octets, stdout=output, stderr=subprocess.PIPE, timeout=SECONDS)
-        return it.stdout, it.stderr.decode().splitlines(), it.returncode
+        text = subprocess.run([self.program(), "bundle", *words], cwd=room, input=octets, stdout=output, stderr=subprocess.PIPE, timeout=SECONDS)
+        return text.stdout, text.stderr.decode().splitlines(), text.returncode
 
     def test_cases(self):
         for files, words, octets, lines, status in CASES:
@@ -192,7 +192,7 @@ class Bundling(Trial):
                 self.same(f"bundle {words}", (octets, lines[0][:6], status), (b"", "error:", 2))
             with open("/dev/full", "wb") as full:
                 self.same("a full disk", self.ran(["leaf"], room, output=full), (None, ["cannot write"], 7))
-            many = [it for number in range(1500) for it in ("leaf", "list")]
+            many = [name for number in range(1500) for name in ("leaf", "list")]
             self.same("3000 files", self.ran(many, room), ((LEAF + LIST) * 1500, [summary(1500, 1500, 0)], 0))
 
     def test_as_by_verify(self):
@@ -200,15 +200,15 @@ class Bundling(Trial):
         from trials import pem_peers
         from verify import files, waiting
         waiting.BUDGET.given = MANY_SECONDS
-        odd = [it for held, *_ in CASES for it in held.values()]
+        odd = [value for held, *_ in CASES for value in held.values()]
         with tempfile.TemporaryDirectory(prefix="bundling-") as room:
             for octets in (*odd, *pem_peers.FILES.values()):
                 kept(room, {"file": octets})
                 bundle, said, status = self.ran(["file"], room)
                 found = files.read("file", octets)
-                its = b"".join(it.octets for it in found.items), [*map(as_bundled, found.left_out)]
+                its = b"".join(item.octets for item in found.items), [*map(as_bundled, found.left_out)]
                 self.same(f"{octets[:80]}", its, (bundle, said[:-1]))
-                lists = sum(it.is_list for it in found.items)
+                lists = sum(item.is_list for item in found.items)
                 last = summary(len(found.items) - lists, lists, len(found.left_out))
                 self.same(f"lists of {octets[:80]}", (last, bool(found.left_out)), (said[-1], status == 1))
 
@@ -248,7 +248,7 @@ class Bundling(Trial):
         """Beside a file of 100 MB and what is written a run takes a third of the file at most."""
         width = size(100_000_000, 8_000_000)
         long, two, line = element(0x30, bytes(width * 3 // 4 - 5)), LEAF + ROOT, b"a line\n"
-        blocks, items, lines = (width // len(it) for it in (pem(LEAF), two, line))
+        blocks, items, lines = (width // len(value) for value in (pem(LEAF), two, line))
         files = (("a block that is no item", pem(long), len(long), 1, 1),
                  ("octets after an item", pem(LEAF + long), len(long), 2, 1),
                  ("no base64", pem(long)[:-40] + b"=" + pem(long)[-40:], len(long), 1, 1),

@@ -75,7 +75,7 @@ class Chain:
         self.serial += 1
         title = f"{self.title}-{self.serial}"
         self.prepare(title, extensions)
-        rows = "".join(f"R\t350101000000Z\t260101000000Z\t{it:02x}\tunknown\t/CN=revoked\n" for it in serials)
+        rows = "".join(f"R\t350101000000Z\t260101000000Z\t{serial:02x}\tunknown\t/CN=revoked\n" for serial in serials)
         self.shop.keep(f"{title}.index", rows.encode())
         words = ("-config", f"{title}.cnf", "-cert", issuer.file, "-keyfile", self.shop.key(issuer.key), "-md", digest or "null")
         self.shop.openssl("ca", "-gencrl", *words, "-crl_lastupdate", update, "-crl_nextupdate", next_update, "-crlexts", "extensions", "-out", f"{title}.pem")
@@ -89,5 +89,5 @@ class Chain:
         self.shop.keep(f"{title}.index", b"")
 
     def read(self, file):
-        with open(os.path.join(self.shop.room, file), "rb") as it:
-            return octets_of_pem(it.read())
+        with open(os.path.join(self.shop.room, file), "rb") as entry:
+            return octets_of_pem(entry.read())

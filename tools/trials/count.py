@@ -12,8 +12,8 @@ from program import programs
 
 # Words before a command line that let signals end it, even if the caller of the trials ignores them.
 INTERRUPTIBLE = [sys.executable, "-ISc", """import os, signal, sys
-for it in (signal.SIGINT, signal.SIGHUP, signal.SIGTERM):
-    signal.signal(it, signal.SIG_DFL)
+for number in (signal.SIGINT, signal.SIGHUP, signal.SIGTERM):
+    signal.signal(number, signal.SIG_DFL)
 os.execv(sys.argv[1], sys.argv[1:])"""]
 # Whether the gate runs the trials, and whether they take their smaller sizes; the runner sets both.
 RUN = {"gate": False, "small": False}
@@ -45,7 +45,7 @@ class Trial(unittest.TestCase):
 
     def need(self, *tools):
         """Asks for programs on the path."""
-        missing = [it for it in tools if shutil.which(it) is None]
+        missing = [tool for tool in tools if shutil.which(tool) is None]
         if missing:
             self.lack(f"{', '.join(missing)} isn't on the path")
 

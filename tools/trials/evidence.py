@@ -49,7 +49,7 @@ class Files:
     def __init__(self, room, title, bundle, anchors, vouching, words=("--at", MOMENT)):
         self.room, self.title, self.items, self.words = room, title, bundle, list(words)
         texts = {"bundle": b"".join(bundle), "anchors": b"".join(anchors), "vouchers": paths.vouchers(vouching)}
-        self.files = [self.keep(it, text) for it, text in texts.items()]
+        self.files = [self.keep(item, text) for item, text in texts.items()]
 
     def keep(self, name, octets):
         """Writes a file; gives its name."""
@@ -77,15 +77,15 @@ def by_chance(room, title, numbers):
         bundle.append(made)
         if numbers.randrange(10) < VOUCHED:
             vouching.append((key(issuer)[1], made))
-    anchors = [certificate(f"n{it}", f"n{it}", it, 1) for it in (NAMES - 1, NAMES - 2)]
+    anchors = [certificate(f"n{value}", f"n{value}", value, 1) for value in (NAMES - 1, NAMES - 2)]
     return Files(room, title, bundle, anchors, vouching)
 
 
 def of_many(room):
     """A bundle of 10,000 items: leaves of 100 authorities, which certify each other in a row of ten."""
-    tops = [certificate(f"a{it}", f"a{it + 1}" if it % 10 < 9 else "root", it, it + 1) for it in range(100)]
-    leaves = [certificate(f"l{it}", f"a{it % 100}", 1_000 + it, it + 1) for it in range(MANY - len(tops))]
-    pairs = [(key(it + 1 if it % 10 < 9 else 999)[1], made) for it, made in enumerate(tops)] + [(key(it % 100)[1], made) for it, made in enumerate(leaves)]
+    tops = [certificate(f"a{number}", f"a{number + 1}" if number % 10 < 9 else "root", number, number + 1) for number in range(100)]
+    leaves = [certificate(f"l{number}", f"a{number % 100}", 1_000 + number, number + 1) for number in range(MANY - len(tops))]
+    pairs = [(key(entry + 1 if entry % 10 < 9 else 999)[1], made) for entry, made in enumerate(tops)] + [(key(entry % 100)[1], made) for entry, made in enumerate(leaves)]
     return Files(room, "many", leaves + tops, [certificate("root", "root", 999, 1)], pairs)
 
 
@@ -94,7 +94,7 @@ def of_cases(room):
     octets, cases = paths.worked()
     for number, case in enumerate(cases.values()):
         vouching = [(octets[one], octets[other]) for one, other in case.vouching]
-        yield Files(room, f"case{number}", [octets[it] for it in case.items], [octets[it] for it in case.anchors], vouching,
+        yield Files(room, f"case{number}", [octets[item] for item in case.items], [octets[anchor] for anchor in case.anchors], vouching,
                     ["--at", case.moment] + ["--demand-lists"] * case.demand)
 
 
@@ -108,22 +108,22 @@ def parts(text):
 
 
 def joined(verdicts, rows):
-    return HEADER + "".join(f"{it}\n" for it in [*verdicts, *rows])
+    return HEADER + "".join(f"{verdict}\n" for verdict in [*verdicts, *rows])
 
 
 def other_verdict(numbers, verdict, count):
     """A line that says something else of an item."""
-    positions = [int(it) for it in verdict.split()[1:-2]] if verdict.startswith("path") else [0]
+    positions = [int(word) for word in verdict.split()[1:-2]] if verdict.startswith("path") else [0]
     anchor = int(verdict.split()[-1]) if verdict.startswith("path") else 0
     at = numbers.randrange(len(positions))
     changed = [*positions[:at], (positions[at] + numbers.randrange(1, count)) % count, *positions[at + 1:]]
     choices = ["none", "no certificate", path_line(positions, anchor), path_line(positions, anchor + 1), path_line(changed, anchor),
                path_line([*positions, numbers.randrange(count)], anchor), path_line(positions[:-1], anchor)]
-    return numbers.choice([it for it in choices if it != verdict])
+    return numbers.choice([choice for choice in choices if choice != verdict])
 
 
 def path_line(positions, anchor):
-    return "path " + "".join(f"{it} " for it in positions) + f"anchor {anchor}"
+    return "path " + "".join(f"{position} " for position in positions) + f"anchor {anchor}"
 
 
 def lower(numbers, line):
@@ -142,13 +142,13 @@ def forged(numbers, text):
     verdicts, rows = parts(text)
     count, at = len(verdicts), numbers.randrange(len(verdicts))
     kind = numbers.randrange(5)
-    raised = [it for it, line in enumerate(rows) if line != "row" and not line.endswith(" no")]
+    raised = [entry for entry, line in enumerate(rows) if line != "row" and not line.endswith(" no")]
     if kind == 0:
         return joined(verdicts[:at] + verdicts[at + 1:], rows)
     if kind == 1:
         return joined(verdicts[:at] + [other_verdict(numbers, verdicts[at], count)] + verdicts[at:], rows)
     if kind == 2:
-        other = numbers.choice([it for it, line in enumerate(verdicts) if line != verdicts[at]])
+        other = numbers.choice([entry for entry, line in enumerate(verdicts) if line != verdicts[at]])
         verdicts[at], verdicts[other] = verdicts[other], verdicts[at]
         return joined(verdicts, rows)
     if kind == 3 and raised:
@@ -182,8 +182,8 @@ class Count:
         self.trial, self.program, self.room = trial, program, room
 
     def ran(self, words):
-        it = subprocess.run([self.program, *words], cwd=self.room, stdin=subprocess.DEVNULL, capture_output=True, timeout=SECONDS)
-        return it.returncode, it.stdout, it.stderr
+        text = subprocess.run([self.program, *words], cwd=self.room, stdin=subprocess.DEVNULL, capture_output=True, timeout=SECONDS)
+        return text.returncode, text.stdout, text.stderr
 
     def wants(self, words, *wanted):
         """Runs the words; one of these ends is wanted."""
@@ -223,7 +223,7 @@ def trial_of_cuts(count, files, text):
     for number, line in enumerate(text.splitlines(keepends=True), 1):
         within, at = at + numbers.randrange(1, len(line)), at + len(line)
         count.wants(files.recheck(text[:within]), (8, b"", b"evidence line %d\n" % number))
-        lacks = any(it != "row" for it in text[at:].splitlines())
+        lacks = any(row != "row" for row in text[at:].splitlines())
         count.wants(files.recheck(text[:at]), NO, *([] if lacks else [YES]))
 
 
@@ -231,7 +231,7 @@ def trial_of_files(count, files, text):
     """Files that can't be read, created or written; and what stands in the evidence where it is bad."""
     words = files.recheck(text)
     for word in ("missing", "", "."):
-        count.wants([it if it != words[4] else word for it in words], (4, b"", f"cannot read {word}\n".encode()))
+        count.wants([entry if entry != words[4] else word for entry in words], (4, b"", f"cannot read {word}\n".encode()))
         count.wants(files.paths("--evidence", word if word != "missing" else "missing/file"), (4, b"", f"cannot create {'missing/file' if word == 'missing' else word}\n".encode()))
     count.wants(files.paths("--evidence", "/dev/full"), (7, b"", b"cannot write /dev/full\n"))
     kept = os.path.join(count.room, files.keep("kept", b"as it was"))
@@ -250,7 +250,7 @@ class Evidence(Trial):
             count = Count(self, self.program(), room)
             for files in of_cases(room):
                 true_one(count, files)
-            bundles = [(it, true_one(count, it)) for it in (by_chance(room, f"chance{number}", numbers) for number in range(BUNDLES))]
+            bundles = [(index, true_one(count, index)) for index in (by_chance(room, f"chance{number}", numbers) for number in range(BUNDLES))]
             true_one(count, of_many(room))
             trial_of_forged(count, numbers, bundles)
             files, text = bundles[0]

@@ -27,7 +27,7 @@ class InRoom(Trial):
 
     def skip_without(self, *tools):
         """Skips the trial if a program isn't on the path that the gate does without, too."""
-        missing = [it for it in tools if shutil.which(it) is None]
+        missing = [tool for tool in tools if shutil.which(tool) is None]
         if missing:
             self.skipTest(f"{', '.join(missing)} isn't on the path")
 
@@ -51,7 +51,7 @@ def held(folder):
     left out."""
     found = {}
     for at, folders, names in os.walk(folder):
-        folders[:] = [it for it in folders if it != "__pycache__"]
+        folders[:] = [entry for entry in folders if entry != "__pycache__"]
         for name in (*folders, *names):
             path = os.path.join(at, name)
             link = os.readlink(path) if os.path.islink(path) else None
@@ -70,7 +70,7 @@ def quick_start():
     """The commands of README.md, each with the lines that it prints, with an installation's names."""
     for command, lines in readme.commands(repo.read("README.md")):
         if not command.startswith("./install"):
-            yield installed.renamed(command), [installed.renamed(it) for it in lines]
+            yield installed.renamed(command), [installed.renamed(line) for line in lines]
 
 
 def try_quick_start(trial, what, env):
@@ -81,5 +81,5 @@ def try_quick_start(trial, what, env):
     for command, lines in commands:
         _, text = ran(["bash", "-c", command], folder, env)
         trial.same(f"{what}: {command}", text.splitlines(), lines)
-    trial.row(len(commands) >= 5 and not any("./" in it for it, _ in commands), f"{what}: the commands are {commands}")
+    trial.row(len(commands) >= 5 and not any("./" in entry for entry, _ in commands), f"{what}: the commands are {commands}")
     shutil.rmtree(folder)

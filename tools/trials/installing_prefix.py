@@ -76,8 +76,8 @@ class Prefix(places.InRoom):
         status, text = places.ran(["certpath-inventory", "--help"], self.room, env)
         self.row(status == 0 and text.startswith("usage: certpath-inventory ") and "--anchors" in text,
                  f"certpath-inventory --help: {text[-1000:]}")
-        texts = [places.ran([it, "--help"], self.room, env)[1] for it in installed.COMMANDS.values()]
-        self.same("names of scripts in the helps", [it for text in texts for it in re.findall(r"\./\w+|--build|dist/", text)], [])
+        texts = [places.ran([command, "--help"], self.room, env)[1] for command in installed.COMMANDS.values()]
+        self.same("names of scripts in the helps", [match for text in texts for match in re.findall(r"\./\w+|--build|dist/", text)], [])
         status, text = install("--prefix", self.prefix, "--uninstall")
         self.same(f"--uninstall: {text}", (status, os.path.lexists(os.path.dirname(self.prefix))), (0, False))
 
@@ -106,7 +106,7 @@ class Prefix(places.InRoom):
         with open(os.path.join(room, "usr/local/lib/pkgconfig/certpath.pc"), encoding="ascii") as file:
             text = file.read()
         self.row("prefix=/usr/local\n" in text and room not in text, f"certpath.pc: {text}")
-        own = [it for it in places.held(room).values() if str(it).startswith("/")]
+        own = [value for value in places.held(room).values() if str(value).startswith("/")]
         self.same("links that lead to a place of this machine", own, [])
         self.same("--uninstall", install("--prefix", "/usr/local", "--destdir", room, "--uninstall")[0], 0)
         self.same("what --uninstall leaves", os.path.lexists(room), False)
@@ -115,11 +115,11 @@ class Prefix(places.InRoom):
         """The page lists what is below the prefix: each place is there, and nothing is elsewhere."""
         install("--prefix", self.prefix)
         listed = LISTED.findall(BELOW.search(repo.read(PAGE))[1])
-        places_of = [it if "/" in it else f"lib/libcertpath{it}" for it in listed]
-        missing = [it for it in places_of if not os.path.lexists(os.path.join(self.prefix, it))]
-        files = [it for it, mode in places.held(self.prefix).items() if not (isinstance(mode, int) and stat.S_ISDIR(mode))]
+        places_of = [entry if "/" in entry else f"lib/libcertpath{entry}" for entry in listed]
+        missing = [entry for entry in places_of if not os.path.lexists(os.path.join(self.prefix, entry))]
+        files = [name for name, mode in places.held(self.prefix).items() if not (isinstance(mode, int) and stat.S_ISDIR(mode))]
         self.same(f"places that {PAGE} lists", (len(listed), missing), (13, []))
-        self.same(f"files that {PAGE} doesn't list", [it for it in files if not it.startswith(tuple(places_of))], [])
+        self.same(f"files that {PAGE} doesn't list", [file for file in files if not file.startswith(tuple(places_of))], [])
 
     def test_refusals(self):
         """Nothing is written over, and no list leads elsewhere."""
@@ -172,7 +172,7 @@ class Prefix(places.InRoom):
         """Each command has a manual page, in which no script of a checkout is typed."""
         install("--prefix", self.prefix)
         folder = os.path.join(self.prefix, "share", "man", "man1")
-        self.same("the pages", sorted(os.listdir(folder)), sorted(f"{it}.1" for it in installed.COMMANDS.values()))
+        self.same("the pages", sorted(os.listdir(folder)), sorted(f"{command}.1" for command in installed.COMMANDS.values()))
         for name in sorted(os.listdir(folder)):
             with open(os.path.join(folder, name), encoding="utf-8") as file:
                 text = file.read()
@@ -191,27 +191,27 @@ class Container(places.InRoom):
         """What the image is made of suffices for ./install, and for the commands."""
         ignored = repo.read(f"{CONTAINER}.dockerignore").split()
         top, made = os.path.join(self.room, "source"), os.path.join(self.room, "made")
-        shutil.copytree(repo.TOP, top, ignore=shutil.ignore_patterns(*(it.rpartition("/")[2] for it in ignored)))
-        lines = [it.removeprefix("RUN ") for it in repo.read(CONTAINER).splitlines() if it.startswith("RUN /source/")]
+        shutil.copytree(repo.TOP, top, ignore=shutil.ignore_patterns(*(entry.rpartition("/")[2] for entry in ignored)))
+        lines = [line.removeprefix("RUN ") for line in repo.read(CONTAINER).splitlines() if line.startswith("RUN /source/")]
         self.same("steps of the checkout", len(lines), 1)
-        words = [it.replace("/source", top).replace("/made", made) for it in lines[0].split()]
+        words = [word.replace("/source", top).replace("/made", made) for word in lines[0].split()]
         self.same("./install", places.ran(words, self.room, places.environment())[0], 0)
         shutil.rmtree(top)
         places.try_quick_start(self, "the image's files", places.environment(os.path.join(made, "usr", "local", "bin")))
 
     def test_image(self):
-        tool = next((it for it in BUILDERS if shutil.which(it) and not places.ran([it, "info"], "/")[0]), None)
+        tool = next((builder for builder in BUILDERS if shutil.which(builder) and not places.ran([builder, "info"], "/")[0]), None)
         if tool is None:
             self.skipTest(f"{' and '.join(BUILDERS)} aren't there, or don't run")
         if places.ran([tool, "image", "inspect", BASE], "/")[0] and places.ran([tool, "pull", "-q", BASE], "/")[0]:
             self.skipTest(f"{tool} has no {BASE}, and can't fetch it")
         self.row(f"FROM {BASE} AS " in repo.read(CONTAINER), f"{CONTAINER} isn't made of {BASE}")
-        for it in (("build", "-q", "-t", IMAGE, "-f", CONTAINER, "."),
+        for value in (("build", "-q", "-t", IMAGE, "-f", CONTAINER, "."),
                    ("run", "--rm", "--network", "none", "--read-only", "--tmpfs", "/tmp", "-v", f"{repo.TOP}/samples:/data:ro", IMAGE,
                     "certpath-verify", "fullchain.pem", "--anchors", "root.pem", "--at", "2026-12-01", "--quiet"),
                    ("image", "rm", IMAGE)):
-            status, text = places.ran([tool, *it], repo.TOP)
-            self.row(status == 0, f"{tool} {it[0]}: status {status}: {text[-2000:]}")
+            status, text = places.ran([tool, *value], repo.TOP)
+            self.row(status == 0, f"{tool} {value[0]}: status {status}: {text[-2000:]}")
 
 
 class Completion(places.InRoom):
@@ -272,9 +272,9 @@ class Package(places.InRoom):
         before = self.system_of(root)
         status, text = self.dpkg(root, "--install", self.path)
         self.row(status == 0, f"dpkg --install: {text}")
-        wanted = {it.path for it in debian.files(f"{usage.VERSION}-{debian.REVISION}")}
-        found = {it for it in places.held(os.path.join(root, "usr")) if not os.path.isdir(os.path.join(root, "usr", it))
-                 or os.path.islink(os.path.join(root, "usr", it))}
+        wanted = {file.path for file in debian.files(f"{usage.VERSION}-{debian.REVISION}")}
+        found = {step for step in places.held(os.path.join(root, "usr")) if not os.path.isdir(os.path.join(root, "usr", step))
+                 or os.path.islink(os.path.join(root, "usr", step))}
         self.same("the files", sorted(found ^ wanted), [])
         places.try_quick_start(self, "the package", places.environment(os.path.join(root, "usr/bin")))
         self.same("dpkg --verify", self.dpkg(root, "--verify", "certpath"), (0, ""))
@@ -285,7 +285,7 @@ class Package(places.InRoom):
     @staticmethod
     def system_of(root):
         """What is there beside dpkg's own files; its folders may stay."""
-        return sorted(it for it in places.held(root) if not it.startswith("var"))
+        return sorted(entry for entry in places.held(root) if not entry.startswith("var"))
 
     def test_lintian(self):
         self.skip_without("lintian")

@@ -14,8 +14,8 @@ from trials.count import size
 PAGES = ("README.md", "docs/INSTALL.md")
 PYTHONS = (sys.executable, "/usr/bin/python3")
 # What builds a wheel offline; Debian's python3-pip and python3-venv bring it.
-BUILDERS = ("import importlib.util as it, sys; "
-            "sys.exit(None in map(it.find_spec, ('ensurepip', 'pip', 'setuptools', 'venv', 'wheel')))")
+BUILDERS = ("import importlib.util, sys; "
+            "sys.exit(None in map(importlib.util.find_spec, ('ensurepip', 'pip', 'setuptools', 'venv', 'wheel')))")
 LIBRARIES = {"libc.so.6", "libm.so.6", "libgcc_s.so.1", "libpthread.so.0", "libdl.so.2"}
 # Files of the wheel's metadata and of the package that have to be there.
 IN_WHEEL = ("certpath/py.typed", "certpath/libcertpath.so", "certpath/certpath", "certpath/BUILT",
@@ -27,15 +27,15 @@ MODULES = re.compile(r"Ran (\d+) tests")
 
 def python():
     """A Python that builds wheels, none if there is none."""
-    for it in PYTHONS:
-        if os.path.exists(it) and places.ran([it, "-c", BUILDERS], "/", places.environment())[0] == 0:
-            return it
+    for entry in PYTHONS:
+        if os.path.exists(entry) and places.ran([entry, "-c", BUILDERS], "/", places.environment())[0] == 0:
+            return entry
     return None
 
 
 def lines_of(page):
-    """The two lines of a page that make a virtual environment and install the package there."""
-    return [it.strip() for it in repo.read(page).splitlines() if it.startswith("    ") and "certpath-env" in it][:2]
+    """The lines of a page that make a virtual environment, install the package there, and use it."""
+    return [line.strip() for line in repo.read(page).splitlines() if line.startswith("    ") and "certpath-env" in line]
 
 
 class Wheel(places.InRoom):
@@ -48,14 +48,15 @@ class Wheel(places.InRoom):
 
     def test_lines_of_pages(self):
         """The lines of both pages work as they are printed, and leave nothing in the checkout."""
-        self.same("the lines of the pages", lines_of(PAGES[0]), lines_of(PAGES[1]))
+        first, second = map(lines_of, PAGES)
+        self.same("the lines of both pages", first, second[:len(first)])
         folder = os.path.join(self.room, "python3")
         os.mkdir(folder)
         os.symlink(self.python, os.path.join(folder, "python3"))
         before, env = places.held(self.top), places.environment(folder)
-        for line in lines_of(PAGES[0]):
+        for line in second:
             status, text = places.ran(["bash", "-c", line], self.top, env)
-            self.row(status == 0, f"{PAGES[0]}: {line}: status {status}: {text[-2000:]}")
+            self.row(status == 0, f"{PAGES[1]}: {line}: status {status}: {text[-2000:]}")
         there = os.path.join(self.top, "certpath-env")
         status, text = places.ran([os.path.join(there, "bin", "certpath-verify"), "--help"], self.room, env)
         self.row(status == 0 and text.startswith("usage: certpath-verify "), f"certpath-verify --help: {text[:1000]}")
@@ -98,14 +99,14 @@ def look_into(trial, file):
     with zipfile.ZipFile(file) as held:
         names = {*held.namelist()}
         head = f"certpath-{usage.VERSION}.dist-info"
-        licences = [it for it in names if it.startswith(head) and "LICENSE-" in it]
-        lacks = [it for it in IN_WHEEL if it not in names]
+        licences = [word for word in names if word.startswith(head) and "LICENSE-" in word]
+        lacks = [entry for entry in IN_WHEEL if entry not in names]
         trial.row((lacks, len(licences)) == ([], 2), f"the wheel lacks {lacks}, and has the licences {licences}")
         said = held.read(f"{head}/WHEEL").decode()
         trial.row("Root-Is-Purelib: false" in said and "Tag: py3-none-manylinux_" in said, f"its WHEEL: {said}")
-        foreign = [it for it in names if not it.startswith(("certpath/", head))]
+        foreign = [word for word in names if not word.startswith(("certpath/", head))]
         trial.row(not foreign, f"the wheel puts {foreign} beside the package")
-        held.extractall(room, [it for it in ("certpath/certpath", "certpath/libcertpath.so") if it in names])
+        held.extractall(room, [step for step in ("certpath/certpath", "certpath/libcertpath.so") if step in names])
     if shutil.which("readelf") is None:
         print("installing: no readelf, so what the program needs of the C library isn't compared with the wheel's tag")
         return
@@ -113,8 +114,8 @@ def look_into(trial, file):
     for name in ("certpath", "libcertpath.so"):
         _, text = places.ran(["readelf", "-dV", os.path.join(room, "certpath", name)], room)
         needed = {*re.findall(r"\(NEEDED\).*\[(.*)\]", text)}
-        versions = [tuple(map(int, it.split("."))) for it in re.findall(r"GLIBC_(\d+(?:\.\d+)+)", text)]
-        trial.row(bool(versions) and needed <= LIBRARIES and max(it[:2] for it in versions) <= least,
+        versions = [tuple(map(int, match.split("."))) for match in re.findall(r"GLIBC_(\d+(?:\.\d+)+)", text)]
+        trial.row(bool(versions) and needed <= LIBRARIES and max(version[:2] for version in versions) <= least,
                   f"{name} needs {needed} and glibc {max(versions, default=None)}, and the tag says {least}")
 
 
@@ -122,7 +123,7 @@ def use(trial, there):
     """The commands, the tests of the package, and its program, in the environment alone."""
     room, bin_folder = trial.room, os.path.join(there, "bin")
     env = places.environment(bin_folder)
-    commands = sorted(it for it in os.listdir(bin_folder) if it.startswith("certpath"))
+    commands = sorted(name for name in os.listdir(bin_folder) if name.startswith("certpath"))
     trial.row(commands == sorted(installed.COMMANDS.values()), f"the commands are {commands}")
     places.try_quick_start(trial, "the wheel", env)
     status, text = places.ran(["certpath", "--version"], room, env)
@@ -133,8 +134,8 @@ def use(trial, there):
     folder = os.path.join(room, "tests-elsewhere")
     shutil.copytree(os.path.join(repo.TOP, "python", "tests"), os.path.join(folder, "python", "tests"),
                     ignore=shutil.ignore_patterns("__pycache__"))
-    for it in (places.SAMPLES, "include"):
-        shutil.copytree(os.path.join(repo.TOP, it), os.path.join(folder, it))
+    for value in (places.SAMPLES, "include"):
+        shutil.copytree(os.path.join(repo.TOP, value), os.path.join(folder, value))
     os.mkdir(os.path.join(folder, "dist"))
     _, package = places.ran([os.path.join(bin_folder, "python"), "-c", "import certpath; print(certpath.__path__[0])"], room, env)
     shutil.copy(os.path.join(package.strip(), "certpath"), os.path.join(folder, "dist"))

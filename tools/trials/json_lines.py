@@ -49,28 +49,28 @@ class Lines(installing_places.InRoom):
 
     def run_verify(self, *words):
         """The status of ./verify, the objects that it printed, and its lines on standard error."""
-        words = [self.damaged if it == "DAMAGED" else it for it in words]
+        words = [self.damaged if word == "DAMAGED" else word for word in words]
         ran = subprocess.run([sys.executable, os.path.join(repo.TOP, "verify"), *words, "--json"], cwd=self.samples,
                              stdin=subprocess.DEVNULL, capture_output=True, text=True)
-        return ran.returncode, [json.loads(it) for it in ran.stdout.splitlines()], ran.stderr.splitlines()
+        return ran.returncode, [json.loads(line) for line in ran.stdout.splitlines()], ran.stderr.splitlines()
 
     def faults_of(self, found, schema=None):
         """What is wrong with an object by the schema, a line each."""
         if jsonschema is None:
             self.skipTest("jsonschema isn't installed (python3-jsonschema of Debian)")
         checker = jsonschema.Draft202012Validator(schema or self.schema)
-        return [it.message[:300] for it in checker.iter_errors(found)]
+        return [error.message[:300] for error in checker.iter_errors(found)]
 
     def answers(self):
         """An answer of each outcome, and further ones."""
         for outcome, (words, count) in ANSWERS.items():
             status, found, said = self.run_verify(*words)
-            self.same(f"{outcome}: {said}", [it["outcome"] for it in found], [outcome] * count)
-            self.same(f"the status of {outcome}", status, max(it["status"] for it in found))
+            self.same(f"{outcome}: {said}", [entry["outcome"] for entry in found], [outcome] * count)
+            self.same(f"the status of {outcome}", status, max(entry["status"] for entry in found))
             yield from found
         for words, count in MORE:
             status, found, said = self.run_verify(*words)
-            self.same(f"{words}: {said}", (len(found), status), (count, max(it["status"] for it in found)))
+            self.same(f"{words}: {said}", (len(found), status), (count, max(entry["status"] for entry in found)))
             yield from found
 
     def test_fields(self):
@@ -82,8 +82,8 @@ class Lines(installing_places.InRoom):
         for name in ("answer", "fault", "certificate", "reason", "list"):
             named = {*kinds[name]["required"], *(IF_ASKED if name == "answer" else ())}
             self.same(f"{name}: fields that are described", {*kinds[name]["properties"]}, named)
-            self.same(f"{name}: fields that {PAGE} doesn't name", [it for it in named if f"`{it}`" not in page], [])
-            self.same(f"{name}: fields without a description", [it for it, held in kinds[name]["properties"].items() if "description" not in held], [])
+            self.same(f"{name}: fields that {PAGE} doesn't name", [entry for entry in named if f"`{entry}`" not in page], [])
+            self.same(f"{name}: fields without a description", [item for item, held in kinds[name]["properties"].items() if "description" not in held], [])
 
     def test_answers(self):
         for found in self.answers():
@@ -101,7 +101,7 @@ class Lines(installing_places.InRoom):
 
     def test_no_openssl(self):
         """A library that is missing is a fault, too."""
-        setting = "import certpath.libcrypto as it; it.candidates = lambda: []"
+        setting = "import certpath.libcrypto as libcrypto; libcrypto.candidates = lambda: []"
         script = (f"import sys; sys.argv = ['verify', *{[*CHAIN]!r}, '--json']; sys.path.insert(0, {os.path.join(repo.TOP, 'tools')!r}); "
                   f"from verify import core, run; {setting}; sys.exit(run.main(sys.argv[1:]))")
         ran = subprocess.run([sys.executable, "-c", script], cwd=self.samples, capture_output=True, text=True, stdin=subprocess.DEVNULL)
@@ -115,7 +115,7 @@ class Lines(installing_places.InRoom):
         jsonschema.Draft202012Validator.check_schema(self.schema)
         found = self.run_verify(*CHAIN)[1][0]
         for name in found:
-            for what, change in (("missing", lambda it: it.pop(name)), ("a number", lambda it: it.update({name: 7.5}))):
+            for what, change in (("missing", lambda part: part.pop(name)), ("a number", lambda entry: entry.update({name: 7.5}))):
                 changed = copy.deepcopy(found)
                 change(changed)
                 self.row(self.faults_of(changed) != [], f"the schema takes {name} {what}")

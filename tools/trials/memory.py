@@ -134,7 +134,7 @@ def command_trials(program, room):
 
     for place, title in enumerate(CASES):
         case = cases[title]
-        files = [made(f"{name}{place}", b"".join(octets[it] for it in names))
+        files = [made(f"{name}{place}", b"".join(octets[word] for word in names))
                  for name, names in (("bundle", case.items), ("anchors", case.anchors))]
         pairs = ((octets[key], octets[item]) for key, item in case.vouching)
         files.append(made(f"vouchers{place}", paths.vouchers(pairs)))
@@ -154,11 +154,11 @@ def command_trials(program, room):
 def row_trials(crate, program):
     """The rows of a program, a run each."""
     octets, _ = paths.worked()
-    rows = {f"{front}{it}": f"{front}{octets[it].hex()}"
-            for front, names in ROWS[crate].items() for it in names}
+    rows = {f"{front}{name}": f"{front}{octets[name].hex()}"
+            for front, names in ROWS[crate].items() for name in names}
     if crate == "rows_x509":
         stored = ALL_KINDS.findall(repo.read("crates/rows_x509/stdin"))
-        rows |= {f"all kinds, {place}": f"certificate {it}" for place, it in enumerate(stored)}
+        rows |= {f"all kinds, {place}": f"certificate {entry}" for place, entry in enumerate(stored)}
     for title, row in rows.items():
         yield Run(f"{crate}, {title}", [program], (f"{row}\n".encode(),), is_row_right)
 
@@ -166,8 +166,8 @@ def row_trials(crate, program):
 def test_trials(crate):
     """The tests of a crate, none where the gate left no program of them here."""
     program = os.path.join(repo.TOP, "crates", crate, "out", f"{crate}_tests")
-    for it in TESTS[crate] if os.access(program, os.X_OK) else ():
-        yield Run(f"{crate}, {it}", [program, f"tests::{it}"], (), is_test_right)
+    for test in TESTS[crate] if os.access(program, os.X_OK) else ():
+        yield Run(f"{crate}, {test}", [program, f"tests::{test}"], (), is_test_right)
 
 
 class Memory(Trial):
@@ -177,8 +177,8 @@ class Memory(Trial):
     def tried(self, *trials):
         """Each trial with all its refusals, each of which is a row."""
         with tempfile.TemporaryDirectory(prefix="memory-") as room, ThreadPoolExecutor(RUNS) as pool:
-            library, made = refuser(room), [it for of in trials for it in of(room)]
-            for rows in pool.map(lambda it: all_refusals(it, room, library), made):
+            library, made = refuser(room), [entry for of in trials for entry in of(room)]
+            for rows in pool.map(lambda case: all_refusals(case, room, library), made):
                 for row in rows:
                     self.row(*row)
 
@@ -187,11 +187,11 @@ class Memory(Trial):
         self.tried(lambda room: command_trials(program, room))
 
     def test_rows(self):
-        made = {it: self.program(it) for it in ROWS}
-        self.tried(*(lambda _, it=it: row_trials(it, made[it]) for it in ROWS))
+        made = {row: self.program(row) for row in ROWS}
+        self.tried(*(lambda _, entry=row: row_trials(entry, made[entry]) for row in ROWS))
 
     def test_tests(self):
-        trials = [it for crate in TESTS for it in test_trials(crate)]
+        trials = [trial for crate in TESTS for trial in test_trials(crate)]
         if not trials:
             self.skipTest("tests of tests_asn1 and tests_run with memory refused: no program of them, which ./test with rt leaves")
         self.tried(lambda _: trials)

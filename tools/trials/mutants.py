@@ -32,7 +32,7 @@ def changed(numbers, octets):
 def mutants():
     """The mutants of the items, each a row."""
     numbers = random.Random(1)
-    items = [bytes.fromhex(it) for it in ITEM.findall(repo.read("crates/rows_cert/stdin"))]
+    items = [bytes.fromhex(match) for match in ITEM.findall(repo.read("crates/rows_cert/stdin"))]
     for number in range(MUTANTS):
         octets = changed(numbers, items[number % len(items)])
         yield (changed(numbers, octets) if numbers.randrange(4) == 0 else octets).hex()
@@ -41,7 +41,7 @@ def mutants():
 class Mutants(Trial):
     def test_classes(self):
         program = self.program("rows_cert")
-        rows = "".join(f"{it}\n" for it in mutants())
+        rows = "".join(f"{mutant}\n" for mutant in mutants())
         ran = subprocess.run([program], input=rows, stdout=subprocess.PIPE, text=True, timeout=SECONDS)
         found = re.findall(r"(?m)^([0-9a-f]+) = (.+)$", ran.stdout)
         self.same("the status and the number of rows", (ran.returncode, len(found)), (0, MUTANTS))

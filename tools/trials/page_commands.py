@@ -14,25 +14,31 @@ INDENT, PROMPT, GOES_ON = "    ", "$ ", "\\"
 FENCE, OF_SHELL = re.compile(r"```(\w*)"), ("", "sh", "bash", "console")
 HEADERS = "/usr/include/openssl/x509.h"
 # How a line begins that is a command.
-COMMAND = re.compile(r"(?:\(\w|\./\w|bench/|examples/|tools/|(?:python3?|pip|apt-get|apt|rt|openssl|cc|git|grep|od|echo|cat|export|curl|sudo|docker|go|rustc|cargo) )")
+COMMAND = re.compile(r"(?:\(\w|\./\w|bench/|examples/|tools/|certpath-\w|[A-Z_]+=|(?:python3?|pip|apt-get|apt|rt|openssl|cc|git|grep|od|echo|cat|cd|cp|"
+                     r"dask|export|curl|sudo|docker|go|rustc|cargo|tail|time) )")
 # What no command line is: it has a word for something else.
 FORM = re.compile(r"\[|\.\.(?:\s|$)|\b(?:BUNDLE|CERTIFICATES|COMMAND|CRATE|FILE|FOLDER|HEX|KEYS|KIND|LINES|N|NAME|NEW|OLD|PAGE|PREFIX|WORD)\b")
-NEEDS_RT = "it needs rt"
+NEEDS_RT, IS_GATE = "it needs rt", "it runs the looks and trials, of which this is one"
+WHEEL = "tools/trials/installing_wheel.py runs it, in a copy that goes away"
 # Page, how the line begins, and why it isn't run.
 NOT_RUN = (
-    ("CONTRIBUTING.md", "", NEEDS_RT),
-    ("README.md", "python3 -m venv", "tools/trials/installing_wheel.py runs it, in a copy that goes away"),
+    ("CONTRIBUTING.md", "rt ", NEEDS_RT),
+    ("CONTRIBUTING.md", "./test ", IS_GATE),
+    ("README.md", "python3 -m venv", WHEEL),
+    ("README.md", "certpath-env/", WHEEL),
     ("bench/hostile/README.md", "", "it takes minutes, and the gate runs it"),
     ("docs/CLI.md", "./certpath --version", "it prints the digest of the sources, which each change of one changes"),
     ("docs/CLI.md", "./certpath --build", NEEDS_RT),
     ("docs/GATE.md", "", NEEDS_RT),
-    ("docs/INSTALL.md", "", "tools/trials/installing_wheel.py and installing_prefix.py run such lines, in folders that go away"),
+    ("docs/INSTALL.md", "python3 -m ", WHEEL),
+    ("docs/INSTALL.md", "certpath-env/", WHEEL),
+    ("docs/INSTALL.md", "python3 tools/install/debian.py", "tools/trials/installing_prefix.py runs it, into a folder that goes away"),
+    ("docs/INSTALL.md", "sudo apt-get", "it changes the machine; tools/trials/installing_prefix.py unpacks the package elsewhere"),
+    ("docs/INSTALL.md", "docker ", "it needs docker, or podman; tools/trials/installing_prefix.py runs it if that works"),
     ("docs/PERF.md", "", "it needs rt, and another checkout"),
-    ("docs/VERIFY.md", "./verify chain.pem", "it is about files of the reader's; tools/trials/hosts.py asks so"),
     ("docs/SCALE.md", "", "it is about logs of the reader's, and needs Dask; tools/trials/scaling.py runs such lines"),
     ("examples/c/README.md", "", "tools/trials/embedding.py compiles and runs what it does"),
-    ("python/README.md", "", "tools/trials/installing_wheel.py and installing_prefix.py run such lines, in folders that go away"),
-    ("", "python3 -m venv", "tools/trials/installing_wheel.py runs such lines, in folders that go away"),
+    ("python/README.md", "certpath-verify", "it is about files of the reader's; tools/trials/installing_wheel.py runs the command where it is installed"),
     ("", "echo 'der:u32 02 03 00 00 01' | ./rows", "its program isn't in dist/, and rt builds it"),
     ("", "od -An -v -tx1 samples/leaf.der | tr -d ' \\n' | ./rows", "its program isn't in dist/, and rt builds it"),
 )
@@ -102,8 +108,13 @@ def pages():
 
 
 def faults():
-    """Command lines that are neither run nor excepted."""
+    """Command lines that are neither run nor excepted, and exceptions that no page needs."""
+    unused = {*NOT_RUN}
     for path in found_pages():
         for number, line, is_run in command_lines(repo.read(path)):
-            if not is_run and not FORM.search(line) and not reason(path, line):
+            why = reason(path, line)
+            if not is_run and not FORM.search(line) and not why:
                 yield f"{path}:{number}: a command line that no trial runs: begin it with `$ `, or give the reason in tools/trials/page_commands.py: {line}"
+            unused -= {row for row in unused if why and row[0] in ("", path) and line.startswith(row[1])}
+    for page, begin, _ in sorted(unused):
+        yield f"tools/trials/page_commands.py: {page or 'no page'} has no line that begins with {begin!r}"

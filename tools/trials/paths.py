@@ -87,8 +87,8 @@ def case_rows(made, command, octets, cases):
     rows = []
     for number, (title, row) in enumerate(printed(command).items()):
         case = cases[title]
-        bundle = made(f"{command}_bundle{number}", b"".join(octets[it] for it in case.items) + bytes.fromhex(row["behind"]))
-        anchors = made(f"{command}_anchors{number}", b"".join(octets[it] for it in case.anchors))
+        bundle = made(f"{command}_bundle{number}", b"".join(octets[entry] for entry in case.items) + bytes.fromhex(row["behind"]))
+        anchors = made(f"{command}_anchors{number}", b"".join(octets[anchor] for anchor in case.anchors))
         lines = made(f"{command}_vouchers{number}", vouchers((octets[key], octets[item]) for key, item in case.vouching))
         rows.append((words_of(command, (bundle, anchors, lines), row, case), b"", int(row["status"]), row["text"].encode(), b""))
     return rows
@@ -97,7 +97,7 @@ def case_rows(made, command, octets, cases):
 def table(made):
     """Rows of words, standard input, status, standard output, standard error; `made` makes a file of a name and octets."""
     octets, cases = worked()
-    rows = [it for command in PRINTED for it in case_rows(made, command, octets, cases)]
+    rows = [row for command in PRINTED for row in case_rows(made, command, octets, cases)]
     one, key = octets["A"], octets["K"]
     many = made("many_equals", one * EQUALS)
     words = ["path", many, made("equal", one), made("equal_vouchers", vouchers([(key, one)])), "--target", str(EQUALS - 1), "--at", "2025-06-01T00:00:00"]

@@ -26,6 +26,6 @@ class Peers(Trial):
             self.skipTest("libssl-dev isn't installed")
         ran = subprocess.run(WORDS, stdin=subprocess.DEVNULL, stdout=subprocess.PIPE,
                              stderr=subprocess.STDOUT, text=True, timeout=SECONDS)
-        rows = [[it.strip() for it in line.split("|")] for line in ran.stdout.splitlines()]
-        filled = [it[1] for it in rows[2:] if len(it) > COLUMN and it[COLUMN]]
+        rows = [[part.strip() for part in line.split("|")] for line in ran.stdout.splitlines()]
+        filled = [row[1] for row in rows[2:] if len(row) > COLUMN and row[COLUMN]]
         self.same(f"the table: {ran.stdout}", (ran.returncode, filled), (0, [*NAMES]))

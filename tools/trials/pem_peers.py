@@ -1,7 +1,8 @@
 #!/usr/bin/env python3
 """Gives odd PEM and DER files to ./bundle and, where they are installed, to `openssl storeutl`,
-Python's `ssl`, the package `cryptography` and Go's `pem.Decode`. Each file is a row of the table of
-docs/DIFFERENCES.md, under the same title: how many items each of them takes.
+Python's `ssl`, the package `cryptography` and Go's `pem.Decode`. Each file is a row of
+tools/trials/pem_peers.txt, under its title: how many items each of them takes, and how many things
+`bundle` reports as left out.
 
     python3 tools/trials/pem_peers.py            compares with the table
     python3 tools/trials/pem_peers.py --write    writes the table; what isn't installed keeps its column
@@ -25,8 +26,7 @@ try:
 except ImportError:
     x509 = None
 
-PAGE = "docs/DIFFERENCES.md"
-MARK_BEGIN, MARK_END = "<!-- table: made by tools/trials/pem_peers.py -->\n", "<!-- end of table -->\n"
+TABLE = "tools/trials/pem_peers.txt"
 TITLES = ("file", "storeutl", "ssl", "cryptography", "Go", "bundle", "left out")
 # Between two columns, and so none within a title.
 GAP = "  "
@@ -137,7 +137,7 @@ FILES = {
     "blanks for newlines": ONE.replace(b"\n", b" ") + b"\n" + TWO,
     "a BEGIN within a line": b"see -----BEGIN CERTIFICATE-----\n" + TWO,
     "six hyphens": ONE.replace(b"-----", b"------") + TWO,
-    "quoted lines": b"".join(b"> " + it + b"\n" for it in ONE.split(b"\n")) + TWO,
+    "quoted lines": b"".join(b"> " + entry + b"\n" for entry in ONE.split(b"\n")) + TWO,
     "an octet that is no base64": ONE.replace(b"MII", b"M*I", 1) + TWO,
     "no padding": ONE.replace(b"=", b""),
     "padding too much": block([SYMBOLS.rstrip(b"=") + b"===="]),
@@ -222,19 +222,18 @@ def rows():
             path = os.path.join(room, "file")
             with open(path, "wb") as file:
                 file.write(octets)
-            *others, (taken, left) = [it(path, octets) for it in asked]
+            *others, (taken, left) = [reader(path, octets) for reader in asked]
             yield title, [*others, taken, left]
 
 
 def table():
-    """The rows of the page's table, by their titles."""
-    lines = repo.read(PAGE).partition(MARK_BEGIN)[2].partition(MARK_END)[0].split("\n")
-    found = [re.split(rf"{GAP}+", line.strip()) for line in lines if line.strip()]
+    """The rows of the table, by their titles."""
+    found = [re.split(rf"{GAP}+", line.strip()) for line in repo.read(TABLE).splitlines()]
     return {title: cells for title, *cells in found[1:]}
 
 
 def made():
-    """The table as the page has it."""
+    """The lines of the table."""
     said = table()
     lines = [TITLES]
     for title, found in rows():
@@ -242,27 +241,26 @@ def made():
         lines.append((title, *(two if one is ABSENT else one for one, two in zip(found, old))))
     widths = [max(map(len, column)) for column in zip(*lines)]
     for line in lines:
-        yield "    " + GAP.join(cell.ljust(width) for cell, width in zip(line, widths)).rstrip()
+        yield GAP.join(cell.ljust(width) for cell, width in zip(line, widths)).rstrip()
 
 
 def write():
-    """Writes the table into the page."""
-    before, _, rest = repo.read(PAGE).partition(MARK_BEGIN)
-    text = before + MARK_BEGIN + "\n" + "\n".join(made()) + "\n\n" + MARK_END + rest.partition(MARK_END)[2]
-    with open(os.path.join(repo.TOP, PAGE), "w", encoding="utf-8") as file:
-        file.write(text)
+    """Writes the table."""
+    lines = [*made()]
+    with open(os.path.join(repo.TOP, TABLE), "w", encoding="utf-8") as file:
+        file.writelines(f"{line}\n" for line in lines)
 
 
 def faults():
-    """A line for each row that answers otherwise than the page says."""
+    """A line for each row that answers otherwise than the table says."""
     said = table()
     for title, found in rows():
         wanted = said.pop(title, None)
         pairs = zip(found, wanted or ())
         if wanted is None or any(one is not ABSENT and one != two for one, two in pairs):
-            yield f"{PAGE}: {title}: {found} where the page has {wanted}"
+            yield f"{TABLE}: {title}: {found}, and the table has {wanted}"
     for title in said:
-        yield f"{PAGE}: {title} is tried by no trial"
+        yield f"{TABLE}: {title} is tried by no trial"
 
 
 def main(words):
@@ -272,7 +270,7 @@ def main(words):
     found = [*faults()]
     for line in found:
         print(line)
-    print(f"pem_peers: {len(FILES)} files, {len(found)} otherwise than the page says")
+    print(f"pem_peers: {len(FILES)} files, {len(found)} otherwise than the table says")
     return 1 if found else 0
 
 

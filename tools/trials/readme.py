@@ -23,8 +23,8 @@ from trials.count import Trial
 PROMPT, INDENT, GOES_ON = "$ ", "    ", "\\"
 SECONDS = 600
 # What a command line calls that is no script of the repository, once what is in quotes is away.
-CALLED, QUOTED = re.compile(r"(?:^|[|;&])\s*([a-z][\w-]*)"), re.compile(r"'[^']*'|\"[^\"]*\"")
-# What stands in the place of `rt`.
+CALLED, QUOTED = re.compile(r"(?:^|[|;&])\s*([a-z][\w-]*)(?![\w/-])"), re.compile(r"'[^']*'|\"[^\"]*\"")
+# What is in the place of `rt`.
 HIDDEN = """#!/bin/sh
 echo "rt: the commands of a page build nothing" >&2
 exit 1
@@ -63,7 +63,7 @@ def commands(page):
 
 
 def copied(room):
-    """Copies the repository without what checks leave behind; gives the copy."""
+    """Copies the repository without what checks leave; gives the copy."""
     top = os.path.join(room, "copy")
     shutil.copytree(repo.TOP, top, ignore=shutil.ignore_patterns(".git", "out", "__pycache__"))
     return top
@@ -93,7 +93,7 @@ def printed(command, top, environment):
 
 def tried(path):
     """The commands of a page that are run, each with the lines that are wanted."""
-    return [it for it in commands(repo.read(path)) if not page_commands.reason(path, it[0])]
+    return [command for command in commands(repo.read(path)) if not page_commands.reason(path, command[0])]
 
 
 def page_rows(path):
@@ -112,7 +112,7 @@ def filled(page, outputs):
             found.append(line)
             is_output, goes_on = True, line.endswith(GOES_ON)
             if not goes_on:
-                found += (INDENT + it for it in next(outputs))
+                found += (INDENT + entry for entry in next(outputs))
         elif not is_output or not line.startswith(INDENT):
             found.append(line)
             is_output = False
@@ -142,7 +142,7 @@ class Readme(Trial):
 
     def page(self, path):
         for command, lines, found in page_rows(path):
-            marked = [*(f"    wanted: {it}" for it in lines), *(f"    printed: {it}" for it in found)]
+            marked = [*(f"    wanted: {line}" for line in lines), *(f"    printed: {entry}" for entry in found)]
             self.row(found == lines, "\n".join([f"{path}: {command}", *marked]))
 
 

@@ -29,7 +29,7 @@ KEY, YEAR = KEYS[0], ("250101000000Z", "260101000000Z")
 CERTIFICATE_ISSUER, POLICIES = bytes.fromhex("0603551d1d"), bytes.fromhex("0603551d20")
 # `M\xfcller` as a T61String (20), which is no UTF-8, so that the name has no text.
 NO_TEXT = bytes.fromhex("3011310f300d060355040314064dfc6c6c6572")
-CRITICAL, UNCRITICAL = (extension(CERTIFICATE_ISSUER, it, b"\x30\0") for it in (True, False))
+CRITICAL, UNCRITICAL = (extension(CERTIFICATE_ISSUER, index, b"\x30\0") for index in (True, False))
 SIGNER, TRAILING_ZERO = bytes.fromhex("03020204"), bytes.fromhex("03020184")
 AUTHORITY = extension(CONSTRAINTS, True, sequence(b"\x01\x01\xff"))
 NO_AUTHORITY = extension(CONSTRAINTS, True, b"\x30\0")
@@ -77,11 +77,11 @@ FOUND = ["path 0 anchor 0", "at 0 CN=a", "at 0 to anchor 0 linked"]
 def list_row(title, octets, *reasons):
     """A list that would revoke the target, and why it isn't used."""
     return Row(title, [LEAF, octets], [ANCHOR],
-               [*FOUND, "list 1 CN=b", *(f"list 1 not used: {it}" for it in reasons)])
+               [*FOUND, "list 1 CN=b", *(f"list 1 not used: {reason}" for reason in reasons)])
 
 
 def list_rows():
-    updates = [utc(it) for it in YEAR]
+    updates = [utc(one) for one in YEAR]
     revoking = [entry(1)]
     yield list_row("a list without a next update", revocations(updates[:1], revoking),
                    "no next update")
@@ -131,7 +131,7 @@ def certificate_rows():
             ("ends before it begins", ("250701000000Z", "250501000000Z"),
              "not valid before 2025-07-01T00:00:00", "expired 2025-05-01T00:00:00")):
         yield Row(f"a certificate that {title}", [certificate(name("a"), name("b"), validity)],
-                  [ANCHOR], ["none", "at 0 CN=a", *(f"at 0 not usable: {it}" for it in reasons),
+                  [ANCHOR], ["none", "at 0 CN=a", *(f"at 0 not usable: {reason}" for reason in reasons),
                              "at 0 to anchor 0 linked"], 1)
     for title, validity in (("begins", ("250601000000Z", "260101000000Z")),
                             ("ends", ("250101000000Z", "250601000000Z"))):
@@ -159,7 +159,7 @@ def usage_rows():
         yield Row(f"an issuer with keyUsage {value.hex()}", [LEAF, issuer],
                   [certificate(name("c"), name("c"))],
                   [answer, "at 0 CN=a", "at 0 to 1 linked", "at 1 CN=b",
-                   *(f"at 1 {it}" for it in reasons), "at 1 to anchor 0 linked"],
+                   *(f"at 1 {reason}" for reason in reasons), "at 1 to anchor 0 linked"],
                   int(answer == "none"))
     yield Row("a target with keyUsage 03020184",
               [certificate(name("a"), name("b"), YEAR, [extension(USAGE, False, TRAILING_ZERO)])],
@@ -209,9 +209,9 @@ def range_rows():
             ("one after the other", [1, 1, 1], ["at 0 to 1-3 linked"]),
             ("with another item between", [1, 0, 1, 1], ["at 0 to 1, 3-4 linked"]),
             ("each by itself, 21 of them", [1, 0] * 21,
-             ["at 0 to " + ", ".join(str(2 * it + 1) for it in range(20)) + " and 1 more linked"])):
-        items = [LEAF, *(certificate(name("b" if it else "other"), name("c")) for it in others)]
-        issuers = [k + 1 for k, it in enumerate(others) if it]
+             ["at 0 to " + ", ".join(str(2 * index + 1) for index in range(20)) + " and 1 more linked"])):
+        items = [LEAF, *(certificate(name("b" if other else "other"), name("c")) for other in others)]
+        issuers = [k + 1 for k, other in enumerate(others) if other]
         own = [line for k in issuers for line in
                (f"at {k} CN=b", f"at {k} no issuer: no authority", f"at {k} no issuer here: CN=c")]
         yield Row(f"issuers {title}", items, [], [*links, *lines, *own], 1)
@@ -229,15 +229,15 @@ class Asking:
         """What the program says: its status, its output and its error."""
         titles = "bundle", "anchors", "vouchers"
         for title, octets in zip(titles, files):
-            with open(os.path.join(self.folder, title), "wb") as it:
-                it.write(octets)
+            with open(os.path.join(self.folder, title), "wb") as file:
+                file.write(octets)
         run = subprocess.run([self.program, "why", *titles, *words], cwd=self.folder,
                              capture_output=True, timeout=SECONDS)
         return run.returncode, run.stdout.decode(errors="backslashreplace"), run.stderr
 
 
 def text_of(lines):
-    return "".join(f"{it}\n" for it in lines)
+    return "".join(f"{line}\n" for line in lines)
 
 
 def try_rows(count, asking):
@@ -245,7 +245,7 @@ def try_rows(count, asking):
     for row in (*list_rows(), *certificate_rows(), *repeat_rows(), *usage_rows(), *name_rows(),
                 *bound_rows(), *range_rows()):
         files = (b"".join(row.items), b"".join(row.anchors),
-                 paths.vouchers((KEY, it) for it in row.items))
+                 paths.vouchers((KEY, item) for item in row.items))
         answer, *lines = row.lines
         count.same(row.title, asking.report(files, ["--target", "0", "--at", AT]),
                    (row.status, text_of([answer, "check yes", *lines]), b""))
@@ -262,8 +262,8 @@ def try_bundles(count, asking, bundles):
     for k in range(bundles):
         asked = making.Chance(f"{SEED} {k}").question()
         lines, status = model.Model(asked).report()
-        kinds.update(it.kind for it in lines)
-        wanted = text_of(it.text for it in lines)
+        kinds.update(line.kind for line in lines)
+        wanted = text_of(line.text for line in lines)
         words = making.words_of(asked)
         got, said, error = asking.report(making.files_of(asked), words)
         count.row((got, said, error) == (status, wanted, b""),
@@ -290,7 +290,7 @@ class Reasons(Trial):
         """Random bundles, among whose lines each kind has to occur if there are enough of them."""
         kinds = try_bundles(self, self.asking, bundles)
         if bundles >= SOME:
-            lacking = [it for it in model.KINDS if not kinds[it]]
+            lacking = [kind for kind in model.KINDS if not kinds[kind]]
             self.same("kinds of lines that didn't occur", lacking, [])
         self.same("kinds of lines that have no name", {*kinds} - {*model.KINDS}, set())
         return kinds
@@ -301,8 +301,8 @@ class Reasons(Trial):
         begun = time.monotonic()
         kinds = self.try_bundles(self.by_hand)
         print(f"{self.by_hand} bundles in {time.monotonic() - begun:.0f} s")
-        for it in model.KINDS:
-            print(f"{kinds[it]:8} {it}")
+        for kind in model.KINDS:
+            print(f"{kinds[kind]:8} {kind}")
 
 
 def main(words):

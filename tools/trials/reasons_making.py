@@ -13,15 +13,15 @@ from trials.reasons_model import (ALT_NAME, AUTHORITY_KEY, CONSTRAINTS, EXTENDED
                                   RevocationList)
 from trials.synthetic import element, number, sequence
 
-MOMENTS = [datetime(*it) for it in (
+MOMENTS = [datetime(*each) for each in (
     (2026, 12, 1), (2024, 2, 29, 12, 30, 15), (1999, 12, 31, 23, 59, 59),
     (2049, 12, 31, 23, 59, 59), (2050, 1, 1), (1950, 1, 1), (9999, 12, 31, 23, 59, 59))]
-AWAY = [timedelta(seconds=it) for it in (0, 1, 60, 86_400, 40_000_000, 800_000_000)]
+AWAY = [timedelta(seconds=index) for index in (0, 1, 60, 86_400, 40_000_000, 800_000_000)]
 EARLIEST, LATEST = datetime(1950, 1, 1), datetime(9999, 12, 31, 23, 59, 59)
 # The first year whose times are written in four digits (RFC 5280, 4.1.2.5).
 LONG_YEARS = 2050
 ALGORITHM, SIGNATURE = sequence(bytes.fromhex("06022a03")), element(0x03, b"\0")
-KEYS = [sequence(ALGORITHM, element(0x03, bytes([0, it]))) for it in range(4)]
+KEYS = [sequence(ALGORITHM, element(0x03, bytes([0, index]))) for index in range(4)]
 KEY_IDENTIFIERS = dict(zip(KEYS, (b"\0\1", b"\0\2", b"", b"\1" * 20)))
 SERIALS = (0, 1, 2, 3, 127, 128, 1 << 70)
 TAGS = {"mail": 0x81, "dns": 0x82, "dir": 0xa4, "uri": 0x86, "ip": 0x87}
@@ -38,11 +38,11 @@ def identifier_of(dotted):
     """An OBJECT IDENTIFIER (X.690, 8.19)."""
     first, second, *rest = map(int, dotted.split("."))
     content = b""
-    for it in (40 * first + second, *rest):
-        digits = [it & 127]
-        while it > 127:
-            it >>= 7
-            digits.insert(0, 128 | it & 127)
+    for value in (40 * first + second, *rest):
+        digits = [value & 127]
+        while value > 127:
+            value >>= 7
+            digits.insert(0, 128 | value & 127)
         content += bytes(digits)
     return element(0x06, content)
 
@@ -50,9 +50,9 @@ def identifier_of(dotted):
 def named(*sets):
     """A name of sets of attributes, each a type, an identifier octet and content."""
     made = [sorted((sequence(identifier_of(kind), element(tag, content)), (kind, tag & 31, content))
-                   for kind, tag, content in it) for it in sets]
-    octets = sequence(*(element(0x31, *(part for part, _ in it)) for it in made))
-    return Name(tuple(tuple(attribute for _, attribute in it) for it in made), octets)
+                   for kind, tag, content in group) for group in sets]
+    octets = sequence(*(element(0x31, *(part for part, _ in entry)) for entry in made))
+    return Name(tuple(tuple(attribute for _, attribute in entry) for entry in made), octets)
 
 
 def common(text, tag=0x0c):
@@ -60,7 +60,7 @@ def common(text, tag=0x0c):
 
 
 # Names, of which those of the first line are plain; two have one text, and others none.
-PLAIN_NAMES = [common(it) for it in ("a", "b", "c", "d", "Some Authority")]
+PLAIN_NAMES = [common(each) for each in ("a", "b", "c", "d", "Some Authority")]
 NAMES = [
     *PLAIN_NAMES * 2, common("a", 0x13), named(), common(""), common("M\u00fcller"),
     common("a\nat 0 linked\\\x7f"),
@@ -76,17 +76,17 @@ NAMES = [
 def bits(*places):
     """A keyUsage of some bits (X.690, 11.2.2)."""
     content = bytearray(max(places) // 8 + 1)
-    for it in places:
-        content[it // 8] |= 128 >> it % 8
+    for place in places:
+        content[place // 8] |= 128 >> place % 8
     return frozenset(places), element(0x03, bytes([7 - max(places) % 8]) + bytes(content))
 
 
 def malformed(*written):
-    return [(MALFORMED, bytes.fromhex(it)) for it in written]
+    return [(MALFORMED, bytes.fromhex(entry)) for entry in written]
 
 
 def constraints(authority, length):
-    parts = [b"\x01\x01\xff"] * authority + [number(it) for it in (length,) if it is not None]
+    parts = [b"\x01\x01\xff"] * authority + [number(value) for value in (length,) if value is not None]
     return Constraints(authority, length), sequence(*parts)
 
 
@@ -103,9 +103,9 @@ def uses(*purposes):
 # Values of basicConstraints: of authorities, of others, and some that aren't well written: a
 # default, a longer length, BER's true, a longer path length, a negative one, 2^32, a part that
 # lacks, nothing, another type, another order.
-AUTHORITIES = [constraints(True, it) for it in (None,) * 8 + (0,) * 5 + (1, 1, 1, 2, 3, 2**32 - 1)]
-LIMITED = [constraints(True, it) for it in (None, None, 0, 0, 0, 1, 1, 2)]
-NO_AUTHORITIES = [constraints(False, it) for it in (None, 0, 7)]
+AUTHORITIES = [constraints(True, each) for each in (None,) * 8 + (0,) * 5 + (1, 1, 1, 2, 3, 2**32 - 1)]
+LIMITED = [constraints(True, each) for each in (None, None, 0, 0, 0, 1, 1, 2)]
+NO_AUTHORITIES = [constraints(False, each) for each in (None, 0, 7)]
 BAD_CONSTRAINTS = malformed(
     "3003010100", "308100", "3003010101", "30070101ff02020000", "30060101ff0201ff",
     "300a0101ff02050100000000", "30030101ff00", "", "0500", "30060201000101ff")
@@ -121,22 +121,22 @@ BAD_AUTHORITY_KEYS = malformed("3000", "30048102abcd", "3004a0020500", "b0048002
                                "30048002abcd0500", "3081048002abcd", "8002abcd", "",
                                "30088002abcd01020000")
 BAD_SUBJECT_KEYS = malformed("8402abcd", "048102abcd", "0402abcd00", "0500", "")
-USES = [uses(*it) for it in (PURPOSES[:1], PURPOSES[:1], PURPOSES[1:2], PURPOSES[:2], (ANY,),
+USES = [uses(*index) for index in (PURPOSES[:1], PURPOSES[:1], PURPOSES[1:2], PURPOSES[:2], (ANY,),
                              PURPOSES[1:], ("1.3.6.1.5.5.7.3.4", "1.3.6.1.5.5.7.3.9"),
-                             [f"1.2.{it}" for it in range(22)], [f"1.2.{it}" for it in range(20)])]
+                             [f"1.2.{place}" for place in range(22)], [f"1.2.{place}" for place in range(20)])]
 BAD_USES = malformed("3000", "", "308103060129", "30030c0161", "0500")
 LONG = b"a" * 250 + b".test"
-ALTERNATIVES = [alternatives(*it) for it in (
+ALTERNATIVES = [alternatives(*index) for index in (
     [("dns", b"a.test")], [("dns", b"*.a.test")], [("dns", b"c.test"), ("ip", b"\xc0\0\2\1")],
     [("dns", LONG), ("dns", LONG[:253]), ("dns", b"a,b\\\n")], [("dns", LONG[:253])],
     [("mail", b"x@a.test")],
     [("uri", b"https://a.test"), ("dir", PLAIN_NAMES[0].octets)],
     [("ip", bytes.fromhex("20010db8" + "00" * 11 + "01")), ("ip", b"\x0a\0\0")],
     [("ip", bytes.fromhex("00" * 10 + "ffff01020304"))],
-    [("dns", f"{it}.test".encode()) for it in range(21)])]
+    [("dns", f"{place}.test".encode()) for place in range(21)])]
 BAD_ALTERNATIVES = malformed("3000", "", "308103820161", "30038201e4", "0500")
 NULL = b"\x05\0"
-OTHERS = [Other(bytes.fromhex(it)) for it in ("3000", "3003020105", "30073005a003020100")]
+OTHERS = [Other(bytes.fromhex(each)) for each in ("3000", "3003020105", "30073005a003020100")]
 
 
 def extension_octets(made):
@@ -171,7 +171,7 @@ def octets_of(made, *after):
         first = sequence(*version, number(made.serial), ALGORITHM, made.issuer.octets, validity,
                          made.subject.octets, made.key, *wrapped(0xa3, made.extensions))
     else:
-        updates = [time_octets(it) for it in (made.this_update, made.next_update) if it]
+        updates = [time_octets(value) for value in (made.this_update, made.next_update) if value]
         entries = [sequence(*map(entry_octets, made.entries))] * bool(made.entries)
         first = sequence(*[number(1)] * made.has_version, ALGORITHM, made.issuer.octets, *updates,
                          *entries, *wrapped(0xa0, made.extensions))
@@ -180,8 +180,8 @@ def octets_of(made, *after):
 
 def files_of(asked):
     """Bundle, anchors and vouchers, as `certpath` reads them."""
-    bundle, anchors = (b"".join(map(octets_of, it)) for it in (asked.items, asked.anchors))
-    return bundle, anchors, vouchers(sorted((key, octets_of(it)) for key, it in asked.vouchers))
+    bundle, anchors = (b"".join(map(octets_of, value)) for value in (asked.items, asked.anchors))
+    return bundle, anchors, vouchers(sorted((key, octets_of(entry)) for key, entry in asked.vouchers))
 
 
 def words_of(asked):
@@ -206,7 +206,7 @@ class Chance:
         self.moment = self.pick(MOMENTS)
         count = self.pick((4, 5) if self.is_long else (1, 2, 2, 3, 3, 3, 4, 4))
         self.names = [*dict.fromkeys(self.random.sample(NAMES, count))]
-        self.keys = {it: self.pick(KEYS) for it in self.names}
+        self.keys = {name: self.pick(KEYS) for name in self.names}
         demanded = self.is_so(0.1 if self.is_long else 0.35)
         self.demand_lists = self.is_so(0 if self.is_long else 0.2)
         self.purpose = self.pick(PURPOSES) if demanded and self.is_so(0.8) else None
@@ -274,7 +274,7 @@ class Chance:
     def repeated(self, made):
         """An extension of the same identifier, which may say something else."""
         sound = {CONSTRAINTS: AUTHORITIES + NO_AUTHORITIES, KEY_USAGE: SIGNERS + NO_SIGNERS}
-        keys = [self.key_value(made.identifier, it) for it in KEYS]
+        keys = [self.key_value(made.identifier, key) for key in KEYS]
         sound.update({AUTHORITY_KEY: keys, SUBJECT_KEY: keys})
         return self.made(made.identifier, self.pick(sound.get(made.identifier, [made[2:]])))
 
@@ -293,8 +293,8 @@ class Chance:
     def further_extensions(self):
         """Constraints that are not processed, and extensions that are not judged."""
         found, nothing = [], (None, b"\x30\0")
-        for it in (NAME_CONSTRAINTS, POLICY_CONSTRAINTS):
-            found += [self.made(it, nothing)] * (self.is_fault() and self.is_so(0.4))
+        for value in (NAME_CONSTRAINTS, POLICY_CONSTRAINTS):
+            found += [self.made(value, nothing)] * (self.is_fault() and self.is_so(0.4))
         if self.is_so(0.2):
             found.append(self.made(self.pick(UNKNOWN), nothing, self.is_fault()))
         return found
@@ -338,7 +338,7 @@ class Chance:
         this_update, next_update = self.span(self.is_list_fault())
         entries = tuple(self.entry() for _ in range(self.pick((0, 0, 1, 1, 2, 3))))
         extensions = self.uncritical()
-        has_version = any((extensions, *(it.extensions for it in entries))) or self.is_so(0.5)
+        has_version = any((extensions, *(entry.extensions for entry in entries))) or self.is_so(0.5)
         return RevocationList(issuer, this_update,
                               None if self.is_list_fault() else next_update, entries, extensions,
                               has_version)
@@ -351,13 +351,13 @@ class Chance:
     def items(self):
         """Certificates of each name and some more, and lists; an item may be there twice."""
         most = len(self.names)
-        found = [self.certificate(it, it + 1) for it in range(most - 1) if not self.is_fault()]
+        found = [self.certificate(index, index + 1) for index in range(most - 1) if not self.is_fault()]
         further = max(self.random.randint(0, 7 - most), not found)
         found += [self.further_certificate() for _ in range(further)]
         lists = self.pick((0, 0, 1, 1, 2))
         found += [self.revocations(self.pick(self.names)) for _ in range(lists)]
         if self.demand_lists:
-            found += [self.revocations(it) for it in self.names[1:] if self.is_so(0.8)]
+            found += [self.revocations(name) for name in self.names[1:] if self.is_so(0.8)]
         found += [self.other()] * self.is_so(0.1)
         self.random.shuffle(found)
         return found + [self.pick(found)] * self.is_so(COPIES)
@@ -375,13 +375,13 @@ class Chance:
 
     def vouched(self, items, holders):
         """Pairs: a key of the issuer's name for most items, and some others."""
-        for it in items:
-            if isinstance(it, Other):
+        for item in items:
+            if isinstance(item, Other):
                 continue
-            keys = sorted({one.key for one in holders if one.subject == it.issuer})
+            keys = sorted({one.key for one in holders if one.subject == item.issuer})
             if keys and self.is_so(0.5):
                 keys = [self.pick(keys)]
-            yield from ((key, it) for key in keys if not self.is_fault())
+            yield from ((key, item) for key in keys if not self.is_fault())
         for _ in range(self.random.randrange(PAIRS_MORE)):
             yield self.pick(KEYS), self.pick(items)
 
@@ -389,9 +389,9 @@ class Chance:
         """The question, most of all about a certificate of the first name."""
         items, anchors = self.items(), self.anchors()
         self.random.shuffle(anchors)
-        holders = [it for it in items + anchors if isinstance(it, Certificate)]
-        below = [k for k, it in enumerate(items)
-                 if isinstance(it, Certificate) and it.subject == self.names[0]]
+        holders = [item for item in items + anchors if isinstance(item, Certificate)]
+        below = [k for k, item in enumerate(items)
+                 if isinstance(item, Certificate) and item.subject == self.names[0]]
         target = self.pick((*below, *below, *below, self.random.randrange(len(items))))
         if self.is_so(0.02):
             target = len(items) + self.pick((0, 1, 4_000_000_000))

@@ -129,8 +129,8 @@ def shown_moment(moment):
 
 def escaped(octets, others=b"\\"):
     """Octets as printable ASCII; these others are escaped too."""
-    return "".join(chr(it) if 32 <= it < 127 and it not in others else f"\\{it:02X}"
-                   for it in octets)
+    return "".join(chr(octet) if 32 <= octet < 127 and octet not in others else f"\\{octet:02X}"
+                   for octet in octets)
 
 
 def value_text(tag, content):
@@ -144,7 +144,7 @@ def shown_name(name):
     """A name as text, or its octets if a value has none."""
     try:
         sets = [" + ".join(f"{ABBREVIATIONS.get(kind, f'OID({kind})')}={value_text(tag, content)}"
-                           for kind, tag, content in it) for it in name.sets]
+                           for kind, tag, content in group) for group in name.sets]
     except UnicodeDecodeError:
         return "#" + name.octets.hex().upper()
     return escaped(", ".join(sets).encode()) or "(empty)"
@@ -152,14 +152,14 @@ def shown_name(name):
 
 def listed(texts):
     """Names in a list, each of them octets."""
-    shown = [escaped(it[:MOST_OCTETS], b"\\,") + "..." * (len(it) > MOST_OCTETS) for it in texts]
+    shown = [escaped(text[:MOST_OCTETS], b"\\,") + "..." * (len(text) > MOST_OCTETS) for text in texts]
     more = f" and {len(shown) - MOST_NAMES} more" * (len(shown) > MOST_NAMES)
     return ", ".join(shown[:MOST_NAMES]) + more
 
 
 def ranges(positions):
     """Positions, of which those that follow each other are shown as the first and the last."""
-    apart = groupby(enumerate(sorted(positions)), lambda it: it[1] - it[0])
+    apart = groupby(enumerate(sorted(positions)), lambda entry: entry[1] - entry[0])
     runs = [[position for _, position in run] for _, run in apart]
     return listed(("-".join(map(str, run[::len(run) - 1] if run[1:] else run))).encode()
                   for run in runs)
@@ -184,7 +184,7 @@ def host_text(kind, content):
 
 def values(extensions, identifier):
     """What the extensions of an identifier say."""
-    return [it.value for it in extensions if it.identifier == identifier]
+    return [extension.value for extension in extensions if extension.identifier == identifier]
 
 
 def key_identifier(certificate, identifier):
@@ -211,8 +211,8 @@ def unissued(certificate):
     for identifier, words in ((KEY_USAGE, "keyUsage without keyCertSign"),
                               (NAME_CONSTRAINTS, "nameConstraints"),
                               (POLICY_CONSTRAINTS, "policyConstraints")):
-        for k, it in enumerate(certificate.extensions):
-            if it.identifier == identifier and not is_signer(it):
+        for k, extension in enumerate(certificate.extensions):
+            if extension.identifier == identifier and not is_signer(extension):
                 found.append(Line(words, f"extension {k} {words}"))
     return found
 
@@ -224,7 +224,7 @@ def words_of_uses(certificate):
         return Line("it has more than one extKeyUsage", "it has more than one extKeyUsage")
     if found[0] == MALFORMED:
         return Line("its extKeyUsage isn't well written", "its extKeyUsage isn't well written")
-    texts = [PURPOSES.get(it, it).encode() for it in found[0]]
+    texts = [PURPOSES.get(entry, entry).encode() for entry in found[0]]
     return Line("it is for", f"it is for {listed(texts)}")
 
 
@@ -236,7 +236,7 @@ def words_of_hosts(certificate):
     if MALFORMED in found:
         return Line("its subjectAltName isn't well written",
                     "its subjectAltName isn't well written")
-    texts = [host_text(*it) for one in found for it in one if it[0] in ("dns", "ip")]
+    texts = [host_text(*entry) for one in found for entry in one if entry[0] in ("dns", "ip")]
     if not texts:
         return Line("it names no host", "it names no host")
     return Line("it names", f"it names {listed(texts)}")
@@ -248,19 +248,19 @@ class Model:
     def __init__(self, asked):
         self.asked = asked
         self.certificates, self.roots = (
-            {k: it for k, it in enumerate(items) if isinstance(it, Certificate)}
+            {k: item for k, item in enumerate(items) if isinstance(item, Certificate)}
             for items in (asked.items, asked.anchors))
-        self.lists = {k: it for k, it in enumerate(asked.items) if isinstance(it, RevocationList)}
+        self.lists = {k: item for k, item in enumerate(asked.items) if isinstance(item, RevocationList)}
         self.target = self.certificates.get(asked.target)
         self.reached = self.all_reached()
-        self.fit = [v for v, it in self.certificates.items()
-                    if not self.unusable(it) and not unissued(it)]
+        self.fit = [v for v, certificate in self.certificates.items()
+                    if not self.unusable(certificate) and not unissued(certificate)]
         self.links = {v: [w for w, other in self.certificates.items()
-                          if self.is_linked(it, other, False)]
-                      for v, it in self.certificates.items()}
+                          if self.is_linked(certificate, other, False)]
+                      for v, certificate in self.certificates.items()}
         self.anchored = {v: [a for a, other in self.roots.items()
-                             if self.is_linked(it, other, True)]
-                         for v, it in self.certificates.items()}
+                             if self.is_linked(certificate, other, True)]
+                         for v, certificate in self.certificates.items()}
 
     def all_reached(self):
         """The positions of the target and of what is reached from it by the names of issuers."""
@@ -268,7 +268,7 @@ class Model:
         while new:
             found |= new
             issuers = {self.certificates[v].issuer for v in new}
-            new = {w for w, it in self.certificates.items() if it.subject in issuers} - found
+            new = {w for w, certificate in self.certificates.items() if certificate.subject in issuers} - found
         return found
 
     def is_processed(self, certificate, extension):
@@ -287,17 +287,17 @@ class Model:
                               f"not valid before {shown_moment(certificate.first)}"))
         if certificate.last < self.asked.moment:
             found.append(Line("expired", f"expired {shown_moment(certificate.last)}"))
-        identifiers = [it.identifier for it in extensions]
-        for k, it in enumerate(identifiers):
-            if it in identifiers[:k]:
-                found.append(Line("repeats", f"extension {k} repeats {it}"))
-        for k, it in enumerate(extensions):
-            if it.critical and not self.is_processed(certificate, it):
+        identifiers = [extension.identifier for extension in extensions]
+        for k, entry in enumerate(identifiers):
+            if entry in identifiers[:k]:
+                found.append(Line("repeats", f"extension {k} repeats {entry}"))
+        for k, entry in enumerate(extensions):
+            if entry.critical and not self.is_processed(certificate, entry):
                 words = "critical and not judged"
-                found.append(Line(words, f"extension {k} {words} {it.identifier}"))
+                found.append(Line(words, f"extension {k} {words} {entry.identifier}"))
         for identifier, title in ((CONSTRAINTS, "basicConstraints"), (KEY_USAGE, "keyUsage")):
-            for k, it in enumerate(extensions):
-                if it.identifier == identifier and it.value == MALFORMED:
+            for k, entry in enumerate(extensions):
+                if entry.identifier == identifier and entry.value == MALFORMED:
                     words = f"{title} not well written"
                     found.append(Line(words, f"extension {k} {words}"))
         return found
@@ -329,20 +329,20 @@ class Model:
         if one.next_update is not None and one.next_update < moment:
             found.append(Line("past next update",
                               f"past next update {shown_moment(one.next_update)}"))
-        for k, it in enumerate(one.extensions):
-            if it.critical:
+        for k, entry in enumerate(one.extensions):
+            if entry.critical:
                 found.append(Line("critical extension of a list",
-                                  f"extension {k} critical {it.identifier}"))
-        for k, it in enumerate(one.entries):
-            if any(extension.critical for extension in it.extensions):
+                                  f"extension {k} critical {entry.identifier}"))
+        for k, entry in enumerate(one.entries):
+            if any(extension.critical for extension in entry.extensions):
                 found.append(Line("has a critical extension",
                                   f"entry {k} has a critical extension"))
         return found
 
     def used_lists(self, name, key):
         """The positions of the lists that are used under a name and key."""
-        return [p for p, it in self.lists.items() if it.issuer == name
-                and not self.unused(it, [key])]
+        return [p for p, crl in self.lists.items() if crl.issuer == name
+                and not self.unused(crl, [key])]
 
     def unlinked(self, certificate, issuer, is_anchor):
         """Why a certificate isn't linked to one of its issuer's name."""
@@ -355,7 +355,7 @@ class Model:
             found.append(Line("key identifiers differ", "key identifiers differ"))
         used = self.used_lists(issuer.subject, issuer.key)
         for p in used:
-            if certificate.serial in [it.serial for it in self.lists[p].entries]:
+            if certificate.serial in [entry.serial for entry in self.lists[p].entries]:
                 found.append(Line("revoked by list", f"revoked by list {p}"))
         if self.asked.demand_lists and not used:
             found.append(Line("no list used", "no list used"))
@@ -372,7 +372,7 @@ class Model:
 
     def limit(self, v):
         """The path length of a fit issuer."""
-        length = next(it for it in self.certificates[v].extensions if is_authority(it)).value.length
+        length = next(extension for extension in self.certificates[v].extensions if is_authority(extension)).value.length
         return ANY if length is None else length
 
     def longer(self, path):
@@ -385,10 +385,10 @@ class Model:
         """The first path and its anchor; None if there is none."""
         paths = [] if self.unusable(self.target) else [(self.asked.target,)]
         while paths:
-            for it in paths:
-                if self.anchored[it[-1]]:
-                    return it, self.anchored[it[-1]][0]
-            paths = [longer for it in paths for longer in self.longer(it)]
+            for path in paths:
+                if self.anchored[path[-1]]:
+                    return path, self.anchored[path[-1]][0]
+            paths = [longer for entry in paths for longer in self.longer(entry)]
         return None
 
     def reach(self, v):
@@ -427,10 +427,10 @@ class Model:
         and for each reason which don't."""
         certificate, is_anchor = self.certificates[v], to.startswith("anchor")
         kind = "to an anchor" if is_anchor else "to a certificate"
-        reasons = {w: self.unlinked(certificate, it, is_anchor) for w, it in holders.items()
-                   if it.subject == certificate.issuer}
+        reasons = {w: self.unlinked(certificate, holder, is_anchor) for w, holder in holders.items()
+                   if holder.subject == certificate.issuer}
         linked = Line("linked", "linked")
-        each = [linked, *sorted({it for found in reasons.values() for it in found}, key=place_of)]
+        each = [linked, *sorted({entry for found in reasons.values() for entry in found}, key=place_of)]
         lines = []
         for reason in each:
             to_whom = [w for w, found in reasons.items() if reason in (found or [linked])]
@@ -443,12 +443,12 @@ class Model:
         """All lines of a certificate that is reached."""
         certificate, front = self.certificates[v], f"at {v}"
         found = [Line("at", f"{front} {shown_name(certificate.subject)}")]
-        found += [it._replace(text=f"{front} not usable: {it.text}")
-                  for it in self.unusable(certificate)]
-        found += [it._replace(text=f"{front} {it.text}") for it in self.unmet(certificate)]
+        found += [reason._replace(text=f"{front} not usable: {reason.text}")
+                  for reason in self.unusable(certificate)]
+        found += [reason._replace(text=f"{front} {reason.text}") for reason in self.unmet(certificate)]
         if v != self.asked.target:
-            found += [it._replace(text=f"{front} no issuer: {it.text}")
-                      for it in unissued(certificate)]
+            found += [reason._replace(text=f"{front} no issuer: {reason.text}")
+                      for reason in unissued(certificate)]
         links = self.link_lines(v, "", self.certificates)
         links += self.link_lines(v, "anchor ", self.roots)
         found += links
@@ -460,11 +460,11 @@ class Model:
     def list_lines(self, p):
         """All lines of a list."""
         one = self.lists[p]
-        keys = [it.key for holders in (self.certificates, self.roots) for it in holders.values()
-                if it.subject == one.issuer]
+        keys = [holder.key for holders in (self.certificates, self.roots) for holder in holders.values()
+                if holder.subject == one.issuer]
         reasons = self.unused(one, keys)
         own = [Line("list", f"list {p} {shown_name(one.issuer)}")] * bool(reasons)
-        return own + [it._replace(text=f"list {p} not used: {it.text}") for it in reasons]
+        return own + [reason._replace(text=f"list {p} not used: {reason.text}") for reason in reasons]
 
     def report(self):
         """All lines, and the status."""

@@ -95,7 +95,7 @@ def name_of(test):
 
 def spent():
     """The seconds of processors of this process and of those that it started and that ended."""
-    return sum(it.ru_utime + it.ru_stime for it in map(resource.getrusage, (resource.RUSAGE_SELF, resource.RUSAGE_CHILDREN)))
+    return sum(value.ru_utime + value.ru_stime for value in map(resource.getrusage, (resource.RUSAGE_SELF, resource.RUSAGE_CHILDREN)))
 
 
 def found(names):

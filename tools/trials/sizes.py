@@ -54,9 +54,9 @@ class Case(NamedTuple):
     def report(self):
         """What `certpath path` prints."""
         count = len(self.anchors)
-        lines = [f"{place} {it.kind}" for place, it in enumerate(self.bundle)]
+        lines = [f"{place} {item.kind}" for place, item in enumerate(self.bundle)]
         lines += ["end clean", f"anchors {count} of {count}, clean", self.answer, "check yes"]
-        return "".join(f"{it}\n" for it in lines)
+        return "".join(f"{line}\n" for line in lines)
 
 
 # ---- what is asked about, in the words of tools/dev/items.py
@@ -89,13 +89,13 @@ def number(place):
 
 def unknown_extensions():
     """So many different extensions that nobody knows."""
-    numbers = (0x8100 + it // 128 * 256 + it % 128 for it in range(EXTENSIONS))
-    return [f"30(06(2a{it:04x})04(05()))" for it in numbers]
+    numbers = (0x8100 + index // 128 * 256 + index % 128 for index in range(EXTENSIONS))
+    return [f"30(06(2a{index:04x})04(05()))" for index in numbers]
 
 
 def large_items():
     """Items by their titles."""
-    entries = "".join(f'30({number(it)}17("250101000000Z"))' for it in range(MANY))
+    entries = "".join(f'30({number(index)}17("250101000000Z"))' for index in range(MANY))
     attributes = f'30(06(550403)0c("a"))*{OCTETS // 10}'
     return {
         "1,000 entries": Item(LIST, spelled("list", entries=f"30({entries})"), MANY),
@@ -108,9 +108,9 @@ def large_items():
 
 def cases(large):
     anchor, root = certificate(), certificate(subject=name("root"))
-    many = [certificate(serial=number(it), subject=name(it)) for it in range(MANY)]
+    many = [certificate(serial=number(index), subject=name(index)) for index in range(MANY)]
     names = [*range(CHAIN), "root"]
-    chain = [authority(*names[it:it + 2]) for it in range(CHAIN)]
+    chain = [authority(*names[index:index + 2]) for index in range(CHAIN)]
     last, whole = MANY - 1, " ".join(map(str, range(CHAIN)))
     revoking = large["1,000 entries"]
     found = "path 0 anchor 0"
@@ -132,24 +132,24 @@ def cases(large):
 
 
 def octets_of(found):
-    return b"".join(it.octets for it in found)
+    return b"".join(entry.octets for entry in found)
 
 
 def lines_of(case):
     """The lines of the voucher file."""
-    return paths.vouchers((KEY, it.octets) for it in case.vouched)
+    return paths.vouchers((KEY, entry.octets) for entry in case.vouched)
 
 
 def by_program(count, program, room, case):
     """`path` prints the report, and no other command is out of memory."""
-    files = [os.path.join(room, it) for it in ("bundle", "anchors", "vouchers")]
+    files = [os.path.join(room, item) for item in ("bundle", "anchors", "vouchers")]
     contents = octets_of(case.bundle), octets_of(case.anchors), lines_of(case)
     for path, octets in zip(files, contents):
         with open(path, "wb") as file:
             file.write(octets)
     asked, row = paths.Case(), {"target": str(case.target)}
     asked.moment, asked.demand = MOMENT, case.demand
-    commands = [paths.words_of(it, files, row, asked) for it in paths.PRINTED]
+    commands = [paths.words_of(entry, files, row, asked) for entry in paths.PRINTED]
     for words in (["frame", files[0]], *commands):
         ran = subprocess.run([program, *words], stdin=subprocess.DEVNULL, stdout=subprocess.PIPE,
                              stderr=subprocess.PIPE, text=True, timeout=SECONDS)
@@ -162,12 +162,12 @@ def by_program(count, program, room, case):
 
 def by_package(count, case):
     """The items have their classes, something is found, and the check says yes to it."""
-    bundle, anchors = (certpath.frame(octets_of(it)) for it in (case.bundle, case.anchors))
+    bundle, anchors = (certpath.frame(octets_of(value)) for value in (case.bundle, case.anchors))
     pairs = bytes.fromhex(lines_of(case).decode())
     asked = bundle, anchors, pairs, case.target, datetime.fromisoformat(MOMENT)
     try:
-        kinds = [it.kind for it in bundle]
-        count.row(kinds == [KINDS[it.kind] for it in case.bundle], f"{case.title}: other classes")
+        kinds = [item.kind for item in bundle]
+        count.row(kinds == [KINDS[item.kind] for item in case.bundle], f"{case.title}: other classes")
         count.row(certpath.questions(bundle, anchors), f"{case.title}: no questions")
         answer = certpath.find(*asked, demand_lists=case.demand)
         count.row(line_of(answer) == case.answer, f"{case.title}: {line_of(answer)[:200]}")
@@ -186,7 +186,7 @@ def line_of(answer):
 
 def by_rows(count, large):
     """Two readers of items, and `from_der`, read each extension and each entry."""
-    programs = {it: count.program(it) for it in ("rows_cert", "rows_x509")}
+    programs = {entry: count.program(entry) for entry in ("rows_cert", "rows_x509")}
     for title, item in large.items():
         word, octets = WORDS[item.kind], item.octets.hex()
         written = f"  written {len(item.octets)}, the item\n"

@@ -39,14 +39,14 @@ class OfStores(installing_places.InRoom):
             between = made.certificate(f"/CN=Between {name}", "p384", root, OF_AUTHORITY, **LONG)
             self.chains[name] = made.certificate(f"/CN=leaf {name}", "p521", between, OF_LEAF, **LONG), between, root
         self.leaves = {name: chain[0].file for name, chain in self.chains.items()}
-        self.between = self.shop.keep("between.pem", b"".join(self.octets(it[1].file) for it in self.chains.values()))
+        self.between = self.shop.keep("between.pem", b"".join(self.octets(link[1].file) for link in self.chains.values()))
 
     def at(self, file):
         return os.path.join(self.room, file)
 
     def octets(self, file):
-        with open(self.at(file), "rb") as it:
-            return it.read()
+        with open(self.at(file), "rb") as entry:
+            return entry.read()
 
     def hash(self, file):
         return self.shop.openssl("x509", "-in", file, "-noout", "-hash").decode().strip()
@@ -56,16 +56,16 @@ class OfStores(installing_places.InRoom):
         path = self.at(name)
         os.mkdir(path)
         for file, octets in files.items():
-            with open(os.path.join(path, file.lstrip("h").replace("_", ".")), "wb") as it:
-                it.write(octets)
+            with open(os.path.join(path, file.lstrip("h").replace("_", ".")), "wb") as entry:
+                entry.write(octets)
         return path
 
     def hashed(self, name, *files):
         """A folder in which `openssl rehash` names files by their hashes."""
         path = self.at(name)
         os.mkdir(path)
-        for it in files:
-            shutil.copy(self.at(it), path)
+        for file in files:
+            shutil.copy(self.at(file), path)
         self.shop.openssl("rehash", path)
         return path
 
@@ -92,11 +92,11 @@ class OfStores(installing_places.InRoom):
         a status of its own."""
         words = [*self.leaves.values(), "--all", "--lists", self.between, *anchors]
         status, text, said = self.verify(*words, "--json", **variables)
-        found = {it["target"]["subject"].rpartition(" ")[2] for it in map(json.loads, text.splitlines()) if it["status"] == 0}
+        found = {load["target"]["subject"].rpartition(" ")[2] for load in map(json.loads, text.splitlines()) if load["status"] == 0}
         self.same(f"{title}: {said}", (self.openssl(*openssl, **variables), found, status),
                   (wanted, wanted, 0 if len(wanted) == len(self.leaves) else 1 if wanted else 4))
         if not anchors and wanted:
-            heads = [json.loads(it)["headline"] for it in text.splitlines()]
+            heads = [json.loads(line)["headline"] for line in text.splitlines()]
             self.row(all(map(BY_SYSTEM.match, heads)), f"{title}: the first lines are {heads}")
 
 
@@ -105,7 +105,7 @@ class Stores(OfStores):
 
     def test_variables(self):
         """Each variable replaces its own part of the store, which both verifiers read alike."""
-        one, two, three = (self.octets(self.chains[it][2].file) for it in ("one", "two", "three"))
+        one, two, three = (self.octets(self.chains[name][2].file) for name in ("one", "two", "three"))
         self.shop.keep("bundle.pem", one + two)
         self.shop.keep("notes", b"no certificate\n")
         self.shop.keep("root.der", self.chains["one"][2].octets)
@@ -175,7 +175,7 @@ class Stores(OfStores):
                                  env=self.environment(), capture_output=True)
             self.same(f"certificate {number}: {text[:200]}", (status, bool(BY_SYSTEM.match(text))), (ran.returncode and 1, True))
         status, text, _ = self.verify(*self.leaves.values(), "--all", "--lists", self.between, "--json")
-        found = [json.loads(it)["status"] for it in text.splitlines()]
+        found = [json.loads(line)["status"] for line in text.splitlines()]
         self.same("leaves of others", (status, found, self.openssl()), (1, [1, 1, 1], set()))
 
     def test_explicit(self):
@@ -186,13 +186,13 @@ class Stores(OfStores):
 
     def test_folders(self):
         """Of a folder with hashed names the same certificates are found as by `openssl verify -CApath`."""
-        roots = {it: self.octets(chain[2].file) for it, chain in self.chains.items()}
-        hashes = {it: self.hash(chain[2].file) for it, chain in self.chains.items()}
+        roots = {name: self.octets(chain[2].file) for name, chain in self.chains.items()}
+        hashes = {name: self.hash(chain[2].file) for name, chain in self.chains.items()}
         openssl, nothing = ("-no-CAfile", "-no-CAstore"), self.folder("nothing")
         self.row(hashes["two"] != hashes["two"].upper(), f"the hash of Root two has no letter: {hashes['two']}")
 
         def named(**names):
-            return {f"h{hashes[it]}_{number}": octets for it, number, octets in names.values()}
+            return {f"h{hashes[word]}_{number}": octets for word, number, octets in names.values()}
 
         for title, wanted, folder in (
                 ("rehashed", {"one", "three"}, self.hashed("rehashed", self.chains["one"][2].file, self.chains["three"][2].file)),
@@ -257,7 +257,7 @@ class Several(OfStores):
 
     def setUp(self):
         super().setUp()
-        self.roots = self.shop.keep("roots.pem", b"".join(self.octets(self.chains[it][2].file) for it in ("one", "two")))
+        self.roots = self.shop.keep("roots.pem", b"".join(self.octets(self.chains[entry][2].file) for entry in ("one", "two")))
         self.files = []
         for name, (leaf, between, _) in self.chains.items():
             self.files.append(self.shop.keep(f"{name}.pem", self.octets(leaf.file)))
@@ -266,20 +266,20 @@ class Several(OfStores):
         """The FILEs that `openssl verify FILE..` calls OK: to it each FILE is a target."""
         words = ["openssl", "verify", "-attime", STAMP, "-no-CApath", "-no-CAstore", "-CAfile", self.roots, "-untrusted", self.between]
         ran = subprocess.run([*words, *self.files], cwd=self.room, capture_output=True, text=True)
-        return {it for it in self.files if f"{it}: OK\n" in ran.stdout}
+        return {file for file in self.files if f"{file}: OK\n" in ran.stdout}
 
     def objects(self, *words):
         status, text, _ = self.verify(*words, "--anchors", self.roots, "--json")
-        return status, [json.loads(it) for it in text.splitlines()]
+        return status, [json.loads(line) for line in text.splitlines()]
 
     def test_all(self):
         """`--all FILE..` with helpers in --lists judges what `openssl verify FILE..` judges."""
         status, found = self.objects(*self.files, "--all", "--lists", self.between)
-        accepted = {it["target"]["file"] for it in found if it["status"] == 0}
-        self.same("--all", (status, [it["target"]["file"] for it in found]), (1, self.files))
+        accepted = {entry["target"]["file"] for entry in found if entry["status"] == 0}
+        self.same("--all", (status, [entry["target"]["file"] for entry in found]), (1, self.files))
         self.same("--all beside openssl", (accepted, self.accepted_by_openssl()), ({"one.pem", "two.pem"},) * 2)
         self.same("what are targets", (found[0]["targets"], found[0]["helpers"]),
-                  ([f"{it}: 1 certificate" for it in self.files], ["between.pem: 3 certificates"]))
+                  ([f"{file}: 1 certificate" for file in self.files], ["between.pem: 3 certificates"]))
         _, text, _ = self.verify(*self.files, "--all", "--lists", self.between, "--anchors", self.roots)
         self.row("\ntargets\n  one.pem: 1 certificate\n  two.pem: 1 certificate\n  three.pem: 1 certificate\n"
                  "helpers\n  between.pem: 3 certificates\n" in text, f"--all: {text}")
@@ -298,7 +298,7 @@ class Several(OfStores):
         for word, wanted in (("three.pem", "the first certificate of three.pem"), ("2", "item 2 (three.pem), by --target"),
                              (three, "item 2 (three.pem), by --target")):
             found = self.objects(*self.files, "--target", word, "--lists", self.between)[1][0]
-            self.same(f"--target {word}", (found["targets"], [it for it in found["helpers"] if "--all" in it], found["target"]["file"]),
+            self.same(f"--target {word}", (found["targets"], [entry for entry in found["helpers"] if "--all" in entry], found["target"]["file"]),
                       ([wanted], [], "three.pem"))
 
     def test_one_file(self):
@@ -306,7 +306,7 @@ class Several(OfStores):
         self.shop.keep("chain.pem", self.octets("one.pem") + self.octets(self.chains["one"][1].file))
         found = self.objects("chain.pem")[1][0]
         self.same("a chain", (found["targets"], found["helpers"]), (["the first certificate of chain.pem"], ["chain.pem: 1 further certificate"]))
-        found = self.objects(*(it for it in self.files for _ in range(2)))[1][0]
+        found = self.objects(*(file for file in self.files for _ in range(2)))[1][0]
         self.same("FILEs twice", found["helpers"][:2], ["two.pem: 1 certificate", "three.pem: 1 certificate"])
 
     def test_many(self):

@@ -16,7 +16,7 @@ from trials.ed25519 import Key
 MOMENT = "2026-12-01T00:00:00"
 PAST, FUTURE, EXPIRED = b"260101000000Z", b"270101000000Z", b"261101000000Z"
 ED25519 = bytes.fromhex("300506032b6570")
-CONSTRAINTS, USAGE, SUBJECT_KEY, AUTHORITY_KEY = (bytes.fromhex(f"0603551d{it}") for it in ("13", "0f", "0e", "23"))
+CONSTRAINTS, USAGE, SUBJECT_KEY, AUTHORITY_KEY = (bytes.fromhex(f"0603551d{one}") for one in ("13", "0f", "0e", "23"))
 POISON = bytes.fromhex("060a2b06010401d679020403")
 ROOTS, ANCHORS, MIDDLES, LOWER = 10, 9, 60, 240
 # One of so many entries has a fault; one of so many authorities has several certificates; one of so
@@ -109,7 +109,7 @@ def authority(serial: int, issuer: Authority, subject: Authority, length: Option
 
 
 def revocations(issuer: Authority, serials: List[int], end: bytes = FUTURE) -> Made:
-    entries = [sequence(number(it), element(0x17, PAST)) for it in serials]
+    entries = [sequence(number(serial), element(0x17, PAST)) for serial in serials]
     tbs = sequence(number(1), ED25519, issuer.name, element(0x17, PAST), element(0x17, end),
                    *[sequence(*entries)] * bool(entries))
     return Made(issuer.signed(tbs), issuer.public)
@@ -120,16 +120,16 @@ class Authorities:
 
     def __init__(self, chance: random.Random):
         self.chance, self.serial = chance, 1 << 40
-        self.roots = [Authority(f"Root {it}") for it in range(ROOTS)]
-        self.middles = [Authority(f"Middle {it}") for it in range(MIDDLES)]
-        self.lower = [Authority(f"Lower {it}") for it in range(LOWER)]
-        self.anchors = [self.issued(it, it) for it in self.roots[:ANCHORS]]
+        self.roots = [Authority(f"Root {index}") for index in range(ROOTS)]
+        self.middles = [Authority(f"Middle {index}") for index in range(MIDDLES)]
+        self.lower = [Authority(f"Lower {index}") for index in range(LOWER)]
+        self.anchors = [self.issued(root, root) for root in self.roots[:ANCHORS]]
         self.above, self.items = {}, []
         for issuers, subjects in ((self.roots, self.middles), (self.middles, self.lower)):
             for subject in subjects:
                 self.add(subject, issuers)
-        self.lists = [self.revoked(it) for it in self.roots + self.lower + self.middles
-                      if it in self.roots or chance.randrange(4)]
+        self.lists = [self.revoked(root) for root in self.roots + self.lower + self.middles
+                      if root in self.roots or chance.randrange(4)]
 
     def issued(self, issuer, subject, length=None, end=FUTURE):
         self.serial += 1
@@ -180,7 +180,7 @@ def vector(length: int, octets: bytes) -> bytes:
 def answer_of(made: Made, issuer: Authority, chain: tuple, is_precertificate: bool) -> dict:
     """An entry of an answer (RFC 6962, 3.4 and 4.6)."""
     front = b"\0\0" + (1700000000000).to_bytes(8, "big") + int(is_precertificate).to_bytes(2, "big")
-    links = vector(3, b"".join(vector(3, it.octets) for it in chain))
+    links = vector(3, b"".join(vector(3, link.octets) for link in chain))
     if is_precertificate:
         key_hash = hashlib.sha256(issuer.public).digest()
         leaf_input = front + key_hash + vector(3, made.tbs) + vector(2, b"")
@@ -303,7 +303,7 @@ class Writer:
             self.answer(f"answer-{at // ANSWER:04}.json", min(ANSWER, half - at))
         self.items("b.der", half - half // 2, b"-----BEGIN CERTIFICATE-----")
         with open(self.path("anchors.der"), "wb") as to:
-            to.writelines(it.octets for it in log.authorities.anchors)
+            to.writelines(anchor.octets for anchor in log.authorities.anchors)
         with open(self.path("vouchers.txt"), "w", encoding="ascii") as to:
             to.writelines(sorted(self.lines))
         return Written(self.files, self.path("anchors.der"), self.path("vouchers.txt"),

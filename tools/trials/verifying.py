@@ -76,7 +76,7 @@ class Reader(HTMLParser):
 
     def handle_starttag(self, tag, attributes):
         self.names.add(tag)
-        self.loads += [it for it in attributes if it[0] in ("src", "href")]
+        self.loads += [attribute for attribute in attributes if attribute[0] in ("src", "href")]
         if tag not in self.EMPTY and not self.get_starttag_text().endswith("/>"):
             self.open.append(tag)
 
@@ -88,7 +88,7 @@ class Reader(HTMLParser):
 
 
 def named(items):
-    return [it.file for it in items]
+    return [item.file for item in items]
 
 
 class Verify:
@@ -109,11 +109,11 @@ class Verify:
     def openssl(self, leaf, others, anchors):
         """Whether `openssl verify` accepts a leaf at the moment of the trials."""
         room = self.shop.room
-        certificates = [it for it in others if it.subject]
+        certificates = [other for other in others if other.subject]
         with tempfile.NamedTemporaryFile(dir=room) as between, tempfile.NamedTemporaryFile(dir=room) as roots:
             for file, items in ((between, certificates), (roots, anchors)):
-                for it in items:
-                    with open(os.path.join(room, it.file), "rb") as held:
+                for item in items:
+                    with open(os.path.join(room, item.file), "rb") as held:
                         file.write(held.read())
                 file.flush()
             untrusted = ["-untrusted", between.name] if certificates else []
@@ -122,12 +122,12 @@ class Verify:
 
     def certtool(self, certificates, anchors):
         """Whether `certtool --verify-chain` accepts a chain today, which ends with the anchors."""
-        chain = b"".join(self.octets(it.file) for it in [*certificates, *anchors])
+        chain = b"".join(self.octets(certificate.file) for certificate in [*certificates, *anchors])
         return subprocess.run(["certtool", "--verify-chain"], cwd=self.shop.room, input=chain, capture_output=True).returncode == 0
 
     def octets(self, file):
-        with open(os.path.join(self.shop.room, file), "rb") as it:
-            return it.read()
+        with open(os.path.join(self.shop.room, file), "rb") as entry:
+            return entry.read()
 
 
 def chain_of(shop, title, key, digest, signed):
@@ -145,7 +145,7 @@ def kinds(v, title):
     chain = chain_of(v.shop, title.replace(" ", "-"), *KINDS[title])
     *items, root = chain
     status, found, _ = v.json(*named(items), "--anchors", root.file)
-    yield title, (status, [it["place"] for it in found[0]["path"]], found[0]["anchor"]["subject"]), (0, ["item 0", "item 1", "item 2"], "CN=Root")
+    yield title, (status, [step["place"] for step in found[0]["path"]], found[0]["anchor"]["subject"]), (0, ["item 0", "item 1", "item 2"], "CN=Root")
     yield f"{title}: openssl", v.openssl(items[0], items[1:], [root]), True
     if verifying_others.CERTTOOL:
         yield f"{title}: certtool", v.certtool(items, [root]), True
@@ -154,12 +154,12 @@ def kinds(v, title):
 def crossed(v):
     """An intermediate that two roots signed leads to the one that is an anchor."""
     made = Chain(v.shop, "crossed")
-    roots = [made.certificate(f"/CN={it}", key, extensions=OF_ROOT, **LONG) for it, key in (("One", "p384"), ("Other", "rsa"))]
-    between = [made.certificate("/CN=Between", "p256", it, OF_AUTHORITY, **LONG) for it in roots]
+    roots = [made.certificate(f"/CN={entry}", key, extensions=OF_ROOT, **LONG) for entry, key in (("One", "p384"), ("Other", "rsa"))]
+    between = [made.certificate("/CN=Between", "p256", anchor, OF_AUTHORITY, **LONG) for anchor in roots]
     leaf = made.certificate("/CN=leaf", "p521", between[0], (NO_AUTHORITY, NO_SIGNER, OWN_ID, ISSUER_ID), **LONG)
     for k, root in enumerate(roots):
         _, found, _ = v.json(leaf.file, *named(between), "--anchors", root.file)
-        yield f"cross-signed, root {k}", [it["position"] for it in found[0]["path"]], [0, k + 1]
+        yield f"cross-signed, root {k}", [step["position"] for step in found[0]["path"]], [0, k + 1]
         # OpenSSL takes the first issuer of the name, and doesn't come back to another one
         yield f"cross-signed, root {k}: openssl", v.openssl(leaf, [between[k], between[1 - k]], [root]), True
 
@@ -167,7 +167,7 @@ def crossed(v):
 def refused(v, title, root):
     """A kind of refusal: the answer of `certpath why` with names and a rule; where OpenSSL accepts it, the rule of the difference."""
     case = refusals.CASES[title](refusals.Maker(v.shop, f"{title} verified", root))
-    anchors = [word for it in case.anchors for word in ("--anchors", it.file)]
+    anchors = [word for anchor in case.anchors for word in ("--anchors", anchor.file)]
     words = [*named(case.bundle), *anchors, "--at", AT, *case.words]
     status, found, told = v.json(*words)
     wanted, is_demanded = v.wanted[title], bool({"--host", "--purpose"} & {*case.words})
@@ -175,17 +175,17 @@ def refused(v, title, root):
     is_accepted = is_path and title not in DOUBTS
     answer, ends, outcome = found[0], 0 if is_accepted else 1, "path" if is_accepted else "refused" if is_path else "none"
     yield title, (status, answer["status"], answer["outcome"], len(answer["path"]) > 0, told), (ends, ends, outcome, is_path, [])
-    reasons = {it["reason"] for it in answer["reasons"]}
-    true = {re.sub(r"^at \d+ (?:to (?:anchor )?\d[-, \d]* )?(?:not usable: |no issuer: |not linked: )?", "", it) for it in wanted.why if obstacle(it)}
-    true = {"no issuer here" if it.startswith("no issuer here: ") else it for it in true} or CONCLUDED.get(title, set())
+    reasons = {reason["reason"] for reason in answer["reasons"]}
+    true = {re.sub(r"^at \d+ (?:to (?:anchor )?\d[-, \d]* )?(?:not usable: |no issuer: |not linked: )?", "", reason) for reason in wanted.why if obstacle(reason)}
+    true = {"no issuer here" if entry.startswith("no issuer here: ") else entry for entry in true} or CONCLUDED.get(title, set())
     yield f"{title}: its reasons", reasons, true
-    rules = {it["rule"] for it in answer["reasons"]}
+    rules = {reason["rule"] for reason in answer["reasons"]}
     # (what others say of hosts and purposes, tools/trials/hosts.py compares)
     if not is_demanded:
         yield f"{title}: openssl", v.openssl(case.bundle[0], case.bundle[1:], case.anchors), is_path or title in RULES
     yield f"{title}: its rule", title in RULES and RULES[title] not in rules and f"({RULES[title]})" not in answer["headline"], False
     if verifying_others.CERTTOOL and title not in OF_DATES and not is_demanded:
-        certificates = [it for it in case.bundle if it.subject]
+        certificates = [item for item in case.bundle if item.subject]
         yield f"{title}: certtool", v.certtool(certificates, case.anchors), (is_path or title in RULES) and title not in STRICTER
     verdict = VERDICTS[outcome].format(times.as_shown(times.moment_of(AT)))
     # (what is demanded comes before the name)
@@ -215,12 +215,12 @@ def forms(v, chain):
     leaf, second, first, root = chain
     shop, (_, found, _) = v.shop, v.json(*named(chain[:3]), "--anchors", root.file)
     wanted = found[0]["path"]
-    texts = [v.octets(it.file) for it in chain[:3]]
+    texts = [v.octets(link.file) for link in chain[:3]]
     key = v.octets(shop.key("p256"))
     shop.keep("all.pem", b"subject=leaf\nissuer=Second\n\n" + texts[0] + b"Bag Attributes: <none>\n" + texts[1] + texts[2])
     shop.keep("crlf.pem", b"".join(texts).replace(b"\n", b"\r\n"))
     shop.keep("keys.pem", key + texts[0] + key + texts[1] + texts[2])
-    shop.keep("all.der", b"".join(it.octets for it in chain[:3]))
+    shop.keep("all.der", b"".join(link.octets for link in chain[:3]))
     shop.keep("between.pem", texts[1] + texts[2])
     shop.openssl("crl2pkcs7", "-nocrl", "-certfile", "all.pem", "-out", "all.p7b")
     shop.openssl("crl2pkcs7", "-nocrl", "-certfile", "all.pem", "-outform", "DER", "-out", "all.p7c")
@@ -229,7 +229,7 @@ def forms(v, chain):
     shop.openssl(*twelve, "-passout", "pass:secret", "-out", "closed.p12")
 
     def shown(path):
-        return [(it["subject"], it["sha256"]) for it in path]
+        return [(step["subject"], step["sha256"]) for step in path]
 
     for file in ("all.pem", "crlf.pem", "keys.pem", "all.der", "all.p7b", "all.p7c", "open.p12"):
         status, found, told = v.json(file, "--anchors", root.file)
@@ -253,15 +253,15 @@ def words_of(v, chain):
     digest = v.json(*files, *anchors)[1][0]["path"][1]["sha256"]
     for word in (second.file, digest, digest.upper(), ":".join(digest[k:k + 2] for k in range(0, 64, 2)), "1"):
         _, found, _ = v.json(*files, *anchors, "--target", word)
-        yield f"--target {word}", [it["target"]["subject"] for it in found], ["CN=Second"]
+        yield f"--target {word}", [entry["target"]["subject"] for entry in found], ["CN=Second"]
     v.shop.keep("three.pem", b"".join(map(v.octets, files)))
-    yield "--all", [it["target"]["subject"] for it in v.json("three.pem", *anchors, "--all")[1]], ["CN=leaf", "CN=Second", "CN=First"]
+    yield "--all", [anchor["target"]["subject"] for anchor in v.json("three.pem", *anchors, "--all")[1]], ["CN=leaf", "CN=Second", "CN=First"]
     leaf_again = v.json("three.pem", *files, *anchors, "--all")[1]
-    yield "--all of several FILEs", [it["target"]["subject"] for it in leaf_again], ["CN=leaf", "CN=Second", "CN=First"]
-    yield "--all of files of one each", [it["target"]["subject"] for it in v.json(*files, *anchors, "--all")[1]], ["CN=leaf", "CN=Second", "CN=First"]
+    yield "--all of several FILEs", [entry["target"]["subject"] for entry in leaf_again], ["CN=leaf", "CN=Second", "CN=First"]
+    yield "--all of files of one each", [path["target"]["subject"] for path in v.json(*files, *anchors, "--all")[1]], ["CN=leaf", "CN=Second", "CN=First"]
     found = v.json(files[0], *anchors, "--lists", files[1], "--lists", files[2], "--all")[1]
-    yield "--all and --lists", [it["target"]["subject"] for it in found], ["CN=leaf"]
-    yield "--all of a FILE of keys too", [it["status"] for it in v.json(*files, v.shop.key("p256"), *anchors, "--all")[1]], [0, 0, 0]
+    yield "--all and --lists", [entry["target"]["subject"] for entry in found], ["CN=leaf"]
+    yield "--all of a FILE of keys too", [path["status"] for path in v.json(*files, v.shop.key("p256"), *anchors, "--all")[1]], [0, 0, 0]
     for words in ([files[0], *anchors, *files[1:]], [*anchors, files[0], "--json", *files[1:]], [*anchors, "--", *files]):
         yield f"the order of words {words}", v.run(*words)[0], 0
     for word, shown in TIMES.items():
@@ -298,7 +298,7 @@ def pages(v, chain, root):
         page = Reader(text)
         has_parts = {"svg", "title", "desc", "main", "h1"} <= page.names
         yield f"the page of {title}", (found, told, page.open, page.faults, page.loads, "script" in page.names, has_parts), (status, [], [], [], [], False, True)
-        yield f"the look of {title}", all(it in text for it in ('name="viewport"', "prefers-color-scheme:dark", 'role="img"', 'lang="en"')), True
+        yield f"the look of {title}", all(name in text for name in ('name="viewport"', "prefers-color-scheme:dark", 'role="img"', 'lang="en"')), True
         status_of_dot, graph, _ = v.run(*words, "--dot")
         drawn = subprocess.run(["dot", "-Tsvg"], input=graph.encode(), capture_output=True) if shutil.which("dot") else None
         yield f"the graph of {title}", (status_of_dot, graph.startswith("digraph "), drawn is None or drawn.returncode == 0), (status, True, True)
@@ -337,10 +337,10 @@ def of_system(v):
         return
     _, found, told = v.json(STORE, "--all", "--at", AT)
     yield "the system's store", (len(found) > 20, told, "(the system's store" in found[0]["anchors"]), (True, [], True)
-    silent = [it["headline"] for it in found if it["outcome"] == "none" and not (it["reasons"] and all(one["rule"] for one in it["reasons"]))]
+    silent = [entry["headline"] for entry in found if entry["outcome"] == "none" and not (entry["reasons"] and all(one["rule"] for one in entry["reasons"]))]
     yield "the system's store: reasons", silent, []
     # (roots that SHA-1 signed have none without --weak)
-    yield "the system's store: most have a path", sum(bool(it["path"]) for it in found) > len(found) / 2, True
+    yield "the system's store: most have a path", sum(bool(entry["path"]) for entry in found) > len(found) / 2, True
 
 
 def large(v):
@@ -366,8 +366,8 @@ class Verifying(Trial):
             v.wanted = refusals.wanted()
             root = Chain(t.shop, "root").certificate("/CN=Root", "p384", extensions=OF_ROOT, **LONG)
             chain = chain_of(t.shop, "plain", *KINDS["P-256"])
-            jobs = [lambda it=it: [*kinds(v, it)] for it in KINDS]
-            jobs += [lambda it=it: [*refused(v, it, root)] for it in [*refusals.CASES][::size(1, SAMPLED)]]
+            jobs = [lambda entry=kind: [*kinds(v, entry)] for kind in KINDS]
+            jobs += [lambda entry=case: [*refused(v, entry, root)] for case in [*refusals.CASES][::size(1, SAMPLED)]]
             jobs += [lambda: [*crossed(v)], lambda: [*other_key(v, root)], lambda: [*forms(v, chain)], lambda: [*words_of(v, chain)],
                      lambda: [*pages(v, chain, root)], lambda: [*looks(v, root)], lambda: [*of_system(v)], lambda: [*example()], lambda: [*large(v)]]
             jobs += [*verifying_others.jobs(v, root)][::size(1, SAMPLED)]

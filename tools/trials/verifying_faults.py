@@ -70,10 +70,10 @@ def targets(v, root):
 def lists(v, root):
     """A list that can't be read, or isn't used, and may revoke, is in the first line."""
     for title, change, said in (("no base64", damaged, "a list can't be read: faulty-list.pem line 1 X509 CRL: not base64"),
-                                ("no month", lambda it: it, "a list can't be read: item 2 (faulty-list.pem): neither a certificate")):
+                                ("no month", lambda entry: entry, "a list can't be read: item 2 (faulty-list.pem): neither a certificate")):
         case = case_of(v, f"list with {title}", root)
-        leaf, issuer, it = case.bundle
-        held = v.octets(it.file) if title == "no base64" else pem(wrong_month(it.octets)).replace(b"CERTIFICATE", b"X509 CRL")
+        leaf, issuer, item = case.bundle
+        held = v.octets(item.file) if title == "no base64" else pem(wrong_month(item.octets)).replace(b"CERTIFICATE", b"X509 CRL")
         v.shop.keep("faulty-list.pem", v.octets(issuer.file) + change(held) if title == "no month" else change(held) + v.octets(issuer.file))
         files = [leaf.file, issuer.file, "faulty-list.pem", "--anchors", root.file, "--at", AT]
         status, found, told = v.json(*files)
@@ -81,7 +81,7 @@ def lists(v, root):
                                        len(found[0]["doubts"]), told), (1, True, 1, [])
         yield f"a list with {title}, ignored", v.run(*files, "--ignore-unused-lists", "--quiet"), (0, "", [])
     case = case_of(v, "weak list", root, digest="sha1")
-    text = v.run(*[it.file for it in case.bundle], "--anchors", root.file, "--at", AT)[1]
+    text = v.run(*[entry.file for entry in case.bundle], "--anchors", root.file, "--at", AT)[1]
     yield "a weak list", "since item 0 CN=leaf is revoked by list 2 (weak-list-3.pem), which isn't used: its signature is weak: sha1" in text, True
     made = Chain(v.shop, "spelled list")
     other = made.certificate("/CN=Intermediate", "p256", root, OF_AUTHORITY, mask="pkix", **LONG)
@@ -94,11 +94,11 @@ def lists(v, root):
 
 def signed_data(v, root):
     """A list of PKCS #7 that can't be read is in the first line, and a certificate is a warning."""
-    leaf, issuer, it = case_of(v, "signed data", root).bundle
-    v.shop.openssl("crl2pkcs7", "-in", it.file, "-certfile", issuer.file, "-outform", "DER", "-out", "seven.p7c")
+    leaf, issuer, item = case_of(v, "signed data", root).bundle
+    v.shop.openssl("crl2pkcs7", "-in", item.file, "-certfile", issuer.file, "-outform", "DER", "-out", "seven.p7c")
     whole, words = v.octets("seven.p7c"), [leaf.file, "seven.p7c", issuer.file, "--anchors", root.file, "--at", AT]
     # (what is signed is a SET, so that neither has its shape)
-    no_list, no_certificate = (whole.replace(one.octets, one.octets[:4] + b"\x31" + one.octets[5:]) for one in (it, issuer))
+    no_list, no_certificate = (whole.replace(one.octets, one.octets[:4] + b"\x31" + one.octets[5:]) for one in (item, issuer))
     said = "of the SignedData: neither certificate nor revocation list"
     v.shop.keep("seven.p7c", no_list)
     status, found, errors = v.json(*words)
@@ -124,7 +124,7 @@ def names(v, root):
         leaf = made.certificate(subject, "p521", issuer, OF_LEAF, **LONG)
         words = [leaf.file, issuer.file, "--anchors", root.file]
         outputs = [v.run(*words, *form)[1] for form in ((), ("--json",), ("--dot",), ("--html", "-"))]
-        seen = [it for it in FORBIDDEN for text in (outputs[0], *outputs[2:]) if it in text and (it != "<img" or text is outputs[3])]
+        seen = [entry for entry in FORBIDDEN for text in (outputs[0], *outputs[2:]) if entry in text and (entry != "<img" or text is outputs[3])]
         status = json.loads(outputs[1])["status"]
         yield f"hostile name {number}", (status, seen, outputs[1].isascii()), (0, [], True)
 
@@ -148,16 +148,16 @@ def forgeries(v, root):
             outputs = [v.run(*words, "--anchors", root.file, "--at", AT, *form)[1] for form in ((), ("--json",), ("--dot",), ("--html", "-"))]
             lines = LINE_ENDS.split(outputs[0])
             yield f"forged subject {number}: {words}: the first line", lines[0].startswith(f"{verdict}2026-06-01T00:00:00Z: CN="), True
-            yield f"forged subject {number}: {words}: a forged line", [it for it in lines[1:] if it.startswith("valid path at ")], []
-            yield f"forged subject {number}: {words}: forms", [bool(LINE_ENDS.search(it.replace("\n", ""))) for it in outputs], [False] * 4
+            yield f"forged subject {number}: {words}: a forged line", [line for line in lines[1:] if line.startswith("valid path at ")], []
+            yield f"forged subject {number}: {words}: forms", [bool(LINE_ENDS.search(output.replace("\n", ""))) for output in outputs], [False] * 4
             yield f"forged subject {number}: {words}: --json", (outputs[1].count("\n"), json.loads(outputs[1])["headline"]), (1, lines[0])
     yield "the commas of a value", "CN=www.example.org\\, O=Example\\, C=CZ" in outputs[0], True
 
 
 def containers(v, root):
     """Lists in PKCS #7, PKCS #7 among other blocks, files and anchors twice, rubbish behind items."""
-    leaf, issuer, it = case_of(v, "containers", root).bundle
-    v.shop.openssl("crl2pkcs7", "-in", it.file, "-certfile", issuer.file, "-out", "issuer.p7b")
+    leaf, issuer, item = case_of(v, "containers", root).bundle
+    v.shop.openssl("crl2pkcs7", "-in", item.file, "-certfile", issuer.file, "-out", "issuer.p7b")
     seven = v.octets("issuer.p7b")
     v.shop.keep("mixed.pem", v.octets(leaf.file) + seven.replace(b"PKCS7", b"CMS") + v.octets(root.file))
     v.shop.keep("cut.p7b", seven.partition(b"-----END")[0])
@@ -166,7 +166,7 @@ def containers(v, root):
     for words in ([leaf.file, "issuer.p7b"], ["mixed.pem"]):
         _, found, told = v.json(*words, *anchors)
         yield f"a list in PKCS #7, {words[-1]}", ([one["reason"] for one in found[0]["reasons"]], told), (["revoked by list 2"], [])
-    v.shop.keep("anchors-with-list.pem", v.octets(root.file) + v.octets(it.file))
+    v.shop.keep("anchors-with-list.pem", v.octets(root.file) + v.octets(item.file))
     _, found, _ = v.json(leaf.file, issuer.file, "--anchors", "anchors-with-list.pem", "--at", AT)
     yield "a list among anchors", [one["reason"] for one in found[0]["reasons"]], ["revoked by list 2"]
     _, found, _ = v.json(leaf.file, issuer.file, leaf.file, issuer.file, *anchors, *anchors[:2])
@@ -180,7 +180,7 @@ def containers(v, root):
 
 def words_of(v, root):
     """Faults are one line that names what is wrong."""
-    leaf, issuer, it = case_of(v, "wrong words", root).bundle
+    leaf, issuer, item = case_of(v, "wrong words", root).bundle
     v.shop.keep("nothing", b"")
     v.shop.keep("notes", b"Remember the milk.\n")
     os.makedirs(os.path.join(v.shop.room, "a folder"), exist_ok=True)
@@ -193,25 +193,25 @@ def words_of(v, root):
             (["nothing", *anchors], 4, "nothing: the file is empty"), ([leaf.file, "notes", *anchors], 4, "notes: the file is neither PEM nor DER"),
             (["a folder", *anchors], 4, "cannot read a folder: it is a folder"), (["", *anchors], 4, "cannot read '': no such file"),
             ([leaf.file, "--anchors", "notes"], 4, "notes: the file is neither PEM nor DER"),
-            ([leaf.file, "--anchors", it.file], 4, f"{it.file}: holds no certificate, so no anchor"),
+            ([leaf.file, "--anchors", item.file], 4, f"{item.file}: holds no certificate, so no anchor"),
             ([leaf.file, "--anchors", "a folder"], 4, "a folder: its files hold no certificate"),
             (["/dev/zero", *anchors], 4, "/dev/zero: it has more than 268435456 octets"),
             ([key, *anchors], 3, f"{key}: it holds PRIVATE KEY and no certificate, so no target"),
-            ([it.file, *anchors], 3, f"{it.file}: it holds revocation lists and no certificate, so no target"),
+            ([item.file, *anchors], 3, f"{item.file}: it holds revocation lists and no certificate, so no target"),
             ([leaf.file, *anchors, "--target", "abcd"], 4, "--target abcd: no such file, and neither a position")):
         found, text, told = v.run(*words)
         yield f"words {' '.join(words)[:60]}", (found, text, len(told), said in "".join(told)), (status, "", 1, True)
-    for word, said in (("2", f"no target: item 2 ({it.file}): a revocation list\n"), ("3", "no target: item 3: there is none; the files hold 3 items\n")):
-        status, text, _ = v.run(leaf.file, issuer.file, it.file, *anchors, "--target", word)
+    for word, said in (("2", f"no target: item 2 ({item.file}): a revocation list\n"), ("3", "no target: item 3: there is none; the files hold 3 items\n")):
+        status, text, _ = v.run(leaf.file, issuer.file, item.file, *anchors, "--target", word)
         yield f"the target {word}", (status, text.startswith(said)), (3, True)
 
 
 def remains(v, root):
     """Nothing is left in the caller's folder or in that of temporary files; an interrupt ends a run."""
-    leaf, issuer, it = case_of(v, "remains", root, next_update=refusals.PAST_UPDATE).bundle
+    leaf, issuer, item = case_of(v, "remains", root, next_update=refusals.PAST_UPDATE).bundle
     command = [sys.executable, os.path.join(repo.TOP, "verify")]
     with tempfile.TemporaryDirectory() as folder, tempfile.TemporaryDirectory() as own:
-        files = [os.path.join(v.shop.room, one.file) for one in (leaf, issuer, it)]
+        files = [os.path.join(v.shop.room, one.file) for one in (leaf, issuer, item)]
         words = [*files, "--anchors", os.path.join(v.shop.room, root.file), "--at", AT]
         environment = {**os.environ, "TMPDIR": folder}
         status = subprocess.run([*command, *words], cwd=own, env=environment, stdout=subprocess.DEVNULL).returncode
@@ -226,4 +226,4 @@ def remains(v, root):
 
 def jobs(v, root):
     """All of these, to be run side by side."""
-    return [lambda it=it: [*it(v, root)] for it in (targets, lists, signed_data, names, forgeries, containers, words_of, remains)]
+    return [lambda crl=value: [*crl(v, root)] for value in (targets, lists, signed_data, names, forgeries, containers, words_of, remains)]

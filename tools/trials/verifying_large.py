@@ -127,12 +127,12 @@ def trials(shop, words, count, titles=SHORT, is_told=False):
         if title.endswith("--json"):
             rows = [*map(json.loads, text.splitlines())]
             yield f"{title}: status", status, 1
-            yield title, [it["outcome"] for it in rows], [*map(outcome, range(count))]
-            asked = {it["reason"] for row in rows for it in row["reasons"] or []}
+            yield title, [entry["outcome"] for entry in rows], [*map(outcome, range(count))]
+            asked = {value["reason"] for row in rows for value in row["reasons"] or []}
             yield f"{title}: reasons", asked, {"no voucher", f"revoked by list {count}"}
         elif "--all" in title:
             lines = text.split("\n")
-            yield title, (status, sum(it.startswith("valid path at ") for it in lines)), (1, sum(outcome(it) == "path" for it in range(count)))
+            yield title, (status, sum(line.startswith("valid path at ") for line in lines)), (1, sum(outcome(number) == "path" for number in range(count)))
         else:
             yield title, (status, text.split("\n")[0]), (0, f"valid path at {AT}T00:00:00Z: CN=leaf to CN=Root")
 
@@ -161,7 +161,7 @@ def main(words):
     count = int(words[0]) if words else FEW
     with tempfile.TemporaryDirectory(prefix="verifying-large-") as room:
         shop = Workshop(room)
-        missed = [it for it in trials(shop, made(shop, count), count, COMMANDS, True) if it[1] != it[2]]
+        missed = [trial for trial in trials(shop, made(shop, count), count, COMMANDS, True) if trial[1] != trial[2]]
     for title, is_so, should_be in missed:
         print(f"{title}: {is_so!r:.1200}, wanted is {should_be!r:.1200}")
     return 1 if missed else 0

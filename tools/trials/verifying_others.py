@@ -53,8 +53,8 @@ def of_refusal(title, openssl=(), certtool_has_lists=False):
         # (rows are made side by side, and two rows may be of one case)
         own = f"{title} differs{' with lists' if certtool_has_lists else ''}"
         case = refusals.CASES[title](refusals.Maker(shop, own, root))
-        lists = [it for it in case.bundle if not it.subject]
-        return Case([it for it in case.bundle if it.subject], case.anchors, lists, case.words, openssl, certtool_has_lists)
+        lists = [item for item in case.bundle if not item.subject]
+        return Case([item for item in case.bundle if item.subject], case.anchors, lists, case.words, openssl, certtool_has_lists)
     return made
 
 
@@ -62,7 +62,7 @@ def dead_end(shop, root):
     """An issuer has two certificates of one key: the first leads nowhere."""
     made = Chain(shop, "dead-end")
     other = made.certificate("/CN=Other", "rsa", extensions=OF_ROOT, **LONG)
-    between = [made.certificate("/CN=Between", "p256", it, (AUTHORITY, SIGNER, OWN_ID), **LONG) for it in (other, root)]
+    between = [made.certificate("/CN=Between", "p256", value, (AUTHORITY, SIGNER, OWN_ID), **LONG) for value in (other, root)]
     leaf = made.certificate("/CN=leaf", "p521", between[0], (NO_AUTHORITY, NO_SIGNER, OWN_ID), **LONG)
     return Case([leaf, *between], [root])
 
@@ -110,7 +110,7 @@ CASES = {
 
 def joined(v, items, file):
     """A file of several items' files."""
-    return v.shop.keep(file, b"".join(v.octets(it.file) for it in items))
+    return v.shop.keep(file, b"".join(v.octets(item.file) for item in items))
 
 
 def openssl(v, case, name):
@@ -127,7 +127,7 @@ def certtool(v, case, name):
     """What `certtool --verify` says, now."""
     words = ["certtool", "--verify", "--load-ca-certificate", joined(v, case.anchors, f"{name}.roots")]
     words += ["--load-crl", joined(v, case.lists, f"{name}.lists")] if case.certtool_has_lists else []
-    chain = b"".join(v.octets(it.file) for it in case.certificates)
+    chain = b"".join(v.octets(certificate.file) for certificate in case.certificates)
     return ANSWERS[subprocess.run(words, cwd=v.shop.room, input=chain, capture_output=True).returncode == 0]
 
 
@@ -137,8 +137,8 @@ def trials(v, title, row, root):
     yield f"{title}: openssl", openssl(v, case, f"{name}-openssl"), row.openssl
     if CERTTOOL:
         yield f"{title}: certtool", certtool(v, case, f"{name}-certtool"), row.certtool
-    anchors = [word for it in case.anchors for word in ("--anchors", it.file)]
-    files = [it.file for it in [*case.certificates, *case.lists]]
+    anchors = [word for anchor in case.anchors for word in ("--anchors", anchor.file)]
+    files = [certificate.file for certificate in [*case.certificates, *case.lists]]
     status, text, _ = v.run(*files, *anchors, "--at", refusals.AT, *case.words)
     answer = next(word for words, word in VERDICTS.items() if text.startswith(words))
     yield f"{title}: ./verify", (answer, status == 0, row.named in text), (row.verify, row.verify == "path", True)
@@ -152,7 +152,7 @@ def every_reason(v, root):
     leaf = made.certificate("/CN=leaf", "p521", expired, (NO_AUTHORITY, NO_SIGNER, OWN_ID), **LONG)
     files = [leaf.file, expired.file, no_authority.file]
     _, found, _ = v.json(*files, "--anchors", root.file, "--at", refusals.AT)
-    yield "every reason", [it["reason"] for it in found[0]["reasons"]], ["expired 2025-12-31T23:59:59", "no authority"]
+    yield "every reason", [reason["reason"] for reason in found[0]["reasons"]], ["expired 2025-12-31T23:59:59", "no authority"]
     joined(v, [expired, no_authority], "every.between")
     words = ["openssl", "verify", "-attime", STAMP, "-CAfile", root.file, "-untrusted", "every.between", leaf.file]
     said = subprocess.run(words, cwd=v.shop.room, stdin=subprocess.DEVNULL, capture_output=True).stderr.decode()
@@ -163,5 +163,5 @@ def jobs(v, root):
     """The trials of all rows, to be run side by side."""
     rows = table()
     yield lambda: [("the rows of the page", [*rows], [*CASES])]
-    yield from (lambda it=it: [*trials(v, it, rows[it], root)] for it in rows if it in CASES)
+    yield from (lambda entry=row: [*trials(v, entry, rows[entry], root)] for row in rows if row in CASES)
     yield lambda: [*every_reason(v, root)]

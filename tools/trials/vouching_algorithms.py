@@ -65,7 +65,7 @@ def mutants(octets):
 
 def second_opinion(shop, row, octets):
     """Whether `openssl pkeyutl` verifies an item of the row, and doesn't with a bit of its signature changed."""
-    return [shop.is_signed(spelled(it), shop.public(row.kind), row.digest, row.options) for it in (octets, changed(octets, len(octets) - 5))]
+    return [shop.is_signed(spelled(value), shop.public(row.kind), row.digest, row.options) for value in (octets, changed(octets, len(octets) - 5))]
 
 
 def told(all_rows, takes_weak):
@@ -77,7 +77,7 @@ def told(all_rows, takes_weak):
             why = f"weak: {row.weak} (--weak takes it)"
         else:
             continue
-        yield from (f"bundle {3 * number + it}: {why}" for it in range(3))
+        yield from (f"bundle {3 * number + index}: {why}" for index in range(3))
 
 
 def trials(t):
@@ -85,18 +85,18 @@ def trials(t):
     all_rows = [*rows()]
     with ThreadPoolExecutor(LANES) as pool:
         made = [*pool.map(lambda row: t.shop.signed_by_openssl(row.title, row.kind, row.digest, row.options), all_rows)]
-        for row, opinions in zip(all_rows, pool.map(lambda row, items: [second_opinion(t.shop, row, it) for it in items], all_rows, made)):
+        for row, opinions in zip(all_rows, pool.map(lambda row, items: [second_opinion(t.shop, row, item) for item in items], all_rows, made)):
             t.same(f"pkeyutl of {row.title}", opinions, [[True, False]] * 3)
-    items = [it for three in made for it in three]
+    items = [entry for three in made for entry in three]
     for row, (root, _, _) in zip(all_rows, made):
         t.same(f"{row.title}: its key stands in its root", t.shop.public(row.kind) in root, True)
     for words, takes_weak in ((("--weak",), True), ((), False)):
-        pairs = [(t.shop.public(row.kind), it) for row, three in zip(all_rows, made) for it in three
+        pairs = [(t.shop.public(row.kind), entry) for row, three in zip(all_rows, made) for entry in three
                  if row.digest != "ripemd160" and (takes_weak or not row.weak)]
         t.vouch(f"each algorithm {' '.join(words)}", items, [], pairs, [*told(all_rows, takes_weak)], words)
     roots = [three[0] for three in made]
-    t.none("one bit changed", [it for octets in items for it in mutants(octets)], roots, "--weak")
+    t.none("one bit changed", [mutant for octets in items for mutant in mutants(octets)], roots, "--weak")
     # items alone, and keys from the anchors alone
-    leaves = [it for _, *two in made[5:9] for it in two]
-    pairs = [(t.shop.public(row.kind), it) for row, (_, *two) in zip(all_rows[5:9], made[5:9]) for it in two if row.digest != "ripemd160"]
-    t.vouch("keys of anchors alone", leaves, roots, pairs, [f"bundle {it}: {RIPEMD160}" for it in (4, 5)], ("--weak",))
+    leaves = [entry for _, *two in made[5:9] for entry in two]
+    pairs = [(t.shop.public(row.kind), entry) for row, (_, *two) in zip(all_rows[5:9], made[5:9]) for entry in two if row.digest != "ripemd160"]
+    t.vouch("keys of anchors alone", leaves, roots, pairs, [f"bundle {number}: {RIPEMD160}" for number in (4, 5)], ("--weak",))

@@ -29,8 +29,8 @@ def in_samples(file):
 
 
 def held(file):
-    with open(in_samples(file), "rb") as it:
-        return it.read()
+    with open(in_samples(file), "rb") as entry:
+        return entry.read()
 
 
 def samples(t):
@@ -39,9 +39,9 @@ def samples(t):
            (0, held("vouchers.txt"), ["vouch: 4 items, 4 vouched for, 4 lines, 0 unverified"]))
     for pem_name, names in (("fullchain", ("leaf", "intermediate")), ("root", ("root",)), ("list", ("list",)), ("other_list", ("other_list",))):
         bundled = t.run("bundle", [in_samples(f"{pem_name}.pem")])[1]
-        t.same(f"{pem_name}.pem", bundled, b"".join(held(f"{it}.der") for it in names))
-    key, root = (Certificate(held(f"{it}.der")).public_key_bytes for it in ("intermediate", "root"))
-    chain = [held(f"{it}.der") for it in ("leaf", "intermediate", "other_list")]
+        t.same(f"{pem_name}.pem", bundled, b"".join(held(f"{word}.der") for word in names))
+    key, root = (Certificate(held(f"{entry}.der")).public_key_bytes for entry in ("intermediate", "root"))
+    chain = [held(f"{entry}.der") for entry in ("leaf", "intermediate", "other_list")]
     t.vouch("the samples with the other list", chain, [held("root.der")], [(key, chain[0]), (root, chain[1]), (key, chain[2])])
 
 
@@ -59,7 +59,7 @@ def paths(t):
         ("an anchor of the same name", ["other_list.pem"], "another.pem", [], 1, "none"),
     )
     for title, lists, root, words, status, answer in rows:
-        chain = [in_samples(it) for it in ("fullchain.pem", *lists)]
+        chain = [in_samples(crl) for crl in ("fullchain.pem", *lists)]
         anchor = root if root == "another.pem" else in_samples(root)
         t.shop.keep("bundle.der", t.run("bundle", chain)[1])
         t.shop.keep("anchors.der", t.run("bundle", [anchor])[1])
@@ -102,12 +102,12 @@ def patched(t, setting):
 
 def absences(t):
     """Without OpenSSL's library, that of certpath or memory nothing is written."""
-    t.same("no libcrypto", patched(t, "from pki import package; import certpath.libcrypto as it; it.candidates = lambda: ['libnone.so']"),
+    t.same("no libcrypto", patched(t, "from pki import package; import certpath.libcrypto as libcrypto; libcrypto.candidates = lambda: ['libnone.so']"),
            (4, b"", "vouch: OpenSSL cannot be called: no libcrypto of OpenSSL 3 is there"))
     t.same("no ctypes", patched(t, "sys.modules['ctypes'] = None"), (4, b"", "vouch: OpenSSL cannot be called: import"))
-    t.same("no library", patched(t, "from pki import package; import certpath.library as it; it.FOLDERS = ('/none',)"), (4, b"", "vouch: libcertpath.so is in none of /none"))
-    t.same("a library of another version", patched(t, "from pki import package; import certpath.library as it; it.VERSION = 0")[:2], (4, b""))
-    t.same("a library without memory", patched(t, "from pki import package; import certpath.library as it; it.loaded().certpath_frame = lambda *_: 1"), (4, b"", "vouch: out of memory"))
+    t.same("no library", patched(t, "from pki import package; import certpath.library as library; library.FOLDERS = ('/none',)"), (4, b"", "vouch: libcertpath.so is in none of /none"))
+    t.same("a library of another version", patched(t, "from pki import package; import certpath.library as library; library.VERSION = 0")[:2], (4, b""))
+    t.same("a library without memory", patched(t, "from pki import package; import certpath.library as library; library.loaded().certpath_frame = lambda *_: 1"), (4, b"", "vouch: out of memory"))
 
 
 def refusals(t):
@@ -174,7 +174,7 @@ def bundles(t):
     """What ./bundle writes is items to its end, as many as it says."""
     program = programs.ready(programs.CERTPATH)
     for files, words, *_ in bundling.CASES:
-        for file, octets_held in {**{it: held(f"{it}.der") for it in ("leaf", "intermediate", "root", "list")}, **files}.items():
+        for file, octets_held in {**{entry: held(f"{entry}.der") for entry in ("leaf", "intermediate", "root", "list")}, **files}.items():
             t.shop.keep(file, octets_held)
         _, bundled, reported = t.run("bundle", words)
         rows = subprocess.run([program, "frame", "/dev/stdin"], input=bundled, stdout=subprocess.PIPE).stdout.decode().splitlines()
@@ -199,15 +199,15 @@ def from_pem(t):
         lists.append(shop.openssl("ca", "-config", "openssl.cnf", "-gencrl", *of_row, *(["-md", row.digest] if row.digest else [])))
     shop.keep("intermediates.pem", issued[1] + b"subject=CN = second\r\n" + issued[0])
     shop.keep("lists.pem", b"".join(lists))
-    items = [octets_of_pem(it) for it in (issued[2], issued[1], issued[0], *lists)]
+    items = [octets_of_pem(crl) for crl in (issued[2], issued[1], issued[0], *lists)]
     t.same("bundle of PEM files", t.run("bundle", ["leaf.pem", "intermediates.pem", "lists.pem"]),
            (0, b"".join(items), ["bundle: 6 items (3 certificates, 3 lists), 0 left out"]))
     signers = ("ed25519", "p384", "rsa", "rsa", "p384", "ed25519")
-    pairs = [(shop.public(kind), it) for kind, it in zip(signers, items)]
-    first, wrong = (t.run("bundle", [it])[1] for it in ("first.pem", "wrong.pem"))
+    pairs = [(shop.public(kind), item) for kind, item in zip(signers, items)]
+    first, wrong = (t.run("bundle", [entry])[1] for entry in ("first.pem", "wrong.pem"))
     t.vouch("from PEM files", items, [first], pairs)
-    told = [f"bundle {it}: not verified by 1 key (..)" for it in (2, 3)]
-    t.vouch("another root of the same name", items, [wrong], [it for number, it in enumerate(pairs) if number not in (2, 3)], told)
+    told = [f"bundle {index}: not verified by 1 key (..)" for index in (2, 3)]
+    t.vouch("another root of the same name", items, [wrong], [pair for number, pair in enumerate(pairs) if number not in (2, 3)], told)
     t.vouch("the lists alone", items[3:], [first, *items[1:3]], pairs[3:])
     containers(t, items[:3])
 

@@ -66,26 +66,26 @@ def signatures(t, made):
     keys = [made.root(kind) for kind in ("rsa", "p256")]
     full = full_length(made)
     right = [("rsa", made.leaf("rsa")), ("rsa", made.list("rsa")), ("p256", full), ("p256", made.list("p256"))]
-    t.vouch("right signatures", [it for _, it in right], keys, [(t.shop.public(kind), it) for kind, it in right])
+    t.vouch("right signatures", [entry for _, entry in right], keys, [(t.shop.public(kind), entry) for kind, entry in right])
     wrong = []
     for kind, octets_made in right:
         item = spelled(octets_made)
         signature = item.signature[1:]
         forms = [(signature + b"\0", 0), (signature, 1), (signature[:-1], 0), (b"", 0), (b"\0" + signature, 0)]
         forms += [(long_form(signature), 0)] if kind == "p256" else []
-        wrong += [(kind, assembled(item.signed, item.outer_algorithm, *it)) for it in forms]
-    t.none("signatures that are not quite ones", [it for _, it in wrong], keys, "--weak")
-    opinions = [t.shop.is_signed(spelled(it), t.shop.public(kind), "sha256", ()) for kind, it in wrong]
+        wrong += [(kind, assembled(item.signed, item.outer_algorithm, *form)) for form in forms]
+    t.none("signatures that are not quite ones", [entry for _, entry in wrong], keys, "--weak")
+    opinions = [t.shop.is_signed(spelled(entry), t.shop.public(kind), "sha256", ()) for kind, entry in wrong]
     t.same("pkeyutl of signatures that are not quite ones", opinions, [False] * len(wrong))
 
 
 def algorithms(t, made):
     """An outer algorithm other than the inner one is told, of certificates and lists."""
     wrong = [make("rsa", outer=outer) for make in (made.leaf, made.list) for outer in (NOT_NULL, ODD)]
-    t.vouch("two algorithms", wrong, [made.root("rsa")], [], [told(it, "its two algorithms differ") for it in range(4)])
-    made_of = [altered(it, spelled(it).inner_algorithm, octets(other), octets(other)) for it in (made.leaf("rsa"), made.list("rsa")) for other in UNKNOWN]
+    t.vouch("two algorithms", wrong, [made.root("rsa")], [], [told(number, "its two algorithms differ") for number in range(4)])
+    made_of = [altered(value, spelled(value).inner_algorithm, octets(other), octets(other)) for value in (made.leaf("rsa"), made.list("rsa")) for other in UNKNOWN]
     why = [*UNKNOWN.values()] * 2
-    t.vouch("unknown algorithms", made_of, [made.root("rsa")], [], [told(*it) for it in enumerate(why)], ["--weak"])
+    t.vouch("unknown algorithms", made_of, [made.root("rsa")], [], [told(*entry) for entry in enumerate(why)], ["--weak"])
 
 
 def spellings(t, made):
@@ -105,14 +105,14 @@ def several(t, made):
     public = t.shop.public
     leaves = [made.leaf(kind) for kind in ("p256", "rsa", "p521")]
     two, three = [made.root(kind) for kind in ("p256", "rsa")], [made.root(kind) for kind in ("p256", "rsa", "p521")]
-    pairs = [(public(kind), it) for kind, it in zip(("p256", "rsa", "p521"), leaves)]
+    pairs = [(public(kind), leave) for kind, leave in zip(("p256", "rsa", "p521"), leaves)]
     t.vouch("two keys under one name", leaves, two, pairs[:2], [not_verified(2, 2)])
     t.vouch("three keys under one name", leaves, three, pairs)
     t.vouch("one key", leaves, two[:1], pairs[:1], [not_verified(1, 1), not_verified(2, 1)])
-    t.vouch("no key", leaves, [], [], [told(it, NO_KEY) for it in range(3)])
+    t.vouch("no key", leaves, [], [], [told(number, NO_KEY) for number in range(3)])
     second = name("second")
     named = [t.shop.certificate("p256", second, second, public("p256")), made.leaf("p256", second), leaves[0]]
-    t.vouch("one key under two names", named, two, [(public("p256"), it) for it in named])
+    t.vouch("one key under two names", named, two, [(public("p256"), entry) for entry in named])
     root = (public("p256"), two[0])
     t.vouch("an anchor in the anchors alone", leaves[:1], two[:1], pairs[:1])
     t.vouch("an anchor in the bundle alone", [two[0], leaves[0]], [], [root, pairs[0]])
@@ -130,13 +130,13 @@ def unreadable(t, made):
     t.vouch("a key that nobody asks for", [good], [t.shop.certificate("rsa", name("x"), name("x"), no_key)], [(t.shop.public("rsa"), good)])
     neither = [altered(leaf, octets("02(07)"), octets("04(07)")), altered(made.list("rsa"), octets("02(01)"), octets("02(01)02(01)")), octets("30()")]
     t.vouch("no certificate nor list", neither, [octets("30()"), good, made.list("rsa")], [],
-            [*(told(it, NEITHER) for it in range(3)), *(told(it, "no certificate", "anchors") for it in (0, 2))])
+            [*(told(index, NEITHER) for index in range(3)), *(told(index, "no certificate", "anchors") for index in (0, 2))])
     odd = [altered(leaf, octets("02(07)"), octets("02()")), altered(leaf, octets("a0(02(02))"), octets("a0(05(02))")),
            altered(made.list("rsa"), octets("02(01)"), octets("02()"))]
-    t.vouch("items in another spelling", odd, [good], [], [told(it, NEITHER) for it in range(3)])
+    t.vouch("items in another spelling", odd, [good], [], [told(index, NEITHER) for index in range(3)])
     number = name("number", INTEGER)
     unread = [altered(leaf, made.name, number), altered(leaf, name("leaf"), number), altered(made.list("rsa"), made.name, number)]
-    t.vouch("items that cannot be read", unread, [good], [], [told(it, "openssl cannot read it") for it in range(3)])
+    t.vouch("items that cannot be read", unread, [good], [], [told(index, "openssl cannot read it") for index in range(3)])
 
 
 def trials(t):

@@ -81,7 +81,7 @@ class Spelled(NamedTuple):
 def spelled(item):
     """The parts of an item that openssl has made."""
     signed, algorithm, signature = parts_of(parts_of(item)[0].content)
-    inner = next(it for it in parts_of(signed.content) if it.tag == SEQUENCE)
+    inner = next(entry for entry in parts_of(signed.content) if entry.tag == SEQUENCE)
     return Spelled(signed.octets, inner.octets, algorithm.octets, signature.content)
 
 
@@ -94,8 +94,8 @@ class Workshop:
         self.keep("index.txt", b"")
 
     def keep(self, file, held):
-        with open(os.path.join(self.room, file), "wb") as it:
-            it.write(held)
+        with open(os.path.join(self.room, file), "wb") as entry:
+            entry.write(held)
         return file
 
     def openssl(self, *words):
@@ -130,7 +130,7 @@ class Workshop:
     def signed_by_openssl(self, title, kind, digest, options):
         """A root, a certificate that it issued, and its list, by openssl."""
         key, root = self.key(kind), f"{title}.pem"
-        further = [it for option in options for it in ("-sigopt", option)]
+        further = [value for option in options for value in ("-sigopt", option)]
         request = ("req", "-new", "-x509", "-config", "openssl.cnf", "-days", "30", *further, *(["-" + digest] if digest else []))
         made = self.openssl(*request, "-key", key, "-subj", f"/CN={title}")
         self.keep(root, made)
@@ -164,5 +164,5 @@ class Workshop:
                  (("key", public), ("signed", item.signed), ("signature", item.signature[1:]))]
         words = ["openssl", "pkeyutl", "-verify", "-rawin", "-pubin", "-keyform", "DER", "-inkey", files[0], "-in", files[1], "-sigfile", files[2]]
         words += ["-digest", digest] if digest else []
-        words += [it for option in options for it in ("-pkeyopt", option)]
+        words += [value for option in options for value in ("-pkeyopt", option)]
         return subprocess.run(words, cwd=self.room, stdin=subprocess.DEVNULL, capture_output=True).returncode == 0

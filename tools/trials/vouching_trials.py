@@ -25,7 +25,7 @@ class Trials:
         """A script's status, what it wrote to standard output where that is piped, and its lines on standard error."""
         command = [sys.executable, "-IS", os.path.join(repo.TOP, script), *words]
         ran = subprocess.run(command, cwd=self.shop.room, input=octets, stdout=output, stderr=subprocess.PIPE, timeout=SECONDS)
-        return ran.returncode, ran.stdout, [REASON.sub(r"\1 (..)", it) for it in ran.stderr.decode().splitlines()]
+        return ran.returncode, ran.stdout, [REASON.sub(r"\1 (..)", row) for row in ran.stderr.decode().splitlines()]
 
     def lines(self, title, bundle, anchors, *words, **further):
         """A run's status, lines and what is told of each item; each line has its form, and they ascend, each once."""
@@ -39,13 +39,13 @@ class Trials:
     def vouch(self, title, bundle, anchors, pairs, told=(), words=(), status=0):
         """A trial of a bundle and anchors, which are items: wanted are lines of pairs of a key's element and an item, what is told,
         and the status."""
-        wanted = sorted({line(*it) for it in pairs})
-        vouched = sum(item in {it for _, it in pairs} for item in bundle)
+        wanted = sorted({line(*pair) for pair in pairs})
+        vouched = sum(item in {entry for _, entry in pairs} for item in bundle)
         summary = f"vouch: {counted(len(bundle), 'item')}, {vouched} vouched for, {counted(len(wanted), 'line')}, {len(bundle) - vouched} unverified"
         self.same(title, self.lines(title, bundle, anchors, *words), (status, "".join(wanted), [*told, summary]))
 
     def none(self, title, bundle, anchors, *words):
         """A trial of a bundle none of whose items gets a line: each is told."""
         status, text, told = self.lines(title, bundle, anchors, *words)
-        numbers = [re.match(r"bundle (\d+): (?!openssl cannot read its key)", it) for it in told]
-        self.same(title, (status, text, [int(it[1]) for it in numbers if it]), (0, "", [*range(len(bundle))]))
+        numbers = [re.match(r"bundle (\d+): (?!openssl cannot read its key)", entry) for entry in told]
+        self.same(title, (status, text, [int(number[1]) for number in numbers if number]), (0, "", [*range(len(bundle))]))

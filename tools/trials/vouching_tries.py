@@ -61,15 +61,15 @@ class Holders:
 
 def bounds(t, holders):
     """At most so many keys are tried for an item, and it is told how many are left."""
-    roots, leaf = [holders.root(it) for it in KINDS], holders.leaf(KINDS[-1])
+    roots, leaf = [holders.root(kind) for kind in KINDS], holders.leaf(KINDS[-1])
     pair = (t.shop.public(KINDS[-1]), leaf)
     for tries in (1, 4):
         t.vouch(f"{tries} of 5 keys", [leaf], roots, [], [left(5 - tries, not_verified(0, tries))], ["--tries", str(tries)])
     t.vouch("all of 5 keys", [leaf], roots, [pair], words=["--tries=0005"])
     first = holders.leaf(KINDS[0])
     t.vouch("a key that verifies, and further ones", [first], roots, [(t.shop.public(KINDS[0]), first)], [left(3, told(0, "vouched for"))], ["--tries", "2"])
-    strange = [t.shop.certificate("p256", holders.made.name, holders.made.name, octets(f"30(30(06(2a03))03({it:04x}))")) for it in range(DEFAULT)]
-    unread = [told(it, "openssl cannot read its key", "anchors") for it in range(DEFAULT)]
+    strange = [t.shop.certificate("p256", holders.made.name, holders.made.name, octets(f"30(30(06(2a03))03({number:04x}))")) for number in range(DEFAULT)]
+    unread = [told(number, "openssl cannot read its key", "anchors") for number in range(DEFAULT)]
     t.vouch("17 keys", [leaf], [*strange, roots[-1]], [], [left(1, not_verified(0, DEFAULT)), *unread])
     t.vouch("17 keys with --tries", [leaf], [*strange, roots[-1]], [pair], unread, ["--tries", str(DEFAULT + 1)])
 
@@ -80,8 +80,8 @@ def identifiers(t, holders):
     once = ["--tries", "1"]
     for kind in KINDS:
         items = [holders.leaf(kind, f"id of {kind}"), holders.list(kind, f"id of {kind}")]
-        pairs = [(t.shop.public(kind), it) for it in items]
-        t.vouch(f"the identifier of {kind}", items, roots, pairs, [left(4, told(it, "vouched for")) for it in range(2)], once)
+        pairs = [(t.shop.public(kind), item) for item in items]
+        t.vouch(f"the identifier of {kind}", items, roots, pairs, [left(4, told(number, "vouched for")) for number in range(2)], once)
     last = holders.leaf(KINDS[-1], f"id of {KINDS[0]}")
     t.vouch("another one's identifier", [last], roots, [], [left(4, not_verified(0, 1))], once)
     t.vouch("another one's identifier, and all keys", [last], roots, [(t.shop.public(KINDS[-1]), last)])
@@ -92,20 +92,20 @@ def identifiers(t, holders):
     t.vouch("one identifier of all keys", [second], alike, [], [left(4, not_verified(0, 1))], once)
     t.vouch("one identifier of all keys, and two tried", [second], alike, [(t.shop.public(KINDS[1]), second)], [left(3, told(0, "vouched for"))], ["--tries", "2"])
     own = holders.root(KINDS[-1])
-    t.vouch("its own key", [*roots, own], [], [(t.shop.public(kind), it) for kind, it in zip([*KINDS, KINDS[-1]], [*roots, own])],
-            [left(4, told(it, "vouched for")) for it in range(6)], once)
+    t.vouch("its own key", [*roots, own], [], [(t.shop.public(kind), root) for kind, root in zip([*KINDS, KINDS[-1]], [*roots, own])],
+            [left(4, told(number, "vouched for")) for number in range(6)], once)
 
 
 def groups(t, holders):
     """What is told stands in one line for each reason, with the first positions; with -v in one line for each item."""
-    leaves, odd = [holders.leaf("p256", serial=it + 16) for it in range(7)], octets("30(30(05))")
+    leaves, odd = [holders.leaf("p256", serial=number + 16) for number in range(7)], octets("30(30(05))")
     t.shop.keep("many", b"".join([*leaves[:3], odd, *leaves[3:], odd]))
     t.shop.keep("root", holders.root("rsa"))
     t.shop.keep("empty", b"")
     summary = "vouch: 9 items, 0 vouched for, 0 lines, 9 unverified"
     t.same("two reasons", t.run("vouch", ["many", "empty"]),
            (0, b"", [f"bundle 0, 1, 2, 4, 5, .. (7 items): {NO_KEY}", "bundle 3, 8 (2 items): neither certificate nor list", summary]))
-    each = [told(it, "neither certificate nor list" if it in (3, 8) else NO_KEY) for it in range(9)]
+    each = [told(number, "neither certificate nor list" if number in (3, 8) else NO_KEY) for number in range(9)]
     for words in (["-v"], ["--verbose"]):
         t.same(f"two reasons {words}", t.run("vouch", ["many", "empty", *words]), (0, b"", [*each, summary]))
     t.shop.keep("cut", leaves[0] + leaves[1] + odd[:-1])
@@ -170,18 +170,18 @@ def counts(t, holders):
         signed = element(b"\x30", octets("02(01)") + ECDSA_SHA256 + title + dates + title + key)
         return element(b"\x30", signed + ECDSA_SHA256 + octets("03(00)"))
 
-    items, openssl, kept = [certificate(it) for it in range(100)], Counting(), Kept()
+    items, openssl, kept = [certificate(place) for place in range(100)], Counting(), Kept()
     Vouching(frame(b"".join(items * 2)), frame(b""), Judge(openssl, DEFAULT), False, kept)
-    t.same("100 items and 100 keys, twice", openssl.asked, [(it, DEFAULT) for it in items])
+    t.same("100 items and 100 keys, twice", openssl.asked, [(item, DEFAULT) for item in items])
     kept.flush()
     t.same("one line of 200 items", kept.kept, [f"bundle 0, 1, 2, 3, 4, .. (200 items): {left(100 - DEFAULT, 'not verified by 16 keys (wrong signature)')}"])
     kept = Kept()
-    for it in range(MOST_REASONS + 50):
-        kept.add("bundle", it, f"reason {it}")
+    for index in range(MOST_REASONS + 50):
+        kept.add("bundle", index, f"reason {index}")
     kept.flush()
     first = MOST_REASONS
-    positions = ", ".join(str(first + it) for it in range(5))
-    t.same("many reasons", kept.kept, [*(f"bundle {it}: reason {it}" for it in range(first)), f"bundle {positions}, .. (50 items): {OTHERS}"])
+    positions = ", ".join(str(first + place) for place in range(5))
+    t.same("many reasons", kept.kept, [*(f"bundle {place}: reason {place}" for place in range(first)), f"bundle {positions}, .. (50 items): {OTHERS}"])
 
 
 def long_names(t, holders):
@@ -194,8 +194,8 @@ def long_names(t, holders):
 def exponents(t, holders):
     """No key verifies whose exponent is long, which OpenSSL would be slow with."""
     kinds = ("long-exponent", "full-exponent")
-    roots = [t.shop.certificate("rsa", holders.made.name, holders.made.name, t.shop.public(it)) for it in kinds]
-    leaves = [t.shop.certificate(it, holders.made.name, name("leaf"), t.shop.public("p384")) for it in kinds]
+    roots = [t.shop.certificate("rsa", holders.made.name, holders.made.name, t.shop.public(kind)) for kind in kinds]
+    leaves = [t.shop.certificate(kind, holders.made.name, name("leaf"), t.shop.public("p384")) for kind in kinds]
     t.vouch("exponents of 64 bits and of 65", leaves, roots, [(t.shop.public(kinds[1]), leaves[1])],
             [not_verified(0, 2), told(0, "its key has an exponent of more than 64 bits", "anchors")])
 
@@ -226,10 +226,10 @@ def not_shown(t, holders):
     explicit = holders.root("explicit")
     t.vouch("a curve that isn't named", [made.leaf("explicit")], [explicit], [], [not_verified(0, 1), f"anchors 0: {unnamed}"])
     leaf = t.shop.certificate("p256", made.name, name("leaf"), t.shop.public("explicit"))
-    t.vouch("an item with such a key", [leaf, explicit], [holders.root("p256")], [], [f"bundle {it}: {unnamed}" for it in (0, 1, 1)])
+    t.vouch("an item with such a key", [leaf, explicit], [holders.root("p256")], [], [f"bundle {number}: {unnamed}" for number in (0, 1, 1)])
     keys = {3072: dsa(3072), 3080: dsa(3080), 10_000: dsa(10_000), 16_384: rsa(16_384), 17_000: rsa(17_000)}
-    roots, most = [made.root("rsa", it) for it in keys.values()], {1: 3072, 2: 3072, 4: 16384}
-    large = [f"anchors {it}: its key has more than {bits} bits" for it, bits in most.items()]
+    roots, most = [made.root("rsa", key) for key in keys.values()], {1: 3072, 2: 3072, 4: 16384}
+    large = [f"anchors {item}: its key has more than {bits} bits" for item, bits in most.items()]
     t.vouch("keys of many bits", [made.leaf("rsa")], roots, [], [not_verified(0, 5), *large])
 
 

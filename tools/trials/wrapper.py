@@ -49,15 +49,15 @@ class Wrapper(Trial):
         room = tempfile.TemporaryDirectory(prefix="wrapper-")
         self.addCleanup(room.cleanup)
         self.copy, self.temporary, self.tools = (
-            os.path.join(room.name, it) for it in ("copy", "temporary", "tools"))
+            os.path.join(room.name, name) for name in ("copy", "temporary", "tools"))
         os.mkdir(self.temporary)
         sources.put(os.path.join(self.tools, "rt"), FAKE_RT.encode(), 0o755)
         shutil.copytree(os.path.join(repo.TOP, "tools"), self.place("tools"))
-        for it in ("certpath", "rows", "HANDLES"):
-            shutil.copy2(os.path.join(repo.TOP, it), self.copy)
-        self.put("crates.txt", "".join(f"{it}\n" for it in CRATES))
-        for it in CRATES:
-            self.put(f"crates/{it.partition(':')[0]}/src/main.rt", "// a source\n")
+        for step in ("certpath", "rows", "HANDLES"):
+            shutil.copy2(os.path.join(repo.TOP, step), self.copy)
+        self.put("crates.txt", "".join(f"{crate}\n" for crate in CRATES))
+        for step in CRATES:
+            self.put(f"crates/{step.partition(':')[0]}/src/main.rt", "// a source\n")
         library = sources.digest(programs.LIBRARY, self.copy)
         self.put(programs.LIBRARY_RECORD, f"sources {library}\n")
         self.ship()
@@ -73,7 +73,7 @@ class Wrapper(Trial):
         its = {"kit": KIT, "sources": sources.digest(programs.CERTPATH, self.copy),
                "program": sources.sum_of_octets(octets), "needs": "Linux x86_64 glibc 2.17"}
         sources.put(self.place(programs.SHIPPED), octets, mode)
-        record = "".join(f"{it} {said}\n" for it, said in {**its, **changes}.items())
+        record = "".join(f"{name} {said}\n" for name, said in {**its, **changes}.items())
         self.put(programs.SHIPPED_RECORD, record)
 
     def start(self, *words, kind=None, stdout=subprocess.PIPE):
@@ -97,7 +97,7 @@ class Wrapper(Trial):
     def refuses(self, title, words, status, *names):
         """A row: one line on standard error, in which the names stand; so no build begins."""
         got, output, error = self.ran(*words, kind="builds")
-        lacks = [it for it in names if it not in " ".join(error)]
+        lacks = [name for name in names if name not in " ".join(error)]
         self.same(title, (got, output, len(error), lacks), (status, "", 1, []))
 
     def test_words(self):

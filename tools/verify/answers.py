@@ -33,7 +33,7 @@ OTHER_SPELLING = "issuer spelled otherwise"
 
 
 class Obstacle(NamedTuple):
-    """What stands in the way: of which certificate, towards which other one if it is of a link, the words of `why`, the sentence."""
+    """What prevents a path: of which certificate, towards which other one if it is of a link, the words of `why`, the sentence."""
     of: Shown
     to: Shown
     words: str
@@ -98,7 +98,7 @@ class Answer(NamedTuple):
 
     def false_comfort(self):
         """The lists that aren't used and would revoke a certificate of the path, or may."""
-        return [it for it in self.unused if it.revokes != NO] if self.path else []
+        return [crl for crl in self.unused if crl.revokes != NO] if self.path else []
 
     def is_accepted(self):
         """Whether there is a path that isn't refused."""
@@ -108,8 +108,8 @@ class Answer(NamedTuple):
         """The places of certificates that something speaks against, and not against a link alone: they aren't usable, have no issuer, or are
         revoked, or may be."""
         if self.path:
-            return {it.of.place for it in self.false_comfort()}
-        return {it.of.place for it in self.obstacles if it.to is None or REVOKED.fullmatch(it.words)}
+            return {crl.of.place for crl in self.false_comfort()}
+        return {obstacle.of.place for obstacle in self.obstacles if obstacle.to is None or REVOKED.fullmatch(obstacle.words)}
 
 
 def no_target(instead):
@@ -146,13 +146,13 @@ class Judge:
         is_asked = report is None
         report = report or Report(self.workspace.why(target))
         shown = self.bundle.certificate(target)
-        path = [self.bundle.certificate(it) for it in report.path or []]
+        path = [self.bundle.certificate(step) for step in report.path or []]
         anchor = self.anchors.certificate(report.anchor) if report.path else None
         self.take_unused(report.unused)
         unused = [*self.unused(report, path or [shown], bool(path))]
         against, edges = [*self.obstacles(report)], [*self.edges(report)]
         weak = [*self.weak(report), *self.weak_target(target), *self.further(path or [shown])]
-        is_refused = bool(path) and not self.ignores_unused and (bool(self.unread) or any(it.revokes != NO for it in unused))
+        is_refused = bool(path) and not self.ignores_unused and (bool(self.unread) or any(crl.revokes != NO for crl in unused))
         return Answer(shown, None, PATH_REFUSED if is_refused else report.outcome, report.is_checked, path, anchor, against, edges, unused,
                       self.idle, self.unread, weak, is_asked or bool(path), is_refused, None if path else self.as_anchor(target),
                       self.store, self.demands)
@@ -160,13 +160,13 @@ class Judge:
     @cached_property
     def named_anchors(self):
         """The anchors' positions by their names and keys, which are all that counts of an anchor."""
-        items = ((it, self.anchors.items[it]) for it in reversed(self.anchors.of_kind[Kind.CERTIFICATE]))
-        return {(it.subject, it.public_key_bytes): position for position, it in items}
+        items = ((anchor, self.anchors.items[anchor]) for anchor in reversed(self.anchors.of_kind[Kind.CERTIFICATE]))
+        return {(item.subject, item.public_key_bytes): position for position, item in items}
 
     def as_anchor(self, target):
         """The anchor that a certificate is itself, by its name and key; none if it is none."""
-        it = self.bundle.items[target]
-        position = self.named_anchors.get((it.subject, it.public_key_bytes))
+        item = self.bundle.items[target]
+        position = self.named_anchors.get((item.subject, item.public_key_bytes))
         return None if position is None else self.anchors.certificate(position)
 
     @cached_property
@@ -189,9 +189,9 @@ class Judge:
         """What is said of certificates whose names read like that of an issuer, of which there is no certificate."""
         issuer, said = self.bundle.items[position].issuer, []
         for side, other in self.by_letters.get(letters(issuer), ()):
-            it = side.certificate(other)
+            certificate = side.certificate(other)
             how = self.how(issuer, side.items[other].subject)
-            said.append(f"; {it.place} has one that reads alike, {how.format('here', 'there')} ({it.file})")
+            said.append(f"; {certificate.place} has one that reads alike, {how.format('here', 'there')} ({certificate.file})")
         return "".join(said)
 
     def how(self, one, other):
@@ -205,7 +205,7 @@ class Judge:
     def steps(self, report):
         """The path's steps: the position of each certificate, and its issuer's certificate."""
         path = report.path or []
-        keys = [self.bundle.items[it] for it in path[1:]] + ([self.anchors.items[report.anchor]] if path else [])
+        keys = [self.bundle.items[step] for step in path[1:]] + ([self.anchors.items[report.anchor]] if path else [])
         return zip(path, keys)
 
     def of_other_keys(self, report):
@@ -215,13 +215,13 @@ class Judge:
         for position, holder in self.steps(report):
             issuer, key = self.bundle.items[position].issuer, holder.public_key_bytes
             if (issuer, key) not in self.other_keys:
-                lists = (it for it in self.lists.get(issuer, ()) if it not in report.unused)
-                self.other_keys[issuer, key] = [it for it in lists if not self.is_vouched(holder, self.bundle.items[it])]
+                lists = (crl for crl in self.lists.get(issuer, ()) if crl not in report.unused)
+                self.other_keys[issuer, key] = [crl for crl in lists if not self.is_vouched(holder, self.bundle.items[crl])]
             found.update(self.other_keys[issuer, key])
         return sorted(found)
 
-    def is_vouched(self, holder, it):
-        return f"{fingerprint(holder.public_key_bytes)} {fingerprint(it.public_bytes())}" in self.pairs
+    def is_vouched(self, holder, item):
+        return f"{fingerprint(holder.public_key_bytes)} {fingerprint(item.public_bytes())}" in self.pairs
 
     def end(self, link):
         """The certificate that a link leads to."""
@@ -230,7 +230,7 @@ class Judge:
     def edges(self, report):
         for node in report.nodes.values():
             for link, words in node.links.items():
-                notes = [self.of_link(node.position, link, it).note or it for it in words]
+                notes = [self.of_link(node.position, link, word).note or word for word in words]
                 yield Edge(self.bundle.certificate(node.position), self.end(link), notes)
 
     def obstacles(self, report):
@@ -275,14 +275,14 @@ class Judge:
         for position, holder in self.steps(report):
             weak = self.signatures.weak.get(position, {}).get(holder.public_key_bytes)
             if weak:
-                it = self.bundle.certificate(position)
-                yield f"{it.place} {it.subject}: its signature is weak: {weak}"
+                item = self.bundle.certificate(position)
+                yield f"{item.place} {item.subject}: its signature is weak: {weak}"
 
     def weak_target(self, target):
         """A warning if the target's own key is weak, which is no matter of any signature of the path."""
-        weak, it = self.signatures.weak_key(self.bundle.items[target]), self.bundle.certificate(target)
+        weak, shown = self.signatures.weak_key(self.bundle.items[target]), self.bundle.certificate(target)
         if weak:
-            yield f"{it.place} {it.subject}: its own key is weak: {weak}; a target isn't refused for that"
+            yield f"{shown.place} {shown.subject}: its own key is weak: {weak}; a target isn't refused for that"
 
     def unused(self, report, certificates, is_path):
         """The lists that aren't used and concern one of these certificates, in the order of their positions: the path's, or if there is none
@@ -291,17 +291,17 @@ class Judge:
         for one in certificates:
             by_letters.setdefault(letters(self.bundle.items[one.position].issuer), []).append(one)
         for position in islice(merge(*(self.concerning.get(name, ()) for name in by_letters), other), None if self.is_single else MOST_LISTS):
-            it = self.bundle.items[position]
-            concerned, said = by_letters[letters(it.issuer)], report.unused.get(position, [OTHER_KEY])
-            issued = [one for one in concerned if self.bundle.items[one.position].issuer == it.issuer]
-            revokes, of = self.revokes(position, it, said, issued or concerned, bool(issued) and (is_path or self.is_single))
+            item = self.bundle.items[position]
+            concerned, said = by_letters[letters(item.issuer)], report.unused.get(position, [OTHER_KEY])
+            issued = [one for one in concerned if self.bundle.items[one.position].issuer == item.issuer]
+            revokes, of = self.revokes(position, item, said, issued or concerned, bool(issued) and (is_path or self.is_single))
             said = said if issued else [*said, OTHER_SPELLING]
             yield self.shown(position, said, concerned)._replace(revokes=revokes, of=of)
 
     def further(self, certificates):
         """A warning of lists that concern a target and aren't shown with it."""
         names = {letters(self.bundle.items[one.position].issuer) for one in certificates}
-        count = 0 if self.is_single else sum(len(self.concerning.get(it, ())) for it in names) - MOST_LISTS
+        count = 0 if self.is_single else sum(len(self.concerning.get(name, ())) for name in names) - MOST_LISTS
         return [f"{count} further lists that aren't used concern {certificates[0].place}; --target {certificates[0].position} shows them"] if count > 0 else []
 
     def shown(self, position, words, concerned=()):
@@ -327,19 +327,19 @@ class Judge:
             return found._replace(text=f"its signature is weak: {weak}", advice=TAKES_WEAK)
         return found
 
-    def revokes(self, position, it, words, concerned, is_asked):
+    def revokes(self, position, crl, words, concerned, is_asked):
         """Whether a list that isn't used would revoke one of the certificates that it concerns, and which: `certpath why` is asked again, at a
         moment of the list and with a voucher for it. Nobody knows where a critical extension says how the list is to be read."""
         self.asked += len(concerned) if is_asked else 0
         if not is_asked or self.asked > MOST_ASKED or any(not one.startswith(MENDED) for one in words):
             return UNKNOWN, concerned[0]
         vouchers = certpath.Vouchers.from_text(self.signatures.vouchers.text())
-        for holder in self.holders.certificates(it.issuer):
-            vouchers.add(holder.public_key_bytes, it.public_bytes())
+        for holder in self.holders.certificates(crl.issuer):
+            vouchers.add(holder.public_key_bytes, crl.public_bytes())
         self.workspace.vouch(vouchers)
         try:
             for one in concerned:
-                again = Report(self.workspace.why(one.position, moment=it.last_update_utc))
+                again = Report(self.workspace.why(one.position, moment=crl.last_update_utc))
                 found = again.nodes[one.position].links.values()
                 if any((its := REVOKED.fullmatch(why)) and int(its[1]) == position for whys in found for why in whys):
                     return YES, one

@@ -39,13 +39,13 @@ class Workspace:
 
     def ran(self, command, words):
         """What the program ends with, and what it wrote."""
-        files = [self.files[it] for it in FILES]
+        files = [self.files[file] for file in FILES]
         given = [self.program, command, *map(children.path_of, files), *words]
         try:
             found = children.ran(given, f"asking certpath {command}", files=files)
         except OSError as error:
             raise Fault(faults.NO_PROGRAM, f"{self.program} can't be started: {error.strerror}") from error
-        return found.status, *(it.decode(errors="backslashreplace") for it in (found.output, found.errors.strip()))
+        return found.status, *(value.decode(errors="backslashreplace") for value in (found.output, found.errors.strip()))
 
     def ask(self, command, *words, moment=None):
         """The lines of a report, at the moment of the command line if none is given."""

@@ -64,7 +64,7 @@ def ran(words, title, octets=b"", files=()):
     with in_memory(octets) as given, in_memory() as out, in_memory() as errors:
         try:
             child = subprocess.Popen(words, stdin=given, stdout=out, stderr=errors,
-                                     pass_fds=[it.fileno() for it in files],
+                                     pass_fds=[file.fileno() for file in files],
                                      preexec_fn=lambda: end_with(parent, seconds))
         except subprocess.SubprocessError as error:
             # (what is called in the new process has failed there, since there is no memory)

@@ -71,7 +71,7 @@ def escaped(text):
     two hex digits for each octet (RFC 4514, 2.4)."""
     if text.isprintable():
         return text
-    return "".join(it if it.isprintable() else "".join(f"\\{octet:02X}" for octet in it.encode(errors="backslashreplace")) for it in text)
+    return "".join(letter if letter.isprintable() else "".join(f"\\{octet:02X}" for octet in letter.encode(errors="backslashreplace")) for letter in text)
 
 
 def fingerprint(octets):
@@ -92,20 +92,20 @@ class Side:
         self.given, self.too_large = items, []
         self.items = self.framed(items)
         if not self.items.end.is_clean:
-            self.given = [it for it in items if self.framed([it]).end.is_clean]
-            self.too_large = [it for it in items if not self.framed([it]).end.is_clean]
+            self.given = [item for item in items if self.framed([item]).end.is_clean]
+            self.too_large = [item for item in items if not self.framed([item]).end.is_clean]
             self.items = self.framed(self.given)
         self.of_kind = {kind: [] for kind in Kind}
-        for position, it in enumerate(waiting.counted("reading items", self.items, len(self.items))):
-            self.of_kind[it.kind].append(position)
+        for position, item in enumerate(waiting.counted("reading items", self.items, len(self.items))):
+            self.of_kind[item.kind].append(position)
         self.shown = OrderedDict()
 
     def framed(self, items):
-        return certpath.frame(b"".join(it.octets for it in items), self.limit)
+        return certpath.frame(b"".join(item.octets for item in items), self.limit)
 
     def left_out(self):
         """What is said of the items that are above the limit."""
-        return [f"{it.file}: an item of {len(it.octets)} octets, above the limit; left out" for it in self.too_large]
+        return [f"{entry.file}: an item of {len(entry.octets)} octets, above the limit; left out" for entry in self.too_large]
 
     def file(self, position):
         """The file of an item, fit for a terminal."""
@@ -114,9 +114,9 @@ class Side:
     def certificate(self, position):
         """What is shown of a certificate. The last ones are kept."""
         if position not in self.shown:
-            it = self.items[position]
-            self.shown[position] = Shown(position, self.is_anchors, self.file(position), name_of(it.subject), name_of(it.issuer),
-                                         it.not_valid_before_utc, it.not_valid_after_utc, serial_of(it.serial_number), fingerprint(it.public_bytes()))
+            item = self.items[position]
+            self.shown[position] = Shown(position, self.is_anchors, self.file(position), name_of(item.subject), name_of(item.issuer),
+                                         item.not_valid_before_utc, item.not_valid_after_utc, serial_of(item.serial_number), fingerprint(item.public_bytes()))
             if len(self.shown) > MOST_SHOWN:
                 self.shown.popitem(last=False)
         return self.shown[position]

@@ -42,4 +42,4 @@ class Demands:
     def not_judged(self, words):
         """What isn't judged, of such words, without what is asked for."""
         judged = {HOSTS: self.host, PURPOSES: self.purpose}
-        return tuple(it for it in words if judged.get(it) is None)
+        return tuple(word for word in words if judged.get(word) is None)

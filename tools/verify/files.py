@@ -62,7 +62,7 @@ class LeftOut(NamedTuple):
     def remedy(self, file):
         """What to do if nothing else is in its file."""
         may_be_seven = self.label is None or self.label in SEVEN
-        if not may_be_seven or not any(it in self.why for it in NOT_IN_DER):
+        if not may_be_seven or not any(entry in self.why for entry in NOT_IN_DER):
             return REMEDY
         words = f"{'' if self.label else '-inform DER '}-in {in_shell(file)} -print_certs"
         command = f"openssl pkcs7 {words} -out {in_shell(file, '.pem')}"
@@ -96,8 +96,8 @@ def read(file, octets):
     waiting.BUDGET.check(title)
     items = [Item(found.items.octets(number), file, shape == LIST)
              for number, shape in enumerate(found.shapes)]
-    left_out = [LeftOut(" ".join(filter(None, (file, it.place, it.label))), it.reason, it.label,
-                        it.before) for it in found.left]
+    left_out = [LeftOut(" ".join(filter(None, (file, entry.place, entry.label))), entry.reason, entry.label,
+                        entry.before) for entry in found.left]
     return FileContents(items, left_out, found.form)
 
 
@@ -123,7 +123,7 @@ def of_twelve(file, octets, said):
     further = []
     own = unpacked(file, octets, said, "-clcerts")
     if own.status:
-        if not any(it in own.errors for it in NOT_UNPACKED):
+        if not any(entry in own.errors for entry in NOT_UNPACKED):
             return None
         further = ["-legacy"]
         own = unpacked(file, octets, said, "-clcerts", *further)
@@ -145,14 +145,14 @@ def taken_from(file):
     if text is None:
         return found
     held = read(file, text) if text else FileContents([], [])
-    after = [it._replace(before=len(held.items)) for it in after]
+    after = [entry._replace(before=len(held.items)) for entry in after]
     return held._replace(left_out=[*held.left_out, *after])
 
 
 def contents_of(file):
     """What a file holds; the run ends if that is nothing that can be read."""
     found = taken_from(file)
-    fault = next((it for it in found.left_out if it.is_certificate() or it.is_list()), None)
+    fault = next((part for part in found.left_out if part.is_certificate() or part.is_list()), None)
     if fault and not found.items:
         raise Fault(UNREAD, f"{fault.where}: {fault.why}; {fault.remedy(file)}")
     return found
@@ -161,6 +161,6 @@ def contents_of(file):
 def once(items):
     """The items, each once."""
     found = {}
-    for it in items:
-        found.setdefault(it.octets, it)
+    for item in items:
+        found.setdefault(item.octets, item)
     return [*found.values()]

@@ -28,9 +28,9 @@ def edge(link, on_path):
 def said_of(answer):
     """What is against each certificate itself, by its place."""
     found = {}
-    for it in answer.obstacles:
-        if it.to is None:
-            found.setdefault(it.of.place, []).append(it.sentence.text)
+    for obstacle in answer.obstacles:
+        if obstacle.to is None:
+            found.setdefault(obstacle.of.place, []).append(obstacle.sentence.text)
     return found
 
 
@@ -42,17 +42,17 @@ def nodes_of(answer):
 
 
 def text(answer, moment):
-    """The graph of one target: certificates, issuers above, the path in green, what stands in the way in red."""
+    """The graph of one target: certificates, issuers above, the path in green, what prevents one in red."""
     path = [entry.place for entry in [*answer.path, answer.anchor] if entry]
     steps, said, against, nodes = {*zip(path, path[1:])}, said_of(answer), answer.against(), nodes_of(answer)
     shown = dict([*nodes.items()][:max(MOST_NODES, len(path))])
-    edges = [it for it in answer.edges if it.of.place in shown and it.to.place in shown]
-    edges = sorted(edges, key=lambda it: (it.of.place, it.to.place) not in steps)[:max(MOST_EDGES, len(path))]
+    edges = [one for one in answer.edges if one.of.place in shown and one.to.place in shown]
+    edges = sorted(edges, key=lambda one: (one.of.place, one.to.place) not in steps)[:max(MOST_EDGES, len(path))]
     head = [people.headline(answer, moment)]
     if (len(shown), len(edges)) != (len(nodes), len(answer.edges)):
         head.append(f"left out: {len(nodes) - len(shown)} certificates and {len(answer.edges) - len(edges)} links; --json has them all")
     lines = ["digraph certpath {", "  rankdir=BT;", '  node [fontname="Helvetica"];', '  edge [fontname="Helvetica", fontsize=10];',
              f'  label="{label(*head)}";', "  labelloc=t;"]
-    lines += [node(it, said.get(place, []), place in said or place in against, place in path) for place, it in shown.items()]
-    lines += [edge(it, (it.of.place, it.to.place) in steps) for it in edges]
+    lines += [node(item, said.get(place, []), place in said or place in against, place in path) for place, item in shown.items()]
+    lines += [edge(one, (one.of.place, one.to.place) in steps) for one in edges]
     return "".join(f"{line}\n" for line in [*lines, "}"])

@@ -43,7 +43,7 @@ END = "</main></body></html>\n"
 def listed(title, lines):
     """A title and a list; nothing if there are no lines."""
     lines = [*lines]
-    return f"<h2>{title}</h2><ul>{''.join(f'<li>{it}</li>' for it in lines)}</ul>\n" if lines else ""
+    return f"<h2>{title}</h2><ul>{''.join(f'<li>{line}</li>' for line in lines)}</ul>\n" if lines else ""
 
 
 def fingerprint(digits):
@@ -56,20 +56,20 @@ def date(moment):
     return f"<span>{times.as_shown(moment)}</span>"
 
 
-def of_certificate(it):
+def of_certificate(certificate):
     """The fields of a certificate of the path."""
-    rows = [("issuer", escape(it.issuer)), ("valid", f"{date(it.begin)} to {date(it.end)}"), ("serial", it.serial),
-            ("sha256", fingerprint(it.sha256)), ("file", escape(it.file)), *([("judged", people.OF_ANCHOR)] if it.is_anchor else [])]
-    return f"<h3>{escape(it.place)}: {escape(it.subject)}</h3><dl>{''.join(f'<dt>{name}</dt><dd>{held}</dd>' for name, held in rows)}</dl>\n"
+    rows = [("issuer", escape(certificate.issuer)), ("valid", f"{date(certificate.begin)} to {date(certificate.end)}"), ("serial", certificate.serial),
+            ("sha256", fingerprint(certificate.sha256)), ("file", escape(certificate.file)), *([("judged", people.OF_ANCHOR)] if certificate.is_anchor else [])]
+    return f"<h3>{escape(certificate.place)}: {escape(certificate.subject)}</h3><dl>{''.join(f'<dt>{name}</dt><dd>{held}</dd>' for name, held in rows)}</dl>\n"
 
 
-def of_obstacle(it):
-    *said, rule = map(str.strip, people.of_obstacle(it))
+def of_obstacle(obstacle):
+    *said, rule = map(str.strip, people.of_obstacle(obstacle))
     return f"{'<br>'.join(map(escape, said))}<br><small>{escape(rule)}</small>"
 
 
 def why_not(answer):
-    """The lines of what stands in the way."""
+    """The lines of what prevents a path."""
     if answer.is_refused or not answer.is_asked_why:
         return map(escape, people.why_not(answer))
     further = len(answer.obstacles) - people.MOST_OBSTACLES
@@ -109,18 +109,18 @@ def of_all(answers, beside):
     """The part that all targets share."""
     count, not_judged = len(answers), answers[0].not_judged
     left_out = [f"{count - MOST_TARGETS} further targets; --json has them all"] if count > MOST_TARGETS else []
-    concerned = {one.position for it in answers for one in it.unused}
-    idle = next((it.idle for it in answers if it.idle), {})
-    unused = few(people.of_list(it) for position, it in idle.items() if position not in concerned)
+    concerned = {one.position for answer in answers for one in answer.unused}
+    idle = next((answer.idle for answer in answers if answer.idle), {})
+    unused = few(people.of_list(item) for position, item in idle.items() if position not in concerned)
     lists = (("Not on this page", left_out), ("Lists that aren't used", unused), ("Targets", map(escape, beside.roles.targets)), ("Helpers", map(escape, beside.roles.helpers)),
              ("Files", map(escape, beside.notes)), ("Anchors", [escape(beside.anchors)]), ("Not judged", map(escape, not_judged)))
-    return f'<section aria-label="All">{"".join(listed(*it) for it in lists)}</section>\n'
+    return f'<section aria-label="All">{"".join(listed(*crl) for crl in lists)}</section>\n'
 
 
 def text(answers, moment, beside):
     """The page of all answers, those without a path first if there are too many."""
     count = len(answers)
-    shown = answers if count <= MOST_TARGETS else sorted(answers, key=lambda it: ("bad", "doubt", "good").index(look(it)))[:MOST_TARGETS]
-    parts = [of_answer(it, number, moment) for number, it in enumerate(shown)]
+    shown = answers if count <= MOST_TARGETS else sorted(answers, key=lambda answer: ("bad", "doubt", "good").index(look(answer)))[:MOST_TARGETS]
+    parts = [of_answer(entry, number, moment) for number, entry in enumerate(shown)]
     title = escape(people.headline(answers[0], moment)) if count == 1 else f"{count} certificates at {times.as_shown(moment)}"
     return "".join([HEAD.format(title=title, style=STYLE), *parts, of_all(answers, beside), END])

@@ -40,7 +40,7 @@ def fingerprint(digits):
 
 def causes(unused):
     """Why a list isn't used, each with its rule."""
-    return "; ".join(f"{it.text} ({it.rule})" if it.rule else it.text for it in unused.sentences)
+    return "; ".join(f"{sentence.text} ({sentence.rule})" if sentence.rule else sentence.text for sentence in unused.sentences)
 
 
 def doubt(unused):
@@ -55,8 +55,8 @@ def doubts(answer):
     if not answer.path:
         return []
     found = answer.false_comfort()
-    said = [doubt(it) for it in sorted(found, key=lambda it: it.revokes != YES)]
-    return said + [f"whether a certificate of the path is revoked isn't known, as a list can't be read: {it}" for it in map(streams.shown, answer.unread)]
+    said = [doubt(entry) for entry in sorted(found, key=lambda one: one.revokes != YES)]
+    return said + [f"whether a certificate of the path is revoked isn't known, as a list can't be read: {value}" for value in map(streams.shown, answer.unread)]
 
 
 def headline(answer, moment):
@@ -99,44 +99,44 @@ class Text:
                 self.add(f"  {line}")
 
 
-def of_certificate(it):
+def of_certificate(certificate):
     """The lines of a certificate of the path."""
-    dates = f"{times.as_shown(it.begin)} to {times.as_shown(it.end)}"
-    yield f"{it.place}  {it.subject}"
-    yield f"    issuer  {it.issuer}"
+    dates = f"{times.as_shown(certificate.begin)} to {times.as_shown(certificate.end)}"
+    yield f"{certificate.place}  {certificate.subject}"
+    yield f"    issuer  {certificate.issuer}"
     yield f"    valid   {dates}"
-    yield f"    serial  {it.serial}"
-    yield f"    sha256  {fingerprint(it.sha256)}"
-    yield f"    file    {it.file}"
-    if it.is_anchor:
+    yield f"    serial  {certificate.serial}"
+    yield f"    sha256  {fingerprint(certificate.sha256)}"
+    yield f"    file    {certificate.file}"
+    if certificate.is_anchor:
         yield f"    judged  {OF_ANCHOR}"
 
 
-def of_obstacle(it):
-    """The lines of what stands in the way."""
-    if it.to:
-        yield f"{it.of.place} {it.of.name}"
-        yield f"    to {it.to.place} {it.to.name}: {it.sentence.text}"
+def of_obstacle(obstacle):
+    """The lines of what prevents a path."""
+    if obstacle.to:
+        yield f"{obstacle.of.place} {obstacle.of.name}"
+        yield f"    to {obstacle.to.place} {obstacle.to.name}: {obstacle.sentence.text}"
     else:
-        yield f"{it.of.place} {it.of.name}: {it.sentence.text}"
-    tail = "; ".join(part for part in (it.sentence.rule, it.sentence.advice) if part)
+        yield f"{obstacle.of.place} {obstacle.of.name}: {obstacle.sentence.text}"
+    tail = "; ".join(part for part in (obstacle.sentence.rule, obstacle.sentence.advice) if part)
     if tail:
         yield f"    {tail}"
 
 
-def of_list(it):
+def of_list(unused):
     """The line of a list that isn't used."""
-    if it.revokes != NO:
-        return doubt(it)
-    return f"list {it.position} ({it.file}) of {it.issuer} isn't used: {causes(it)}"
+    if unused.revokes != NO:
+        return doubt(unused)
+    return f"list {unused.position} ({unused.file}) of {unused.issuer} isn't used: {causes(unused)}"
 
 
 def of_anchor(answer, moment):
     """A warning if the moment is outside the validity of the path's anchor."""
-    it = answer.anchor
-    if it and not it.begin <= moment <= it.end:
-        when = f"expired at {times.as_shown(it.end)}" if it.end < moment else f"isn't valid before {times.as_shown(it.begin)}"
-        yield f"{it.place} {it.subject} {when}; of an anchor, dates aren't judged (RFC 5280, 6.1.1, d)"
+    entry = answer.anchor
+    if entry and not entry.begin <= moment <= entry.end:
+        when = f"expired at {times.as_shown(entry.end)}" if entry.end < moment else f"isn't valid before {times.as_shown(entry.begin)}"
+        yield f"{entry.place} {entry.subject} {when}; of an anchor, dates aren't judged (RFC 5280, 6.1.1, d)"
 
 
 def of_answer(answer, moment):
@@ -146,13 +146,13 @@ def of_answer(answer, moment):
 
 def lists_beside(answer):
     """The lists that aren't used and concern the target, but for those for which the path is refused."""
-    return [it for it in answer.unused if not (answer.is_refused and it.revokes != NO)]
+    return [crl for crl in answer.unused if not (answer.is_refused and crl.revokes != NO)]
 
 
 def lists_of_none(answer):
     """The lists that aren't used and don't concern the target."""
-    concerned = {it.position for it in answer.unused}
-    return [it for position, it in answer.idle.items() if position not in concerned]
+    concerned = {crl.position for crl in answer.unused}
+    return [item for position, item in answer.idle.items() if position not in concerned]
 
 
 def warnings(answer, moment):
@@ -163,20 +163,20 @@ def warnings(answer, moment):
 
 def why_refused(answer):
     """The lines of what a path is refused for."""
-    for it in doubts(answer):
-        yield it
+    for entry in doubts(answer):
+        yield entry
     yield f"    {REMEDY}"
 
 
 def why_not(answer):
-    """The lines of all that stands in the way."""
+    """The lines of all that prevents a path."""
     if answer.is_refused:
         yield from why_refused(answer)
         return
     if not answer.is_asked_why:
         yield NOT_ASKED
-    for it in answer.obstacles[:MOST_OBSTACLES]:
-        yield from of_obstacle(it)
+    for obstacle in answer.obstacles[:MOST_OBSTACLES]:
+        yield from of_obstacle(obstacle)
     if len(answer.obstacles) > MOST_OBSTACLES:
         yield f"and {len(answer.obstacles) - MOST_OBSTACLES} further reasons; --json has them all"
 
@@ -195,23 +195,23 @@ def add_answer(made, answer, moment, roles):
         made.section("why not", why_not(answer))
     if roles:
         add_roles(made, roles)
-        made.section("path", (line for it in [*answer.path, answer.anchor] if it for line in of_certificate(it)))
+        made.section("path", (line for value in [*answer.path, answer.anchor] if value for line in of_certificate(value)))
 
 
 def text(answers, moment, beside, coloured, is_single):
     """The whole text, line by line. Warnings that several targets share are in it once, after all targets."""
     made, shared, of_lists, concerned, idle, not_judged = Text(coloured), {}, {}, set(), {}, ()
-    for it in answers:
-        not_judged = it.not_judged
-        add_answer(made, it, moment, beside.roles if is_single else None)
-        shared.update(dict.fromkeys(of_answer(it, moment)))
-        of_lists.update(dict.fromkeys(map(of_list, lists_beside(it))))
-        concerned.update(one.position for one in it.unused)
-        idle = it.idle or idle
+    for answer in answers:
+        not_judged = answer.not_judged
+        add_answer(made, answer, moment, beside.roles if is_single else None)
+        shared.update(dict.fromkeys(of_answer(answer, moment)))
+        of_lists.update(dict.fromkeys(map(of_list, lists_beside(answer))))
+        concerned.update(one.position for one in answer.unused)
+        idle = answer.idle or idle
         yield from made.taken()
     if not is_single:
         add_roles(made, beside.roles)
-    of_none = (of_list(it) for position, it in idle.items() if position not in concerned)
+    of_none = (of_list(item) for position, item in idle.items() if position not in concerned)
     made.section("warnings", dict.fromkeys([*shared, *of_lists, *of_none, *beside.notes]))
     made.section("anchors", [beside.anchors])
     made.section("not judged", textwrap.wrap(", ".join(not_judged), COLUMNS))

@@ -5,7 +5,7 @@ from verify import times
 
 WIDTH, BOX, GAP, EDGE = 360, 74, 26, 8
 BAR_LEFT, BAR_WIDTH, BAR_TOP, BAR_HEIGHT = 20, 320, 45, 8
-# How far the mark of the moment stands out of a bar.
+# How far the mark of the moment is longer than a bar.
 MARK = 3
 # So many characters of a name are in a box; the whole name is in the box's title.
 MOST_CHARACTERS = 44

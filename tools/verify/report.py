@@ -28,19 +28,19 @@ def positions(words):
         yield from range(int(first), int(last or first) + 1)
 
 
-class Room:
+class LinkAllowance:
     """How many links may still be held."""
 
     def __init__(self, left):
         self.left = left
 
     def first(self, many):
-        """As many as there is room for, at least one."""
-        for count, it in enumerate(many):
+        """As many as may still be held, at least one."""
+        for count, entry in enumerate(many):
             if count and self.left <= 0:
                 return
             self.left -= 1
-            yield it
+            yield entry
 
 
 class Node:
@@ -50,11 +50,11 @@ class Node:
         self.position, self.not_usable, self.unmet, self.no_issuer = position, [], [], []
         self.links, self.most, self.is_missing = {}, None, False
 
-    def take(self, fact, room):
+    def take(self, fact, allowance):
         """Takes what a line says of it."""
         link, bound = LINK.fullmatch(fact), BOUND.fullmatch(fact)
         if link:
-            for to in room.first(positions(link[2])):
+            for to in allowance.first(positions(link[2])):
                 self.links.setdefault(Link(to, bool(link[1])), []).extend([] if link[3] else [link[4]])
         elif bound:
             self.most = int(bound[1])
@@ -84,7 +84,7 @@ class Report:
 
     def __init__(self, lines):
         self.outcome, self.path, self.anchor, self.nodes, self.unused = "no target", None, None, {}, {}
-        self.is_checked, self.room = "check yes" in lines, Room(MOST_LINKS)
+        self.is_checked, self.allowance = "check yes" in lines, LinkAllowance(MOST_LINKS)
         for line in lines:
             self.take(line)
 
@@ -103,7 +103,7 @@ class Report:
     def take_node(self, position, fact):
         """Takes what a line says of a certificate; the first line of each has its name."""
         if position in self.nodes:
-            self.nodes[position].take(fact, self.room)
+            self.nodes[position].take(fact, self.allowance)
         else:
             self.nodes[position] = Node(position)
 

@@ -31,13 +31,13 @@ class Count(NamedTuple):
 
 def count(file, contents):
     """What is counted of a file."""
-    lists = sum(it.is_list for it in contents.items)
+    lists = sum(item.is_list for item in contents.items)
     return Count(file, len(contents.items) - lists, lists)
 
 
 def merged(counts):
     """The counts of files, each once: a file that is named twice has its items once."""
-    return [*{it.file: it for it in reversed(counts)}.values()][::-1]
+    return [*{entry.file: entry for entry in reversed(counts)}.values()][::-1]
 
 
 def lines(counts):
@@ -48,12 +48,12 @@ def lines(counts):
 
 def of_all(counts, further):
     """Every certificate of every FILE is a target."""
-    return Roles(lines(it._replace(lists=0) for it in counts), lines([*(it._replace(certificates=0) for it in counts), *further]))
+    return Roles(lines(entry._replace(lists=0) for entry in counts), lines([*(entry._replace(certificates=0) for entry in counts), *further]))
 
 
 def of_one(counts, further, target, file, is_named):
     """One target, in words, and the file that has it; a further FILE may have been meant as one."""
-    helpers = [it._replace(certificates=it.certificates - 1, has_target=True) if it.file == file else it
-               for it in merged([*counts, *further])]
-    is_doubtful = not is_named and any(it.certificates for it in counts[1:])
+    helpers = [entry._replace(certificates=entry.certificates - 1, has_target=True) if entry.file == file else entry
+               for entry in merged([*counts, *further])]
+    is_doubtful = not is_named and any(entry.certificates for entry in counts[1:])
     return Roles([target], [*lines(helpers), *([HINT] if is_doubtful else [])])

@@ -30,7 +30,7 @@ class Inputs:
     def __init__(self, asked):
         self.asked = asked
         self.first = files.contents_of(asked.files[0])
-        further, lists = ([files.contents_of(it) for it in of] for of in (asked.files[1:], asked.lists))
+        further, lists = ([files.contents_of(entry) for entry in of] for of in (asked.files[1:], asked.lists))
         self.named = files.contents_of(asked.target) if self.is_file(asked.target) else None
         self.of_files = [self.first, *further]
         parts = [*self.of_files, *lists, *([self.named] if self.named else [])]
@@ -38,11 +38,11 @@ class Inputs:
         self.further = [*map(roles.count, asked.lists, lists), *([roles.count(asked.target, self.named)] if self.named else [])]
         found = stores.anchors_of(asked.anchors)
         # (revocation lists in files of anchors are lists like others)
-        items = [it for part in parts for it in part.items] + [it for it in found.items if it.is_list]
+        items = [item for part in parts for item in part.items] + [item for item in found.items if item.is_list]
         self.bundle = core.Side(files.once(items), False, asked.limit)
-        self.anchors = core.Side([it for it in found.items if not it.is_list], True, asked.limit)
+        self.anchors = core.Side([item for item in found.items if not item.is_list], True, asked.limit)
         self.sources, self.store = found.sources, found.store
-        self.left_out, self.left_out_of_anchors = [it for part in parts for it in part.left_out], found.left_out
+        self.left_out, self.left_out_of_anchors = [entry for part in parts for entry in part.left_out], found.left_out
         if not self.anchors.of_kind[Kind.CERTIFICATE]:
             within = f" within --limit {asked.limit}" if self.anchors.too_large else ""
             raise Fault(faults.UNREAD, f"{', '.join(self.sources)}: holds no certificate{within}, so no anchor; name a file with --anchors FILE")
@@ -67,16 +67,16 @@ class Inputs:
             return [self.position_of(word)]
         part, name = (self.named, word) if self.named else (self.first, self.asked.files[0])
         parts = self.of_files if self.asked.is_all else [part]
-        lost = [it for one in parts for it in one.left_out if it.is_certificate()]
-        positions = {self.bundle.items.octets(it): it for it in range(len(self.bundle.items))}
-        found = dict.fromkeys(self.target(positions[it.octets]) if it.octets in positions else f"{it.file}: an item above the limit"
-                              for one in parts for it in one.items if not it.is_list)
+        lost = [entry for one in parts for entry in one.left_out if entry.is_certificate()]
+        positions = {self.bundle.items.octets(index): index for index in range(len(self.bundle.items))}
+        found = dict.fromkeys(self.target(positions[item.octets]) if item.octets in positions else f"{item.file}: an item above the limit"
+                              for one in parts for item in one.items if not item.is_list)
         if not found:
             raise Fault(faults.NO_TARGET, f"{name}: it holds {self.what_is_there(part)}no certificate, so no target")
         if self.asked.is_all:
-            return [*found, *(f"{it.where}: {it.why}" for it in lost)]
-        at = next(number for number, it in enumerate(part.items) if not it.is_list)
-        first = next((it for it in lost if it.before <= at), None)
+            return [*found, *(f"{entry.where}: {entry.why}" for entry in lost)]
+        at = next(number for number, item in enumerate(part.items) if not item.is_list)
+        first = next((entry for entry in lost if entry.before <= at), None)
         if first:
             raise Fault(faults.UNREAD, f"{first.where}: {first.why}; it would be the target: mend it, or name another one with --target")
         return [*found][:1]
@@ -86,7 +86,7 @@ class Inputs:
         """What a file without a certificate holds."""
         if part.items:
             return "revocation lists and "
-        labels = dict.fromkeys(it.label for it in part.left_out if it.label)
+        labels = dict.fromkeys(entry.label for entry in part.left_out if entry.label)
         return f"{', '.join(labels)} and " if labels else ""
 
     def target(self, position):
@@ -104,22 +104,22 @@ class Inputs:
         if is_position(word):
             return self.target(int(word))
         digits = word.replace(":", "").lower()
-        for it in range(len(self.bundle.items)):
-            if core.fingerprint(self.bundle.items.octets(it)) == digits:
-                return self.target(it)
+        for number in range(len(self.bundle.items)):
+            if core.fingerprint(self.bundle.items.octets(number)) == digits:
+                return self.target(number)
         raise Fault(faults.NO_TARGET, f"--target {word}: no certificate has this fingerprint")
 
     def unread_lists(self):
         """What is said of revocation lists that can't be read, so that nobody knows whom they revoke."""
-        for it in [*self.left_out, *self.left_out_of_anchors]:
-            if it.is_list():
-                yield f"{it.where}: {it.why}"
+        for value in [*self.left_out, *self.left_out_of_anchors]:
+            if value.is_list():
+                yield f"{value.where}: {value.why}"
         for position in self.bundle.of_kind[Kind.OTHER]:
             if self.bundle.given[position].is_list:
                 yield f"item {position} ({self.bundle.file(position)}): {OTHER}"
-        for it in self.bundle.too_large:
-            if it.is_list:
-                yield f"{it.file}: a list above the limit"
+        for value in self.bundle.too_large:
+            if value.is_list:
+                yield f"{value.file}: a list above the limit"
 
     def notes(self):
         """Warnings of the files: what was left out, and items that are neither certificate nor list."""
@@ -128,9 +128,9 @@ class Inputs:
         if len(lines) > MOST_LEFT_OUT:
             yield f"{len(lines) - MOST_LEFT_OUT} more were left out"
         for side, name in ((self.bundle, "item"), (self.anchors, "anchor")):
-            for it in side.of_kind[Kind.OTHER][:MOST_LEFT_OUT]:
-                digest = core.fingerprint(side.items.octets(it))
-                yield f"{name} {it} ({side.file(it)}, SHA-256 {digest}){called(side.items.octets(it))}: {OTHER}, so not used; {CAUSES}"
+            for entry in side.of_kind[Kind.OTHER][:MOST_LEFT_OUT]:
+                digest = core.fingerprint(side.items.octets(entry))
+                yield f"{name} {entry} ({side.file(entry)}, SHA-256 {digest}){called(side.items.octets(entry))}: {OTHER}, so not used; {CAUSES}"
 
     def roles(self):
         """What was taken as a target, and what as a helper."""
@@ -140,7 +140,7 @@ class Inputs:
         if word is None or self.named:
             file = word or file
             return roles.of_one(self.counts, self.further, f"the first certificate of {streams.shown(file)}", file, bool(word))
-        place = next((it for it in self.targets if not isinstance(it, str)), None)
+        place = next((target for target in self.targets if not isinstance(target, str)), None)
         file = None if place is None else self.bundle.given[place].file
         what = f"--target {word}" if place is None else f"item {place} ({self.bundle.file(place)}), by --target"
         return roles.of_one(self.counts, self.further, what, file, True)
@@ -165,7 +165,7 @@ def is_position(word):
 
 def is_fingerprint(word):
     digits = word.replace(":", "")
-    return len(digits) == 64 and all(it in "0123456789abcdefABCDEF" for it in digits)
+    return len(digits) == 64 and all(digit in "0123456789abcdefABCDEF" for digit in digits)
 
 
 def asked_of_openssl(inputs, workspace):
@@ -176,13 +176,13 @@ def asked_of_openssl(inputs, workspace):
         return signed
     workspace.vouch(core.certpath.Vouchers())
     reached = Report(workspace.why(inputs.targets[0])).nodes
-    return [it for it in signed if it in reached or inputs.bundle.items[it].kind is Kind.LIST]
+    return [entry for entry in signed if entry in reached or inputs.bundle.items[entry].kind is Kind.LIST]
 
 
 def of_host(known, inputs, workspace):
     """The reports of all targets with the host that is asked for, by those without it: a target that doesn't serve it has no path, and
     one that does has the same, unless a critical subjectAltName is in its way, which is processed for a host (RFC 5280, 6.1.5, f)."""
-    for target in [it for it in inputs.targets if it in known]:
+    for target in [entry for entry in inputs.targets if entry in known]:
         if not inputs.demands.is_served(inputs.bundle.items[target]):
             known[target] = known[target].without_path()
         elif inputs.demands.host is not None and not known[target].path:
@@ -193,7 +193,7 @@ def of_host(known, inputs, workspace):
 def all_answers(inputs, judge, workspace):
     """The answer for each target, in their order. For several `certpath paths` says which of them have a path, and lists that aren't
     used are the same for all; why there is none is asked of the first ones alone."""
-    certificates = [it for it in inputs.targets if not isinstance(it, str)]
+    certificates = [entry for entry in inputs.targets if not isinstance(entry, str)]
     lines = workspace.paths() if len(certificates) > 1 else None
     known, asked = of_host(answers_of(lines), inputs, workspace) if lines else {}, 0
     unused = Report(workspace.why(certificates[0])).unused if lines else None
@@ -216,7 +216,7 @@ def answered(asked):
     core.need()
     demands.need(asked.host, asked.purpose)
     inputs = Inputs(asked)
-    if inputs.targets == [it for it in inputs.targets if isinstance(it, str)]:
+    if inputs.targets == [target for target in inputs.targets if isinstance(target, str)]:
         return written(asked, inputs, map(answers.no_target, inputs.targets))
     workspace = asking.Workspace(inputs.bundle, inputs.anchors, asked)
     found = signing.signatures(inputs.holders, asked_of_openssl(inputs, workspace), asked.takes_weak)
@@ -231,9 +231,9 @@ class CountedAnswers:
         self.found, self.status = found, faults.PATH
 
     def __iter__(self):
-        for it in self.found:
-            self.status = max(self.status, machine.status_of(it))
-            yield it
+        for entry in self.found:
+            self.status = max(self.status, machine.status_of(entry))
+            yield entry
 
 
 def written(asked, inputs, found):
@@ -246,7 +246,7 @@ def written(asked, inputs, found):
     forms = {
         None: lambda: people.text(counted, asked.moment, beside, people.with_colour(), len(inputs.targets) == 1),
         "json": lambda: machine.texts(counted, asked.moment, beside),
-        "dot": lambda: (graph.text(it, asked.moment) for it in counted),
+        "dot": lambda: (graph.text(count, asked.moment) for count in counted),
         "quiet": lambda: ("" for _ in counted),
     }
     parts = iter(forms["quiet" if asked.page == "-" else asked.form]())
@@ -267,8 +267,8 @@ def keep(file, text):
             raise Fault(faults.UNWRITTEN, "standard output fails")
         return
     try:
-        with open(file, "wb") as it:
-            it.write(octets)
+        with open(file, "wb") as entry:
+            entry.write(octets)
     except (OSError, ValueError) as error:
         raise Fault(faults.UNWRITTEN, f"{file}: cannot write it ({getattr(error, 'strerror', error)})") from error
 

@@ -53,24 +53,24 @@ class Holders:
 
     def certificates(self, name):
         """The certificates whose subject is a name of an issuer."""
-        return [it.certificate(self.bundle, self.anchors) for it in self.by_name[name]]
+        return [entry.certificate(self.bundle, self.anchors) for entry in self.by_name[name]]
 
     def pairs(self, positions):
         """How many pairs there are of items and keys that may have signed them."""
-        return sum(len(self.by_name[self.bundle[it].issuer]) for it in positions)
+        return sum(len(self.by_name[self.bundle[position].issuer]) for position in positions)
 
 
 def take(found, position, judged, item, takes_weak):
     """Takes what OpenSSL says of an item."""
     if judged.why:
         found.refused[position] = judged.why
-    for it in judged.tried:
-        if it.why is not None:
-            found.refused.setdefault(position, {})[it.key] = f"OpenSSL: {it.why}"
-        elif it.weaknesses:
-            found.weak.setdefault(position, {})[it.key] = ", ".join(it.weaknesses)
-        if it.why is None and (takes_weak or not it.weaknesses):
-            found.vouchers.add(it.key, item.public_bytes())
+    for reason in judged.tried:
+        if reason.why is not None:
+            found.refused.setdefault(position, {})[reason.key] = f"OpenSSL: {reason.why}"
+        elif reason.weaknesses:
+            found.weak.setdefault(position, {})[reason.key] = ", ".join(reason.weaknesses)
+        if reason.why is None and (takes_weak or not reason.weaknesses):
+            found.vouchers.add(reason.key, item.public_bytes())
 
 
 def signatures(holders, positions, takes_weak):

@@ -82,23 +82,23 @@ def names_in(folder):
 
 def plain_folder(folder, names):
     """What the files of a folder hold. Texts without certificates, as notes and keys, are passed over."""
-    paths = [os.path.join(folder, it) for it in names if not it.startswith(".")]
-    parts = [files.taken_from(it) for it in paths if os.path.isfile(it)]
+    paths = [os.path.join(folder, name) for name in names if not name.startswith(".")]
+    parts = [files.taken_from(path) for path in paths if os.path.isfile(path)]
     is_der = (files.DER, files.DER_OF_SEVEN)
-    left_out = [it for part in parts for it in part.left_out
-                if part.items or part.form in is_der or it.label in files.OF_CERTIFICATES]
-    return FileContents([it for part in parts for it in part.items], left_out)
+    left_out = [entry for part in parts for entry in part.left_out
+                if part.items or part.form in is_der or entry.label in files.OF_CERTIFICATES]
+    return FileContents([item for part in parts for item in part.items], left_out)
 
 
 def hashed_names(names):
     """The names that OpenSSL looks for: of each hash those that are numbered from 0 without a gap."""
     there = {*names}
-    found = sorted(filter(None, map(HASHED.fullmatch, names)), key=lambda it: (it[1], it[2], int(it[3])))
-    gaps = {(it[1], it[2]): 0 for it in found}
-    for it in found:
-        if f"{it[1]}.{it[2]}{gaps[it[1], it[2]]}" in there and int(it[3]) == gaps[it[1], it[2]]:
-            gaps[it[1], it[2]] += 1
-            yield it
+    found = sorted(filter(None, map(HASHED.fullmatch, names)), key=lambda value: (value[1], value[2], int(value[3])))
+    gaps = {(one[1], one[2]): 0 for one in found}
+    for entry in found:
+        if f"{entry[1]}.{entry[2]}{gaps[entry[1], entry[2]]}" in there and int(entry[3]) == gaps[entry[1], entry[2]]:
+            gaps[entry[1], entry[2]] += 1
+            yield entry
 
 
 def hashed_folder(folder, names, openssl, is_wide=False):
@@ -112,12 +112,12 @@ def hashed_folder(folder, names, openssl, is_wide=False):
             continue
         part = files.taken_from(path) if is_wide else of_pem(path)
         left_out += part.left_out
-        for it in part.items:
-            own = None if it.is_list else openssl.hash(it.octets)
-            if it.is_list == bool(name[2]) and (it.is_list or own == name[1].lower()):
-                items.append(it)
+        for item in part.items:
+            own = None if item.is_list else openssl.hash(item.octets)
+            if item.is_list == bool(name[2]) and (item.is_list or own == name[1].lower()):
+                items.append(item)
             else:
-                left_out.append(LeftOut(path, why_not(it.is_list, own)))
+                left_out.append(LeftOut(path, why_not(item.is_list, own)))
     return FileContents(items, left_out)
 
 
@@ -191,24 +191,24 @@ def system_sources():
     found = [store_file(file, FILE_VARIABLE) if file is not None else store_file(openssl.place("X509_get_default_cert_file"), None)]
     paths = [openssl.place("X509_get_default_cert_dir")] if folders is None else dict.fromkeys(filter(None, folders.split(os.pathsep)))
     variable, is_alone = (None, True) if folders is None else (FOLDER_VARIABLE, os.pathsep not in folders)
-    found += [store_folder(it, variable, openssl, is_alone) for it in paths]
-    found = [it for it in found if it is not None]
-    if file is None and folders is None and not any(it.contents.items for it in found):
-        found = [Source(it, of_pem(it)) for it in BUNDLES if os.path.isfile(it)][:1]
+    found += [store_folder(path, variable, openssl, is_alone) for path in paths]
+    found = [entry for entry in found if entry is not None]
+    if file is None and folders is None and not any(entry.contents.items for entry in found):
+        found = [Source(bundle, of_pem(bundle)) for bundle in BUNDLES if os.path.isfile(bundle)][:1]
     return found
 
 
 def store_words():
     """What the system's store is called in the first line."""
-    named = [it for it in (FILE_VARIABLE, FOLDER_VARIABLE) if it in os.environ]
+    named = [value for value in (FILE_VARIABLE, FOLDER_VARIABLE) if value in os.environ]
     return "the system's store" + (f" with {' and '.join(named)}" if named else "")
 
 
 def system():
     """The system's store; the run ends if it has no certificate."""
     found = system_sources()
-    if not any(it.contents.items for it in found):
-        why = "; ".join(f"{it.where}: {it.why}" for one in found for it in one.contents.left_out[:1])
+    if not any(entry.contents.items for entry in found):
+        why = "; ".join(f"{part.where}: {part.why}" for one in found for part in one.contents.left_out[:1])
         what = f"the system's store has no certificate ({shown(why)})" if why else "no store of trust anchors is known on this system"
         raise Fault(UNREAD, f"{what}; name anchors with --anchors FILE")
     return found
@@ -217,6 +217,6 @@ def system():
 def anchors_of(words):
     """The anchors of files, folders and the system's store, which is taken if there are no words."""
     words = [*dict.fromkeys(words)] or [SYSTEM]
-    sources = [it for word in words for it in (system() if word == SYSTEM else [given(word)])]
-    return Anchors(files.once(it for one in sources for it in one.contents.items), [it.name for it in sources if it.name],
-                   store_words() if SYSTEM in words else None, [it for one in sources for it in one.contents.left_out])
+    sources = [value for word in words for value in (system() if word == SYSTEM else [given(word)])]
+    return Anchors(files.once(item for one in sources for item in one.contents.items), [source.name for source in sources if source.name],
+                   store_words() if SYSTEM in words else None, [part for one in sources for part in one.contents.left_out])

@@ -66,7 +66,7 @@ class Parser(argparse.ArgumentParser):
 
     def refuse_unknown(self, words):
         """Ends the run where a word looks like an option and is none; says what goes for it."""
-        options = {it: action for action in self._actions for it in action.option_strings}
+        options = {string: action for action in self._actions for string in action.option_strings}
         for word in words:
             name, equals, _ = word.partition("=")
             if not word.startswith("-") or word == reading.STANDARD_INPUT:
@@ -83,7 +83,7 @@ def instead(name, options):
     known = next((said for words, said in OF_OTHERS if word in words), None)
     if known is not None:
         return known
-    near = [it for it in options if len(word) >= LEAST and it.startswith(f"--{word}")] or difflib.get_close_matches(f"--{word}", options, 1, LIKENESS)
+    near = [option for option in options if len(word) >= LEAST and option.startswith(f"--{word}")] or difflib.get_close_matches(f"--{word}", options, 1, LIKENESS)
     return f", the most similar one is {near[0]}" if near else ""
 
 
@@ -143,7 +143,7 @@ def is_same(one, other):
 
 
 def split(words):
-    """The words up to --, and the files behind it."""
+    """The words up to --, and the files after it."""
     at = words.index("--") if "--" in words else len(words)
     return words[:at], words[at + 1:]
 
@@ -159,7 +159,7 @@ def read(words):
     options, files = split(words)
     made.refuse_unknown(options)
     given, further = made.parse_known_args(options)
-    # (what argparse doesn't know are FILEs that stand behind options)
+    # (what argparse doesn't know are FILEs that come after options)
     given.files += [*further, *files]
     if not given.files:
         made.error("a FILE is missing")
@@ -169,6 +169,6 @@ def read(words):
         raise Fault(WORDS, "--host is asked of one target, and not with --all")
     if given.page == "-" and given.form:
         raise Fault(WORDS, f"--html - and --{given.form} can't both have standard output")
-    if any(is_same(given.page, it) for it in [*given.files, *given.lists, *given.anchors, given.target]):
+    if any(is_same(given.page, file) for file in [*given.files, *given.lists, *given.anchors, given.target]):
         raise Fault(WORDS, f"--html {given.page}: this file is read; name another one for the page")
     return Words(**{**vars(given), "moment": times.moment_of(given.moment)})
