@@ -1,5 +1,5 @@
 """Tries the libraries of dist/ from outside: C programs against the header, by the compiler of the
-machine and under its sanitizers, and the examples of docs/EMBEDDING.md and of examples/."""
+machine and under its sanitizers, and the examples of examples/."""
 import os
 import re
 import shutil
@@ -46,7 +46,6 @@ FAULTS = (
     ("OTHER_STATUS", "changed", "changed octets"),
 )
 COUNTED = re.compile(r"(\d+) passed, (\d+) failed\s*\Z")
-PAGE_EXAMPLE = re.compile(r"(?ms)^```python\n(.*?)^```$")
 BUNDLE, ANCHORS = os.path.join("samples", "bundle.der"), os.path.join("samples", "root.der")
 # The worked cases of crates/rows_check/stdin on which memory is refused: what they have between
 # them is a certificate of version 1 and one of version 3, a list and what is almost one, a path of
@@ -326,15 +325,6 @@ def same_lines(path):
         return sorted(set(file)) == repo.read("samples/vouchers.txt").splitlines(keepends=True)
 
 
-def page_example(count):
-    """The example of the page in Python."""
-    block = PAGE_EXAMPLE.search(repo.read("docs/EMBEDDING.md"))[1]
-    done = ran([sys.executable, "-c", block], env=with_package())
-    said = "\n(0, 1) 0\nTrue\nhost www.example.test\npath 0 1 anchor 0\ncheck yes\n"
-    count.row(done.returncode == 0 and said in done.stdout,
-              f"the example of docs/EMBEDDING.md in Python:\n{done.stdout[-2000:]}")
-
-
 def python_example(count, room):
     """The example in Python, which makes the vouchers of the samples."""
     paths = with_package()
@@ -443,10 +433,6 @@ class Embedding(Trial):
         if not shutil.which("go"):
             self.skipTest("examples/go: go isn't installed")
         self.in_room(go_example)
-
-    def test_page_example(self):
-        self.need_libcrypto()
-        page_example(self)
 
     def test_python_example(self):
         if ran([sys.executable, "-c", "import cryptography"]).returncode:

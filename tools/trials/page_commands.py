@@ -25,6 +25,7 @@ NOT_RUN = (
     ("bench/hostile/README.md", "", "it takes minutes, and the gate runs it"),
     ("docs/CLI.md", "./certpath --version", "it prints the digest of the sources, which each change of one changes"),
     ("docs/CLI.md", "./certpath --build", NEEDS_RT),
+    ("docs/EMBEDDING.md", "", "tools/trials/embedding_page.py runs it, with the programs of the page"),
     ("docs/GATE.md", "", NEEDS_RT),
     ("docs/INSTALL.md", "", "tools/trials/installing_wheel.py and installing_prefix.py run such lines, in folders that go away"),
     ("docs/PERF.md", "", "it needs rt, and another checkout"),
