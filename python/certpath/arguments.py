@@ -6,7 +6,7 @@ the library that hasn't passed one of these functions.
 import io
 import operator
 import os
-from typing import Any, Optional, Type, Union
+from typing import Any, Optional, Type
 
 # The greatest numbers of the C types uint32_t and size_t (and uint64_t).
 MOST_32, MOST_64 = (1 << 32) - 1, (1 << 64) - 1
@@ -15,8 +15,6 @@ MOST_SHOWN_BITS = 128
 # What octets are given as, and what is done with a text in their place.
 NEEDED = "octets are needed (bytes, bytearray or memoryview)"
 OF_FILE = "a file is opened with mode 'rb'"
-# No path has so many characters, and none has this, with which PEM begins.
-LONGEST, OF_PEM = 4096, "-----BEGIN "
 
 
 def type_name(value: Any) -> str:
@@ -59,15 +57,6 @@ def octets(value: Any, what: str, needed: str = NEEDED, of_text: str = OF_FILE) 
         raise TypeError(f"{what}: octets are needed, not elements of {view.itemsize} octets; "
                         "tobytes() gives them")
     return view.tobytes()
-
-
-def path(value: Union[str, "os.PathLike[str]"], what: str) -> Union[str, "os.PathLike[str]"]:
-    """A path; ValueError of a text that is none but what a file holds. Nothing of it is said, since
-    it may be a private key."""
-    if isinstance(value, str) and (OF_PEM in value or len(value) >= LONGEST):
-        raise ValueError(f"{what}: a path is needed, and this is text; its encode() gives octets, "
-                         "which are taken too")
-    return value
 
 
 def shown(number: int) -> str:

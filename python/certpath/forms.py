@@ -1,5 +1,7 @@
 """The forms of files, and what to do with octets of another form than a call takes."""
+import os
 from ctypes import byref
+from typing import Union
 
 from . import library
 
@@ -7,6 +9,8 @@ from . import library
 FORMS = ("empty", "PEM", "DER", "PKCS #7", "other")
 # Those that only `load` reads.
 LOADED = ("PEM", "PKCS #7")
+# No path has so many characters.
+LONGEST = 4096
 
 
 def form_of(octets: bytes) -> str:
@@ -25,6 +29,16 @@ def remedy_for(octets: bytes) -> str:
     if form in LOADED:
         return f"this is {form}, which certpath.load() reads"
     return "certpath.load() says what is left out of them"
+
+
+def path_of(given: Union[str, "os.PathLike[str]"]) -> str:
+    """A path; ValueError of a text that is none but what a file holds. Nothing of it is said, since
+    it may be a private key."""
+    path = os.fsdecode(given)
+    if len(path) >= LONGEST or form_of(os.fsencode(path)) in LOADED:
+        raise ValueError("the source: a path is needed, and this is text; its encode() gives octets, "
+                         "which are taken too")
+    return path
 
 
 def no_certificate(octets: bytes) -> library.BadItem:

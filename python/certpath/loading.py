@@ -4,7 +4,7 @@ from ctypes import byref, c_size_t, c_uint32
 from typing import List, NamedTuple, Optional, Union
 
 from . import arguments, library
-from .forms import FORMS
+from .forms import FORMS, path_of
 from .items import Items, Octets
 
 # The labels of PEM blocks that are known, by the numbers of certpath.h.
@@ -137,7 +137,7 @@ def shapes_of(items: Items) -> List[str]:
 def octets_in(source: Union[str, "os.PathLike[str]", Octets]) -> bytes:
     """The octets of a file by its path, or octets that are given."""
     if isinstance(source, (str, os.PathLike)):
-        with open(arguments.path(source, "the source"), "rb") as file:
+        with open(path_of(source), "rb") as file:
             return file.read()
     return arguments.octets(source, "the source", "a path or octets are needed")
 

@@ -4,7 +4,7 @@ import re
 import ssl
 from typing import Dict, Iterator, List, Optional, Union
 
-from . import arguments
+from .forms import path_of
 from .items import Items, Kind
 from .loading import load
 
@@ -47,8 +47,7 @@ def trust_store(source: Optional[Union[str, "os.PathLike[str]"]] = None) -> Item
     OSError if the source can't be read, or if no store of the system is there; ValueError if there
     is no certificate in it.
     """
-    paths = ([*system_paths()] if source is None
-             else [os.fsdecode(arguments.path(source, "the source"))])
+    paths = [*system_paths()] if source is None else [path_of(source)]
     names = HASHED if source is None else SHOWN
     if not paths:
         raise FileNotFoundError("the system's trust store isn't there; name a file or a folder")
