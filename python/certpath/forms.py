@@ -36,8 +36,8 @@ def path_of(given: Union[str, "os.PathLike[str]"]) -> str:
     it may be a private key."""
     path = os.fsdecode(given)
     if len(path) >= LONGEST or form_of(os.fsencode(path)) in LOADED:
-        raise ValueError("the source: a path is needed, and this is text; its encode() gives octets, "
-                         "which are taken too")
+        raise ValueError("the source: a path is needed, and this is text; its encode() gives "
+                         "octets, which are taken too")
     return path
 
 

@@ -204,8 +204,8 @@ class Item(Fixed):
             return hashlib.new(algorithm, self._octets, usedforsecurity=False).digest()
         except (TypeError, ValueError):
             # (a TypeError: of an algorithm whose digests are of any length)
-            raise ValueError(f"algorithm: hashlib makes no digest of one length by {algorithm!r:.40}, "
-                             "as it does by 'sha256'") from None
+            raise ValueError("algorithm: hashlib makes no digest of one length by "
+                             f"{algorithm!r:.40}, as it does by 'sha256'") from None
 
     def field(self, field: Field) -> bytes:
         """A field's octets; NoField if the item has no such field."""

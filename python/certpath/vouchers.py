@@ -54,8 +54,8 @@ def refuse_type(given: Any) -> None:
 def refuse_path(text: str) -> None:
     """ValueError of the path of a file in the place of its text."""
     if "\n" not in text and os.path.isfile(text):
-        raise ValueError(f"vouchers: the text of a voucher file is needed, and this is the path of a "
-                         f"file; {OF_PATH}")
+        raise ValueError("vouchers: the text of a voucher file is needed, and this is the path of "
+                         f"a file; {OF_PATH}")
 
 
 class Vouchers:

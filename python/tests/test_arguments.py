@@ -113,7 +113,7 @@ class Constructors(Refusing):
         self.assertTrue(issubclass(certpath.BadItem, ValueError))
 
     def test_no_certificate(self):
-        """What is no certificate is told apart where one is needed."""
+        """Of octets that are no certificate the message names the form."""
         leaf, root = sample("leaf.der"), sample("root.der")
         for call in (lambda it: certpath.serves(it, "a.test"), certpath.tbs,
                      lambda it: certpath.allows(it, "serverAuth")):

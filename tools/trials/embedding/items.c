@@ -165,7 +165,7 @@ static void of_extensions(const unsigned char *item, size_t length, int has_usag
     tell(lie_in_it && at == sizes.length && usages == has_usage, "extensions");
 }
 
-/* The first part of a certificate: all of it lies in the item behind four octets; without an
+/* The first part of a certificate: all of it lies in the item after four octets; without an
    extension it is shorter by that one, and without one that isn't there it is the same. */
 static void of_first_part(const unsigned char *item, size_t length)
 {
