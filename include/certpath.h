@@ -7,16 +7,14 @@
  * Each call takes octets and numbers, and writes numbers, octets and text into buffers of the
  * caller's. Nothing is kept between calls, so any number of threads may call at once.
  *
- * Buffers. A buffer is a pointer, followed by its room (how many elements it has). The pointer may
- * be null where the room is 0. A call that needs more room returns CERTPATH_TOO_SMALL, writes
- * nothing into any buffer, and says in its result how much it needs: so a first call with room 0
- * asks for the size.
+ * Buffers. A buffer is a pointer, followed by its room (how many elements it has). A call that
+ * needs more room returns CERTPATH_TOO_SMALL, writes nothing into any buffer, and says in its
+ * result how much it needs: so a first call with room 0 asks for the size.
  *
  * Pointers. Octets and other values that are read are a pointer, followed by their length. The
- * pointer may be null where the length is 0. All other pointers, to settings and to results, must
- * point to a value. Each pointer is aligned as its type is; octets and vouchers may lie anywhere.
- * What is only read may overlap. Nothing that is written may overlap another argument, or octets
- * that the settings point to.
+ * comment of each call ends with its pointers: which of them may be null and when, which have to be
+ * aligned as their type is, and what may not overlap. Octets and vouchers may lie anywhere. What is
+ * only read may overlap. A call neither reads nor writes at a pointer whose length or room is 0.
  *
  * Status. Each call returns CERTPATH_DONE or one of the other statuses below. Unless it is
  * CERTPATH_DONE, no buffer was written, and results hold only what the call says of its status.
@@ -74,6 +72,9 @@ typedef struct {
  * Cuts octets into items: DER SEQUENCEs of at most `limit` content octets, one after another.
  * Writes the span of each into `items`. `framed` is set with CERTPATH_DONE and CERTPATH_TOO_SMALL;
  * `framed->count` is the room that is needed.
+ *
+ * Pointers: `octets` is null only if its length is 0, `items` only if `room` is 0, `framed` never.
+ * `items` and `framed` are aligned, and overlap neither each other nor `octets`.
  */
 int32_t certpath_frame(const uint8_t *octets, size_t octets_length, uint32_t limit,
                        certpath_span *items, size_t room, certpath_framed *framed);
@@ -177,6 +178,10 @@ typedef struct {
  * `loaded` is set with CERTPATH_DONE and CERTPATH_TOO_SMALL: the room that is needed is
  * `loaded->length` octets and `loaded->left` structures. The items of a file of n octets have at
  * most n.
+ *
+ * Pointers: `octets` is null only if its length is 0, `items` only if `room` is 0, `left` only if
+ * `left_room` is 0, `loaded` never. `items` may lie anywhere; `left` and `loaded` are aligned. None
+ * of these three overlaps another one, or `octets`.
  */
 int32_t certpath_load(const uint8_t *octets, size_t octets_length, uint8_t *items, size_t room,
                       certpath_left_out *left, size_t left_room, certpath_loaded *loaded);
@@ -189,12 +194,21 @@ enum {
     CERTPATH_LIST = 2         /* a revocation list in its one spelling (RFC 5280, 5.1) */
 };
 
-/* What an item is, by its octets. */
+/*
+ * What an item is, by its octets: `item_class` is set to CERTPATH_CERTIFICATE, CERTPATH_LIST or
+ * CERTPATH_OTHER, the last for octets that aren't one item too.
+ *
+ * Pointers: `item` is null only if its length is 0, `item_class` never. `item_class` is aligned,
+ * and doesn't overlap `item`.
+ */
 int32_t certpath_class(const uint8_t *item, size_t item_length, uint32_t *item_class);
 
 /*
  * Cuts octets into items, as certpath_frame does, and writes what each is into `classes`, in their
  * order. `count` is set with CERTPATH_DONE and CERTPATH_TOO_SMALL.
+ *
+ * Pointers: `octets` is null only if its length is 0, `classes` only if `room` is 0, `count` never.
+ * `classes` and `count` are aligned, and overlap neither each other nor `octets`.
  */
 int32_t certpath_classes(const uint8_t *octets, size_t octets_length, uint32_t limit,
                          uint32_t *classes, size_t room, size_t *count);
@@ -206,6 +220,9 @@ int32_t certpath_classes(const uint8_t *octets, size_t octets_length, uint32_t l
  * of at most CERTPATH_LIMIT content octets, and nothing after it. Each item that certpath_load
  * writes has a shape; by certpath_class it may still be CERTPATH_OTHER. The call is always done,
  * and asks for no memory. It came with version 4.
+ *
+ * Pointers: `item` is null only if its length is 0, `shape` never. `shape` is aligned, and doesn't
+ * overlap `item`.
  */
 int32_t certpath_shape(const uint8_t *item, size_t item_length, uint32_t *shape);
 
@@ -213,6 +230,9 @@ int32_t certpath_shape(const uint8_t *item, size_t item_length, uint32_t *shape)
  * Cuts octets into items, as certpath_frame does, and writes what each is by its shape into
  * `shapes`, in their order. `count` is set with CERTPATH_DONE and CERTPATH_TOO_SMALL. It came with
  * version 4.
+ *
+ * Pointers: `octets` is null only if its length is 0, `shapes` only if `room` is 0, `count` never.
+ * `shapes` and `count` are aligned, and overlap neither each other nor `octets`.
  */
 int32_t certpath_shapes(const uint8_t *octets, size_t octets_length, uint32_t limit,
                         uint32_t *shapes, size_t room, size_t *count);
@@ -231,6 +251,9 @@ enum {
  * Writes a field of an item into `octets`. CERTPATH_NO_FIELD where the item is neither a
  * certificate nor a list, or has no such field. `length` is set with CERTPATH_DONE and
  * CERTPATH_TOO_SMALL.
+ *
+ * Pointers: `item` is null only if its length is 0, `octets` only if `room` is 0, `length` never.
+ * `octets` may lie anywhere; `length` is aligned. Neither overlaps the other, or `item`.
  */
 int32_t certpath_field(const uint8_t *item, size_t item_length, uint32_t field, uint8_t *octets,
                        size_t room, size_t *length);
@@ -247,11 +270,17 @@ typedef struct {
 
 typedef struct {
     certpath_moment first; /* a certificate's notBefore; a list's thisUpdate */
-    certpath_moment last;  /* a certificate's notAfter; a list's nextUpdate, or else its thisUpdate */
+    certpath_moment last;  /* a certificate's notAfter; a list's nextUpdate, else its thisUpdate */
     uint32_t has_last;     /* 1, or 0 for a list that has no nextUpdate, whose `last` is `first` */
 } certpath_validity;
 
-/* The times of a certificate or a list; CERTPATH_NO_FIELD for anything else. */
+/*
+ * The times of a certificate or a list; CERTPATH_NO_FIELD for anything else. `validity` is set with
+ * CERTPATH_DONE.
+ *
+ * Pointers: `item` is null only if its length is 0, `validity` never. `validity` is aligned, and
+ * doesn't overlap `item`.
+ */
 int32_t certpath_times(const uint8_t *item, size_t item_length, certpath_validity *validity);
 
 /* A field of an item. */
@@ -283,6 +312,9 @@ typedef struct {
  * `contents->length` is the room that is needed, which is less than `item_length`. Of anything but
  * a certificate or a list nothing is written, with CERTPATH_DONE. The digests came with version 6;
  * a voucher has that of the holder's key and that of the item.
+ *
+ * Pointers: `item` is null only if its length is 0, `octets` only if `room` is 0, `contents` never.
+ * `octets` may lie anywhere; `contents` is aligned. Neither overlaps the other, or `item`.
  */
 int32_t certpath_item(const uint8_t *item, size_t item_length, uint8_t *octets, size_t room,
                       certpath_contents *contents);
@@ -305,6 +337,10 @@ typedef struct {
  * as they are in the item; nothing of them is tested. CERTPATH_NO_FIELD where the item is neither a
  * certificate nor a list. `sizes` is set with CERTPATH_DONE and CERTPATH_TOO_SMALL: the room that
  * is needed is `sizes->length` octets and `sizes->count` structures. It came with version 6.
+ *
+ * Pointers: `item` is null only if its length is 0, `octets` only if `room` is 0, `extensions` only
+ * if `extensions_room` is 0, `sizes` never. `octets` may lie anywhere; `extensions` and `sizes` are
+ * aligned. None of these three overlaps another one, or `item`.
  */
 int32_t certpath_extensions(const uint8_t *item, size_t item_length, uint8_t *octets, size_t room,
                             certpath_extension *extensions, size_t extensions_room,
@@ -320,6 +356,10 @@ int32_t certpath_extensions(const uint8_t *item, size_t item_length, uint8_t *oc
  * So a certificate is compared with its entry in a log (RFC 6962, 3.2): of the certificate without
  * the list of SCTs, and of the precertificate without the poison, unless a Precertificate Signing
  * Certificate issued that one, this is the tbs_certificate of the entry.
+ *
+ * Pointers: `item` is null only if its length is 0, `without` only if `without_length` is 0,
+ * `octets` only if `room` is 0, `length` never. `without` may overlap `item`. `octets` may lie
+ * anywhere; `length` is aligned. Neither overlaps the other, `item` or `without`.
  */
 #define CERTPATH_POISON "\x2b\x06\x01\x04\x01\xd6\x79\x02\x04\x03"   /* RFC 6962, 3.1 */
 #define CERTPATH_SCT_LIST "\x2b\x06\x01\x04\x01\xd6\x79\x02\x04\x02" /* RFC 6962, 3.3 */
@@ -328,14 +368,22 @@ int32_t certpath_tbs(const uint8_t *item, size_t item_length, const uint8_t *wit
                      size_t without_length, uint8_t *octets, size_t room, size_t *length);
 
 /*
- * Writes a name, by its element's octets, as text (UTF-8, no 0 at the end), as
+ * Writes a name, by its element's octets, as text (no 0 at the end), as
  * `C=DE, O=Example, CN=www.example.test`. CERTPATH_BAD_NAME where the octets are no name, or more
- * than one. `length` is set with CERTPATH_DONE and CERTPATH_TOO_SMALL.
+ * than one. `length` is set with CERTPATH_DONE and CERTPATH_TOO_SMALL. It is less than 4 times
+ * `name_length`, so that this room is enough without asking first.
  *
- * Values stand there as they stand in the name: with line ends, 0, terminal controls, marks that
- * turn the direction of writing, and with ", O=". So escape the text before it is shown, as
- * examples/c/questions.c does, and compare names by their octets. Of a name with a value that can't
- * be shown, as a TeletexString in Latin-1, it is `<X509Error: Invalid X.509 name>`.
+ * The text is UTF-8, and that alone: it isn't escaped, and may hold any character. Attributes have
+ * ", " between them, or " + " within a set. A type is its abbreviation, as `CN`, its short name, or
+ * `OID(2.5.4.5)`. A value is its characters if it is a string of octets, as a PrintableString or a
+ * UTF8String, or a BMPString; else its content in hex. The characters are those of the name: NUL,
+ * line ends, terminal controls, marks that turn the direction of writing, and ", O=". So escape the
+ * text before it is shown, as examples/c/questions.c does, and compare names by their octets. Of a
+ * name with a string that isn't UTF-8, as a TeletexString in Latin-1, or a BMPString that isn't
+ * UTF-16, it is `<X509Error: Invalid X.509 name>`.
+ *
+ * Pointers: `name` is null only if its length is 0, `text` only if `room` is 0, `length` never.
+ * `text` may lie anywhere; `length` is aligned. Neither overlaps the other, or `name`.
  */
 int32_t certpath_name(const uint8_t *name, size_t name_length, uint8_t *text, size_t room,
                       size_t *length);
@@ -366,6 +414,9 @@ enum {
  * `says_yes` is set to 1 or 0 with CERTPATH_DONE. CERTPATH_NOT_CERTIFICATE where the item is no
  * certificate. A certificate is for no purpose where its extKeyUsage is no DER of object
  * identifiers, names none, or occurs twice.
+ *
+ * Pointers: `item` is null only if its length is 0, `purpose` only if `purpose_length` is 0,
+ * `says_yes` never. `item` and `purpose` may overlap. `says_yes` is aligned, and overlaps neither.
  */
 int32_t certpath_allows(const uint8_t *item, size_t item_length, const uint8_t *purpose,
                         size_t purpose_length, uint32_t *says_yes);
@@ -379,6 +430,9 @@ int32_t certpath_allows(const uint8_t *item, size_t item_length, const uint8_t *
  * `says_yes` is set to 1 or 0 with CERTPATH_DONE, and with CERTPATH_BAD_HOST to the reason, one of
  * CERTPATH_HOST_EMPTY and those after it. The host is looked at before the item.
  * CERTPATH_NOT_CERTIFICATE where the item is no certificate.
+ *
+ * Pointers: `item` is null only if its length is 0, `host` only if `host_length` is 0, `says_yes`
+ * never. `item` and `host` may overlap. `says_yes` is aligned, and overlaps neither.
  */
 int32_t certpath_serves(const uint8_t *item, size_t item_length, const uint8_t *host,
                         size_t host_length, uint32_t *says_yes);
@@ -397,6 +451,10 @@ typedef struct {
  * doesn't take, as PEM, is no item here either, and only certpath_frame says so. Nothing else is
  * asked of signatures: whoever answers these alike has the same paths. `count` is set with
  * CERTPATH_DONE and CERTPATH_TOO_SMALL.
+ *
+ * Pointers: `bundle` and `anchors` are null only if their length is 0, `questions` only if `room`
+ * is 0, `count` never. `bundle` and `anchors` may overlap. `questions` and `count` are aligned, and
+ * overlap neither each other nor the files.
  */
 int32_t certpath_questions(const uint8_t *bundle, size_t bundle_length, const uint8_t *anchors,
                            size_t anchors_length, uint32_t limit, certpath_question *questions,
@@ -411,7 +469,8 @@ typedef struct {
 } certpath_voucher;
 
 /*
- * What is asked: a path from an item of the bundle to an anchor. The last four fields came with
+ * What is asked: a path from an item of the bundle to an anchor. `purpose` and `host` are null only
+ * if their length is 0, and may lie within the files. The last four fields came with
  * version 3: where they are 0, as where an initializer leaves them out, no purpose and no host is
  * demanded. certpath_find and certpath_check look at them, and since version 5 the calls that write
  * reports do.
@@ -457,6 +516,12 @@ typedef struct {
  * CERTPATH_BAD_MOMENT where the calendar has no such date, a clock no such time, or the year is
  * negative; else CERTPATH_BAD_HOST where the host is none, and certpath_serves says why. A call
  * hashes equal items once.
+ *
+ * Pointers: `bundle`, `anchors` and `vouchers` are null only if their length is 0, `path` only if
+ * `path_room` is 0, `table` only if `table_room` is 0, `settings` and `answer` never. `vouchers`
+ * may lie anywhere; `settings`, `path`, `table` and `answer` are aligned. What is read may overlap.
+ * `path`, `table` and `answer` overlap neither each other nor what is read, the purpose and the
+ * host of the settings too.
  */
 int32_t certpath_find(const uint8_t *bundle, size_t bundle_length, const uint8_t *anchors,
                       size_t anchors_length, const certpath_voucher *vouchers,
@@ -470,6 +535,11 @@ int32_t certpath_find(const uint8_t *bundle, size_t bundle_length, const uint8_t
  * searched for. CERTPATH_BAD_MOMENT and CERTPATH_BAD_HOST as above; else CERTPATH_BAD_ANSWER where
  * the lengths aren't those of `answer`, an entry stands for nothing, the table doesn't have whole
  * rows, or an answer without a path has positions or an anchor, and nowhere else.
+ *
+ * Pointers: `bundle`, `anchors`, `vouchers`, `path` and `table` are null only if their length is 0,
+ * `settings`, `answer` and `says_yes` never. `vouchers` may lie anywhere; `settings`, `answer`,
+ * `path`, `table` and `says_yes` are aligned. What is read may overlap. `says_yes` overlaps nothing
+ * else, the purpose and the host of the settings neither.
  */
 int32_t certpath_check(const uint8_t *bundle, size_t bundle_length, const uint8_t *anchors,
                        size_t anchors_length, const certpath_voucher *vouchers,
@@ -500,9 +570,12 @@ typedef struct {
  *
  * CERTPATH_BAD_MOMENT as above; else, but not from certpath_paths, CERTPATH_BAD_HOST where the
  * host is none; else CERTPATH_BAD_LINE where a line of the vouchers is neither that nor empty. Any
- * octets are a purpose. Pointers to octets, those of the settings too, may be null where the length
- * is 0, and may overlap; `settings` and `report` aren't null, and are aligned. Neither `text` nor
- * `report` overlaps anything else.
+ * octets are a purpose.
+ *
+ * Pointers: `bundle`, `anchors` and `vouchers` are null only if their length is 0, `text` only if
+ * `room` is 0, `settings` and `report` never. `text` may lie anywhere, as `vouchers` may;
+ * `settings` and `report` are aligned. What is read may overlap. `text` and `report` overlap
+ * neither each other nor what is read, the purpose and the host of the settings too.
  */
 int32_t certpath_path(const uint8_t *bundle, size_t bundle_length, const uint8_t *anchors,
                       size_t anchors_length, const uint8_t *vouchers, size_t vouchers_length,
@@ -524,6 +597,7 @@ int32_t certpath_paths(const uint8_t *bundle, size_t bundle_length, const uint8_
 /* The version of these calls: it grows where one of them changes. */
 #define CERTPATH_VERSION 6
 
+/* The version of the library's calls. The call takes no pointer, and no memory. */
 uint32_t certpath_version(void);
 
 #ifdef __cplusplus

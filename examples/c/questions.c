@@ -88,19 +88,14 @@ static file_of_items read_items(const char *path)
 
 /* ---- what items hold */
 
-/* A field of an item; the caller frees it. NULL where the item has no such field. */
-static unsigned char *field_of(const file_of_items *file, size_t position, uint32_t field,
-                               size_t *length)
+/* The key of a certificate, which has fewer octets than the certificate; the caller frees it. */
+static unsigned char *key_of(const file_of_items *file, size_t position, size_t *length)
 {
     const unsigned char *item = file->octets + file->items[position].offset;
     size_t size = file->items[position].length;
-    unsigned char *octets;
-    int32_t status = certpath_field(item, size, field, NULL, 0, length);
-    if (status == CERTPATH_NO_FIELD)
-        return NULL;
-    octets = room_for(*length, 1);
-    if (certpath_field(item, size, field, octets, *length, length) != CERTPATH_DONE)
-        refuse("cannot read a field");
+    unsigned char *octets = room_for(size, 1);
+    if (certpath_field(item, size, CERTPATH_KEY, octets, size, length) != CERTPATH_DONE)
+        refuse("cannot read a key");
     return octets;
 }
 
@@ -120,37 +115,41 @@ static void show_text(const unsigned char *text, size_t length)
     }
 }
 
-static void show_name(const file_of_items *file, size_t position, uint32_t field)
+/* A name's text has fewer than 4 octets for one of the name. */
+static void show_name(const unsigned char *name, size_t length)
 {
-    size_t length, size = 0;
-    unsigned char *text, *name = field_of(file, position, field, &length);
-    if (!name)
-        return;
-    certpath_name(name, length, NULL, 0, &size);
-    text = room_for(size, 1);
+    size_t size = 4 * length;
+    unsigned char *text = room_for(size, 1);
     if (certpath_name(name, length, text, size, &size) == CERTPATH_DONE)
         show_text(text, size);
     free(text);
-    free(name);
 }
 
+/* Reads each item once: its fields lie one after another, the issuer first, and then the subject. */
 static void show_items(const file_of_items *file)
 {
     size_t k;
     for (k = 0; k < file->count; k++) {
         const unsigned char *item = file->octets + file->items[k].offset;
-        certpath_validity validity;
-        uint32_t found;
-        if (certpath_class(item, file->items[k].length, &found) != CERTPATH_DONE)
+        size_t length = file->items[k].length;
+        unsigned char *fields = room_for(length, 1);
+        certpath_contents contents;
+        const certpath_moment *first = &contents.validity.first;
+        if (certpath_item(item, length, fields, length, &contents) != CERTPATH_DONE)
             refuse("out of memory");
-        printf("%zu %s: ", k, found == CERTPATH_CERTIFICATE ? "certificate"
-                              : found == CERTPATH_LIST      ? "list of"
-                                                            : "something else");
-        show_name(file, k, found == CERTPATH_LIST ? CERTPATH_ISSUER : CERTPATH_SUBJECT);
-        if (certpath_times(item, file->items[k].length, &validity) == CERTPATH_DONE)
-            printf(", from %04d-%02d-%02d", validity.first.year, validity.first.month,
-                   validity.first.day);
+        if (contents.item_class == CERTPATH_CERTIFICATE) {
+            printf("%zu certificate: ", k);
+            show_name(fields + contents.issuer.length, contents.subject.length);
+        } else if (contents.item_class == CERTPATH_LIST) {
+            printf("%zu list of: ", k);
+            show_name(fields, contents.issuer.length);
+        } else {
+            printf("%zu something else: ", k);
+        }
+        if (contents.item_class != CERTPATH_OTHER)
+            printf(", from %04d-%02d-%02d", first->year, first->month, first->day);
         printf("\n");
+        free(fields);
     }
 }
 
@@ -204,8 +203,7 @@ static certpath_voucher *answer_questions(const file_of_items *bundle, const fil
         refuse("cannot ask questions");
     for (k = 0; k < count; k++) {
         const certpath_question *one = &questions[k];
-        unsigned char *key = field_of(one->is_anchor ? anchors : bundle, one->holder, CERTPATH_KEY,
-                                      &length);
+        unsigned char *key = key_of(one->is_anchor ? anchors : bundle, one->holder, &length);
         int yes = is_verified(bundle, one->item, key, length);
         printf("item %zu by the key of %s %zu: %s\n", one->item, one->is_anchor ? "anchor" : "item",
                one->holder, yes ? "yes" : "no");

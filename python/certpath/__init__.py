@@ -1,17 +1,21 @@
 """X.509 certificates and revocation lists, read and judged by proved code.
 
-    from datetime import datetime, timezone
-    import certpath
-    import certpath.openssl
+    >>> import certpath
+    >>> from datetime import datetime, timezone
+    >>> bundle = certpath.load("samples/fullchain.pem").items
+    >>> anchors = certpath.load("samples/root.pem").items
+    >>> for item in bundle:
+    ...     if item.kind is certpath.Kind.CERTIFICATE:
+    ...         print(item.subject, item.not_valid_after_utc.date())
+    C=CZ, O=Example, CN=www.example.test 2031-11-22
+    C=CZ, O=Example, CN=Example Intermediate 2036-11-22
+    >>> vouchers = open("samples/vouchers.txt").read()
+    >>> at = datetime(2027, 1, 1, tzinfo=timezone.utc)
+    >>> answer = certpath.find(bundle, anchors, vouchers, target=0, at=at)
+    >>> bool(answer), certpath.check(answer)
+    (True, True)
 
-    bundle = certpath.load("chain.pem").items
-    anchors = certpath.load("root.pem").items
-    for item in bundle:
-        if item.kind is certpath.Kind.CERTIFICATE:
-            print(item.subject, item.not_valid_after_utc)
-    vouchers = certpath.openssl.vouch(bundle, anchors).vouchers
-    print(certpath.find(bundle, anchors, vouchers, target=0, at=datetime.now(timezone.utc)))
-
+`certpath.openssl.vouch` makes vouchers, and `certpath.verify` does all of it by one call.
 Everything is read in a shared library, whose functions are proved; this package hands octets over
 and gives names to what comes back. It reads no DER and no PEM. No call keeps anything, so any
 number of threads may call at once.

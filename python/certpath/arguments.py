@@ -3,6 +3,7 @@
 ctypes cuts numbers to the width of the C type, and `bytes(3)` are three zeros. So nothing reaches
 the library that hasn't passed one of these functions.
 """
+import io
 import operator
 import os
 from typing import Any, Optional, Type
@@ -11,6 +12,9 @@ from typing import Any, Optional, Type
 MOST_32, MOST_64 = (1 << 32) - 1, (1 << 64) - 1
 # Numbers of more bits than these are shown by how many they have.
 MOST_SHOWN_BITS = 128
+# What octets are given as, and what is done with a text in their place.
+NEEDED = "octets are needed (bytes, bytearray or memoryview)"
+OF_FILE = "a file is opened with mode 'rb'"
 
 
 def type_name(value: Any) -> str:
@@ -18,29 +22,37 @@ def type_name(value: Any) -> str:
     return type(value).__name__
 
 
-def remedy_for_octets(value: Any) -> str:
+def remedy_for_octets(value: Any, of_text: str) -> str:
     """What to do with a value that is no octets, to have some."""
     if isinstance(value, str):
-        return "; a file is opened with mode 'rb'"
+        return of_text
     if isinstance(value, os.PathLike):
-        return "; Path.read_bytes() reads a file"
+        return "Path.read_bytes() reads a file"
+    if isinstance(value, io.TextIOBase):
+        return OF_FILE
+    if hasattr(value, "left") and hasattr(value, "items"):
+        return "its `items` are such"
     if hasattr(value, "public_bytes"):
-        return "; its public_bytes() gives them"
-    return "; its read() gives them" if hasattr(value, "read") else ""
+        return "its public_bytes() gives them"
+    if isinstance(value, (list, tuple)):
+        return "b''.join() makes one of several"
+    return "its read() gives them" if hasattr(value, "read") else ""
 
 
-def octets(value: Any, what: str) -> bytes:
+def octets(value: Any, what: str, needed: str = NEEDED, of_text: str = OF_FILE) -> bytes:
     """The octets of a `bytes`, or of another object whose buffer has elements of one octet.
 
-    TypeError of anything else, though `bytes()` may take it: numbers, paths, lists.
+    TypeError of anything else, though `bytes()` may take it: numbers, paths, lists. It says what is
+    `needed`, and what to do with a text.
     """
     if type(value) is bytes:
         return value
     try:
         view = memoryview(value)
     except TypeError:
-        raise TypeError(f"{what}: octets are needed (bytes, bytearray or memoryview), not "
-                        f"{type_name(value)}{remedy_for_octets(value)}") from None
+        remedy = remedy_for_octets(value, of_text)
+        raise TypeError(f"{what}: {needed}, not {type_name(value)}"
+                        f"{'; ' if remedy else ''}{remedy}") from None
     if view.itemsize != 1:
         raise TypeError(f"{what}: octets are needed, not elements of {view.itemsize} octets; "
                         "tobytes() gives them")

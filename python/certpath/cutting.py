@@ -14,7 +14,13 @@ ENDS = ("clean", "cut", "fault")
 
 
 class End(NamedTuple):
-    """How a file ends after its items: "clean", "cut" or "fault", and where they end."""
+    """How a file ends after its items: "clean", "cut" or "fault", and where they end.
+
+    >>> import certpath
+    >>> leaf = open("samples/leaf.der", "rb").read()
+    >>> certpath.frame(leaf).end, certpath.frame(leaf[:-1]).end, certpath.frame(leaf + b"text").end
+    (End(word='clean', at=884), End(word='cut', at=0), End(word='fault', at=884))
+    """
     word: str
     at: int
 

@@ -3,6 +3,7 @@ from ctypes import byref
 from typing import NamedTuple, Optional, Tuple
 
 from . import library
+from .forms import no_certificate
 from .identifiers import IdentifierGiven, identifier_of
 
 # The poison of a precertificate, and the list of SCTs of a certificate (RFC 6962, 3.1 and 3.3).
@@ -12,7 +13,13 @@ ROOM = 16
 
 
 class Extension(NamedTuple):
-    """An extension of a certificate or of a revocation list (RFC 5280, 4.2 and 5.2)."""
+    """An extension of a certificate or of a revocation list (RFC 5280, 4.2 and 5.2).
+
+    >>> import certpath
+    >>> leaf = certpath.load("samples/leaf.der").items[0]
+    >>> [(it.identifier.hex(), it.is_critical) for it in leaf.extensions]
+    [('551d13', True), ('551d0f', True), ('551d11', False), ('551d0e', False), ('551d23', False)]
+    """
     identifier: bytes
     """The content octets of its OBJECT IDENTIFIER."""
     is_critical: bool
@@ -44,4 +51,7 @@ def tbs_of(octets: bytes, without: Optional[IdentifierGiven]) -> bytes:
     left_out = b"" if without is None else identifier_of(without, "without")
     given = *library.octets_of(octets), *library.octets_of(left_out)
     call = library.loaded().certpath_tbs
-    return library.sized(lambda *room: call(*given, *room), len(octets))
+    try:
+        return library.sized(lambda *room: call(*given, *room), len(octets))
+    except library.BadItem:
+        raise no_certificate(octets) from None

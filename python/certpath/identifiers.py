@@ -22,7 +22,8 @@ def is_number(text: str) -> bool:
     return text.isascii() and text.isdigit() and len(text) <= MOST_DIGITS and text == str(int(text))
 
 
-def octets_of(numbers: str, what: str, others: str = "no numbers with dots between them") -> bytes:
+def octets_of(numbers: str, what: str,
+              others: str = "no numbers with dots between them, as 2.5.29.15 has") -> bytes:
     """The content octets of numbers as `2.5.29.15`; ValueError of any other text."""
     parts = numbers.split(".")
     if not all(map(is_number, parts)):
@@ -38,4 +39,6 @@ def octets_of(numbers: str, what: str, others: str = "no numbers with dots betwe
 
 def identifier_of(given: IdentifierGiven, what: str) -> bytes:
     """The content octets of an identifier that is given by its numbers, or as those octets."""
-    return octets_of(given, what) if isinstance(given, str) else arguments.octets(given, what)
+    if isinstance(given, str):
+        return octets_of(given, what)
+    return arguments.octets(given, what, "numbers as '2.5.29.15' are needed, or content octets")

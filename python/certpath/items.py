@@ -1,6 +1,7 @@
 """Items: the certificates and revocation lists of a file, and what they hold."""
 import enum
 import hashlib
+import operator
 from array import array
 from collections.abc import Sequence
 from ctypes import byref, c_size_t, c_uint32
@@ -12,6 +13,7 @@ from . import arguments, library
 from .cutting import Cutter, End
 from .extensions import Extension, extensions_of, tbs_of
 from .fixed import Fixed, kept
+from .forms import remedy_for
 from .identifiers import IdentifierGiven, identifier_of
 from .moments import datetime_of
 from .names import Name
@@ -27,12 +29,15 @@ T = TypeVar("T", bound="Item")
 MANY = 1 << 16
 # An item of more octets takes long to be classed, and then as long to be read.
 LARGE = 1 << 20
-# How octets that aren't DER items can be made such.
-FROM_PEM = "PEM or PKCS #7? certpath.load() reads it"
 
 
 class Kind(enum.Enum):
-    """What an item is."""
+    """What an item is.
+
+    >>> import certpath
+    >>> certpath.class_of(open("samples/list.der", "rb").read()) is certpath.Kind.LIST
+    True
+    """
     OTHER = 0
     CERTIFICATE = 1
     LIST = 2
@@ -57,7 +62,13 @@ LABELS = {Kind.CERTIFICATE: "CERTIFICATE", Kind.LIST: "X509 CRL"}
 
 
 class Contents(NamedTuple):
-    """What an item is, its two times, and its fields in octets; None is what it doesn't have."""
+    """What an item is, its two times, and its fields in octets; None is what it doesn't have.
+
+    >>> import certpath
+    >>> contents = certpath.item_of(open("samples/list.der", "rb").read()).read()
+    >>> contents.kind.name, contents.first.isoformat(), contents.subject, contents.algorithm.hex()
+    ('LIST', '2026-11-22T00:00:00+00:00', None, '2a864886f70d01010b')
+    """
     kind: Kind
     first: Optional[datetime]
     """A certificate's notBefore, a list's thisUpdate."""
@@ -102,7 +113,14 @@ def class_number(octets: bytes, length: int) -> int:
 
 
 def class_of(data: Octets) -> Kind:
-    """What the octets of an item are."""
+    """What the octets of an item are.
+
+    >>> import certpath
+    >>> certpath.class_of(open("samples/leaf.der", "rb").read()), certpath.class_of(b"text")
+    (<Kind.CERTIFICATE: 1>, <Kind.OTHER: 0>)
+
+    TypeError of what is no octets. It makes no Item: to be asked for more, `item_of` does.
+    """
     return KINDS[class_number(*library.octets_of(arguments.octets(data, "an item")))]
 
 
@@ -118,6 +136,12 @@ class Item(Fixed):
 
     An item is read when it is first asked for something, and once. `item_of` gives one of the class
     that its octets are.
+
+    >>> import certpath
+    >>> octets = open("samples/leaf.der", "rb").read()
+    >>> item = certpath.Item(octets)
+    >>> item, item.kind, item == certpath.Certificate(octets), item.public_bytes() == octets
+    (<Item(884 octets)>, <Kind.CERTIFICATE: 1>, True, True)
     """
 
     _octets: bytes
@@ -176,7 +200,12 @@ class Item(Fixed):
         if not isinstance(algorithm, str):
             raise TypeError(f"algorithm: a name is needed, as 'sha256', not "
                             f"{arguments.type_name(algorithm)}")
-        return hashlib.new(algorithm, self._octets, usedforsecurity=False).digest()
+        try:
+            return hashlib.new(algorithm, self._octets, usedforsecurity=False).digest()
+        except (TypeError, ValueError):
+            # (a TypeError: of an algorithm whose digests are of any length)
+            raise ValueError("algorithm: hashlib makes no digest of one length by "
+                             f"{algorithm!r:.40}, as it does by 'sha256'") from None
 
     def field(self, field: Field) -> bytes:
         """A field's octets; NoField if the item has no such field."""
@@ -206,12 +235,19 @@ class OfKind(Item):
         super().__init__(octets)
         found = self._contents.kind
         if found is not self.kind:
+            remedy = (remedy_for(self._octets) if found is Kind.OTHER
+                      else f"certpath.{CLASSES[found].__name__} or certpath.item_of() takes them")
             raise library.BadItem(f"the octets of a {type(self).__name__} are needed, and these are "
-                                  f"Kind.{found.name}; {FROM_PEM}")
+                                  f"Kind.{found.name}; {remedy}")
 
 
 class Other(OfKind):
-    """Octets that are neither a certificate nor a list in its one spelling."""
+    """Octets that are neither a certificate nor a list in its one spelling.
+
+    >>> import certpath
+    >>> certpath.item_of(b"text"), certpath.Other(b"text").kind
+    (<Other(4 octets)>, <Kind.OTHER: 0>)
+    """
     kind = Kind.OTHER
 
 
@@ -248,7 +284,18 @@ class Signed(OfKind):
 
 
 class Certificate(Signed):
-    """A certificate (RFC 5280, 4.1)."""
+    """A certificate (RFC 5280, 4.1).
+
+    >>> import certpath
+    >>> leaf = certpath.Certificate(open("samples/leaf.der", "rb").read())
+    >>> print(leaf.issuer, leaf.not_valid_before_utc.date(), leaf.authority_key_id.hex()[:16])
+    C=CZ, O=Example, CN=Example Intermediate 2026-11-22 3dd4286a36919da2
+    >>> certpath.Certificate(open("samples/leaf.der", "rb").read() + b"0")
+    Traceback (most recent call last):
+    ...
+    certpath.library.BadItem: the octets of a Certificate are needed, and these are Kind.OTHER; \
+certpath.load() says what is left out of them
+    """
     kind = Kind.CERTIFICATE
 
     @kept
@@ -291,7 +338,13 @@ class Certificate(Signed):
 
 
 class RevocationList(Signed):
-    """A certificate revocation list (RFC 5280, 5.1)."""
+    """A certificate revocation list (RFC 5280, 5.1).
+
+    >>> import certpath
+    >>> found = certpath.RevocationList(open("samples/list.der", "rb").read())
+    >>> print(found.issuer, found.last_update_utc.date(), found.next_update_utc.date())
+    C=CZ, O=Example, CN=Example Intermediate 2026-11-22 2031-11-22
+    """
     kind = Kind.LIST
 
     @property
@@ -358,6 +411,15 @@ class Items(Fixed, Sequence[Item]):
     `data` are the octets, `limit` is the most content octets of an item, and `end` says how the
     octets end after the items. Items are never changed. They may be pickled, and are framed anew
     when they are loaded.
+
+    >>> import certpath
+    >>> items = certpath.load("samples/fullchain.pem").items
+    >>> len(items), items, items[-1]
+    (2, <Items(2 of 1741 octets, clean)>, <Certificate(857 octets)>)
+    >>> for it in items:
+    ...     print(it.subject, it.serial_number)
+    C=CZ, O=Example, CN=www.example.test 3
+    C=CZ, O=Example, CN=Example Intermediate 2
     """
     data: bytes
     limit: int
@@ -375,14 +437,23 @@ class Items(Fixed, Sequence[Item]):
         self._set(data=octets, limit=limit, end=end, _starts=cutter.starts,
                   _kinds=bytearray([UNKNOWN]) * (len(cutter.starts) - 1), _items={})
 
+    def _at(self, position: int) -> int:
+        """A position from 0 on; it may be given from the end, as of a list."""
+        count = len(self)
+        try:
+            return range(count)[operator.index(position)]
+        except IndexError:
+            raise IndexError(f"there are {count} items, and none at position "
+                             f"{arguments.shown(position)}") from None
+
     def octets(self, position: int) -> bytes:
         """The octets of the item at a position."""
-        position = range(len(self))[position]
+        position = self._at(position)
         return self.data[self._starts[position]:self._starts[position + 1]]
 
     def kind(self, position: int) -> Kind:
         """What the item at a position is; its octets aren't copied."""
-        position = range(len(self))[position]
+        position = self._at(position)
         if self._kinds[position] == UNKNOWN:
             self._kinds[position] = class_number(*self._part(position, position + 1))
         return KINDS[self._kinds[position]]
@@ -433,7 +504,7 @@ class Items(Fixed, Sequence[Item]):
     def __getitem__(self, position: Any) -> Any:
         if isinstance(position, slice):
             return [self[it] for it in range(*position.indices(len(self)))]
-        position = range(len(self))[position]
+        position = self._at(position)
         if position not in self._items:
             item = self._item(position)
             if item.kind is Kind.OTHER:
@@ -505,7 +576,7 @@ def items_of(data: Given, what: str, limit: int = LIMIT) -> Items:
 def refuse_text(items: Items, what: str) -> None:
     """BadItem of Items that PEM or other text was framed to."""
     if are_no_items(items):
-        raise library.BadItem(f"{what}: the octets are no DER items; {FROM_PEM}")
+        raise library.BadItem(f"{what}: the octets are no DER items; {remedy_for(items.data)}")
 
 
 def under_one_limit(bundle: Given, anchors: Given) -> Tuple[Items, Items]:

@@ -15,7 +15,16 @@ FOLDERS = (os.path.dirname(os.path.abspath(__file__)),
 
 
 class Error(Exception):
-    """A call that was refused; each reason has a class of its own."""
+    """A call that was refused; each reason has a class of its own.
+
+    >>> import certpath
+    >>> try:
+    ...     certpath.serves(b"", "www.example.test")
+    ... except certpath.Error as error:
+    ...     print(type(error).__name__, error)
+    BadItem the octets are no certificate in its one spelling; certpath.load() says what is left \
+out of them
+    """
 
 
 class LibraryMissing(Error):
@@ -27,27 +36,75 @@ class OutOfMemory(Error, MemoryError):
 
 
 class NoField(Error, LookupError):
-    """An item has no such field."""
+    """An item has no such field.
+
+    >>> import certpath
+    >>> certpath.Item(b"text").field(0)
+    Traceback (most recent call last):
+    ...
+    certpath.library.NoField: the item has no such field
+    """
 
 
 class BadName(Error, ValueError):
-    """The octets of a name can't be read."""
+    """The octets of a name can't be read.
+
+    >>> import certpath
+    >>> certpath.Name(b"text").text
+    Traceback (most recent call last):
+    ...
+    certpath.library.BadName: the octets are no name
+    """
 
 
 class BadMoment(Error, ValueError):
-    """A moment is no date and time."""
+    """A moment is no date and time.
+
+    >>> import certpath
+    >>> from datetime import datetime, timedelta, timezone
+    >>> at = datetime(1, 1, 1, tzinfo=timezone(timedelta(hours=1)))
+    >>> certpath.find(b"", b"", "", 0, at)
+    Traceback (most recent call last):
+    ...
+    certpath.library.BadMoment: at: in UTC its year isn't from 1 to 9999
+    """
 
 
 class BadAnswer(Error, ValueError):
-    """The numbers of an answer that is to be checked can't be an answer's."""
+    """The numbers of an answer that is to be checked can't be an answer's.
+
+    >>> import certpath
+    >>> from datetime import datetime
+    >>> answer = certpath.Answer(certpath.Outcome.PATH, (-1,), 0, ())
+    >>> certpath.check(b"", b"", "", 0, datetime(2027, 1, 1), answer)
+    Traceback (most recent call last):
+    ...
+    certpath.library.BadAnswer: the answer's positions: a number isn't from 0 to \
+18446744073709551615
+    """
 
 
 class BadItem(Error, ValueError):
-    """Octets are no items, or an item of another class, if items or such an item are needed."""
+    """Octets are no items, or an item of another class, if items or such an item are needed.
+
+    >>> import certpath
+    >>> certpath.questions(open("samples/fullchain.pem", "rb").read(), b"")
+    Traceback (most recent call last):
+    ...
+    certpath.library.BadItem: the bundle: the octets are no DER items; this is PEM, which \
+certpath.load() reads
+    """
 
 
 class BadHost(Error, ValueError):
-    """A text is no host; `reason` says why."""
+    """A text is no host; `reason` says why.
+
+    >>> import certpath
+    >>> certpath.serves(open("samples/leaf.der", "rb").read(), "https://www.example.test")
+    Traceback (most recent call last):
+    ...
+    certpath.library.BadHost: the host: it is a URL or has a path
+    """
 
     def __init__(self, reason: str):
         super().__init__(f"the host: {reason}")
@@ -58,7 +115,15 @@ class BadHost(Error, ValueError):
 
 
 class BadLine(Error, ValueError):
-    """A line of a voucher file is neither empty nor two digests; `line` is its number, from 1."""
+    """A line of a voucher file is neither empty nor two digests; `line` is its number, from 1.
+
+    >>> import certpath
+    >>> certpath.Vouchers.from_text(open("samples/vouchers.txt").read() + "and more")
+    Traceback (most recent call last):
+    ...
+    certpath.library.BadLine: vouchers line 5: it is neither empty nor two digests of 64 hex digits \
+with one space between them
+    """
 
     def __init__(self, line: int):
         super().__init__(f"vouchers line {line}: it is neither empty nor two digests of 64 hex "
@@ -69,7 +134,7 @@ class BadLine(Error, ValueError):
         return BadLine, (self.line,)
 
 
-DONE, TOO_SMALL, BAD_LINE, BAD_HOST = 0, 2, 7, 9
+DONE, TOO_SMALL, BAD_LINE, NOT_CERTIFICATE, BAD_HOST = 0, 2, 7, 8, 9
 NO_FIELD = "the item has no such field"
 # What each status that refuses a call is, and what is said of it.
 ERRORS: Dict[int, Tuple[Type[Exception], str]] = {
@@ -211,7 +276,12 @@ def loaded() -> Any:
 
 
 def version() -> int:
-    """The version of the library's calls."""
+    """The version of the library's calls.
+
+    >>> import certpath
+    >>> certpath.version()
+    6
+    """
     return int(loaded().certpath_version())
 
 

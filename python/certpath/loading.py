@@ -4,10 +4,9 @@ from ctypes import byref, c_size_t, c_uint32
 from typing import List, NamedTuple, Optional, Union
 
 from . import arguments, library
+from .forms import FORMS, path_of
 from .items import Items, Octets
 
-# The forms of files, by the numbers of certpath.h.
-FORMS = ("empty", "PEM", "DER", "PKCS #7", "other")
 # The labels of PEM blocks that are known, by the numbers of certpath.h.
 LABELS = ("CERTIFICATE", "X509 CRL", "X509 CERTIFICATE", "X.509 CERTIFICATE",
           "TRUSTED CERTIFICATE", "PKCS7", "CMS", "PKCS #7 SIGNED DATA", "PRIVATE KEY",
@@ -34,7 +33,13 @@ ROOM = 16
 
 
 class LeftOut(NamedTuple):
-    """Something that is left out of a file. No octet of it is here."""
+    """Something that is left out of a file. No octet of it is here.
+
+    >>> import certpath
+    >>> left, = certpath.load("samples/keys/leaf.pem").left
+    >>> left.place, left.label, left.reason
+    ('line 1', 'PRIVATE KEY', 'the block holds neither certificate nor revocation list')
+    """
     line: Optional[int]
     """The line of a PEM file, from 1: its own, or that of the block's BEGIN; None if it has none."""
     position: Optional[int]
@@ -59,7 +64,15 @@ class LeftOut(NamedTuple):
 
 
 class Loaded(NamedTuple):
-    """What a file holds, and what is left out of it."""
+    """What a file holds, and what is left out of it.
+
+    >>> import certpath
+    >>> loaded = certpath.load(open("samples/list.der", "rb").read() + b"text")
+    >>> loaded.name, loaded.form, loaded.items, loaded.shapes
+    (None, 'DER', <Items(1 of 433 octets, clean)>, ['revocation list'])
+    >>> print(*loaded.left)
+    octet 433: neither certificate nor revocation list, 4 octets to the file's end
+    """
     name: Optional[str]
     """The file's name; None of octets without one."""
     form: str
@@ -124,9 +137,9 @@ def shapes_of(items: Items) -> List[str]:
 def octets_in(source: Union[str, "os.PathLike[str]", Octets]) -> bytes:
     """The octets of a file by its path, or octets that are given."""
     if isinstance(source, (str, os.PathLike)):
-        with open(source, "rb") as file:
+        with open(path_of(source), "rb") as file:
             return file.read()
-    return arguments.octets(source, "the source")
+    return arguments.octets(source, "the source", "a path or octets are needed")
 
 
 def name_of(source: Union[str, "os.PathLike[str]", Octets]) -> Optional[str]:
@@ -150,8 +163,8 @@ def load(source: Union[str, "os.PathLike[str]", Octets], name: Optional[str] = N
     in `left`: a private key, a block that is cut, text without a block. An item has the shape of a
     certificate or of a revocation list; what else is wrong with it, its `kind` says.
 
-    OSError if the file can't be read, TypeError of another source. OutOfMemory if the C library
-    gives no memory.
+    OSError if the file can't be read, TypeError of another source, ValueError of a text that is no
+    path but PEM. OutOfMemory if the C library gives no memory.
     """
     octets = octets_in(source)
     found, room, left_room = library.Loaded(), len(octets), ROOM

@@ -92,7 +92,15 @@ def escaped_attribute(attribute: str) -> str:
 
 
 class Name(Fixed):
-    """A name (RFC 5280, 4.1.2.4). Names are equal if their octets are."""
+    """A name (RFC 5280, 4.1.2.4). Names are equal if their octets are.
+
+    >>> import certpath
+    >>> leaf, issuer = certpath.load("samples/fullchain.pem").items
+    >>> leaf.issuer == issuer.subject, leaf.issuer.text
+    (True, 'C=CZ, O=Example, CN=Example Intermediate')
+    >>> certpath.Name(leaf.issuer.public_bytes()), str(certpath.Name(b"text"))
+    (<Name(C=CZ, O=Example, CN=Example Intermediate)>, '#74657874')
+    """
     _octets: bytes
 
     def __init__(self, octets: bytes) -> None:

@@ -1,7 +1,14 @@
 """Answers questions of signatures by libcrypto of OpenSSL 3, which reads and verifies the items.
 
-    found = certpath.openssl.vouch(bundle, anchors)
-    print(found.vouchers.text(), end="")
+    >>> import certpath.openssl
+    >>> bundle, anchors = (certpath.load(it).items for it in ("samples/fullchain.pem",
+    ...                                                       "samples/root.pem"))
+    >>> found = certpath.openssl.vouch(bundle, anchors)
+    >>> found.vouchers, [it.is_verified for it in found.verdicts]
+    (<Vouchers(2 pairs)>, [True, True])
+    >>> certpath.openssl.vouch(bundle, bundle).verdicts[0]
+    Verdict(question=Question(item=0, holder=1, is_anchor=False), is_verified=True, \
+weaknesses=(), why=None)
 
 Of this nothing is proved: what is vouched for is what OpenSSL says.
 """

@@ -20,7 +20,14 @@ LARGE = 1 << 20
 
 
 class Outcome(enum.Enum):
-    """What an answer says."""
+    """What an answer says.
+
+    >>> import certpath
+    >>> from datetime import datetime
+    >>> answer = certpath.find(b"", b"", "", 0, datetime(2027, 1, 1))
+    >>> answer.outcome is certpath.Outcome.NO_TARGET, bool(answer)
+    (True, False)
+    """
     PATH = 0
     """There is a path."""
     NO_PATH = 1
@@ -30,7 +37,14 @@ class Outcome(enum.Enum):
 
 
 class Asked(NamedTuple):
-    """What was asked of `find`."""
+    """What was asked of `find`.
+
+    >>> import certpath
+    >>> from datetime import datetime
+    >>> asked = certpath.find(b"", b"", "", 3, datetime(2027, 1, 1), host="www.example.test").asked
+    >>> asked.target, asked.demand_lists, asked.host, asked.purpose
+    (3, False, b'www.example.test', None)
+    """
     bundle: Items
     anchors: Items
     vouchers: bytes
@@ -61,6 +75,16 @@ class Answer(Numbers):
 
     Answers are equal if their numbers are. One of `find` holds what was asked, which is pickled
     with it: the octets of bundle, anchors and vouchers. `Answer(*answer)` is without.
+
+    >>> import certpath
+    >>> from datetime import datetime
+    >>> bundle, anchors = (certpath.load(it).items for it in ("samples/fullchain.pem",
+    ...                                                       "samples/root.pem"))
+    >>> asked = bundle, anchors, open("samples/vouchers.txt").read(), 0, datetime(2027, 1, 1)
+    >>> certpath.find(*asked)
+    Answer(outcome=<Outcome.PATH: 0>, positions=(0, 1), anchor=0, table=(0, 1))
+    >>> certpath.check(*asked, certpath.Answer(certpath.Outcome.NO_PATH, (), 0, (0, 0)))
+    False
     """
     asked: Optional[Asked] = None
     """What was asked of `find`; None of an answer that was made otherwise."""
@@ -140,7 +164,7 @@ def find(bundle: Given, anchors: Given, vouchers: VouchersGiven, target: int, at
     is none, with a table that shows it. The answer is true if there is a path.
 
     >>> import certpath
-    >>> from datetime import timezone
+    >>> from datetime import datetime, timezone
     >>> bundle, anchors = (certpath.load(it).items for it in ("samples/fullchain.pem",
     ...                                                       "samples/root.pem"))
     >>> vouchers = open("samples/vouchers.txt").read()
@@ -230,6 +254,12 @@ def check(bundle: Any, anchors: Any = NOT_GIVEN, vouchers: Any = NOT_GIVEN,
           demand_lists: Any = NOT_GIVEN, *, host: HostGiven = None,
           purpose: PurposeGiven = None) -> bool:
     """Whether an answer of `find`, or of anybody, is right, as its table shows.
+
+    >>> import certpath
+    >>> from datetime import datetime
+    >>> answer = certpath.find(b"", b"", "", 0, datetime(2027, 1, 1))
+    >>> certpath.check(answer), certpath.check(b"", b"", "", 0, datetime(2027, 1, 1), answer)
+    (True, True)
 
     It reads the items by another reader than `find`, and searches for nothing. `check(answer)`
     repeats the question that an answer of `find` holds. Whoever got the answer from elsewhere asks

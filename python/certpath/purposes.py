@@ -30,7 +30,8 @@ def identifier_of(purpose: Union[str, bytes]) -> bytes:
     ValueError of a text that is neither a known name nor such a number.
     """
     if not isinstance(purpose, str):
-        return arguments.octets(purpose, "the purpose")
+        return arguments.octets(purpose, "the purpose", "a name as 'serverAuth' is needed, numbers "
+                                "as '1.3.6.1.5.5.7.3.1', or content octets")
     known = BY_LETTERS.get(purpose.lower())
     return octets_of(NAMES[known] if known is not None else purpose, "the purpose",
                      f"neither a number nor one of {', '.join([*NAMES, *OTHERS])}")

@@ -17,7 +17,14 @@ def item_at(items: Items, position: int) -> Item:
 
 
 class Holder(NamedTuple):
-    """A certificate whose key is meant."""
+    """A certificate whose key is meant.
+
+    >>> import certpath
+    >>> bundle, anchors = (certpath.load(it).items for it in ("samples/fullchain.pem",
+    ...                                                       "samples/root.pem"))
+    >>> print(certpath.Holder(is_anchor=True, position=0).certificate(bundle, anchors).subject)
+    C=CZ, O=Example, CN=Example Root
+    """
     is_anchor: bool
     """Whether the certificate is an anchor."""
     position: int
@@ -32,7 +39,15 @@ class Holder(NamedTuple):
 
 
 class Question(NamedTuple):
-    """Whether the key of a certificate verifies the signature of an item of the bundle."""
+    """Whether the key of a certificate verifies the signature of an item of the bundle.
+
+    >>> import certpath
+    >>> bundle, anchors = (certpath.load(it).items for it in ("samples/fullchain.pem",
+    ...                                                       "samples/root.pem"))
+    >>> question = certpath.questions(bundle, anchors)[1]
+    >>> question, str(question.key_holder(bundle, anchors).subject)
+    (Question(item=1, holder=0, is_anchor=True), 'C=CZ, O=Example, CN=Example Root')
+    """
     item: int
     """The item's position in the bundle."""
     holder: int
@@ -47,6 +62,12 @@ class Question(NamedTuple):
 
 def questions(bundle: Given, anchors: Given) -> List[Question]:
     """All questions of a bundle and anchors (Items or octets), each once, by their items' order.
+
+    >>> import certpath
+    >>> bundle, anchors = (certpath.load(it).items for it in ("samples/fullchain.pem",
+    ...                                                       "samples/root.pem"))
+    >>> certpath.questions(bundle, anchors)[0]
+    Question(item=0, holder=1, is_anchor=False)
 
     Of signatures nothing else is ever asked: whoever answers these alike has the same paths. Of n
     items of one name there may be n times n questions; `holders_by_issuer` has each name once.
@@ -94,6 +115,12 @@ def certificates_under(names: Container[Name], items: Items, is_anchor: bool) ->
 def holders_by_issuer(bundle: Given, anchors: Given) -> Dict[Name, List[Holder]]:
     """The questions of a bundle and anchors (Items or octets), each name of an issuer once: whose
     keys have to be tried on the items that were issued under it, in the order of the files.
+
+    >>> import certpath
+    >>> bundle, anchors = (certpath.load(it).items for it in ("samples/fullchain.pem",
+    ...                                                       "samples/root.pem"))
+    >>> certpath.holders_by_issuer(bundle, anchors)[bundle[1].issuer]
+    [Holder(is_anchor=True, position=0)]
 
     Since an item's questions depend on its issuer's name alone, it asks those of one item a name.
     Items are taken however their octets end; errors are those of `questions` else.

@@ -32,7 +32,7 @@ def path(bundle: Given, anchors: Given, vouchers: VouchersGiven, target: int, at
     paths from the target to an anchor, found and checked.
 
     >>> import certpath
-    >>> from datetime import timezone
+    >>> from datetime import datetime, timezone
     >>> bundle, anchors = (certpath.load(it).items for it in ("samples/fullchain.pem",
     ...                                                       "samples/root.pem"))
     >>> vouchers = open("samples/vouchers.txt").read()
@@ -61,7 +61,7 @@ def why(bundle: Given, anchors: Given, vouchers: VouchersGiven, target: int, at:
     docs/REASONS.md has them.
 
     >>> import certpath
-    >>> from datetime import timezone
+    >>> from datetime import datetime, timezone
     >>> bundle, anchors = (certpath.load(it).items for it in ("samples/fullchain.pem",
     ...                                                       "samples/root.pem"))
     >>> vouchers = open("samples/vouchers.txt").read()
@@ -87,7 +87,7 @@ def paths(bundle: Given, anchors: Given, vouchers: VouchersGiven, at: datetime,
     """What `certpath paths` prints: the first of the shortest valid paths of every item at once.
 
     >>> import certpath
-    >>> from datetime import timezone
+    >>> from datetime import datetime, timezone
     >>> bundle, anchors = (certpath.load(it).items for it in ("samples/fullchain.pem",
     ...                                                       "samples/root.pem"))
     >>> vouchers = open("samples/vouchers.txt").read()

@@ -3,6 +3,7 @@ from ctypes import byref, c_uint32
 from typing import Callable, Union
 
 from . import arguments, library
+from .forms import no_certificate
 from .items import Item, Octets
 from .purposes import identifier_of
 
@@ -25,7 +26,7 @@ def octets_of_host(host: Union[str, bytes]) -> bytes:
     """A host's text in octets. What isn't ASCII stays so, and the library refuses it."""
     if isinstance(host, str):
         return host.encode(errors="surrogatepass")
-    return arguments.octets(host, "the host")
+    return arguments.octets(host, "the host", "a text is needed, or its octets")
 
 
 def answer(call: Callable[..., int], item: bytes, asked: bytes) -> bool:
@@ -35,6 +36,8 @@ def answer(call: Callable[..., int], item: bytes, asked: bytes) -> bool:
     if status == library.BAD_HOST:
         known = says.value < len(REFUSALS)
         raise library.BadHost(REFUSALS[says.value] if known else f"reason {says.value}")
+    if status == library.NOT_CERTIFICATE:
+        raise no_certificate(item)
     library.refuse(status)
     return bool(says.value)
 

@@ -4,6 +4,7 @@ import re
 import ssl
 from typing import Dict, Iterator, List, Optional, Union
 
+from .forms import path_of
 from .items import Items, Kind
 from .loading import load
 
@@ -46,7 +47,7 @@ def trust_store(source: Optional[Union[str, "os.PathLike[str]"]] = None) -> Item
     OSError if the source can't be read, or if no store of the system is there; ValueError if there
     is no certificate in it.
     """
-    paths = [*system_paths()] if source is None else [os.fsdecode(source)]
+    paths = [*system_paths()] if source is None else [path_of(source)]
     names = HASHED if source is None else SHOWN
     if not paths:
         raise FileNotFoundError("the system's trust store isn't there; name a file or a folder")

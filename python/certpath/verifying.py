@@ -20,7 +20,15 @@ Sources = Union[Source, Iterable[Source]]
 @dataclass(frozen=True)
 class Verified:
     """Whether a chain is valid, by which certificates, and what was asked. It is true if the chain
-    is valid."""
+    is valid.
+
+    >>> import certpath
+    >>> from datetime import datetime
+    >>> verified = certpath.verify("samples/fullchain.pem", "samples/root.pem", host="other.test",
+    ...                            at=datetime(2027, 1, 1))
+    >>> bool(verified), verified.path, verified.why().splitlines()[4]
+    (False, (), "at 0 doesn't serve other.test: it names www.example.test")
+    """
     answer: Answer
     """The answer of `find`, of which `check` said that it is right."""
     path: Tuple[Item, ...]

@@ -67,7 +67,9 @@ class Octets(Refusing):
 
     def test_remedies(self):
         for given, remedy in (("a", "mode 'rb'"), (pathlib.Path("a"), r"Path.read_bytes\(\)"),
-                              (io.BytesIO(), r"read\(\)"), (3, "bytes, bytearray or memoryview"),
+                              (io.BytesIO(), r"read\(\)"), (io.StringIO(), "mode 'rb'"),
+                              ([VERSION_1], r"b''.join\(\)"), (certpath.load(VERSION_1), "its `items`"),
+                              (3, "bytes, bytearray or memoryview"),
                               (certpath.Item(VERSION_1), r"public_bytes\(\)"),
                               (array.array("I", [1]), r"tobytes\(\)")):
             with self.subTest(given=given), self.assertRaisesRegex(TypeError, remedy):
@@ -103,9 +105,30 @@ class Constructors(Refusing):
             self.assertIs(made(octets).kind, certpath.Item(octets).kind)
             for other in ({*given.values()} - {octets}) | {pem(octets), b"garbage", octets + b"\x00"}:
                 if made is not certpath.Other or certpath.class_of(other) is not certpath.Kind.OTHER:
-                    said = self.refuses(certpath.BadItem, made, other)
-                    self.assertRegex(said, "PEM or PKCS #7")
+                    said, found = self.refuses(certpath.BadItem, made, other), certpath.item_of(other)
+                    remedy = (f"certpath.{type(found).__name__} or" if found.kind.value
+                              else "this is PEM, which certpath.load" if other.startswith(b"---")
+                              else r"certpath.load\(\) says")
+                    self.assertRegex(said, remedy)
         self.assertTrue(issubclass(certpath.BadItem, ValueError))
+
+    def test_no_certificate(self):
+        """Of octets that are no certificate the message names the form."""
+        leaf, root = sample("leaf.der"), sample("root.der")
+        for call in (lambda it: certpath.serves(it, "a.test"), certpath.tbs,
+                     lambda it: certpath.allows(it, "serverAuth")):
+            for octets, remedy in ((pem(leaf), "this is PEM"), (leaf + root, r"load\(\) says"),
+                                   (b"garbage", r"load\(\) says")):
+                self.assertRegex(self.refuses(certpath.BadItem, call, octets), remedy)
+
+    def test_texts_and_octets(self):
+        """What is named by a text, or given as octets: the message says so."""
+        leaf = certpath.Certificate(sample("leaf.der"))
+        for call, said in ((lambda it: certpath.allows(leaf, it), "a name as 'serverAuth'"),
+                           (lambda it: certpath.serves(leaf, it), "a text is needed"),
+                           (leaf.extension, "numbers as '2.5.29.15'"), (leaf.tbs, "numbers as")):
+            self.assertRegex(self.refuses(TypeError, call, 7), said)
+        self.assertRegex(self.refuses(ValueError, leaf.extension, "keyUsage"), "as 2.5.29.15 has")
 
     def test_items_have_their_kind(self):
         for name, kind in (("leaf.der", "CERTIFICATE"), ("list.der", "LIST")):
@@ -147,10 +170,10 @@ class Files(Refusing):
         chain, root, _ = self.given
         for call in self.calls():
             for one, other, what in ((chain, pem(root), "the anchors"), (pem(chain), root, "the bundle")):
-                self.assertRegex(self.refuses(certpath.BadItem, call, one, other), f"^{what}: .*PEM or")
+                self.assertRegex(self.refuses(certpath.BadItem, call, one, other), f"^{what}: .*this is PEM, which")
                 framed = certpath.frame(one), certpath.frame(other)
                 if call is not certpath.holders_by_issuer:
-                    self.assertRegex(self.refuses(certpath.BadItem, call, *framed), f"^{what}: .*PEM or")
+                    self.assertRegex(self.refuses(certpath.BadItem, call, *framed), f"^{what}: .*this is PEM, which")
 
     def test_octets_after_items(self):
         chain, root, _ = self.given

@@ -74,7 +74,8 @@ class Items(unittest.TestCase):
         self.assertEqual(self.items.octets(-1), self.list.public_bytes())
         for position in (4, -5):
             for call in (self.items.octets, self.items.kind, self.items.__getitem__):
-                with self.subTest(call=call, position=position), self.assertRaises(IndexError):
+                with self.subTest(call=call, position=position), \
+                        self.assertRaisesRegex(IndexError, f"4 items, and none at position {position}"):
                     call(position)
 
     def test_slices(self):

@@ -15,6 +15,14 @@ from tests.common import TOP, element, sample
 CHAIN = sample("leaf.der") + sample("intermediate.der")
 
 
+def signed_data(certificates):
+    """SignedData with certificates, and without signers (RFC 5652, 5.1)."""
+    one = element(0x30, element(0x06, bytes.fromhex("2a864886f70d010701")))
+    members = element(0xa0, *certificates)
+    signed = element(0x30, b"\x02\x01\x01", b"\x31\x00", one, members, b"\x31\x00")
+    return element(0x30, element(0x06, bytes.fromhex("2a864886f70d010702")), element(0xa0, signed))
+
+
 def block(label, octets, width=64):
     text = base64.b64encode(octets).decode()
     lines = [text[it:it + width] for it in range(0, len(text), width)]
@@ -90,10 +98,7 @@ class Loading(unittest.TestCase):
             self.assertEqual(str(left[0]), reason)
 
     def test_signed_data(self):
-        one = element(0x30, element(0x06, bytes.fromhex("2a864886f70d010701")))
-        members = element(0xa0, sample("leaf.der"), b"\x30\x00", sample("intermediate.der"))
-        signed = element(0x30, b"\x02\x01\x01", b"\x31\x00", one, members, b"\x31\x00")
-        file = element(0x30, element(0x06, bytes.fromhex("2a864886f70d010702")), element(0xa0, signed))
+        file = signed_data([sample("leaf.der"), b"\x30\x00", sample("intermediate.der")])
         loaded = certpath.load(file)
         self.assertEqual((loaded.form, loaded.items.data), ("PKCS #7", CHAIN))
         self.assertEqual(shown(loaded), [(None, 0, None, "certificate 1 of the SignedData: neither "
@@ -164,10 +169,26 @@ class Loading(unittest.TestCase):
 
     def test_remedies(self):
         pem = block("CERTIFICATE", sample("leaf.der"))
-        with self.assertRaisesRegex(certpath.BadItem, r"PEM or PKCS #7\? certpath\.load"):
-            certpath.Certificate(pem)
-        with self.assertRaisesRegex(certpath.BadItem, r"PEM or PKCS #7\? certpath\.load"):
-            certpath.questions(CHAIN, pem)
+        signed = signed_data([sample("leaf.der")])
+        for octets, form in ((pem, "PEM"), (signed, "PKCS #7")):
+            with self.assertRaisesRegex(certpath.BadItem, f"this is {form}, which certpath.load"):
+                certpath.Certificate(octets)
+        for given in (pem, certpath.frame(pem)):
+            with self.assertRaisesRegex(certpath.BadItem, "the anchors: .* PEM, which certpath.load"):
+                certpath.questions(CHAIN, given)
+
+    def test_texts_for_paths(self):
+        """A text that is no path isn't shown: it may be a private key."""
+        key = block("PRIVATE KEY", b"secret" * 8).decode()
+        for call in (certpath.load, certpath.trust_store, certpath.verify,
+                     lambda it: certpath.verify(CHAIN, [it])):
+            for text in (key, key.replace("\n", " "), 100 * key, "MC4CAQAw" * 600):
+                with self.assertRaisesRegex(ValueError, "a path is needed, and this is text") as raised:
+                    call(text)
+                self.assertNotRegex(str(raised.exception), "c2VjcmV0|MC4CAQAw")
+        for wrong in (3, None, [b""]):
+            with self.assertRaisesRegex(TypeError, "a path or octets are needed"):
+                certpath.load(wrong)
 
 
 if __name__ == "__main__":

@@ -14,9 +14,9 @@ import certpath
 
 FOLDER = os.path.dirname(certpath.__file__)
 # The modules that callers use, by the names that `certpath` and `certpath.openssl` hand on.
-MODULES = ("cutting", "extensions", "identifiers", "items", "loading", "moments", "names", "openssl",
-           "paths", "pem", "purposes", "questions", "reports", "serving", "stores", "verifying",
-           "vouchers")
+MODULES = ("cutting", "extensions", "forms", "identifiers", "items", "loading", "moments", "names",
+           "openssl", "paths", "pem", "purposes", "questions", "reports", "serving", "stores",
+           "verifying", "vouchers")
 CALLER = """\
 from datetime import datetime, timezone
 import certpath
@@ -34,6 +34,10 @@ certpath.frame("")  # wrong
 certpath.find(bundle, b"", vouchers, target="0", at=now)  # wrong
 certpath.find(bundle, b"", vouchers, target=0, at=None)  # wrong
 certpath.find(bundle, "", vouchers, target=0, at=now)  # wrong
+certpath.find(bundle, b"", [b""], target=0, at=now)  # wrong
+certpath.Vouchers([("a", "b")])  # wrong
+certpath.Certificate("leaf.der")  # wrong
+pairs: list[tuple[bytes, bytes]] = [*vouchers]
 certpath.check(7)  # wrong
 certpath.path(bundle, b"", vouchers, 0, now, host=7)  # wrong
 certpath.paths(bundle, b"", vouchers, now, host="a.test")  # wrong

@@ -2,11 +2,13 @@
 
     cd python && python3 -m unittest
 """
+import os
+import pathlib
 import pickle
 import unittest
 
 import certpath
-from tests.common import AT, Chain, sample
+from tests.common import AT, TOP, Chain, sample
 
 KEY, ITEM = "0a" * 32, "Bc" * 32
 LINE = f"{KEY} {ITEM}"
@@ -62,6 +64,11 @@ class Texts(unittest.TestCase):
         for given in (LINE, LINE.encode(), bytearray(PAIR), memoryview(PAIR)):
             with self.assertRaisesRegex(TypeError, r"from_text\(\).*from_octets\(\)"):
                 certpath.Vouchers(given)
+        for pairs in ([b"a"], [()], [(bytes(32),)], [7], [(bytes(32), bytes(32), b"")]):
+            with self.assertRaisesRegex(TypeError, "each is a pair of digests"):
+                certpath.Vouchers(pairs)
+        with self.assertRaisesRegex(TypeError, r"bytes.fromhex\(\)"):
+            certpath.Vouchers([(KEY, ITEM)])
         for digest in (b"short", bytes(31), bytes(33), b"a" * 64):
             for given in ((digest, bytes(32)), (bytes(32), digest)):
                 with self.assertRaisesRegex(ValueError, "has 32 octets"):
@@ -75,6 +82,24 @@ class Texts(unittest.TestCase):
             self.assertEqual((it.line, str(it)), (
                 3, "vouchers line 3: it is neither empty nor two digests of 64 hex digits with one "
                    "space between them"))
+
+
+class Collections(unittest.TestCase):
+    def test_equal(self):
+        one, other = certpath.Vouchers.from_text(LINE), certpath.Vouchers.from_octets(PAIR)
+        self.assertEqual((one, repr(one)), (other, "<Vouchers(1 pairs)>"))
+        self.assertNotEqual(one, certpath.Vouchers())
+        self.assertNotEqual(one, PAIR)
+        self.assertEqual(pickle.loads(pickle.dumps(one)), one)
+        with self.assertRaises(TypeError):
+            hash(one)
+
+    def test_pairs(self):
+        vouchers = certpath.Vouchers.from_text(sample("vouchers.txt").decode())
+        self.assertEqual([*vouchers], [(it[:32], it[32:]) for it in map(bytes.fromhex,
+                                       sample("vouchers.txt").decode().splitlines())])
+        self.assertEqual(certpath.Vouchers(vouchers), vouchers)
+        self.assertIn((PAIR[:32], PAIR[32:]), certpath.Vouchers.from_octets(PAIR))
 
 
 class Pairs(Chain):
@@ -102,8 +127,20 @@ class Pairs(Chain):
     def test_wrong_types(self):
         for given in (64, None, 0, ["a"], [bytes(64)], {}, (bytes(32), bytes(32)), object()):
             for call in (certpath.find, certpath.path, certpath.why):
-                with self.subTest(given=given), self.assertRaises(TypeError):
+                with self.subTest(given=given), self.assertRaisesRegex(TypeError, "Vouchers are needed"):
                     call(*self.given[:2], given, 0, AT)
+
+    def test_paths(self):
+        """The path of a voucher file is no voucher file."""
+        path = os.path.join(TOP, "samples", "vouchers.txt")
+        calls = [certpath.Vouchers.from_text]
+        for call in (certpath.find, certpath.path, certpath.why):
+            calls.append(lambda it, call=call: call(*self.given[:2], it, 0, AT))
+        for call in calls:
+            with self.assertRaisesRegex(ValueError, r"the path of a file; Path.read_text\(\)"):
+                call(path)
+            with self.assertRaisesRegex(TypeError, r"Path.read_text\(\)"):
+                call(pathlib.Path(path))
 
     def test_digests_that_begin_like_text(self):
         pair = b"a" * 63 + b"\0"

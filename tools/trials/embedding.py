@@ -1,5 +1,5 @@
 """Tries the libraries of dist/ from outside: C programs against the header, by the compiler of the
-machine and under its sanitizers, and the examples of docs/EMBEDDING.md and of examples/."""
+machine and under its sanitizers, and the examples of examples/."""
 import os
 import re
 import shutil
@@ -11,7 +11,7 @@ from dev import items
 from gate import library
 from install import contents
 from program import repo
-from trials import hosts, paths
+from trials import bundling, hosts, paths
 from trials.count import Trial, size
 
 # How many changed inputs the calls get under the sanitizers.
@@ -20,10 +20,32 @@ CHANGED, FEW = "100000", "10000"
 ROUNDS = "100", "10"
 STRICT = ["-std=c99", "-Wall", "-Wextra", "-Werror", "-O1"]
 SANITIZERS = ["-g", "-fsanitize=address,undefined", "-fno-sanitize-recover=all"]
+FOLDER = os.path.join("tools", "trials", "embedding")
+
+
+def wrapped(*names):
+    """Words for the linker, by which the calls of functions go to `__wrap_` before their names."""
+    return [f"-Wl,--wrap={it}" for it in names]
+
+
 # What the library asks the C library for memory by goes to the program that counts it.
-WRAPPED = [f"-Wl,--wrap={it}" for it in ("malloc", "realloc", "free")]
+COUNTING = wrapped("malloc", "realloc", "free")
+# The faults of embedding/faults.c: which program sees each, and what it says.
+FAULTS = (
+    ("READS_PAST", "guards", "AddressSanitizer: SEGV"),
+    ("READS_EMPTY", "guards", "AddressSanitizer: SEGV"),
+    ("WRITES_ITEM", "guards", "AddressSanitizer: SEGV"),
+    ("WRITES_PAST", "guards", "AddressSanitizer: SEGV"),
+    ("WRITES_SMALL", "guards", "field: a buffer was written"),
+    ("KEEPS", "guards", "threads: another answer in a thread"),
+    ("LEAKS", "memory", "class, request 1 refused: memory is left over"),
+    ("HIDES_REFUSAL", "memory", "class, request 1 refused: another answer"),
+    ("WRITES_REFUSED", "memory", "class, request 1 refused: something was written"),
+    ("READS_PAST", "changed", "AddressSanitizer: heap-buffer-overflow"),
+    ("OVERFLOWS", "changed", "runtime error: signed integer overflow"),
+    ("OTHER_STATUS", "changed", "changed octets"),
+)
 COUNTED = re.compile(r"(\d+) passed, (\d+) failed\s*\Z")
-PAGE_EXAMPLE = re.compile(r"(?ms)^```python\n(.*?)^```$")
 BUNDLE, ANCHORS = os.path.join("samples", "bundle.der"), os.path.join("samples", "root.der")
 # The worked cases of crates/rows_check/stdin on which memory is refused: what they have between
 # them is a certificate of version 1 and one of version 3, a list and what is almost one, a path of
@@ -96,29 +118,88 @@ def pairs_file(room, lines=None):
     return made(room, "vouchers.bin", bytes.fromhex(text))
 
 
+def any_file(room):
+    """A file of PEM with a block of PKCS #7, whose items are loaded, and with what is left out."""
+    lists = [octets_of(at("samples", "list.der"))]
+    return made(room, "any.pem", bundling.pem(bundling.signed_data([bundling.LEAF, bundling.REQUEST], lists),
+                                              "PKCS7") + bundling.pem(bundling.KEY, "PRIVATE KEY"))
+
+
 def refused_memory(count, room, program):
     """Refuses memory to each call on the samples and on worked cases."""
-    tried(count, program, at(BUNDLE), at(ANCHORS), pairs_file(room), "2027-01-01")
+    some = any_file(room)
+    tried(count, program, at(BUNDLE), at(ANCHORS), pairs_file(room), "2027-01-01", some)
     octets, cases = paths.worked()
     for case in map(cases.get, REFUSED):
         lines = paths.vouchers((octets[key], octets[item]) for key, item in case.vouching).decode()
         files = [made(room, name, b"".join(octets[it] for it in names))
                  for name, names in (("bundle", case.items), ("anchors", case.anchors))]
-        tried(count, program, *files, pairs_file(room, lines), case.moment.partition("T")[0])
+        tried(count, program, *files, pairs_file(room, lines), case.moment.partition("T")[0], some)
+
+
+def source(name):
+    return os.path.join(FOLDER, name)
 
 
 def c_programs(count, room, number):
     """The C programs, against the static library, under the sanitizers too."""
     static = at(library.STATIC)
     files = [at(BUNDLE), at(ANCHORS), pairs_file(room)]
-    calls = os.path.join("tools", "trials", "embedding", "calls.c")
-    memory = os.path.join("tools", "trials", "embedding", "memory.c")
-    tried(count, compiled(count, room, calls, [], [static]), *files, "1000")
-    tried(count, compiled(count, room, calls, SANITIZERS, [static]), *files, number)
-    guards = os.path.join("tools", "trials", "embedding", "guards.c")
-    guarded = compiled(count, room, guards, [*SANITIZERS, "-pthread"], [static])
+    for flags in ([], SANITIZERS):
+        for name in ("calls.c", "items.c"):
+            tried(count, compiled(count, room, source(name), flags, [static]), *files)
+    tried(count, compiled(count, room, source("changed.c"), SANITIZERS, [static]), *files, number)
+    guarded = compiled(count, room, source("guards.c"), [*SANITIZERS, "-pthread"], [static])
     tried(count, guarded, *files, size(*ROUNDS))
-    refused_memory(count, room, compiled(count, room, memory, SANITIZERS, [*WRAPPED, static]))
+    refused_memory(count, room,
+                   compiled(count, room, source("memory.c"), SANITIZERS, [*COUNTING, static]))
+
+
+def c_faults(count, room):
+    """The C programs see faults that are put between them and the library."""
+    calls = wrapped("certpath_class", "certpath_field", "certpath_times")
+    numbers = dict(re.findall(r"(?m)^    ([A-Z_]+) = (\d+)", repo.read(source("faults.c"))))
+    count.same("the faults that are tried", {it[0] for it in FAULTS}, set(numbers))
+    files = [at(BUNDLE), at(ANCHORS), pairs_file(room)]
+    words = {"guards": [*files, "10"], "changed": [*files, "200"],
+             "memory": [*files, "2027-01-01", any_file(room)]}
+    objects = {it: compiled(count, room, source(f"{it}.c"), [*SANITIZERS, "-c"], []) for it in words}
+    for fault, name, said in FAULTS:
+        flags = [*SANITIZERS, "-pthread", f"-DFAULT={numbers[fault]}"]
+        program = objects[name] and compiled(
+            count, room, source("faults.c"), flags,
+            [objects[name], *calls, *(COUNTING if name == "memory" else []), at(library.STATIC)])
+        if program:
+            done = ran([program, *words[name]])
+            count.row(done.returncode != 0 and said in done.stdout,
+                      f"{name} with {fault}, status {done.returncode}:\n{done.stdout[-2000:]}")
+
+
+# A comment of the header, with what is declared after it; and a call.
+DECLARED = re.compile(r"(?m)^/\*\n((?: \*.*\n)+) \*/\n((?:(?:#define|int32_t|  ).*\n|\n)+)")
+CALL = re.compile(r"\bint32_t (certpath_\w+)\(([^;]*)\);")
+# The programs that try each call of the header: bad input, between guard pages, refused memory.
+PROGRAMS = (("calls.c", "items.c"), ("guards.c",), ("memory.c",))
+
+
+def header_pointers(count):
+    """The comment of each call says which of its pointers may be null, which are aligned and may not
+    overlap; and there are programs that try each call."""
+    header = repo.read("include/certpath.h")
+    calls, said = dict(CALL.findall(header)), {}
+    for comment, declarations in DECLARED.findall(header):
+        _, _, pointers = comment.replace("\n *", "").partition(" Pointers: ")
+        said.update((name, pointers) for name, _ in CALL.findall(declarations) if pointers)
+    count.same("calls whose pointers the header has", sorted(said), sorted(calls))
+    for name, pointers in said.items():
+        missing = [it for it in re.findall(r"\*(\w+)", calls[name]) if f"`{it}`" not in pointers]
+        count.same(f"{name}: pointers of which the header says nothing", missing, [])
+        lacking = [it for it in ("only if", "never", "aligned", "overlap") if it not in pointers]
+        count.same(f"{name}: what the header doesn't say of its pointers", lacking, [])
+    for names in PROGRAMS:
+        text = "".join(map(repo.read, map(source, names)))
+        untried = [it for it in calls if not re.search(rf"\b{it}\b", text)]
+        count.same(f"calls that {', '.join(names)} leave out", untried, [])
 
 
 # A program that prints the size of each structure, by its name in Python's package.
@@ -244,15 +325,6 @@ def same_lines(path):
         return sorted(set(file)) == repo.read("samples/vouchers.txt").splitlines(keepends=True)
 
 
-def page_example(count):
-    """The example of the page in Python."""
-    block = PAGE_EXAMPLE.search(repo.read("docs/EMBEDDING.md"))[1]
-    done = ran([sys.executable, "-c", block], env=with_package())
-    said = "\n(0, 1) 0\nTrue\nhost www.example.test\npath 0 1 anchor 0\ncheck yes\n"
-    count.row(done.returncode == 0 and said in done.stdout,
-              f"the example of docs/EMBEDDING.md in Python:\n{done.stdout[-2000:]}")
-
-
 def python_example(count, room):
     """The example in Python, which makes the vouchers of the samples."""
     paths = with_package()
@@ -331,6 +403,13 @@ class Embedding(Trial):
         self.need("cc")
         self.in_room(c_programs, size(CHANGED, FEW))
 
+    def test_c_faults(self):
+        self.need("cc")
+        self.in_room(c_faults)
+
+    def test_header_pointers(self):
+        header_pointers(self)
+
     def test_structures(self):
         self.need("cc")
         self.in_room(structures)
@@ -354,10 +433,6 @@ class Embedding(Trial):
         if not shutil.which("go"):
             self.skipTest("examples/go: go isn't installed")
         self.in_room(go_example)
-
-    def test_page_example(self):
-        self.need_libcrypto()
-        page_example(self)
 
     def test_python_example(self):
         if ran([sys.executable, "-c", "import cryptography"]).returncode:

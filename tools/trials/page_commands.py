@@ -29,6 +29,7 @@ NOT_RUN = (
     ("bench/hostile/README.md", "", "it takes minutes, and the gate runs it"),
     ("docs/CLI.md", "./certpath --version", "it prints the digest of the sources, which each change of one changes"),
     ("docs/CLI.md", "./certpath --build", NEEDS_RT),
+    ("docs/EMBEDDING.md", "", "tools/trials/embedding_page.py runs it, with the programs of the page"),
     ("docs/GATE.md", "", NEEDS_RT),
     ("docs/INSTALL.md", "python3 -m ", WHEEL),
     ("docs/INSTALL.md", "certpath-env/", WHEEL),

@@ -2,12 +2,13 @@
  * Each call of the header between pages that nothing may touch: what it reads ends just before such
  * a page, or begins just after one, and can't be written; its buffers have just the room that it
  * needs, or one element less, and end and begin there too. The results have to be those of a plain
- * call. Then with inputs that overlap, and in eight threads at once.
+ * call. Then with inputs that are empty, by a null pointer and by one to such a page, with inputs
+ * that overlap, and in eight threads at once.
  *
  *     guards BUNDLE ANCHORS VOUCHERS ROUNDS         prints `N passed, M failed`
  *
- * VOUCHERS are digests, 64 octets a pair. The calls on one item are made on each item of the bundle,
- * and each thread makes all calls ROUNDS times.
+ * VOUCHERS are digests, 64 octets a pair. The calls on one item are made on each item of the
+ * bundle, and each thread makes all calls on all items ROUNDS times.
  */
 #define _DEFAULT_SOURCE
 #include "certpath.h"
@@ -253,7 +254,7 @@ enum { COUNT = sizeof CALLS / sizeof *CALLS };
 
 static size_t page;
 
-/* Memory of so many octets between two pages that nothing may touch: at its end, or at its begin. */
+/* Memory of so many octets between two pages that nothing may touch: at its end or its begin. */
 typedef struct {
     uint8_t *whole, *octets;
     size_t pages;
@@ -379,9 +380,10 @@ static void of_rooms(const call *it, const inputs *of, const answer *is, size_t 
     outputs into = {first.octets, second.octets, result.octets, one, two};
     int fits = one >= is->one && two >= is->two;
     int32_t status;
-    if (one == 0)
+    /* (a buffer without room is null, or in a page that nothing may touch) */
+    if (one == 0 && is_at_end)
         into.one = NULL;
-    if (two == 0)
+    if (two == 0 && is_at_end)
         into.two = NULL;
     status = it->make(of, &into);
     tell(status == (is->status == CERTPATH_DONE && !fits ? CERTPATH_TOO_SMALL : is->status)
@@ -433,76 +435,151 @@ static void of_pages(const inputs *of)
 static int is_same(const call *it, const answer *is, const answer *was)
 {
     return is->status == was->status && memcmp(is->result, was->result, it->result) == 0
-           && memcmp(is->first, was->first, ROOM) == 0 && memcmp(is->second, was->second, ROOM) == 0;
+           && memcmp(is->first, was->first, ROOM) == 0
+           && memcmp(is->second, was->second, ROOM) == 0;
 }
 
-/* Inputs that are one: the anchors are the bundle, and host, purpose and what is left out lie in it. */
-static void of_overlaps(const inputs *of)
+/* The inputs by their numbers. */
+enum { PARTS = 11 };
+
+static part *part_at(inputs *of, size_t k)
+{
+    part *const all[PARTS] = {&of->bundle, &of->anchors, &of->vouchers, &of->lines,
+                              &of->item,   &of->name,    &of->host,     &of->purpose,
+                              &of->without, &of->path,   &of->table};
+    return all[k];
+}
+
+/* Where octets hold others, which they do. */
+static const uint8_t *within(part of, part other)
+{
+    size_t at = 0;
+    while (at + other.length < of.length && memcmp(of.octets + at, other.octets, other.length) != 0)
+        at++;
+    return of.octets + at;
+}
+
+/* Each call by two inputs has one answer. */
+static void tell_alike(const inputs *one, const inputs *other, const char *what)
 {
     static answer is, was;
-    static uint8_t others[ROOM], host[LARGEST];
-    inputs apart = *of, one = *of;
-    certpath_settings settings = *of->settings, same = settings;
     size_t k;
-    if (of->bundle.length < LARGEST)
+    for (k = 0; k < COUNT; k++) {
+        plain(&CALLS[k], other, &was);
+        plain(&CALLS[k], one, &is);
+        tell(is_same(&CALLS[k], &is, &was), CALLS[k].name, what);
+    }
+}
+
+/* Each input in its turn without octets, by a null pointer and by one to where nothing may be read;
+   and at last purpose and host of the settings. */
+static void of_empty(const inputs *of)
+{
+    guarded nowhere = between(0, 0);
+    part none = {NULL, 0}, away = {nowhere.octets, 0};
+    certpath_settings null = *of->settings, far;
+    inputs one, other;
+    size_t k;
+    for (k = 0; k < PARTS; k++) {
+        one = other = *of;
+        *part_at(&one, k) = none;
+        *part_at(&other, k) = away;
+        tell_alike(&one, &other, "another answer by an empty input");
+    }
+    null.purpose = null.host = NULL;
+    null.purpose_length = null.host_length = 0;
+    far = null;
+    far.purpose = far.host = nowhere.octets;
+    one = other = *of;
+    one.settings = &null;
+    other.settings = &far;
+    tell_alike(&one, &other, "another answer by empty settings");
+    freed(nowhere);
+}
+
+/* A copy of octets that overlaps nothing. */
+static part apart_from(part of, uint64_t *room)
+{
+    part to = {(const uint8_t *)room, of.length};
+    memcpy(room, of.octets, of.length);
+    return to;
+}
+
+/* Inputs that overlap: the anchors are the bundle, the path of an answer is its table, and host,
+   purpose and what is left out lie in the item; then vouchers and lines are the bundle too. */
+static void of_overlaps(const inputs *of)
+{
+    static uint64_t rooms[5][ROOM / 8];
+    inputs one = *of, apart = *of;
+    certpath_settings settings = *of->settings, same = settings;
+    if (of->item.length < LARGEST || of->table.length < of->path.length)
         return;
-    memcpy(others, of->bundle.octets, of->bundle.length);
-    memcpy(host, of->bundle.octets, LARGEST);
     one.anchors = of->bundle;
-    apart.anchors.octets = others;
-    apart.anchors.length = of->bundle.length;
-    one.without.octets = one.purpose.octets = of->bundle.octets;
-    apart.without.octets = apart.purpose.octets = host;
-    one.without.length = one.purpose.length = apart.without.length = apart.purpose.length = LARGEST;
-    same.purpose = of->bundle.octets;
-    settings.purpose = host;
-    same.purpose_length = settings.purpose_length = LARGEST;
+    one.path.octets = of->table.octets;
+    one.without.octets = one.purpose.octets = of->item.octets;
+    one.without.length = one.purpose.length = LARGEST;
+    one.host.octets = within(of->bundle, of->host);
+    same.purpose = one.purpose.octets;
+    same.purpose_length = LARGEST;
+    same.host = settings.host ? one.host.octets : NULL;
+    apart.anchors = apart_from(one.anchors, rooms[0]);
+    apart.path = apart_from(one.path, rooms[1]);
+    apart.without = apart.purpose = apart_from(one.purpose, rooms[2]);
+    settings.purpose = apart.purpose.octets;
+    settings.purpose_length = LARGEST;
     one.settings = &same;
     apart.settings = &settings;
-    for (k = 0; k < COUNT; k++) {
-        plain(&CALLS[k], &apart, &was);
-        plain(&CALLS[k], &one, &is);
-        tell(is_same(&CALLS[k], &is, &was), CALLS[k].name, "another answer where inputs overlap");
-    }
+    tell_alike(&one, &apart, "another answer where inputs overlap");
+    one.vouchers = one.lines = of->bundle;
+    apart.vouchers = apart_from(of->bundle, rooms[3]);
+    apart.lines = apart_from(of->bundle, rooms[4]);
+    tell_alike(&one, &apart, "another answer where vouchers overlap the files");
 }
 
 /* ---- threads */
 
-static answer expected[COUNT];
-static const inputs *shared;
+/* What the items of a bundle are asked for, and what a plain call answers: so many at most. */
+enum { MOST = 8 };
+
+static inputs asked[MOST];
+static answer expected[MOST][COUNT];
+static size_t asked_count;
 static long rounds;
 
 typedef struct {
     pthread_t id;
-    size_t first; /* the call that it makes first */
+    size_t first; /* the item and the call that it begins with */
     int is_wrong;
 } thread;
 
+/* All calls on all items, in an order of its own. */
 static void *worker(void *given)
 {
     thread *own = given;
     answer *found = malloc(sizeof *found);
     long round;
-    size_t k;
+    size_t k, at;
     own->is_wrong = found == NULL;
     for (round = 0; found && round < rounds; round++)
-        for (k = own->first; k < own->first + COUNT; k++) {
-            plain(&CALLS[k % COUNT], shared, found);
-            own->is_wrong |= !is_same(&CALLS[k % COUNT], found, &expected[k % COUNT]);
+        for (k = own->first; k < own->first + asked_count * COUNT; k++) {
+            const call *it = &CALLS[k % COUNT];
+            at = k / COUNT % asked_count;
+            plain(it, &asked[at], found);
+            own->is_wrong |= !is_same(it, found, &expected[at][k % COUNT]);
         }
     free(found);
     return NULL;
 }
 
-static void of_threads(const inputs *of)
+static void of_threads(void)
 {
     static thread threads[THREADS];
-    size_t k;
-    shared = of;
-    for (k = 0; k < COUNT; k++)
-        plain(&CALLS[k], of, &expected[k]);
+    size_t k, at;
+    for (at = 0; at < asked_count; at++)
+        for (k = 0; k < COUNT; k++)
+            plain(&CALLS[k], &asked[at], &expected[at][k]);
     for (k = 0; k < THREADS; k++) {
-        threads[k].first = k * COUNT / THREADS;
+        threads[k].first = k * asked_count * COUNT / THREADS;
         if (pthread_create(&threads[k].id, NULL, worker, &threads[k]))
             exit(6);
     }
@@ -543,13 +620,34 @@ static part lines_of(part of)
 
 #define TEXT(text) {(const uint8_t *)(text), sizeof(text) - 1}
 
+/* What is found of a target and its settings: an answer, and its name. */
+static void ask(inputs *of, answer *named, answer *found)
+{
+    size_t k;
+    for (k = 0; k < COUNT; k++)
+        if (CALLS[k].make == issuer)
+            plain(&CALLS[k], of, named);
+    of->name.octets = (const uint8_t *)named->first;
+    of->name.length = named->one;
+    for (k = 0; k < COUNT; k++)
+        if (CALLS[k].make == find)
+            plain(&CALLS[k], of, found);
+    of->answer = (const certpath_answer *)found->result;
+    of->path.octets = (const uint8_t *)found->first;
+    of->path.length = found->one * sizeof(size_t);
+    of->table.octets = (const uint8_t *)found->second;
+    of->table.length = found->two * sizeof(uint64_t);
+}
+
 int main(int count, char **words)
 {
     static const part HOST = TEXT("www.example.test");
     static const part PURPOSE = TEXT("\x2b\x06\x01\x05\x05\x07\x03\x01");
     static const part KEY_USAGE = TEXT("\x55\x1d\x0f");
-    static answer framed, named, found;
-    certpath_settings settings = {0, CERTPATH_LIMIT, 0, {2027, 1, 1, 0, 0, 0}, NULL, 0, NULL, 0};
+    static answer framed, named[MOST], found[MOST];
+    static certpath_settings settings[MOST];
+    const certpath_settings plainly = {0,    CERTPATH_LIMIT, 0,    {2027, 1, 1, 0, 0, 0},
+                                       NULL, 0,              NULL, 0};
     const certpath_span *spans = (const certpath_span *)framed.first;
     inputs of;
     size_t k;
@@ -565,32 +663,29 @@ int main(int count, char **words)
     of.host = HOST;
     of.purpose = PURPOSE;
     of.without = KEY_USAGE;
-    of.settings = &settings;
-    of.item = of.bundle;
     plain(&CALLS[0], &of, &framed);
-    for (k = 0; k <= framed.one; k++) {
+    /* (all items, and at last the bundle as if it were one) */
+    asked_count = framed.one + 1;
+    if (asked_count > MOST)
+        return 2;
+    for (k = 0; k < asked_count; k++) {
+        of.item = of.bundle;
         if (k < framed.one) {
             of.item.octets = of.bundle.octets + spans[k].offset;
             of.item.length = spans[k].length;
         }
-        settings.target = k;
-        settings.host = k % 2 ? HOST.octets : NULL;
-        settings.host_length = k % 2 ? HOST.length : 0;
-        plain(&CALLS[7], &of, &named);
-        of.name.octets = (const uint8_t *)named.first;
-        of.name.length = named.one;
-        of.answer = (const certpath_answer *)found.result;
-        for (size_t at = 0; at < COUNT; at++)
-            if (CALLS[at].make == find)
-                plain(&CALLS[at], &of, &found);
-        of.path.octets = (const uint8_t *)found.first;
-        of.path.length = found.one * sizeof(size_t);
-        of.table.octets = (const uint8_t *)found.second;
-        of.table.length = found.two * sizeof(uint64_t);
+        settings[k] = plainly;
+        settings[k].target = k;
+        settings[k].host = k % 2 ? HOST.octets : NULL;
+        settings[k].host_length = k % 2 ? HOST.length : 0;
+        of.settings = &settings[k];
+        ask(&of, &named[k], &found[k]);
+        asked[k] = of;
         of_pages(&of);
+        of_empty(&of);
         of_overlaps(&of);
-        of_threads(&of);
     }
+    of_threads();
     printf("guards: %d passed, %d failed\n", passed, failed);
     return failed != 0;
 }

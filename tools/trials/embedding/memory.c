@@ -6,16 +6,16 @@
  * nothing may be left over. Calls on one item are made on each item of the bundle, `find` on its
  * first one, and `check` on what was found of that.
  *
- *     memory BUNDLE ANCHORS VOUCHERS YEAR-MONTH-DAY     prints `N passed, M failed`
+ *     memory BUNDLE ANCHORS VOUCHERS YEAR-MONTH-DAY FILE     prints `N passed, M failed`
  *
- * VOUCHERS are digests, 64 octets a pair.
+ * VOUCHERS are digests, 64 octets a pair; FILE is one of any form, which is loaded.
  */
 #include "certpath.h"
 #include <stdio.h>
 #include <stdlib.h>
 #include <string.h>
 
-/* ---- what the library asks memory of: the linker puts these in the place of the C library's (--wrap) */
+/* ---- what the library asks memory of: by --wrap the linker calls these for the C library's */
 
 static size_t requests, refused, blocks;
 
@@ -61,8 +61,8 @@ typedef struct {
     unsigned char buffer[ROOM];
 } written;
 
-static unsigned char bundle[ROOM], anchors[ROOM], vouchers[ROOM], lines[3 * ROOM];
-static size_t bundle_length, anchors_length, vouchers_length, lines_length;
+static unsigned char bundle[ROOM], anchors[ROOM], vouchers[ROOM], lines[3 * ROOM], any[ROOM];
+static size_t bundle_length, anchors_length, vouchers_length, lines_length, any_length;
 static certpath_span one;
 
 typedef int32_t (*call)(written *);
@@ -170,6 +170,21 @@ static int32_t load(written *to)
 {
     return certpath_load(bundle, bundle_length, to->buffer, ROOM, NULL, 0,
                          (certpath_loaded *)to->result);
+}
+
+/* A file of any form; what is left out of it lies after the items. */
+enum { LEFT = 64 };
+
+static int32_t load_any(written *to)
+{
+    return certpath_load(any, any_length, to->buffer + LEFT * sizeof(certpath_left_out),
+                         ROOM - LEFT * sizeof(certpath_left_out), (certpath_left_out *)to->buffer,
+                         LEFT, (certpath_loaded *)to->result);
+}
+
+static int32_t shape(written *to)
+{
+    return certpath_shape(bundle + one.offset, one.length, (uint32_t *)to->result);
 }
 
 static int32_t times(written *to)
@@ -301,9 +316,11 @@ static const named OF_AN_ITEM[] = {
     {"class", class_of}, {"issuer", issuer}, {"subject", subject},     {"key", key},
     {"serial", serial},  {"times", times},   {"algorithm", algorithm}, {"name", name},
     {"item", contents},  {"tbs", tbs},       {"extensions", extensions},
-    {"allows", allows},  {"serves", serves}, {"tbs without an extension", tbs_without}};
+    {"allows", allows},  {"serves", serves}, {"tbs without an extension", tbs_without},
+    {"shape", shape}};
 
 static const named OF_FILES[] = {
+    {"load any", load_any},
     {"frame", frame}, {"load", load},           {"classes", classes}, {"shapes", shapes},
     {"find", find},   {"questions", questions}, {"serving", serving}, {"check", check},
     {"path", path},   {"why", why},             {"paths", paths},
@@ -376,6 +393,8 @@ static void of_items(const certpath_span *spans, size_t count)
             one = spans[at];
             sum += all_refusals(&OF_AN_ITEM[k]);
         }
+        if (OF_AN_ITEM[k].make == shape)
+            tell(OF_AN_ITEM[k].name, 0, sum == 0, "it asks for memory");
         printf("%s %zu, ", OF_AN_ITEM[k].name, sum);
     }
 }
@@ -386,7 +405,8 @@ static void of_files(void)
     for (k = 0; k < sizeof OF_FILES / sizeof *OF_FILES; k++) {
         sum = all_refusals(&OF_FILES[k]);
         total += sum;
-        printf("%s %zu%s", OF_FILES[k].name, sum, k + 1 < sizeof OF_FILES / sizeof *OF_FILES ? ", " : " requests\n");
+        printf("%s %zu%s", OF_FILES[k].name, sum,
+               k + 1 < sizeof OF_FILES / sizeof *OF_FILES ? ", " : " requests\n");
     }
     tell("all calls", 0, total > 0, "no request for memory was seen");
 }
@@ -408,11 +428,12 @@ int main(int count, char **words)
 {
     static written framed;
     certpath_moment *at = &settings.moment;
-    if (count != 5 || sscanf(words[4], "%hd-%hhd-%hhd", &at->year, &at->month, &at->day) != 3)
+    if (count != 6 || sscanf(words[4], "%hd-%hhd-%hhd", &at->year, &at->month, &at->day) != 3)
         return 2;
     bundle_length = read_file(words[1], bundle);
     anchors_length = read_file(words[2], anchors);
     vouchers_length = read_file(words[3], vouchers);
+    any_length = read_file(words[5], any);
     write_lines();
     if (frame(&framed) != CERTPATH_DONE || find(&found) != CERTPATH_DONE)
         return 1;
