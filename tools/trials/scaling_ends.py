@@ -191,26 +191,37 @@ def one_entry_files(folder, number):
             file.write(front + (first + it).to_bytes(4, "big") + back)
 
 
-def many_files(count, interpreter, few, room, number):
-    """Many files of one entry are begun with soon; gives the run, in which a block was read."""
-    folder = os.path.join(room, "many-files")
-    one_entry_files(folder, number)
+def many_files(count, interpreter, few, room, number, by_list=False):
+    """Many files of one entry are begun with soon, by their folder or by a list of their names;
+    gives the run, in which a block was read."""
+    folder, listed = (os.path.join(room, it) for it in ("many-files", "many-files.txt"))
+    if not os.path.exists(folder):
+        one_entry_files(folder, number)
+        with open(listed, "w", encoding="ascii") as file:
+            file.writelines(f"{os.path.join(folder, it)}\n" for it in sorted(os.listdir(folder)))
+    files, words = ([], ["--files-from", listed]) if by_list else ([folder], [])
+    out = os.path.join(room, "of-a-list" if by_list else "of-a-folder")
     begun = time.monotonic()
-    run = Run(interpreter, few.log._replace(files=[folder]), os.path.join(room, "of-many-files"),
-              "--vouchers", few.log.vouchers, "--no-why", "--workers", "1")
+    run = Run(interpreter, few.log._replace(files=files), out, *words, "--vouchers",
+              few.log.vouchers, "--no-why", "--workers", "1")
     is_read = run.wait_for(("work", "0*.json"))
     took, within = seconds_of(run.process.pid), time.monotonic() - begun
-    said = (f"of {number} files {'the first' if is_read else 'no'} block was read after "
-            f"{took:.1f} s of a core, within {within:.1f} s")
+    said = (f"of {number} files, by {'a list' if by_list else 'their folder'}, "
+            f"{'the first' if is_read else 'no'} block was read after {took:.1f} s of a core, "
+            f"within {within:.1f} s")
     count.row(is_read and took < MOST_BEFORE, said)
     return run, said
 
 
 def all_of_many_files(count, interpreter, few, room):
-    run, _ = many_files(count, interpreter, few, room, FEW_FILES)
-    rows = rows_of(run.wait().out)
+    """A table of all of them, equal by the folder and by the list."""
+    runs = [many_files(count, interpreter, few, room, FEW_FILES, by_list)[0].wait()
+            for by_list in (False, True)]
+    rows = rows_of(runs[0].out)
     count.row(len({(it["file"], it["sha256"]) for it in rows}) == FEW_FILES == len(rows),
-              f"{FEW_FILES} files: {len(rows)} rows: {run.errors[-2000:]}")
+              f"{FEW_FILES} files: {len(rows)} rows: {runs[0].errors[-2000:]}")
+    count.row(octets_of(runs[0].out) == octets_of(runs[1].out),
+              f"another table by a list: {runs[1].errors[-2000:]}")
 
 
 def trial(count, interpreter, few, room):
