@@ -7,6 +7,7 @@ import gzip
 import io
 import json
 import os
+import sys
 import tempfile
 import unittest
 from base64 import b64encode
@@ -18,6 +19,8 @@ from certpath.inventory import (anchors, blocks, files, hosts, index, inputs, lo
                                 ranges, reasons, rows, shards, signatures, tables, trees, words, work)
 from certpath.inventory.entries import Entry, Place
 from certpath.items import LIMIT
+
+from . import arrow
 
 TOP = os.path.join(os.path.dirname(os.path.abspath(__file__)), "..", "..")
 MILLISECONDS, TIMESTAMP = 1_700_000_000_123, "2023-11-14T22:13:20.123"
@@ -463,16 +466,19 @@ class Tables(Room):
                          [("a,\n\udcff", "3", "cert")] * 2)
 
     def test_parquet(self):
-        try:
-            import pyarrow.parquet
-        except ImportError:
-            self.skipTest("pyarrow isn't installed")
-        row = rows.read(Entry(HERE, "item", LEAF), LIMIT).row
-        for number, held in ((0, [row]), (1, [])):
-            path = tables.part(self.folder, number, tables.PARQUET)
-            self.assertEqual(tables.write(path, held, tables.PARQUET, self.folder), len(held))
-        found = pyarrow.parquet.read_table(os.path.join(self.folder, "part-000000.parquet"))
-        self.assertEqual([it or "" for it in found.to_pylist()[0].values()], [*row])
+        """Rows are read back as they were, also where there is none; a name that isn't UTF-8 is
+        escaped."""
+        first = rows.read(Entry(HERE, "item", LEAF), LIMIT).row
+        held = [first, first._replace(file="a\udcff", log_index="7"), first._replace(cause="ö")]
+        expected = [first, held[1]._replace(file="a\\xff", log_index=7), held[2]]
+        for name, modules in arrow.tried():
+            with self.subTest(pyarrow=name), mock.patch.dict(sys.modules, modules):
+                for number, written in ((0, held), (1, [])):
+                    path = tables.part(self.folder, number, tables.PARQUET)
+                    count = tables.write(path, written, tables.PARQUET, self.folder)
+                    self.assertEqual(count, len(written))
+                    found = [[it or "" for it in row] for row in tables.read(path, tables.PARQUET)]
+                    self.assertEqual(found, [[*it] for it in expected[:count]])
 
     def test_values(self):
         for heading, held, expected in (

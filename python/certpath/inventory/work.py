@@ -45,8 +45,8 @@ class Settings(NamedTuple):
     """The file of a log's tree head, with which the entries are compared; empty for none."""
     ranges: bool = False
     """Whether the names of answers end with the numbers of their first and last entry."""
-    form: str = ""
-    """The format of the table; empty for Parquet where pyarrow is installed, CSV otherwise."""
+    form: str = tables.CSV
+    """The format of the table: CSV, or Parquet where pyarrow is installed."""
     program: str = ""
     """The program `certpath`; empty for the one beside the library, or on the path."""
 
