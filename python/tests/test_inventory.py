@@ -780,6 +780,14 @@ class Shown(unittest.TestCase):
         self.assertRegex(self.stream.getvalue(), r"\Ainventory: first pass: 25%, 600 entries, "
                                                  r"10 a second, 3 min left, until \d\d:\d\d\n\Z")
 
+    def test_files(self):
+        """Of files that are cut as many are said to be done as there were."""
+        shown = self.progress(False)
+        shown.begin("cutting", 2000, "files").step(500, 500)
+        self.time = 60.0
+        shown.look()
+        self.assertRegex(self.stream.getvalue(), "^inventory: cutting: 25%, 500 files, 8 a second, 3 min left")
+
     def test_terminal(self):
         shown = self.progress(True)
         shown.begin("second pass", 1000)

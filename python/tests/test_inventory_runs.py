@@ -233,6 +233,12 @@ class Runs(Room):
         self.assertEqual((done.entries, done.rows, done.outcomes["fault"]), (6, 6, 2))
         self.assertIn("no worker is left", self.rows()[0]["reasons"])
 
+    def test_worker_without_a_module(self):
+        """What every task would lack ends the run, and is no fault of a block."""
+        with mock.patch.object(work, "read_span", side_effect=ImportError("No module named 'a'")), \
+                self.assertRaisesRegex(running.Lost, "a worker lacks a module: ImportError: No module"):
+            self.run_with(Here())
+
     def test_given_up_blocks_again(self):
         self.run_with(Here())
         whole = self.table()
