@@ -16,7 +16,7 @@ from datetime import datetime
 from unittest import mock
 
 from certpath.inventory import (anchors, blocks, databases, files, index, jobs, parquet, program,
-                                records, rows, running, signatures, tables, trees, work, writing)
+                                probe, records, rows, running, signatures, tables, trees, work, writing)
 from certpath.inventory.entries import Entry, Place
 from certpath.items import LIMIT
 
@@ -200,7 +200,25 @@ class Runs(Room):
         self.assertEqual(record["vouchers"]["sha256"], rows.digest(sample("vouchers.txt")))
         self.assertEqual((record["anchors"]["sha256"], record["anchors"]["usable"]), (rows.digest(ROOT), 1))
         self.assertEqual((record["status"], record["moment"]), (1, "2026-12-01T00:00:00"))
+        with open(program.found(), "rb") as file:
+            self.assertEqual(record["versions"]["program_sha256"], rows.digest(file.read()))
+        self.assertEqual(record["versions"]["package_sha256"], probe.fingerprint())
         self.assertEqual(records.done_of(record), done)
+
+    def test_fingerprint(self):
+        """Another octet in a module, another name of it, one more or another library: another digest."""
+        found = [probe.fingerprint()]
+        with mock.patch.object(probe, "PACKAGE", self.folder):
+            for name, octets in (("a.py", b"1"), ("a.py", b"2"), ("b.py", b"2")):
+                self.put(name, octets)
+                found.append(probe.fingerprint())
+            os.remove(os.path.join(self.folder, "b.py"))
+            self.assertEqual(probe.fingerprint(), found[2])
+            os.rename(*(os.path.join(self.folder, it) for it in ("a.py", "c.py")))
+            found.append(probe.fingerprint())
+            with mock.patch.object(probe.library, "loaded", return_value=mock.Mock(_name=ROOT_FILE)):
+                found.append(probe.fingerprint())
+        self.assertEqual(len({*found}), 6)
 
     def test_names(self):
         """Hosts are in the rows of certificates, and where the program fails that is a fault."""
