@@ -31,6 +31,36 @@ FEW_FILES, MOST_BEFORE = 3000, 60
 MOST_REASONS, NO_VOUCHER = 20, re.compile(r"at target to [0-9a-f]{64} not linked: no voucher")
 # A module in the place of Dask.
 NO_DASK = "raise ImportError('No module named dask')"
+# Errors that end a run, the status of each, and the last line that is written then.
+OF_COMMAND = "an error of this command; please report it (SECURITY.md)"
+STATUSES = (("ValueError('a')", 71, OF_COMMAND), ("AssertionError()", 71, OF_COMMAND),
+            ("MemoryError()", 6, "out of memory"),
+            ("RuntimeError('can\\'t start new thread')", 6, "out of memory"),
+            ("OSError(12, 'Cannot allocate memory', 'a')", 6, "out of memory"),
+            ("FileNotFoundError(2, 'No such file', 'malloc failure')", 4,
+             "cannot read malloc failure: No such file"),
+            ("OSError('Timed out')", 9, "Timed out"), ("running.Lost('a')", 9, "a"),
+            ("writing.CannotWrite('a')", 7, "a"), ("trees.BadTreeHead('a')", 10, "a"),
+            ("anchors.BadAnchors('a')", 3, "a"), ("signatures.BadLine('a')", 5, "a"),
+            ("program.Missing('a')", 70, "a"), ("tables.NoParquet('a')", 70, "a"),
+            ("jobs.Different('a')", 2, "a"),
+            ("it.Ended(15)", 143, "ended by SIGTERM; --resume goes on with what is done"))
+# The command line as it ends by each of the errors that it is given.
+ENDS = """
+import contextlib, io, sys
+from certpath.inventory import __main__ as it
+from certpath.inventory import anchors, jobs, program, running, signatures, tables, trees, writing
+
+def made(words):
+    raise error
+
+it.made = made
+for error in map(eval, sys.argv[1:]):
+    said = io.StringIO()
+    with contextlib.redirect_stderr(said):
+        status = it.main(["a", "--anchors", "b", "--out", "c"])
+    print(status, "Traceback" in said.getvalue(), said.getvalue().splitlines()[-1])
+"""
 
 
 def ended_by(interpreter, whole, out, words, number, status, pattern):
@@ -141,6 +171,17 @@ def without_dask(count, interpreter, room):
                   f"without Dask: {words}: status {ran.returncode}, {ran.stdout}")
 
 
+def statuses(count, interpreter):
+    """Each error that ends a run has its status and one line; one of the command itself has a
+    traceback, and a status of its own."""
+    ran = subprocess.run([interpreter, "-c", ENDS, *(it for it, _, _ in STATUSES)], text=True,
+                         env={**os.environ, "PYTHONPATH": os.path.join(repo.TOP, "python"),
+                              "PYTHONDONTWRITEBYTECODE": "1"}, stdin=subprocess.DEVNULL,
+                         stdout=subprocess.PIPE, stderr=subprocess.PIPE, check=False)
+    wanted = [f"{status} {status == 71} inventory: {line}" for _, status, line in STATUSES]
+    count.same(f"errors that end a run: {ran.stderr}", ran.stdout.splitlines(), wanted)
+
+
 def localhosts(path, number):
     """Writes certificates of one name, each issued by itself with a key of its own."""
     with open(path, "wb") as file:
@@ -228,5 +269,6 @@ def trial(count, interpreter, few, room):
     changed(count, interpreter, few, room)
     refused(count, interpreter, few, room)
     without_dask(count, interpreter, room)
+    statuses(count, interpreter)
     one_name(count, interpreter, few, room)
     all_of_many_files(count, interpreter, few, room)
