@@ -551,6 +551,30 @@ class Indexed(Room):
         middle, revoking = self.items("intermediate", "list")
         self.assertIn(f"at target to {middle} not linked: revoked by list {revoking}", said)
 
+    def test_remembered(self):
+        """What is in other shards is verified once, unless other keys or options are asked with."""
+        bundle, shared = LEAF + MIDDLE, {rows.digest(it) for it in (MIDDLE, LEAF)}
+        asked = []
+        def judged(judge, item, holders):
+            asked.append(rows.digest(item.public_bytes()))
+            return self.judged(judge, item, holders)
+        self.judged = signatures.openssl.Judge.judged
+        with mock.patch.object(signatures.openssl.Judge, "judged", judged), \
+                mock.patch.dict(signatures.REMEMBERED, clear=True):
+            for octets, anchors, tries, weak, count in (
+                    (bundle, ROOT, 16, False, 2), (bundle, ROOT, 16, False, 0),
+                    (MIDDLE, ROOT, 16, False, 0), (bundle, ROOT, 1, False, 2),
+                    (bundle, ROOT, 16, True, 2), (bundle, b"", 16, False, 1),
+                    (LEAF, ROOT, 16, False, 1)):
+                asked.clear()
+                found = signatures.verified(octets, anchors, LIMIT, weak, tries, shared)
+                self.assertEqual(len(asked), count)
+                self.assertEqual(found, signatures.verified(octets, anchors, LIMIT, weak, tries))
+            self.assertEqual(len(signatures.REMEMBERED), 8)
+            with mock.patch.object(signatures, "MOST_REMEMBERED", 8):
+                signatures.verified(MIDDLE, ROOT, LIMIT, False, 2, shared)
+            self.assertEqual(len(signatures.REMEMBERED), 1)
+
     def test_other_reports(self):
         asked = shards.Asked("", "", ["a"], [], {})
         shard = shards.Shard(["x", "y", "z"], [])

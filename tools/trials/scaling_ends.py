@@ -199,15 +199,14 @@ def has_reasons(row, further):
             and all(map(NO_VOUCHER.fullmatch, lines)))
 
 
-def one_name(count, interpreter, few, room, number=SAME_NAME, most=MOST_SECONDS):
+def one_name(count, interpreter, few, room, number=SAME_NAME, most=MOST_SECONDS, words=()):
     """Many certificates of one name have reasons within a bounded time; gives the seconds of a
     processor."""
-    path = os.path.join(room, "one-name.der")
+    path, out = (os.path.join(room, f"one-name-{len(words)}{it}") for it in (".der", ""))
     localhosts(path, number)
     before = resource.getrusage(resource.RUSAGE_CHILDREN)
     begun = time.monotonic()
-    run = Run(interpreter, few.log._replace(files=[path]), os.path.join(room, "one-name"),
-              "--workers", "1").wait()
+    run = Run(interpreter, few.log._replace(files=[path]), out, *words, "--workers", "1").wait()
     after = resource.getrusage(resource.RUSAGE_CHILDREN)
     took = after.ru_utime + after.ru_stime - before.ru_utime - before.ru_stime
     rows = rows_of(run.out)

@@ -58,12 +58,14 @@ def files(count, interpreter, room, number):
 
 def names(count, interpreter, room, number):
     few = whole(room, scaling.FEW)
-    took = scaling_ends.one_name(count, interpreter, few, room, number, MOST_OF_NAMES)
-    print(f"names: {number} certificates took {took:.1f} s of a processor")
+    for words, most in NAMES:
+        took = scaling_ends.one_name(count, interpreter, few, room, number, most, words)
+        print(f"names: {number} certificates {' '.join(words)} took {took:.1f} s of a processor",
+              flush=True)
 
 
-# So many seconds of a processor certificates of one name may take.
-MOST_OF_NAMES = 10
+# So many seconds of a processor certificates of one name may take, in one block and in several.
+NAMES = ([], 10), (["--blocksize", "40000"], 20)
 # What is tried, and at which size.
 TRIALS = {"apart": (apart, 10_000), "ends": (ends, 10_000), "files": (files, 100_000),
           "names": (names, 1_000), "costs": (scaling_costs.trial, 10_000)}

@@ -311,7 +311,9 @@ def asked_of(index: Index, targets: List[Target], job: Job) -> Asked:
     if given.vouchers is not None:
         keys = signatures.given(index, shard.items)
     else:
-        keys = signatures.verified(shard.bundle, anchors, given.limit, given.weak, given.tries)
+        shared = {it.item for it in index.closure({it.issuer for it in targets})}
+        keys = signatures.verified(shard.bundle, anchors, given.limit, given.weak, given.tries,
+                                   shared)
     words = ["--at", moment(given.at), "--limit", str(given.limit)]
     words += ["--demand-lists"] if given.demand_lists else []
     return Asked(given.program, job.anchor_file, digests_of(anchors, given.limit), words, keys)
