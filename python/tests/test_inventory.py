@@ -7,6 +7,7 @@ import gzip
 import io
 import json
 import os
+import sys
 import tempfile
 import unittest
 from base64 import b64encode
@@ -18,6 +19,8 @@ from certpath.inventory import (anchors, blocks, files, hosts, index, inputs, lo
                                 ranges, reasons, rows, shards, signatures, tables, trees, words, work)
 from certpath.inventory.entries import Entry, Place
 from certpath.items import LIMIT
+
+from . import arrow
 
 TOP = os.path.join(os.path.dirname(os.path.abspath(__file__)), "..", "..")
 MILLISECONDS, TIMESTAMP = 1_700_000_000_123, "2023-11-14T22:13:20.123"
@@ -463,16 +466,19 @@ class Tables(Room):
                          [("a,\n\udcff", "3", "cert")] * 2)
 
     def test_parquet(self):
-        try:
-            import pyarrow.parquet
-        except ImportError:
-            self.skipTest("pyarrow isn't installed")
-        row = rows.read(Entry(HERE, "item", LEAF), LIMIT).row
-        for number, held in ((0, [row]), (1, [])):
-            path = tables.part(self.folder, number, tables.PARQUET)
-            self.assertEqual(tables.write(path, held, tables.PARQUET, self.folder), len(held))
-        found = pyarrow.parquet.read_table(os.path.join(self.folder, "part-000000.parquet"))
-        self.assertEqual([it or "" for it in found.to_pylist()[0].values()], [*row])
+        """Rows are read back as they were, also where there is none; a name that isn't UTF-8 is
+        escaped."""
+        first = rows.read(Entry(HERE, "item", LEAF), LIMIT).row
+        held = [first, first._replace(file="a\udcff", log_index="7"), first._replace(cause="ö")]
+        expected = [first, held[1]._replace(file="a\\xff", log_index=7), held[2]]
+        for name, modules in arrow.tried():
+            with self.subTest(pyarrow=name), mock.patch.dict(sys.modules, modules):
+                for number, written in ((0, held), (1, [])):
+                    path = tables.part(self.folder, number, tables.PARQUET)
+                    count = tables.write(path, written, tables.PARQUET, self.folder)
+                    self.assertEqual(count, len(written))
+                    found = [[it or "" for it in row] for row in tables.read(path, tables.PARQUET)]
+                    self.assertEqual(found, [[*it] for it in expected[:count]])
 
     def test_values(self):
         for heading, held, expected in (
@@ -544,6 +550,30 @@ class Indexed(Room):
             said = reasons.Reasons(opened, asked, given).of([target])[target.item]
         middle, revoking = self.items("intermediate", "list")
         self.assertIn(f"at target to {middle} not linked: revoked by list {revoking}", said)
+
+    def test_remembered(self):
+        """What is in other shards is verified once, unless other keys or options are asked with."""
+        bundle, shared = LEAF + MIDDLE, {rows.digest(it) for it in (MIDDLE, LEAF)}
+        asked = []
+        def judged(judge, item, holders):
+            asked.append(rows.digest(item.public_bytes()))
+            return self.judged(judge, item, holders)
+        self.judged = signatures.openssl.Judge.judged
+        with mock.patch.object(signatures.openssl.Judge, "judged", judged), \
+                mock.patch.dict(signatures.REMEMBERED, clear=True):
+            for octets, anchors, tries, weak, count in (
+                    (bundle, ROOT, 16, False, 2), (bundle, ROOT, 16, False, 0),
+                    (MIDDLE, ROOT, 16, False, 0), (bundle, ROOT, 1, False, 2),
+                    (bundle, ROOT, 16, True, 2), (bundle, b"", 16, False, 1),
+                    (LEAF, ROOT, 16, False, 1)):
+                asked.clear()
+                found = signatures.verified(octets, anchors, LIMIT, weak, tries, shared)
+                self.assertEqual(len(asked), count)
+                self.assertEqual(found, signatures.verified(octets, anchors, LIMIT, weak, tries))
+            self.assertEqual(len(signatures.REMEMBERED), 8)
+            with mock.patch.object(signatures, "MOST_REMEMBERED", 8):
+                signatures.verified(MIDDLE, ROOT, LIMIT, False, 2, shared)
+            self.assertEqual(len(signatures.REMEMBERED), 1)
 
     def test_other_reports(self):
         asked = shards.Asked("", "", ["a"], [], {})
@@ -773,6 +803,14 @@ class Shown(unittest.TestCase):
         shown.look()
         self.assertRegex(self.stream.getvalue(), r"\Ainventory: first pass: 25%, 600 entries, "
                                                  r"10 a second, 3 min left, until \d\d:\d\d\n\Z")
+
+    def test_files(self):
+        """Of files that are cut as many are said to be done as there were."""
+        shown = self.progress(False)
+        shown.begin("cutting", 2000, "files").step(500, 500)
+        self.time = 60.0
+        shown.look()
+        self.assertRegex(self.stream.getvalue(), "^inventory: cutting: 25%, 500 files, 8 a second, 3 min left")
 
     def test_terminal(self):
         shown = self.progress(True)

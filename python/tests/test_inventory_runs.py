@@ -16,10 +16,11 @@ from datetime import datetime
 from unittest import mock
 
 from certpath.inventory import (anchors, blocks, databases, files, index, jobs, parquet, program,
-                                records, rows, running, signatures, tables, trees, work, writing)
+                                probe, records, rows, running, signatures, tables, trees, work, writing)
 from certpath.inventory.entries import Entry, Place
 from certpath.items import LIMIT
 
+from . import arrow
 from .test_inventory import (CHAIN, FRONT, HERE, KEY_HASH, LEAF, POISON, ROOT, ROOT_FILE, SERVER, TOP,
                              X509_LEAF, Room, answer, certificate, extension, extensions, sample, tbs_of,
                              vector)
@@ -29,8 +30,7 @@ class Tasks(Room):
     """The tasks of a block, one after the other, without processes."""
 
     def job(self, **more):
-        given = work.Settings(os.path.join(TOP, "samples", "root.der"), datetime(2026, 12, 1),
-                              form=tables.CSV, **more)
+        given = work.Settings(os.path.join(TOP, "samples", "root.der"), datetime(2026, 12, 1), **more)
         out = os.path.join(self.folder, "table")
         held = anchors.read(given.anchors, LIMIT)
         job = work.Job(jobs.completed(given), out)
@@ -159,7 +159,7 @@ class Runs(Room):
 
     def run_with(self, client, paths=None, resume=False, **more):
         self.shown, self.out = [], os.path.join(self.folder, "table")
-        given = {"anchors": ROOT_FILE, "at": datetime(2026, 12, 1), "form": tables.CSV, "blocksize": 1}
+        given = {"anchors": ROOT_FILE, "at": datetime(2026, 12, 1), "blocksize": 1}
         named = paths or [os.path.join(TOP, "samples", it) for it in self.FILES]
         return running.run(named, self.out, work.Settings(**{**given, **more}), client,
                            self.shown.append, resume)
@@ -200,7 +200,25 @@ class Runs(Room):
         self.assertEqual(record["vouchers"]["sha256"], rows.digest(sample("vouchers.txt")))
         self.assertEqual((record["anchors"]["sha256"], record["anchors"]["usable"]), (rows.digest(ROOT), 1))
         self.assertEqual((record["status"], record["moment"]), (1, "2026-12-01T00:00:00"))
+        with open(program.found(), "rb") as file:
+            self.assertEqual(record["versions"]["program_sha256"], rows.digest(file.read()))
+        self.assertEqual(record["versions"]["package_sha256"], probe.fingerprint())
         self.assertEqual(records.done_of(record), done)
+
+    def test_fingerprint(self):
+        """Another octet in a module, another name of it, one more or another library: another digest."""
+        found = [probe.fingerprint()]
+        with mock.patch.object(probe, "PACKAGE", self.folder):
+            for name, octets in (("a.py", b"1"), ("a.py", b"2"), ("b.py", b"2")):
+                self.put(name, octets)
+                found.append(probe.fingerprint())
+            os.remove(os.path.join(self.folder, "b.py"))
+            self.assertEqual(probe.fingerprint(), found[2])
+            os.rename(*(os.path.join(self.folder, it) for it in ("a.py", "c.py")))
+            found.append(probe.fingerprint())
+            with mock.patch.object(probe.library, "loaded", return_value=mock.Mock(_name=ROOT_FILE)):
+                found.append(probe.fingerprint())
+        self.assertEqual(len({*found}), 6)
 
     def test_names(self):
         """Hosts are in the rows of certificates, and where the program fails that is a fault."""
@@ -232,6 +250,12 @@ class Runs(Room):
         done = self.run_with(Here("finish"))
         self.assertEqual((done.entries, done.rows, done.outcomes["fault"]), (6, 6, 2))
         self.assertIn("no worker is left", self.rows()[0]["reasons"])
+
+    def test_worker_without_a_module(self):
+        """What every task would lack ends the run, and is no fault of a block."""
+        with mock.patch.object(work, "read_span", side_effect=ImportError("No module named 'a'")), \
+                self.assertRaisesRegex(running.Lost, "a worker lacks a module: ImportError: No module"):
+            self.run_with(Here())
 
     def test_given_up_blocks_again(self):
         self.run_with(Here())
@@ -435,26 +459,32 @@ class Runs(Room):
         self.assertEqual(found, [(*digests[:2], ""), (digests[0], digests[2], "not_after tbs_sha256")])
 
     def test_parquet(self):
-        """One file has the rows of all parts, and the record."""
-        try:
-            import pyarrow.parquet
-        except ImportError:
-            self.skipTest("pyarrow isn't installed")
-        path, expected = os.path.join(self.folder, "table.parquet"), None
-        for form in (tables.CSV, tables.PARQUET):
-            self.run_with(Here(), why=False, form=form)
-            parquet.write(self.out, path)
-            found = pyarrow.parquet.read_table(path)
-            held = [it["offset"] for it in found.to_pylist()]
-            expected = expected or [int(it["offset"]) for it in self.rows()]
-            self.assertEqual(held, expected)
-            self.assertEqual(found.column("log_index").to_pylist(), [None] * len(held))
-            self.assertEqual(json.loads(found.schema.metadata[b"run"]), self.record())
-            shutil.rmtree(self.out)
+        """One file has the rows of all parts, and the record; so has a database. Parts are CSV, or
+        Parquet if that is asked for."""
+        path, database = (os.path.join(self.folder, f"table.{it}") for it in ("parquet", "sqlite"))
+        for name, modules in arrow.tried():
+            with self.subTest(pyarrow=name), mock.patch.dict(sys.modules, modules):
+                self.run_with(Here(), why=False)
+                expected = [{heading: tables.value(heading, it) for heading, it in row.items()}
+                            for row in self.rows()]
+                self.assertEqual(len(expected), 6)
+                for form in (tables.CSV, tables.PARQUET):
+                    shutil.rmtree(self.out)
+                    self.run_with(Here(), why=False, form=form)
+                    self.assertEqual({it.rpartition(".")[2] for it in os.listdir(
+                        os.path.join(self.out, "entries"))}, {form})
+                    parquet.write(self.out, path)
+                    found = tables.parquet_module().read_table(path)
+                    self.assertEqual(found.to_pylist(), expected)
+                    self.assertEqual(json.loads(found.schema.metadata[b"run"]), self.record())
+                    databases.write(self.out, database)
+                    with closing(sqlite3.connect(database)) as opened:
+                        held = opened.execute("SELECT * FROM entries").fetchall()
+                    self.assertEqual(held, [tuple(it.values()) for it in expected])
+                shutil.rmtree(self.out)
 
     def test_no_parquet(self):
         with mock.patch.dict(sys.modules, {"pyarrow": None}):
-            self.assertEqual(tables.default_format(), tables.CSV)
             with self.assertRaisesRegex(tables.NoParquet, "pip install pyarrow"):
                 self.run_with(Here(), form=tables.PARQUET)
             self.assertFalse(os.path.exists(self.out))

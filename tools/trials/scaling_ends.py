@@ -31,6 +31,36 @@ FEW_FILES, MOST_BEFORE = 3000, 60
 MOST_REASONS, NO_VOUCHER = 20, re.compile(r"at target to [0-9a-f]{64} not linked: no voucher")
 # A module in the place of Dask.
 NO_DASK = "raise ImportError('No module named dask')"
+# Errors that end a run, the status of each, and the last line that is written then.
+OF_COMMAND = "an error of this command; please report it (SECURITY.md)"
+STATUSES = (("ValueError('a')", 71, OF_COMMAND), ("AssertionError()", 71, OF_COMMAND),
+            ("MemoryError()", 6, "out of memory"),
+            ("RuntimeError('can\\'t start new thread')", 6, "out of memory"),
+            ("OSError(12, 'Cannot allocate memory', 'a')", 6, "out of memory"),
+            ("FileNotFoundError(2, 'No such file', 'malloc failure')", 4,
+             "cannot read malloc failure: No such file"),
+            ("OSError('Timed out')", 9, "Timed out"), ("running.Lost('a')", 9, "a"),
+            ("writing.CannotWrite('a')", 7, "a"), ("trees.BadTreeHead('a')", 10, "a"),
+            ("anchors.BadAnchors('a')", 3, "a"), ("signatures.BadLine('a')", 5, "a"),
+            ("program.Missing('a')", 70, "a"), ("tables.NoParquet('a')", 70, "a"),
+            ("jobs.Different('a')", 2, "a"),
+            ("it.Ended(15)", 143, "ended by SIGTERM; --resume goes on with what is done"))
+# The command line as it ends by each of the errors that it is given.
+ENDS = """
+import contextlib, io, sys
+from certpath.inventory import __main__ as it
+from certpath.inventory import anchors, jobs, program, running, signatures, tables, trees, writing
+
+def made(words):
+    raise error
+
+it.made = made
+for error in map(eval, sys.argv[1:]):
+    said = io.StringIO()
+    with contextlib.redirect_stderr(said):
+        status = it.main(["a", "--anchors", "b", "--out", "c"])
+    print(status, "Traceback" in said.getvalue(), said.getvalue().splitlines()[-1])
+"""
 
 
 def ended_by(interpreter, whole, out, words, number, status, pattern):
@@ -141,6 +171,17 @@ def without_dask(count, interpreter, room):
                   f"without Dask: {words}: status {ran.returncode}, {ran.stdout}")
 
 
+def statuses(count, interpreter):
+    """Each error that ends a run has its status and one line; one of the command itself has a
+    traceback, and a status of its own."""
+    ran = subprocess.run([interpreter, "-c", ENDS, *(it for it, _, _ in STATUSES)], text=True,
+                         env={**os.environ, "PYTHONPATH": os.path.join(repo.TOP, "python"),
+                              "PYTHONDONTWRITEBYTECODE": "1"}, stdin=subprocess.DEVNULL,
+                         stdout=subprocess.PIPE, stderr=subprocess.PIPE, check=False)
+    wanted = [f"{status} {status == 71} inventory: {line}" for _, status, line in STATUSES]
+    count.same(f"errors that end a run: {ran.stderr}", ran.stdout.splitlines(), wanted)
+
+
 def localhosts(path, number):
     """Writes certificates of one name, each issued by itself with a key of its own."""
     with open(path, "wb") as file:
@@ -158,15 +199,14 @@ def has_reasons(row, further):
             and all(map(NO_VOUCHER.fullmatch, lines)))
 
 
-def one_name(count, interpreter, few, room, number=SAME_NAME, most=MOST_SECONDS):
+def one_name(count, interpreter, few, room, number=SAME_NAME, most=MOST_SECONDS, words=()):
     """Many certificates of one name have reasons within a bounded time; gives the seconds of a
     processor."""
-    path = os.path.join(room, "one-name.der")
+    path, out = (os.path.join(room, f"one-name-{len(words)}{it}") for it in (".der", ""))
     localhosts(path, number)
     before = resource.getrusage(resource.RUSAGE_CHILDREN)
     begun = time.monotonic()
-    run = Run(interpreter, few.log._replace(files=[path]), os.path.join(room, "one-name"),
-              "--workers", "1").wait()
+    run = Run(interpreter, few.log._replace(files=[path]), out, *words, "--workers", "1").wait()
     after = resource.getrusage(resource.RUSAGE_CHILDREN)
     took = after.ru_utime + after.ru_stime - before.ru_utime - before.ru_stime
     rows = rows_of(run.out)
@@ -191,31 +231,43 @@ def one_entry_files(folder, number):
             file.write(front + (first + it).to_bytes(4, "big") + back)
 
 
-def many_files(count, interpreter, few, room, number):
-    """Many files of one entry are begun with soon; gives the run, in which a block was read."""
-    folder = os.path.join(room, "many-files")
-    one_entry_files(folder, number)
+def many_files(count, interpreter, few, room, number, by_list=False):
+    """Many files of one entry are begun with soon, by their folder or by a list of their names;
+    gives the run, in which a block was read."""
+    folder, listed = (os.path.join(room, it) for it in ("many-files", "many-files.txt"))
+    if not os.path.exists(folder):
+        one_entry_files(folder, number)
+        with open(listed, "w", encoding="ascii") as file:
+            file.writelines(f"{os.path.join(folder, it)}\n" for it in sorted(os.listdir(folder)))
+    files, words = ([], ["--files-from", listed]) if by_list else ([folder], [])
+    out = os.path.join(room, "of-a-list" if by_list else "of-a-folder")
     begun = time.monotonic()
-    run = Run(interpreter, few.log._replace(files=[folder]), os.path.join(room, "of-many-files"),
-              "--vouchers", few.log.vouchers, "--no-why", "--workers", "1")
+    run = Run(interpreter, few.log._replace(files=files), out, *words, "--vouchers",
+              few.log.vouchers, "--no-why", "--workers", "1")
     is_read = run.wait_for(("work", "0*.json"))
     took, within = seconds_of(run.process.pid), time.monotonic() - begun
-    said = (f"of {number} files {'the first' if is_read else 'no'} block was read after "
-            f"{took:.1f} s of a core, within {within:.1f} s")
+    said = (f"of {number} files, by {'a list' if by_list else 'their folder'}, "
+            f"{'the first' if is_read else 'no'} block was read after {took:.1f} s of a core, "
+            f"within {within:.1f} s")
     count.row(is_read and took < MOST_BEFORE, said)
     return run, said
 
 
 def all_of_many_files(count, interpreter, few, room):
-    run, _ = many_files(count, interpreter, few, room, FEW_FILES)
-    rows = rows_of(run.wait().out)
+    """A table of all of them, equal by the folder and by the list."""
+    runs = [many_files(count, interpreter, few, room, FEW_FILES, by_list)[0].wait()
+            for by_list in (False, True)]
+    rows = rows_of(runs[0].out)
     count.row(len({(it["file"], it["sha256"]) for it in rows}) == FEW_FILES == len(rows),
-              f"{FEW_FILES} files: {len(rows)} rows: {run.errors[-2000:]}")
+              f"{FEW_FILES} files: {len(rows)} rows: {runs[0].errors[-2000:]}")
+    count.row(octets_of(runs[0].out) == octets_of(runs[1].out),
+              f"another table by a list: {runs[1].errors[-2000:]}")
 
 
 def trial(count, interpreter, few, room):
     changed(count, interpreter, few, room)
     refused(count, interpreter, few, room)
     without_dask(count, interpreter, room)
+    statuses(count, interpreter)
     one_name(count, interpreter, few, room)
     all_of_many_files(count, interpreter, few, room)

@@ -38,28 +38,34 @@ def ends(count, interpreter, room, number):
     """The table of a run that nobody disturbs, and that of one that is ended twice and gone on
     with."""
     held = whole(room, number)
-    given = ["--vouchers", held.log.vouchers, "--blocksize", scaling.BLOCKSIZE]
-    one = Run(interpreter, held, os.path.join(room, "one"), *given, "--workers", "1").wait()
-    scaling.killed(count, interpreter, held, one, given, room)
-    scaling_ends.resumed(count, interpreter, held, one, given, room)
-    print(f"ends: {len(octets_of(one.out))} parts, {one.said}", end="")
+    for name, words in (("vouchers", ["--vouchers", held.log.vouchers]), ("openssl", [])):
+        inner, given = os.path.join(room, name), [*words, "--blocksize", scaling.BLOCKSIZE]
+        os.mkdir(inner)
+        one = Run(interpreter, held, os.path.join(inner, "one"), *given, "--workers", "1").wait()
+        scaling.killed(count, interpreter, held, one, given, inner)
+        scaling_ends.resumed(count, interpreter, held, one, given, inner)
+        print(f"ends, by {name}: {len(octets_of(one.out))} parts, {one.said}", end="", flush=True)
 
 
 def files(count, interpreter, room, number):
-    run, said = scaling_ends.many_files(count, interpreter, whole(room, scaling.FEW), room, number)
-    run.process.terminate()
-    run.wait()
-    print(f"files: {said}")
+    few = whole(room, scaling.FEW)
+    for by_list in (False, True):
+        run, said = scaling_ends.many_files(count, interpreter, few, room, number, by_list)
+        run.process.terminate()
+        run.wait()
+        print(f"files: {said}", flush=True)
 
 
 def names(count, interpreter, room, number):
     few = whole(room, scaling.FEW)
-    took = scaling_ends.one_name(count, interpreter, few, room, number, MOST_OF_NAMES)
-    print(f"names: {number} certificates took {took:.1f} s of a processor")
+    for words, most in NAMES:
+        took = scaling_ends.one_name(count, interpreter, few, room, number, most, words)
+        print(f"names: {number} certificates {' '.join(words)} took {took:.1f} s of a processor",
+              flush=True)
 
 
-# So many seconds of a processor certificates of one name may take.
-MOST_OF_NAMES = 10
+# So many seconds of a processor certificates of one name may take, in one block and in several.
+NAMES = ([], 10), (["--blocksize", "40000"], 20)
 # What is tried, and at which size.
 TRIALS = {"apart": (apart, 10_000), "ends": (ends, 10_000), "files": (files, 100_000),
           "names": (names, 1_000), "costs": (scaling_costs.trial, 10_000)}

@@ -55,7 +55,7 @@ def completed(settings: Settings) -> Settings:
     vouchers = settings.vouchers and os.path.abspath(settings.vouchers)
     return settings._replace(
         at=at.replace(microsecond=0), anchors=os.path.abspath(settings.anchors), vouchers=vouchers,
-        form=settings.form or tables.default_format(), program=program.found(settings.program))
+        program=program.found(settings.program))
 
 
 def asked(settings: Settings, files: List[str], held: anchors.Anchors,

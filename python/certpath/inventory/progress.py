@@ -11,6 +11,8 @@ OFTEN, SELDOM = 1.0, 60.0
 PATIENCE = 5.0
 # Goes back to the begin of a line, and clears it.
 CLEAR = "\r\x1b[K"
+# What most passes read or write.
+ENTRIES = "entries"
 
 
 def length_of(seconds: float) -> str:
@@ -22,21 +24,21 @@ def length_of(seconds: float) -> str:
 
 
 class Pass:
-    """How far a pass is."""
+    """How far a pass is: how much of its work is done, and how many things came of that."""
 
-    def __init__(self, name: str, octets: int, clock: Callable[[], float]):
-        self.name, self.octets, self.clock = name, octets, clock
-        self.begun, self.done, self.entries = clock(), 0, 0
+    def __init__(self, name: str, work: int, clock: Callable[[], float], things: str):
+        self.name, self.work, self.clock, self.things = name, work, clock, things
+        self.begun, self.done, self.count = clock(), 0, 0
 
-    def step(self, octets: int, entries: int):
-        """A block of so many octets is done, with so many entries."""
-        self.done, self.entries = self.done + octets, self.entries + entries
+    def step(self, work: int, count: int):
+        """So much of the work is done, by octets or by files, and so many things came of it."""
+        self.done, self.count = self.done + work, self.count + count
 
     def line(self, now: datetime) -> str:
         took = max(self.clock() - self.begun, 0.001)
-        part = self.done / self.octets if self.octets else 1.0
-        pace = self.entries / took
-        said = f"{self.name}: {part:.0%}, {self.entries} entries, {pace:.0f} a second"
+        part = self.done / self.work if self.work else 1.0
+        pace = self.count / took
+        said = f"{self.name}: {part:.0%}, {self.count} {self.things}, {pace:.0f} a second"
         if not 0 < part < 1:
             return said
         left = took / part - took
@@ -47,8 +49,8 @@ class Pass:
 class Silent:
     """In the place of Progress: shows nothing."""
 
-    def begin(self, name: str, octets: int) -> Pass:
-        return Pass(name, octets, time.monotonic)
+    def begin(self, name: str, work: int, things: str = ENTRIES) -> Pass:
+        return Pass(name, work, time.monotonic, things)
 
 
 class Progress:
@@ -77,8 +79,8 @@ class Progress:
         self.thread.join(PATIENCE)
         self.clear()
 
-    def begin(self, name: str, octets: int) -> Pass:
-        begun = self.now = Pass(name, octets, self.clock)
+    def begin(self, name: str, work: int, things: str = ENTRIES) -> Pass:
+        begun = self.now = Pass(name, work, self.clock, things)
         return begun
 
     def clear(self):

@@ -9,6 +9,7 @@ from .. import library
 from .blocks import Block
 from .files import digest_of, opened
 from .jobs import MOMENT, RECORD, Plan, State, store
+from .probe import fingerprint
 from .ranges import Range
 from .trees import count_of
 from .work import Survey
@@ -35,6 +36,7 @@ def versions(program: str) -> Dict[str, str]:
             pass
     with opened(program) as file:
         found["program_sha256"] = digest_of(file)
+    found["package_sha256"] = fingerprint()
     return found
 
 

@@ -10,7 +10,7 @@ from .blocks import Block, blocks_of
 from .entries import Place
 from .files import Cut
 from .jobs import Different, Plan, State, planned
-from .progress import Silent
+from .progress import ENTRIES, Silent
 from .ranges import Range, covered
 from .work import ISSUERS, WORK, Fault, Part, Settings, Survey
 from .writing import CannotWrite
@@ -99,21 +99,23 @@ class Run:
             future = futures.pop()
             yield (argument, *given(future))
 
-    def shown(self, name: str, results: Iterable[tuple], entries: Callable) -> Iterator[tuple]:
-        """Results of blocks, whose progress is shown."""
-        shown = self.progress.begin(name, sum(it.length for it in self.blocks))
+    def shown(self, name: str, results: Iterable[tuple], count: Callable,
+              things: str = ENTRIES) -> Iterator[tuple]:
+        """Results of blocks, whose progress is shown with how many things came of them."""
+        shown = self.progress.begin(name, sum(it.length for it in self.blocks), things)
         for block, result, error in results:
-            shown.step(block.length, 0 if error else entries(result))
+            shown.step(block.length, 0 if error else count(result))
             yield block, result, error
 
     def cut(self) -> List[Cut]:
         """All files as they are cut; OSError where one can't be read."""
         files = self.plan.files
         groups = [files[it:it + FILES_OF_TASK] for it in range(0, len(files), FILES_OF_TASK)]
-        found = []
-        for _, cuts, error in self.results(work.cut, groups, self.job):
+        shown, found = self.progress.begin("cutting", len(files), "files"), []
+        for group, cuts, error in self.results(work.cut, groups, self.job):
             if error:
                 raise error
+            shown.step(len(group), len(group))
             found += cuts
         return found
 
@@ -148,7 +150,9 @@ class Run:
 
     def candidates(self) -> Iterator[index.Candidate]:
         """What may issue or revoke, in the order of everything."""
-        for block, found, error in self.results(work.candidates, self.blocks, self.job):
+        results = self.results(work.candidates, self.blocks, self.job)
+        for block, found, error in self.shown("index", results, lambda it: len(it.candidates),
+                                              "issuers and lists"):
             if error:
                 self.unanswered.add(block.number)
                 self.faults.add(at_front(block, f"its issuers are left out: {said_of(error)}"))
@@ -241,7 +245,7 @@ def given(future) -> tuple:
     if isinstance(error, CannotWrite):
         raise error
     if isinstance(error, ImportError):
-        raise Lost(f"a worker hasn't the package certpath: {said_of(error)}") from error
+        raise Lost(f"a worker lacks a module: {said_of(error)}") from error
     return result, error
 
 

@@ -26,15 +26,6 @@ def parquet_module():
     return pyarrow.parquet
 
 
-def default_format() -> str:
-    """Parquet where pyarrow is installed, CSV otherwise."""
-    try:
-        parquet_module()
-    except NoParquet:
-        return CSV
-    return PARQUET
-
-
 def value(heading: str, held: Union[str, int, None]) -> Union[str, int, None]:
     """What is in a column of a database or of Parquet; None where the row doesn't have it."""
     if held is None or held == "":

@@ -7,7 +7,7 @@ from datetime import datetime
 from ..items import LIMIT
 from ..openssl import MOST_TRIES
 from .blocks import BLOCKSIZE
-from .tables import WRITERS
+from .tables import CSV, WRITERS
 
 LARGEST = 4294967295
 MODULE = "python3 -m certpath.inventory"
@@ -94,7 +94,8 @@ def parser() -> argparse.ArgumentParser:
                       help="write the table as a database of SQLite, too: a new file")
     made.add_argument("--parquet", default="", metavar="FILE",
                       help="write the entries as one file of Parquet, too: a new file")
-    made.add_argument("--format", dest="form", choices=[*WRITERS], default="", help="of the table")
+    made.add_argument("--format", dest="form", choices=[*WRITERS], default=CSV,
+                      help="of the parts of the table; Parquet needs pyarrow")
     add_judging(made)
     add_running(made)
     return made

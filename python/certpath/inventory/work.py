@@ -45,8 +45,8 @@ class Settings(NamedTuple):
     """The file of a log's tree head, with which the entries are compared; empty for none."""
     ranges: bool = False
     """Whether the names of answers end with the numbers of their first and last entry."""
-    form: str = ""
-    """The format of the table; empty for Parquet where pyarrow is installed, CSV otherwise."""
+    form: str = tables.CSV
+    """The format of the table: CSV, or Parquet where pyarrow is installed."""
     program: str = ""
     """The program `certpath`; empty for the one beside the library, or on the path."""
 
@@ -311,7 +311,9 @@ def asked_of(index: Index, targets: List[Target], job: Job) -> Asked:
     if given.vouchers is not None:
         keys = signatures.given(index, shard.items)
     else:
-        keys = signatures.verified(shard.bundle, anchors, given.limit, given.weak, given.tries)
+        shared = {it.item for it in index.closure({it.issuer for it in targets})}
+        keys = signatures.verified(shard.bundle, anchors, given.limit, given.weak, given.tries,
+                                   shared)
     words = ["--at", moment(given.at), "--limit", str(given.limit)]
     words += ["--demand-lists"] if given.demand_lists else []
     return Asked(given.program, job.anchor_file, digests_of(anchors, given.limit), words, keys)
