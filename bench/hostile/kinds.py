@@ -11,7 +11,7 @@ def square(name, times=300):
 # Reaches that change from row to row, and what is kept to look up paths by them; positions of
 # paths; lines of `questions`; rows that `recheck` reads; entries that are looked up for many keys.
 ROWS = square("rows")
-LOOKED_UP = Known("rows", growth=7, times=600)
+LOOKED_UP = Known("rows", growth=8, times=600)
 PATHS = square("paths")
 QUESTIONS = square("questions", 5_000)
 EVIDENCE = square("evidence")
@@ -24,12 +24,9 @@ ITEMS = Known("items", times=280)
 ELEMENTS = Known("elements", times=93)
 # What ./bundle says of each item that it leaves out.
 LEFT_OUT = Known("left out", times=110)
-# What OpenSSL holds of one item, and how often it is asked to verify a signature.
-OPENSSL = Known("OpenSSL", times=70)
+# How often OpenSSL is asked to verify a signature.
 VERIFICATIONS = Known("verifications", growth=2.8, times=30, seconds=20.0)
-# The same with RSA keys of 16,384 bits, of which 16 have to be read at each size.
+# Keys of RSA with 16,384 bits, of which 16 have to be read at each size.
 LARGE_KEYS = Known("verifications", growth=4, times=30, seconds=100.0)
-# What Python keeps of each item, and of each answer until it is printed; and files that are given
-# up when the seconds are over.
+# What Python keeps of each item, and of each answer until it is printed.
 OBJECTS = Known("objects", times=130, least=120_000_000)
-SECONDS = Known("seconds", growth=8, times=60, seconds=10)

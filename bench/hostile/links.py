@@ -4,10 +4,10 @@ from math import isqrt
 from family import Files, also, family, of_octets
 from graphs import (ANCHOR, COMMON_KEY, LEAF, NOWHERE, ROOT, ROOT_KEY, X, chain_path, lists,
                     own_keys, rising)
-from kinds import EVIDENCE, ITEMS, LISTS, LOOKED_UP, PATHS, WHY
+from kinds import EVIDENCE, ITEMS, LISTS, LOOKED_UP, WHY
 from parts import (certificate, element, entry, extension, integer, key, name, revocation_list,
                    voucher, vouchers_by_all)
-from reports import SQUARE
+from reports import LONG_PATHS, SQUARE
 
 # Sizes for reports that look at each two items and each list.
 CUBE = {"sizes": (25, 50, 100, 200), "small": (25, 50)}
@@ -172,11 +172,11 @@ def ring_free(count):
     return Files(items, [ANCHOR], [voucher(COMMON_KEY, it) for it in items])
 
 
-also("paths", "ring-up", **SQUARE, known=PATHS)
+also("paths", "ring-up", **LONG_PATHS)
 also("paths", "ring-free")
 
 
-@family("paths-evidence", "a chain of n, with its evidence", "paths", **SQUARE, known=PATHS,
+@family("paths-evidence", "a chain of n, with its evidence", "paths", **LONG_PATHS,
         words=("--evidence", "evidence-out"))
 def paths_evidence(count):
     return chain_path(count)

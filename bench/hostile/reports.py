@@ -7,13 +7,16 @@ from signed import KEY, ROOT, X, issuers, signed_by_none
 # Sizes for reports that look at each pair of items.
 SQUARE = {"sizes": (250, 500, 1_000, 2_000), "small": (100, 400)}
 
+# Sizes at which paths that are printed whole take more than what is read.
+LONG_PATHS = {"sizes": (1_000, 2_000, 4_000, 8_000), "small": (100, 400), "known": PATHS}
+
 also("why", "keys-none", "ids-never", "self-serials", **SQUARE, known=WHY)
 also("why", "lists-none", "lists-vouched", known=WHY)
 also("why", "chain-path")
 also("why", "copies-keys", known=WHY)
 also("why", "chain-none", "no-issuers", "list-long", "list-keys", "names-alike", "extensions", "attributes", "entries")
 
-also("paths", "chain-path", "chain-beside", **SQUARE, known=PATHS)
+also("paths", "chain-path", "chain-beside", **LONG_PATHS)
 also("paths", "rises", "rises-ids", sizes=(750, 1_500, 3_000, 6_000), small=(250, 1_000), known=LOOKED_UP)
 also("paths", "copies-keys", "chain-none", "keys-each", "issuers-each", "anchors-equal", "ids-different", "list-long", "list-keys",
      "self-copies", "no-issuers")

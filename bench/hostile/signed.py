@@ -1,7 +1,7 @@
 """Families for ./vouch: keys that OpenSSL can read, and signatures that it finds wrong."""
 import slow_keys
 from family import UNLIMITED, Files, family, of_octets
-from kinds import ELEMENTS, LARGE_KEYS, OPENSSL, VERIFICATIONS
+from kinds import ELEMENTS, LARGE_KEYS, VERIFICATIONS
 from one_item import MANY, ONE_ITEM, attribute, identifier
 from parts import (ECDSA_SHA256, FIRST, LAST, VALIDITY, VERSION_3, element, entry, extension, integer, key_ids, name, p256_keys,
                    small_certificate, wrong_signature)
@@ -9,7 +9,8 @@ from parts import (ECDSA_SHA256, FIRST, LAST, VALIDITY, VERSION_3, element, entr
 X, LEAF, ROOT = name("x"), name("leaf"), name("root")
 KEY = next(p256_keys(1))
 # Each item costs up to 16 verifications of some 0.1 ms, so that a file of 1 MB takes more than 2 seconds.
-SIGNED = {"sizes": (1_250, 2_500, 5_000, 10_000), "small": (100, 400), "known": VERIFICATIONS}
+FREE = {"sizes": (1_250, 2_500, 5_000, 10_000), "small": (100, 400)}
+SIGNED = {**FREE, "known": VERIFICATIONS}
 
 
 def signed_by_none(subject, issuer, public, number):
@@ -60,7 +61,7 @@ def vouch_ids_never(count):
     return with_ids(count, lambda it: it, lambda it: count + it)
 
 
-@family("vouch-copies", "n/2 copies of a leaf, and n/2 issuers of one name, a P-256 key each", "vouch", **SIGNED)
+@family("vouch-copies", "n/2 copies of a leaf, and n/2 issuers of one name, a P-256 key each", "vouch", **FREE)
 def vouch_copies(count):
     return Files([signed_by_none(LEAF, X, KEY, 1)] * (count // 2), issuers(count // 2))
 
@@ -78,14 +79,14 @@ def vouch_no_keys(count):
     return Files([signed_by_none(LEAF, name("nowhere"), KEY, it) for it in range(count)])
 
 
-@family("vouch-entries", "one list with n entries, signed by none", "vouch", **MANY, words=UNLIMITED, known=OPENSSL)
+@family("vouch-entries", "one list with n entries, signed by none", "vouch", **MANY, words=UNLIMITED, known=ELEMENTS)
 def vouch_entries(count):
     rows = element(0x30, b"".join(entry(integer(it)) for it in range(count)))
     signed = element(0x30, ECDSA_SHA256, X, FIRST, LAST, rows)
     return Files([ended(signed, 1)], [signed_by_none(X, X, KEY, 1)])
 
 
-@family("vouch-extensions", "one certificate with n extensions, signed by none", "vouch", **MANY, known=OPENSSL)
+@family("vouch-extensions", "one certificate with n extensions, signed by none", "vouch", **MANY, known=ELEMENTS)
 def vouch_extensions(count):
     item = of_version_3(LEAF, KEY, 1, b"".join(extension(identifier(it), b"") for it in range(count)))
     return Files([item], [signed_by_none(X, X, KEY, 1)])
@@ -113,10 +114,6 @@ def vouch_parts(size):
     return Files([element(0x30, b"\x05\x00" * (size // 2 - 100))])
 
 
-# Sizes as those of the others, of families that miss nothing.
-FREE = {"sizes": SIGNED["sizes"], "small": SIGNED["small"]}
-
-
 def with_compressed(subject, issuer, count):
     """Certificates that have a key each on a curve of its own."""
     return [signed_by_none(subject, issuer, slow_keys.compressed(it), it) for it in range(count)]
@@ -134,7 +131,7 @@ def vouch_ec_idle(count):
     return Files(with_compressed(LEAF, name("nowhere"), count))
 
 
-@family("vouch-many-names", "n/2 leaves, and n/2 issuers of a name each", "vouch", **SIGNED)
+@family("vouch-many-names", "n/2 leaves, and n/2 issuers of a name each", "vouch", **FREE)
 def vouch_many_names(count):
     names = [name(f"x{it}") for it in range(count // 2)]
     keys = zip(names, p256_keys(len(names)))
