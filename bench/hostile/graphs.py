@@ -216,15 +216,34 @@ def in_row(number, place, **further):
     return certificate(X, X, COMMON_KEY, number, named=place.to_bytes(4, "big"), **further)
 
 
+def row_of_ids(count):
+    """So many self-issued certificates in a row, by key identifiers, the last one from the root; and beside each of them one that all
+    are issued by, whose path length is its place. With the line of the root's key."""
+    first, places = certificate(X, ROOT, COMMON_KEY, own=bytes(4)), range(1, count)
+    row = [in_row(it, it - 1, own=it.to_bytes(4, "big")) for it in places]
+    beside = [in_row(count + it, it - 1, limit=it) for it in places]
+    return [first, *row, *beside], [voucher(ROOT_KEY, first), *(voucher(COMMON_KEY, it) for it in row + beside)]
+
+
 @family("rises-ids", "n/2 self-issued certificates in a row, by key identifiers, and beside each one that all are issued by, whose path "
         "length is its place: the reach of each rises in each round up to its own", **RISING)
 def rises_ids(count):
-    places = range(1, count // 2)
-    first = certificate(X, ROOT, COMMON_KEY, own=bytes(4))
-    row = [in_row(it, it - 1, own=it.to_bytes(4, "big")) for it in places]
-    beside = [in_row(count + it, it - 1, limit=it) for it in places]
-    lines = [voucher(ROOT_KEY, first), *(voucher(COMMON_KEY, it) for it in row + beside)]
-    return Files([certificate(LEAF, NOWHERE, COMMON_KEY), first, *row, *beside], [ANCHOR], lines)
+    items, lines = row_of_ids(count // 2)
+    return Files([certificate(LEAF, NOWHERE, COMMON_KEY), *items], [ANCHOR], lines)
+
+
+@family("stairs", "n/5 leaves below n/5 certificates in a row, and these below such a row: of n/5 path lengths none is enough for them",
+        sizes=(1_000, 2_000, 4_000, 8_000), small=(500, 2_000), known=ROWS)
+def stairs(count):
+    side = count // 5
+    items, lines = row_of_ids(side)
+    names = [name(f"d{it:07}") for it in range(side)]
+    below = [certificate(LEAF, names[0], COMMON_KEY, it) for it in range(side)]
+    below += [certificate(*it, COMMON_KEY) for it in zip(names, names[1:])]
+    below.append(certificate(names[-1], X, COMMON_KEY, named=(side - 1).to_bytes(4, "big")))
+    places = [0, *range(side, 2 * side), *range(3 * side - 1, 2 * side - 1, -1)]
+    answer = f"path {' '.join(map(str, places))} anchor 0"
+    return Files([*below, *items], [ANCHOR], lines + [voucher(COMMON_KEY, it) for it in below], answer)
 
 
 @family("self-copies", "n copies of one self-issued certificate")

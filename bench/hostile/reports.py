@@ -1,6 +1,6 @@
 """Families for `why`, `paths` and ./verify: over files that were made for `path`, and over certificates with signatures in their form."""
 from family import FAMILIES, Files, also, family
-from kinds import LOOKED_UP, OBJECTS, PATHS, QUESTIONS, WHY, WHY_OF_VERIFY
+from kinds import LOOKED_UP, OBJECTS, PATHS, QUESTIONS, STAIRS, WHY, WHY_OF_VERIFY
 from parts import name, p256_keys
 from signed import KEY, ROOT, X, issuers, signed_by_none
 
@@ -18,6 +18,7 @@ also("why", "chain-none", "no-issuers", "list-long", "list-keys", "names-alike",
 
 also("paths", "chain-path", "chain-beside", **LONG_PATHS)
 also("paths", "rises", "rises-ids", sizes=(750, 1_500, 3_000, 6_000), small=(250, 1_000), known=LOOKED_UP)
+also("paths", "stairs", sizes=(500, 1_000, 2_000, 4_000), small=(250, 1_000), known=STAIRS)
 also("paths", "copies-keys", "chain-none", "keys-each", "issuers-each", "anchors-equal", "ids-different", "list-long", "list-keys",
      "self-copies", "no-issuers")
 
