@@ -1,11 +1,11 @@
 """What a family of files is: its name, its command, its sizes, and how its files are made."""
 from typing import Callable, NamedTuple
 
-ITEMS, SMALL_ITEMS = (12_500, 25_000, 50_000, 100_000), (1_000, 4_000)
+ITEMS, SMALL_ITEMS = (12_500, 25_000, 50_000, 100_000), (4_000, 16_000)
 MEGABYTE = 1_000_000
 # So much memory is no miss, however few octets are read. (Python and OpenSSL alone take 25 MB.)
 LEAST_MEMORY = 40 * MEGABYTE
-OCTETS, SMALL_OCTETS = tuple(MEGABYTE * it for it in (4, 8, 16, 32)), (125_000, 500_000)
+OCTETS, SMALL_OCTETS = tuple(MEGABYTE * it for it in (4, 8, 16, 32)), (500_000, 2_000_000)
 
 # For items above the 16,777,216 content octets that are allowed if no limit is given.
 UNLIMITED = ("--limit", "4294967295")

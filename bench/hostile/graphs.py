@@ -93,7 +93,7 @@ def long_list(count):
     return revocation_list(X, b"".join(entry(integer(count + it)) for it in range(10 * count)))
 
 
-@family("list-long", "a list of 10 n entries, and n certificates of its issuer", small=(500, 2_000), words=UNLIMITED)
+@family("list-long", "a list of 10 n entries, and n certificates of its issuer", small=(2_000, 8_000), words=UNLIMITED)
 def list_long(count):
     signed = [*own_keys(count, LEAF, X), long_list(count)]
     issuer = certificate(X, ROOT, COMMON_KEY)
@@ -101,7 +101,7 @@ def list_long(count):
     return Files([*signed, issuer], [ANCHOR], lines, f"path 0 {count + 1} anchor 0")
 
 
-@family("list-keys", "a list of 10 n entries, and n keys of its issuer that all vouch for it", small=(250, 1_000), words=UNLIMITED)
+@family("list-keys", "a list of 10 n entries, and n keys of its issuer that all vouch for it", small=(1_000, 4_000), words=UNLIMITED)
 def list_keys(count):
     found = long_list(count)
     issuers = own_keys(count, X, ROOT)
@@ -111,7 +111,7 @@ def list_keys(count):
 
 
 @family("list-leaves", "a list of 10 n entries, n keys of its issuer that all vouch for it, and a leaf below each key",
-        small=(250, 1_000), words=UNLIMITED)
+        small=(1_000, 4_000), words=UNLIMITED)
 def list_leaves(count):
     found = long_list(count)
     leaves, issuers = own_keys(count, LEAF, X), own_keys(count, X, ROOT)
@@ -184,7 +184,7 @@ def ladder(count):
     return Files([certificate(LEAF, NOWHERE, COMMON_KEY), *items], [ANCHOR], lines)
 
 
-RISING = {"sizes": (1_500, 3_000, 6_000, 12_000), "small": (500, 2_000), "known": ROWS}
+RISING = {"sizes": (1_500, 3_000, 6_000, 12_000), "small": (3_000, 12_000), "known": ROWS}
 
 
 def rising(steps):
@@ -233,7 +233,7 @@ def rises_ids(count):
 
 
 @family("stairs", "n/5 leaves below n/5 certificates in a row, and these below such a row: of n/5 path lengths none is enough for them",
-        sizes=(1_000, 2_000, 4_000, 8_000), small=(500, 2_000), known=ROWS)
+        sizes=(1_000, 2_000, 4_000, 8_000), small=(1_500, 6_000), known=ROWS)
 def stairs(count):
     side = count // 5
     items, lines = row_of_ids(side)

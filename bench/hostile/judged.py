@@ -6,7 +6,7 @@ from parts import element, entry, integer, name, p256_keys, revocation_list, sma
 from reports import ANCHOR
 from signed import KEY, LEAF, ROOT, X, signed_by_none
 
-SIZES = {"command": "verify", "sizes": (500, 1_000, 2_000, 4_000), "small": (50, 200),
+SIZES = {"command": "verify", "sizes": (500, 1_000, 2_000, 4_000), "small": (250, 1_000),
          "by_read": True, "known": OBJECTS}
 TWO_SECONDS = ("--seconds", "2", "--json")
 # Octets of a name beyond any that a certificate needs, and of a subject for each key of its issuer.

@@ -10,7 +10,7 @@ from parts import (certificate, element, entry, extension, integer, key, name, r
 from reports import LONG_PATHS, SQUARE
 
 # Sizes for reports that look at each two items and each list.
-CUBE = {"sizes": (25, 50, 100, 200), "small": (25, 50)}
+CUBE = {"sizes": (25, 50, 100, 200), "small": (25, 100)}
 ROW, BELOW, EMPTY = name("row"), name("below"), element(0x30)
 
 
@@ -83,7 +83,7 @@ def why_issuers(count):
 
 @family("paths-rises-chain",
         "n/2 self-issued certificates in a row, below a ladder of n/4 path lengths", "paths",
-        sizes=(375, 750, 1_500, 3_000), small=(250, 500), known=LOOKED_UP)
+        sizes=(375, 750, 1_500, 3_000), small=(500, 2_000), known=LOOKED_UP)
 def paths_rises_chain(count):
     items, lines = rising(count // 4)
     row = own_keys(count // 2, ROW, ROW)
@@ -128,7 +128,7 @@ def copies_anchors(count):
 
 
 @family("keys-lists", "k keys of one name that all vouch for k lists of k entries, and k leaves below "
-        "each key, n = 2 k^2 lines in all", unit="lines", small=(5_000, 20_000), known=LISTS)
+        "each key, n = 2 k^2 lines in all", unit="lines", small=(10_000, 40_000), known=LISTS)
 def keys_lists(count):
     side = isqrt(count // 2)
     issuers = own_keys(side, X, ROOT)
@@ -197,7 +197,7 @@ def recheck_rows_small(octets):
 @family("recheck-rows-links", "certificates of one name, of which all keys vouch for all, and evidence "
         "of as many rows as lines, of which every other one takes back what one said of a leaf",
         "recheck", unit="lines",
-        sizes=(2_000, 4_000, 8_000, 16_000), small=(2_000, 8_000), known=EVIDENCE)
+        sizes=(2_000, 4_000, 8_000, 16_000), small=(4_000, 16_000), known=EVIDENCE)
 def recheck_rows_links(count):
     items, leaf = own_keys(isqrt(count)), certificate(LEAF, NOWHERE, COMMON_KEY)
     rows = f"row\n{len(items)} any\nrow\n{len(items)} no\n".encode() * (count // 2)

@@ -30,7 +30,7 @@ def with_subject(*sets):
     return assembled(element(0x30, integer(1), ALGORITHM, X, VALIDITY, element(0x30, *sets), KEY))
 
 
-MANY = {"sizes": (125_000, 250_000, 500_000, 1_000_000), "small": (10_000, 40_000), "unit": "parts"}
+MANY = {"sizes": (125_000, 250_000, 500_000, 1_000_000), "small": (40_000, 160_000), "unit": "parts"}
 LONG = {"sizes": (2, 4, 8, 16), "small": (1, 4), "unit": "identifiers"}
 ONE_ITEM = tuple(MOST * it // 8 for it in (1, 2, 4, 8))
 

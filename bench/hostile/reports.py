@@ -1,29 +1,30 @@
 """Families for `why`, `paths` and ./verify: over files that were made for `path`, and over certificates with signatures in their form."""
 from family import FAMILIES, Files, also, family
-from kinds import LOOKED_UP, OBJECTS, PATHS, QUESTIONS, STAIRS, WHY, WHY_OF_VERIFY
+from kinds import ELEMENTS, LOOKED_UP, OBJECTS, PATHS, QUESTIONS, STAIRS, WHY, WHY_OF_VERIFY
 from parts import name, p256_keys
 from signed import KEY, ROOT, X, issuers, signed_by_none
 
 # Sizes for reports that look at each pair of items.
-SQUARE = {"sizes": (250, 500, 1_000, 2_000), "small": (100, 400)}
+SQUARE = {"sizes": (250, 500, 1_000, 2_000), "small": (500, 2_000)}
 
 # Sizes at which paths that are printed whole take more than what is read.
-LONG_PATHS = {"sizes": (1_000, 2_000, 4_000, 8_000), "small": (100, 400), "known": PATHS}
+LONG_PATHS = {"sizes": (1_000, 2_000, 4_000, 8_000), "small": (1_000, 4_000), "known": PATHS}
 
 also("why", "keys-none", "ids-never", "self-serials", **SQUARE, known=WHY)
 also("why", "lists-none", "lists-vouched", known=WHY)
 also("why", "chain-path")
 also("why", "copies-keys", known=WHY)
-also("why", "chain-none", "no-issuers", "list-long", "list-keys", "names-alike", "extensions", "attributes", "entries")
+also("why", "chain-none", "no-issuers", "list-long", "list-keys", "names-alike")
+also("why", "extensions", "attributes", "entries", known=ELEMENTS)
 
 also("paths", "chain-path", "chain-beside", **LONG_PATHS)
-also("paths", "rises", "rises-ids", sizes=(750, 1_500, 3_000, 6_000), small=(250, 1_000), known=LOOKED_UP)
-also("paths", "stairs", sizes=(500, 1_000, 2_000, 4_000), small=(250, 1_000), known=STAIRS)
+also("paths", "rises", "rises-ids", sizes=(750, 1_500, 3_000, 6_000), small=(1_500, 6_000), known=LOOKED_UP)
+also("paths", "stairs", sizes=(500, 1_000, 2_000, 4_000), small=(1_000, 4_000), known=STAIRS)
 also("paths", "copies-keys", "chain-none", "keys-each", "issuers-each", "anchors-equal", "ids-different", "list-long", "list-keys",
      "self-copies", "no-issuers")
 
 also("questions", "keys-none", **SQUARE, known=QUESTIONS)
-also("questions", "issuers-each", sizes=(1_000, 2_000, 4_000, 8_000), known=QUESTIONS)
+also("questions", "issuers-each", sizes=(1_000, 2_000, 4_000, 8_000), small=(500, 2_000), known=QUESTIONS)
 also("questions", "no-issuers", "chain-none")
 
 
@@ -45,7 +46,7 @@ def recheck_rows(count):
     return without_path(count, count)
 
 
-SIGNED = {"command": "verify", "sizes": (1_250, 2_500, 5_000, 10_000), "small": (100, 400), "known": OBJECTS, "by_read": True}
+SIGNED = {"command": "verify", "sizes": (1_250, 2_500, 5_000, 10_000), "small": (250, 1_000), "known": OBJECTS, "by_read": True}
 ANCHOR = signed_by_none(ROOT, ROOT, KEY, 1)
 
 

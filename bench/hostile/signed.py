@@ -9,7 +9,7 @@ from parts import (ECDSA_SHA256, FIRST, LAST, VALIDITY, VERSION_3, element, entr
 X, LEAF, ROOT = name("x"), name("leaf"), name("root")
 KEY = next(p256_keys(1))
 # Each item costs up to 16 verifications of some 0.1 ms, so that a file of 1 MB takes more than 2 seconds.
-FREE = {"sizes": (1_250, 2_500, 5_000, 10_000), "small": (100, 400)}
+FREE = {"sizes": (1_250, 2_500, 5_000, 10_000), "small": (200, 800)}
 SIGNED = {**FREE, "known": VERIFICATIONS}
 
 

@@ -8,7 +8,7 @@ from parts import certificate, drawn, drawn_lines, element, key, name, voucher
 
 X, KEY = name("x"), key(1)
 ITEM, LEAF = certificate(X, X, KEY), certificate(name("leaf"), X, key(2))
-LINES = {"unit": "lines", "sizes": (125_000, 250_000, 500_000, 1_000_000), "small": (10_000, 40_000)}
+LINES = {"unit": "lines", "sizes": (125_000, 250_000, 500_000, 1_000_000), "small": (40_000, 160_000)}
 
 
 def with_lines(lines):
