@@ -1,9 +1,11 @@
 """What a family of files is: its name, its command, its sizes, and how its files are made."""
 from typing import Callable, NamedTuple
 
-ITEMS, SMALL_ITEMS = (12_500, 25_000, 50_000, 100_000), (1_000, 4_000)
+ITEMS, SMALL_ITEMS = (12_500, 25_000, 50_000, 100_000), (4_000, 16_000)
 MEGABYTE = 1_000_000
-OCTETS, SMALL_OCTETS = tuple(MEGABYTE * it for it in (4, 8, 16, 32)), (125_000, 500_000)
+# So much memory is no miss, however few octets are read. (Python and OpenSSL alone take 25 MB.)
+LEAST_MEMORY = 40 * MEGABYTE
+OCTETS, SMALL_OCTETS = tuple(MEGABYTE * it for it in (4, 8, 16, 32)), (500_000, 2_000_000)
 
 # For items above the 16,777,216 content octets that are allowed if no limit is given.
 UNLIMITED = ("--limit", "4294967295")
@@ -20,17 +22,13 @@ class Files(NamedTuple):
 
 
 class Known(NamedTuple):
-    """A miss that docs/COST.md states: why, and what isn't missed by more: how many times the time at a doubling, how many octets of memory
-    for each octet read, and how many seconds for a file of 1 MB."""
-    why: str
+    """A miss that docs/COST.md bounds: its name there, and what isn't missed by more: how many times the time at a doubling, how many
+    octets of memory for each octet read, how many seconds for a file of 1 MB, and how many octets of memory don't count."""
+    name: str
     growth: float = 2.4
     times: float = 16
     seconds: float = 2.0
-
-
-def square(why, times=300):
-    """A miss of what takes four times the time, or the memory, or both, at a doubling."""
-    return Known(why, 5.5, times, 10.0)
+    least: int = LEAST_MEMORY
 
 
 class Family(NamedTuple):

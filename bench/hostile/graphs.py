@@ -1,11 +1,10 @@
 """Families of many small items: names, keys, key identifiers, lists, chains, ladders and copies."""
 from math import isqrt
 
-from family import UNLIMITED, Files, family, square
-from parts import (certificate, element, entry, integer, key, name, revocation_list, small_certificate, voucher)
+from family import UNLIMITED, Files, family
+from kinds import ROWS
+from parts import (certificate, element, entry, integer, key, name, revocation_list, small_certificate, voucher, vouchers_by_all)
 
-# A square that docs/COST.md states.
-ROWS = square("an answer has a row of all items for each certificate of its path")
 X, LEAF, ROOT, NOWHERE = name("x"), name("leaf"), name("root"), name("nowhere")
 ROOT_KEY, COMMON_KEY = key(2**40), key(2**41)
 ANCHOR = certificate(ROOT, ROOT, ROOT_KEY)
@@ -94,7 +93,7 @@ def long_list(count):
     return revocation_list(X, b"".join(entry(integer(count + it)) for it in range(10 * count)))
 
 
-@family("list-long", "a list of 10 n entries, and n certificates of its issuer", small=(500, 2_000), words=UNLIMITED)
+@family("list-long", "a list of 10 n entries, and n certificates of its issuer", small=(2_000, 8_000), words=UNLIMITED)
 def list_long(count):
     signed = [*own_keys(count, LEAF, X), long_list(count)]
     issuer = certificate(X, ROOT, COMMON_KEY)
@@ -102,21 +101,21 @@ def list_long(count):
     return Files([*signed, issuer], [ANCHOR], lines, f"path 0 {count + 1} anchor 0")
 
 
-@family("list-keys", "a list of 10 n entries, and n keys of its issuer that all vouch for it", small=(250, 1_000), words=UNLIMITED)
+@family("list-keys", "a list of 10 n entries, and n keys of its issuer that all vouch for it", small=(1_000, 4_000), words=UNLIMITED)
 def list_keys(count):
     found = long_list(count)
     issuers = own_keys(count, X, ROOT)
     leaf = certificate(LEAF, X, ROOT_KEY)
-    lines = [voucher(key(it), found) for it in range(count)] + [voucher(key(0), leaf)] + [voucher(ROOT_KEY, it) for it in issuers]
+    lines = [*vouchers_by_all(count, found), voucher(key(0), leaf)] + [voucher(ROOT_KEY, it) for it in issuers]
     return Files([leaf, found, *issuers], [ANCHOR], lines, "path 0 2 anchor 0")
 
 
 @family("list-leaves", "a list of 10 n entries, n keys of its issuer that all vouch for it, and a leaf below each key",
-        small=(250, 1_000), words=UNLIMITED)
+        small=(1_000, 4_000), words=UNLIMITED)
 def list_leaves(count):
     found = long_list(count)
     leaves, issuers = own_keys(count, LEAF, X), own_keys(count, X, ROOT)
-    lines = [voucher(key(it), found) for it in range(count)] + vouched(leaves) + [voucher(ROOT_KEY, it) for it in issuers]
+    lines = vouchers_by_all(count, found) + vouched(leaves) + [voucher(ROOT_KEY, it) for it in issuers]
     return Files([*leaves, found, *issuers], [ANCHOR], lines, f"path 0 {count + 1} anchor 0")
 
 
@@ -148,7 +147,7 @@ def by_common_key(items, *others):
     return [voucher(COMMON_KEY, it) for it in items[:-1]] + [voucher(ROOT_KEY, items[-1]), *others]
 
 
-@family("chain-path", "a chain of n, with its path", known=ROWS)
+@family("chain-path", "a chain of n, with its path")
 def chain_path(count):
     items = chain(count, ROOT)
     return Files(items, [ANCHOR], by_common_key(items), f"path {' '.join(map(str, range(count)))} anchor 0")
@@ -166,8 +165,7 @@ def chain_beside(count):
     return Files([certificate(LEAF, NOWHERE, COMMON_KEY), *items], [ANCHOR], by_common_key(items))
 
 
-@family("chain-keys", "a chain of n self-issued certificates of one name, each signed by the next one's key; with its path",
-        known=ROWS)
+@family("chain-keys", "a chain of n self-issued certificates of one name, each signed by the next one's key; with its path")
 def chain_keys(count):
     items = own_keys(count)
     return Files(items, [certificate(X, X, key(count))], vouched(items, 1), f"path {' '.join(map(str, range(count)))} anchor 0")
@@ -184,6 +182,9 @@ def ladder(count):
     items = rails(count // 2)
     lines = [voucher(COMMON_KEY, it) for it in items[:-2]] + [voucher(ROOT_KEY, it) for it in items[-2:]]
     return Files([certificate(LEAF, NOWHERE, COMMON_KEY), *items], [ANCHOR], lines)
+
+
+RISING = {"sizes": (1_500, 3_000, 6_000, 12_000), "small": (3_000, 12_000), "known": ROWS}
 
 
 def rising(steps):
@@ -203,11 +204,46 @@ def ladder_rungs(count):
 
 
 @family("rises", "n/2 certificates below such a ladder of n/4 steps: the reach of each of them rises in each round",
-        sizes=(1_500, 3_000, 6_000, 12_000), small=(500, 2_000), known=square("a reach rises at n/2 items in n/4 rounds"))
+        **RISING)
 def rises(count):
     items, lines = rising(count // 4)
     below = own_keys(count // 2, LEAF, X)
     return Files([certificate(LEAF, NOWHERE, COMMON_KEY), *items, *below], [ANCHOR], lines + [voucher(COMMON_KEY, it) for it in below])
+
+
+def in_row(number, place, **further):
+    """A self-issued certificate that names the key identifier of a place in a row."""
+    return certificate(X, X, COMMON_KEY, number, named=place.to_bytes(4, "big"), **further)
+
+
+def row_of_ids(count):
+    """So many self-issued certificates in a row, by key identifiers, the last one from the root; and beside each of them one that all
+    are issued by, whose path length is its place. With the line of the root's key."""
+    first, places = certificate(X, ROOT, COMMON_KEY, own=bytes(4)), range(1, count)
+    row = [in_row(it, it - 1, own=it.to_bytes(4, "big")) for it in places]
+    beside = [in_row(count + it, it - 1, limit=it) for it in places]
+    return [first, *row, *beside], [voucher(ROOT_KEY, first), *(voucher(COMMON_KEY, it) for it in row + beside)]
+
+
+@family("rises-ids", "n/2 self-issued certificates in a row, by key identifiers, and beside each one that all are issued by, whose path "
+        "length is its place: the reach of each rises in each round up to its own", **RISING)
+def rises_ids(count):
+    items, lines = row_of_ids(count // 2)
+    return Files([certificate(LEAF, NOWHERE, COMMON_KEY), *items], [ANCHOR], lines)
+
+
+@family("stairs", "n/5 leaves below n/5 certificates in a row, and these below such a row: of n/5 path lengths none is enough for them",
+        sizes=(1_000, 2_000, 4_000, 8_000), small=(1_500, 6_000), known=ROWS)
+def stairs(count):
+    side = count // 5
+    items, lines = row_of_ids(side)
+    names = [name(f"d{it:07}") for it in range(side)]
+    below = [certificate(LEAF, names[0], COMMON_KEY, it) for it in range(side)]
+    below += [certificate(*it, COMMON_KEY) for it in zip(names, names[1:])]
+    below.append(certificate(names[-1], X, COMMON_KEY, named=(side - 1).to_bytes(4, "big")))
+    places = [0, *range(side, 2 * side), *range(3 * side - 1, 2 * side - 1, -1)]
+    answer = f"path {' '.join(map(str, places))} anchor 0"
+    return Files([*below, *items], [ANCHOR], lines + [voucher(COMMON_KEY, it) for it in below], answer)
 
 
 @family("self-copies", "n copies of one self-issued certificate")
@@ -222,8 +258,7 @@ def self_serials(count):
     return Files(items, [ANCHOR], [voucher(COMMON_KEY, it) for it in items])
 
 
-@family("copies-keys", "n/2 copies of one certificate, and n/2 keys of its issuer that all vouch for it",
-        known=square("each copy is linked to each key"))
+@family("copies-keys", "n/2 copies of one certificate, and n/2 keys of its issuer that all vouch for it")
 def copies_keys(count):
     half = count // 2
     leaf, issuers = certificate(LEAF, X, COMMON_KEY), own_keys(half, X, ROOT)

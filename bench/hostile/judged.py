@@ -1,18 +1,14 @@
 """Families for ./verify in all its forms, over files that nobody has to sign for the attacker."""
 import slow_keys
-from family import Files, Known, family
-from graphs import ROWS
+from family import Files, family
+from kinds import OBJECTS, WHY_OF_VERIFY
 from parts import element, entry, integer, name, p256_keys, revocation_list, small_certificate
-from reports import ANCHOR, PAIRS
+from reports import ANCHOR
 from signed import KEY, LEAF, ROOT, X, signed_by_none
 
-# What ./verify takes beside what it reads.
-OBJECTS = Known("Python's objects for each item", times=60)
-SIZES = {"command": "verify", "sizes": (500, 1_000, 2_000, 4_000), "small": (50, 200),
+SIZES = {"command": "verify", "sizes": (500, 1_000, 2_000, 4_000), "small": (250, 1_000),
          "by_read": True, "known": OBJECTS}
-# Files that are given up, whatever they hold, after the seconds that the words allow.
-GIVEN_UP = Known("the seconds that the run may take", growth=8, times=60, seconds=5)
-SECONDS = ("--seconds", "2", "--json")
+TWO_SECONDS = ("--seconds", "2", "--json")
 # Octets of a name beyond any that a certificate needs, and of a subject for each key of its issuer.
 LONG_NAME, OF_SUBJECT = 20_000, 60
 FORMS = {"lists": ("--json",), "lists-html": ("--html", "-"), "lists-text": ("--limit", "16777216")}
@@ -66,28 +62,27 @@ for form, words in FORMS.items():
         return Files([leaf, *keys_of(X, ROOT, count)], [ANCHOR])
 
 
-@of_verify("name-dot", "n certificates of one name (--dot)", "--dot", known=PAIRS,
-           sizes=(100, 200, 400, 800), small=(50, 200))
+@of_verify("name-dot", "n certificates of one name (--dot)", "--dot", known=WHY_OF_VERIFY,
+           sizes=(100, 200, 400, 800), small=(50, 200), statuses=(1, 9))
 def name_dot(count):
     return Files(keys_of(X, X, count), [ANCHOR])
 
 
-@of_verify("chain-dot", "n certificates, each issued by the next one's subject (--dot)", "--dot",
-           known=ROWS)
+@of_verify("chain-dot", "n certificates, each issued by the next one's subject (--dot)", "--dot")
 def chain_dot(count):
     names = [name(f"c{it:07}") for it in range(count + 1)]
     return Files([signed_by_none(*it, KEY, 1) for it in zip(names, names[1:])], [ANCHOR])
 
 
 @of_verify("ec-compressed", "n certificates \"x from x\", a key each on a curve of its own",
-           known=PAIRS, sizes=(100, 200, 400, 800))
+           known=WHY_OF_VERIFY, sizes=(100, 200, 400, 800), statuses=(1, 9))
 def ec_compressed(count):
     items = (signed_by_none(X, X, slow_keys.compressed(it), it) for it in range(count))
     return Files([*items], [ANCHOR])
 
 
-@of_verify("iterations", "a PKCS #12 file that wants 2^31-1 iterations", *SECONDS, statuses=(9,),
-           sizes=(1, 2, 4, 8), small=(1, 2), known=GIVEN_UP)
+@of_verify("iterations", "a PKCS #12 file that wants 2^31-1 iterations", *TWO_SECONDS, statuses=(9,),
+           sizes=(1, 2, 4, 8), small=(1, 2), known=None)
 def iterations(_):
     safe = element(0x30, DATA, element(0xA0, element(0x04, element(0x30, b""))))
     digest = element(0x30, SHA1, element(0x04, bytes(20)))
@@ -95,8 +90,8 @@ def iterations(_):
     return Files([element(0x30, integer(3), safe, mac)], [ANCHOR])
 
 
-@of_verify("few-slow", "n certificates of one name, an RSA key of 16,384 bits each, all tried", *SECONDS,
-           statuses=(1, 9), sizes=(20, 40, 80, 160), small=(10, 40), known=GIVEN_UP)
+@of_verify("few-slow", "n certificates of one name, an RSA key of 16,384 bits each, all tried", *TWO_SECONDS,
+           statuses=(1, 9), sizes=(20, 40, 80, 160), small=(10, 40), known=None)
 def few_slow(count):
     algorithm, signature = slow_keys.RSA_SHA256, slow_keys.signed_by_rsa
     items = (small_certificate(X, X, slow_keys.large_rsa(it), algorithm, signature(it), it)
@@ -104,8 +99,8 @@ def few_slow(count):
     return Files([*items], [ANCHOR])
 
 
-@of_verify("seven", "a PKCS #7 file of n certificates, a key each on a curve of its own", *SECONDS,
-           sizes=(5, 10, 20, 40), small=(2, 8))
+@of_verify("seven", "a PKCS #7 file of n certificates, a key each on a curve of its own", "--json",
+           sizes=(5, 10, 20, 40), small=(2, 8), known=None)
 def seven(count):
     items = (signed_by_none(X, X, slow_keys.compressed(it), it) for it in range(count))
     signed = element(0x30, integer(1), element(0x31, b""), element(0x30, DATA),

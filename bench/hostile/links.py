@@ -1,22 +1,22 @@
 """Families of links with lists, path lengths and rings, of several commands."""
 from math import isqrt
 
-from family import Files, also, family, of_octets, square
-from graphs import (ANCHOR, COMMON_KEY, LEAF, NOWHERE, ROOT, ROOT_KEY, ROWS, X, chain_path, lists,
-                    own_keys, rising, vouched)
+from family import Files, also, family, of_octets
+from graphs import (ANCHOR, COMMON_KEY, LEAF, NOWHERE, ROOT, ROOT_KEY, X, chain_path, lists,
+                    own_keys, rising)
+from kinds import EVIDENCE, ITEMS, LISTS, LOOKED_UP, WHY
 from parts import (certificate, element, entry, extension, integer, key, name, revocation_list,
-                   voucher)
-from reports import PAIRS, PATHS, RISES, ROWS_READ, SQUARE
+                   voucher, vouchers_by_all)
+from reports import LONG_PATHS, SQUARE
 
 # Sizes for reports that look at each two items and each list.
-CUBE = {"sizes": (25, 50, 100, 200), "small": (25, 50)}
-COPIES = square("each copy is used for each key of its issuer")
+CUBE = {"sizes": (25, 50, 100, 200), "small": (25, 100)}
 ROW, BELOW, EMPTY = name("row"), name("below"), element(0x30)
 
 
 def all_vouch(count, *items):
     """A line for each of so many keys and each item."""
-    return [voucher(key(it), item) for it in range(count) for item in items]
+    return [line for item in items for line in vouchers_by_all(count, item)]
 
 
 def linked(count):
@@ -26,7 +26,7 @@ def linked(count):
 
 
 @family("why-links-lists", "n certificates of one name and key, and n used lists that have them all",
-        "why", **CUBE, known=square("each link is looked at for each list that revokes", 20_000))
+        "why", **CUBE, known=WHY)
 def why_links_lists(count):
     items, lines = linked(count)
     rows = b"".join(entry(integer(it + 1)) for it in range(count))
@@ -36,7 +36,7 @@ def why_links_lists(count):
 
 @family("why-links-entries",
         "n certificates of one name and key, and one used list of n entries of others", "why",
-        **SQUARE, known=PAIRS)
+        **SQUARE, known=WHY)
 def why_links_entries(count):
     items, lines = linked(count)
     found = revocation_list(X, b"".join(entry(integer(1_000_000 + it)) for it in range(count)))
@@ -44,7 +44,7 @@ def why_links_entries(count):
 
 
 @family("why-bounds", "n/2 certificates that n/2 issuers of path length 0 hold back", "why",
-        **SQUARE, known=PAIRS)
+        **SQUARE, known=WHY)
 def why_bounds(count):
     half = count // 2
     held = [certificate(X, BELOW, COMMON_KEY, it + 1) for it in range(half)]
@@ -83,7 +83,7 @@ def why_issuers(count):
 
 @family("paths-rises-chain",
         "n/2 self-issued certificates in a row, below a ladder of n/4 path lengths", "paths",
-        sizes=(375, 750, 1_500, 3_000), small=(250, 500), known=RISES)
+        sizes=(375, 750, 1_500, 3_000), small=(500, 2_000), known=LOOKED_UP)
 def paths_rises_chain(count):
     items, lines = rising(count // 4)
     row = own_keys(count // 2, ROW, ROW)
@@ -93,8 +93,7 @@ def paths_rises_chain(count):
     return Files([certificate(LEAF, NOWHERE, COMMON_KEY), *items, *row, top], [ANCHOR], lines)
 
 
-@family("copies-lists", "n/2 copies of one list, and n/2 keys of its issuer that all vouch for it",
-        known=COPIES)
+@family("copies-lists", "n/2 copies of one list, and n/2 keys of its issuer that all vouch for it")
 def copies_lists(count):
     half = count // 2
     found, leaf = lists(1)[0], certificate(LEAF, X, COMMON_KEY)
@@ -112,7 +111,7 @@ def copies_of_both(count):
 
 
 @family("copies-leaves-lists", "n/4 copies of a leaf and of a list each, and n/2 keys of their issuer "
-        "that all vouch for both", known=COPIES)
+        "that all vouch for both")
 def copies_leaves_lists(count):
     quarter = count // 4
     bundle, lines = copies_of_both(quarter)
@@ -122,20 +121,24 @@ def copies_leaves_lists(count):
 
 
 @family("copies-anchors", "n/4 copies of a leaf and of a list each, and n/2 anchors whose keys all "
-        "vouch for both", known=COPIES)
+        "vouch for both")
 def copies_anchors(count):
     bundle, lines = copies_of_both(count // 4)
     return Files(bundle, own_keys(2 * (count // 4)), lines, "path 0 anchor 0")
 
 
-@family("keys-lists", "keys of one name that all vouch for as many lists, n lines in all, and a leaf "
-        "below each key", unit="lines", known=square("v lines and E entries take v sqrt(E) look-ups"))
+@family("keys-lists", "k keys of one name that all vouch for k lists of k entries, and k leaves below "
+        "each key, n = 2 k^2 lines in all", unit="lines", small=(10_000, 40_000), known=LISTS)
 def keys_lists(count):
-    side = isqrt(count)
-    found, issuers, leaves = lists(side), own_keys(side, X, ROOT), own_keys(side, LEAF, X)
-    lines = all_vouch(side, *found) + vouched(leaves)
+    side = isqrt(count // 2)
+    issuers = own_keys(side, X, ROOT)
+    numbers = range(side * side)
+    entries = [entry(integer(1_000_000 + it)) for it in numbers]
+    found = [revocation_list(X, b"".join(entries[it::side])) for it in range(side)]
+    leaves = [certificate(LEAF, X, COMMON_KEY, it) for it in numbers]
+    lines = all_vouch(side, *found) + [voucher(key(it % side), leaves[it]) for it in numbers]
     lines += [voucher(ROOT_KEY, it) for it in issuers]
-    return Files([*leaves, *found, *issuers], [ANCHOR], lines, f"path 0 {2 * side} anchor 0")
+    return Files([*leaves, *found, *issuers], [ANCHOR], lines, f"path 0 {side * (side + 1)} anchor 0")
 
 
 def ring(count, step):
@@ -147,7 +150,7 @@ def ring(count, step):
 
 
 @family("ring-up", "a ring of n, each issued by the next, whose last one an anchor issued too; with "
-        "its path", known=ROWS)
+        "its path")
 def ring_up(count):
     items, anchor = ring(count, 1)
     lines = [voucher(COMMON_KEY, it) for it in items] + [voucher(ROOT_KEY, items[-1])]
@@ -155,7 +158,7 @@ def ring_up(count):
 
 
 @family("ring-down", "a ring of n, each issued by the one before it, whose second one an anchor "
-        "issued too; with its path", known=ROWS)
+        "issued too; with its path")
 def ring_down(count):
     items, anchor = ring(count, -1)
     lines = [voucher(COMMON_KEY, it) for it in items] + [voucher(ROOT_KEY, items[1])]
@@ -169,11 +172,11 @@ def ring_free(count):
     return Files(items, [ANCHOR], [voucher(COMMON_KEY, it) for it in items])
 
 
-also("paths", "ring-up", **SQUARE, known=PATHS)
+also("paths", "ring-up", **LONG_PATHS)
 also("paths", "ring-free")
 
 
-@family("paths-evidence", "a chain of n, with its evidence", "paths", **SQUARE, known=PATHS,
+@family("paths-evidence", "a chain of n, with its evidence", "paths", **LONG_PATHS,
         words=("--evidence", "evidence-out"))
 def paths_evidence(count):
     return chain_path(count)
@@ -184,7 +187,7 @@ HEAD, OF_ROW = b"certpath evidence 1\n", 21
 
 
 @of_octets("recheck-rows-2", "items of two octets, and evidence of as many rows, which nobody needs",
-           "recheck", other=None)
+           "recheck", other=None, known=ITEMS)
 def recheck_rows_small(octets):
     count = octets // OF_ROW
     evidence = [HEAD, b"no certificate\n" * count, b"row\n" * count]
@@ -192,9 +195,11 @@ def recheck_rows_small(octets):
 
 
 @family("recheck-rows-links", "certificates of one name, of which all keys vouch for all, and evidence "
-        "of as many rows as lines", "recheck", unit="lines",
-        sizes=(1_000, 2_000, 4_000, 8_000), small=(500, 2_000), known=ROWS_READ)
+        "of as many rows as lines, of which every other one takes back what one said of a leaf",
+        "recheck", unit="lines",
+        sizes=(2_000, 4_000, 8_000, 16_000), small=(4_000, 16_000), known=EVIDENCE)
 def recheck_rows_links(count):
-    items = own_keys(isqrt(count))
-    evidence = [HEAD, b"none\n" * len(items), b"row\n" * count]
-    return Files(items, [ANCHOR], all_vouch(len(items), *items), evidence=evidence)
+    items, leaf = own_keys(isqrt(count)), certificate(LEAF, NOWHERE, COMMON_KEY)
+    rows = f"row\n{len(items)} any\nrow\n{len(items)} no\n".encode() * (count // 2)
+    evidence = [HEAD, b"none\n" * (len(items) + 1), rows]
+    return Files([*items, leaf], [ANCHOR], all_vouch(len(items), *items), evidence=evidence)

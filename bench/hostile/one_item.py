@@ -1,5 +1,6 @@
 """Families of one large item, the target: many extensions, attributes or entries, long identifiers, and deep nesting."""
-from family import UNLIMITED, Files, Known, family, of_octets
+from family import UNLIMITED, Files, family, of_octets
+from kinds import ELEMENTS, ITEMS
 from parts import (ALGORITHM, VALIDITY, VERSION_3, assembled, certificate, drawn, element, entry, extension, integer, key, name,
                    revocation_list, voucher)
 
@@ -29,19 +30,17 @@ def with_subject(*sets):
     return assembled(element(0x30, integer(1), ALGORITHM, X, VALIDITY, element(0x30, *sets), KEY))
 
 
-# Many small parts take more than 16 times their octets in memory, as docs/COST.md states.
-SMALL_PARTS = Known("memory for each small part", times=300)
-MANY = {"sizes": (125_000, 250_000, 500_000, 1_000_000), "small": (10_000, 40_000), "unit": "parts"}
+MANY = {"sizes": (125_000, 250_000, 500_000, 1_000_000), "small": (40_000, 160_000), "unit": "parts"}
 LONG = {"sizes": (2, 4, 8, 16), "small": (1, 4), "unit": "identifiers"}
 ONE_ITEM = tuple(MOST * it // 8 for it in (1, 2, 4, 8))
 
 
-@family("extensions", "one certificate with n extensions, all different", **MANY, known=SMALL_PARTS)
+@family("extensions", "one certificate with n extensions, all different", **MANY, known=ELEMENTS)
 def extensions_different(count):
     return target(with_extensions(extension(identifier(it), b"") for it in range(count)))
 
 
-@family("extensions-equal", "one certificate with n extensions, all equal", **MANY, known=SMALL_PARTS)
+@family("extensions-equal", "one certificate with n extensions, all equal", **MANY, known=ELEMENTS)
 def extensions_equal(count):
     return target(with_extensions([extension(identifier(1), b"")] * count))._replace(answer="none")
 
@@ -52,12 +51,12 @@ def attribute(number):
     return element(0x30, bytes.fromhex("0603550403"), element(0x0C, letters))
 
 
-@family("attributes", "one certificate with n attributes in one set of its subject", **MANY, known=SMALL_PARTS)
+@family("attributes", "one certificate with n attributes in one set of its subject", **MANY, known=ELEMENTS)
 def attributes(count):
     return target(with_subject(element(0x31, *map(attribute, range(count)))))
 
 
-@family("attribute-sets", "one certificate with n sets of one attribute in its subject", **MANY, known=SMALL_PARTS)
+@family("attribute-sets", "one certificate with n sets of one attribute in its subject", **MANY, known=ELEMENTS)
 def attribute_sets(count):
     return target(with_subject(*(element(0x31, attribute(it)) for it in range(count))))
 
@@ -86,21 +85,21 @@ def identifiers_alike(count):
     return target(with_extensions(extension(front + identifier(it)[1:], b"") for it in range(count // 512)))
 
 
-@family("entries", "one list with n entries", **MANY, words=UNLIMITED, known=SMALL_PARTS)
+@family("entries", "one list with n entries", **MANY, words=UNLIMITED, known=ELEMENTS)
 def entries(count):
     found = revocation_list(X, b"".join(entry(integer(it)) for it in range(count)))
     leaf = certificate(name("leaf"), X, KEY, 2**40)
     return Files([leaf, found], [ANCHOR], [voucher(KEY, leaf), voucher(KEY, found)], "path 0 anchor 0")
 
 
-@family("entries-equal", "one list with n equal entries", **MANY, words=UNLIMITED, known=SMALL_PARTS)
+@family("entries-equal", "one list with n equal entries", **MANY, words=UNLIMITED, known=ELEMENTS)
 def entries_equal(count):
     found = revocation_list(X, entry(integer(7)) * count)
     leaf = certificate(name("leaf"), X, KEY, 2**40)
     return Files([leaf, found], [ANCHOR], [voucher(KEY, leaf), voucher(KEY, found)], "path 0 anchor 0")
 
 
-@family("entries-reasons", "one list with n entries, each with a reason", **MANY, words=UNLIMITED, known=SMALL_PARTS)
+@family("entries-reasons", "one list with n entries, each with a reason", **MANY, words=UNLIMITED, known=ELEMENTS)
 def entries_reasons(count):
     reason = element(0x30, extension(b"\x55\x1d\x15", b"\x0a\x01\x04"))
     found = revocation_list(X, b"".join(entry(integer(it), reason) for it in range(count)), version=b"\x02\x01\x01")
@@ -167,17 +166,29 @@ def nested_value(size):
     return target(with_extensions([extension(b"\x2a\x03", deep(size - 2 * FRAME))]))
 
 
-@of_octets("parts", "an item of NULLs alone", other=None, sizes=ONE_ITEM, known=SMALL_PARTS)
+@of_octets("parts", "an item of NULLs alone", other=None, sizes=ONE_ITEM, known=ELEMENTS)
 def parts(size):
     return Files([element(0x30, b"\x05\x00" * ((size - FRAME) // 2))], [ANCHOR], [], "no target")
 
 
-@of_octets("parts-within", "a certificate with NULLs alone in an attribute's value", sizes=ONE_ITEM, known=SMALL_PARTS)
+@of_octets("parts-33", "an item of SEQUENCEs of 33 NULLs each, one more than a vector of 32 holds", other=None, sizes=ONE_ITEM,
+           known=ELEMENTS)
+def parts_33(size):
+    return Files([sequences_of_33(size)], [ANCHOR], [], "no target")
+
+
+def sequences_of_33(size):
+    """An item of SEQUENCEs of 33 NULLs each, of at most so many octets."""
+    one = element(0x30, b"\x05\x00" * 33)
+    return element(0x30, one * ((size - FRAME) // len(one)))
+
+
+@of_octets("parts-within", "a certificate with NULLs alone in an attribute's value", sizes=ONE_ITEM, known=ELEMENTS)
 def parts_within(size):
     return target(with_value(element(0x30, b"\x05\x00" * ((size - 2 * FRAME) // 2))))
 
 
-@of_octets("items-2", "items of two octets", other=None, known=SMALL_PARTS)
+@of_octets("items-2", "items of two octets", other=None, known=ITEMS)
 def items_2(size):
     return Files([b"\x30\x00" * (size // 2)], [ANCHOR], [], "no target")
 

@@ -95,6 +95,12 @@ def voucher(public, item):
     return f"{digest(public)} {digest(item)}\n".encode()
 
 
+def vouchers_by_all(count, item):
+    """The lines that say that so many keys, from the first on, all signed an item. It is hashed once."""
+    signed = digest(item)
+    return [f"{digest(key(it))} {signed}\n".encode() for it in range(count)]
+
+
 def drawn(seed, size):
     """So many octets that look random, the same ones each time."""
     return hashlib.shake_256(str(seed).encode()).digest(size)

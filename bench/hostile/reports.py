@@ -1,35 +1,31 @@
 """Families for `why`, `paths` and ./verify: over files that were made for `path`, and over certificates with signatures in their form."""
-from family import FAMILIES, Files, also, family, square
-from graphs import ROWS
+from family import FAMILIES, Files, also, family
+from kinds import ELEMENTS, LOOKED_UP, OBJECTS, PATHS, QUESTIONS, STAIRS, WHY, WHY_OF_VERIFY
 from parts import name, p256_keys
 from signed import KEY, ROOT, X, issuers, signed_by_none
 
-# Squares that docs/COST.md states.
-PAIRS = square("each certificate is looked up under each key of its issuer's name", 5_000)
-LOOKED_UP = square("each list is looked up for each key of its issuer's name")
-LINKS = square("each copy is linked to each key")
-PATHS = square("each path is printed whole")
-RISES = square("a reach rises at n/2 items in n/4 rounds")
 # Sizes for reports that look at each pair of items.
-SQUARE = {"sizes": (250, 500, 1_000, 2_000), "small": (100, 400)}
+SQUARE = {"sizes": (250, 500, 1_000, 2_000), "small": (500, 2_000)}
 
-also("why", "keys-none", "ids-never", "self-serials", **SQUARE, known=PAIRS)
-also("why", "lists-none", "lists-vouched", known=LOOKED_UP)
-also("why", "chain-path", known=ROWS)
-also("why", "copies-keys", known=LINKS)
-also("why", "chain-none", "no-issuers", "list-long", "list-keys", "names-alike", "extensions", "attributes", "entries")
+# Sizes at which paths that are printed whole take more than what is read.
+LONG_PATHS = {"sizes": (1_000, 2_000, 4_000, 8_000), "small": (1_000, 4_000), "known": PATHS}
 
-also("paths", "chain-path", "chain-none", "chain-beside", **SQUARE, known=PATHS)
-also("paths", "copies-keys", known=LINKS)
-also("paths", "rises", sizes=(1_500, 3_000, 6_000, 12_000), small=(500, 2_000), known=RISES)
-also("paths", "keys-each", "issuers-each", "anchors-equal", "ids-different", "list-long", "list-keys", "self-copies", "no-issuers")
+also("why", "keys-none", "ids-never", "self-serials", **SQUARE, known=WHY)
+also("why", "lists-none", "lists-vouched", known=WHY)
+also("why", "chain-path")
+also("why", "copies-keys", known=WHY)
+also("why", "chain-none", "no-issuers", "list-long", "list-keys", "names-alike")
+also("why", "extensions", "attributes", "entries", known=ELEMENTS)
 
-ASKED = square("a line for each pair of an item and a key", 5_000)
-also("questions", "keys-none", **SQUARE, known=ASKED)
-also("questions", "issuers-each", known=ASKED)
+also("paths", "chain-path", "chain-beside", **LONG_PATHS)
+also("paths", "rises", "rises-ids", sizes=(750, 1_500, 3_000, 6_000), small=(1_500, 6_000), known=LOOKED_UP)
+also("paths", "stairs", sizes=(500, 1_000, 2_000, 4_000), small=(1_000, 4_000), known=STAIRS)
+also("paths", "copies-keys", "chain-none", "keys-each", "issuers-each", "anchors-equal", "ids-different", "list-long", "list-keys",
+     "self-copies", "no-issuers")
+
+also("questions", "keys-none", **SQUARE, known=QUESTIONS)
+also("questions", "issuers-each", sizes=(1_000, 2_000, 4_000, 8_000), small=(500, 2_000), known=QUESTIONS)
 also("questions", "no-issuers", "chain-none")
-
-ROWS_READ = square("the check looks at each link for each row that it reads", 16)
 
 
 def without_path(count, rows):
@@ -45,17 +41,17 @@ def recheck_none(count):
 
 
 @family("recheck-rows", "n certificates whose issuers aren't there, and evidence of n rows",
-        "recheck", **SQUARE, known=ROWS_READ)
+        "recheck", **SQUARE)
 def recheck_rows(count):
     return without_path(count, count)
 
 
-SIGNED = {"command": "verify", "sizes": (1_250, 2_500, 5_000, 10_000), "small": (100, 400)}
+SIGNED = {"command": "verify", "sizes": (1_250, 2_500, 5_000, 10_000), "small": (250, 1_000), "known": OBJECTS, "by_read": True}
 ANCHOR = signed_by_none(ROOT, ROOT, KEY, 1)
 
 
 @family("verify-keys", "n certificates \"x from x\", a P-256 key each, signed by none", "verify", sizes=(100, 200, 400, 800),
-        small=(50, 200), known=PAIRS)
+        small=(50, 200), known=WHY_OF_VERIFY, statuses=(1, 9), by_read=True)
 def verify_keys(count):
     return Files([signed_by_none(X, X, it, number) for number, it in enumerate(p256_keys(count))], [ANCHOR])
 

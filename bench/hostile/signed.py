@@ -1,19 +1,16 @@
 """Families for ./vouch: keys that OpenSSL can read, and signatures that it finds wrong."""
 import slow_keys
-from family import UNLIMITED, Files, Known, family, of_octets
+from family import UNLIMITED, Files, family, of_octets
+from kinds import ELEMENTS, LARGE_KEYS, VERIFICATIONS
 from one_item import MANY, ONE_ITEM, attribute, identifier
 from parts import (ECDSA_SHA256, FIRST, LAST, VALIDITY, VERSION_3, element, entry, extension, integer, key_ids, name, p256_keys,
                    small_certificate, wrong_signature)
 
-# What OpenSSL holds of one item.
-OF_OPENSSL = Known("some 250 octets of OpenSSL for each entry or extension of one item", times=70)
-# What the proved library holds while it reads one item.
-OF_TREES = Known("memory for each small part of one item, beside 25 MB of Python and OpenSSL", times=100)
 X, LEAF, ROOT = name("x"), name("leaf"), name("root")
 KEY = next(p256_keys(1))
-OF_RSA = Known("16 verifications an item, up to 6 ms each", growth=12, seconds=100.0)
 # Each item costs up to 16 verifications of some 0.1 ms, so that a file of 1 MB takes more than 2 seconds.
-SIGNED = {"sizes": (1_250, 2_500, 5_000, 10_000), "small": (100, 400), "known": Known("16 verifications an item", growth=2.8, seconds=20.0)}
+FREE = {"sizes": (1_250, 2_500, 5_000, 10_000), "small": (200, 800)}
+SIGNED = {**FREE, "known": VERIFICATIONS}
 
 
 def signed_by_none(subject, issuer, public, number):
@@ -64,7 +61,7 @@ def vouch_ids_never(count):
     return with_ids(count, lambda it: it, lambda it: count + it)
 
 
-@family("vouch-copies", "n/2 copies of a leaf, and n/2 issuers of one name, a P-256 key each", "vouch", **SIGNED)
+@family("vouch-copies", "n/2 copies of a leaf, and n/2 issuers of one name, a P-256 key each", "vouch", **FREE)
 def vouch_copies(count):
     return Files([signed_by_none(LEAF, X, KEY, 1)] * (count // 2), issuers(count // 2))
 
@@ -82,20 +79,20 @@ def vouch_no_keys(count):
     return Files([signed_by_none(LEAF, name("nowhere"), KEY, it) for it in range(count)])
 
 
-@family("vouch-entries", "one list with n entries, signed by none", "vouch", **MANY, words=UNLIMITED, known=OF_OPENSSL)
+@family("vouch-entries", "one list with n entries, signed by none", "vouch", **MANY, words=UNLIMITED, known=ELEMENTS)
 def vouch_entries(count):
     rows = element(0x30, b"".join(entry(integer(it)) for it in range(count)))
     signed = element(0x30, ECDSA_SHA256, X, FIRST, LAST, rows)
     return Files([ended(signed, 1)], [signed_by_none(X, X, KEY, 1)])
 
 
-@family("vouch-extensions", "one certificate with n extensions, signed by none", "vouch", **MANY, known=OF_OPENSSL)
+@family("vouch-extensions", "one certificate with n extensions, signed by none", "vouch", **MANY, known=ELEMENTS)
 def vouch_extensions(count):
     item = of_version_3(LEAF, KEY, 1, b"".join(extension(identifier(it), b"") for it in range(count)))
     return Files([item], [signed_by_none(X, X, KEY, 1)])
 
 
-@family("vouch-attributes", "one certificate with n attributes in one set of its subject", "vouch", **MANY, known=OF_TREES)
+@family("vouch-attributes", "one certificate with n attributes in one set of its subject", "vouch", **MANY, known=ELEMENTS)
 def vouch_attributes(count):
     subject = element(0x30, element(0x31, *map(attribute, range(count))))
     return Files([signed_by_none(subject, X, KEY, 1)], [signed_by_none(X, X, KEY, 1)])
@@ -112,13 +109,9 @@ def vouch_2(size):
     return Files([b"\x30\x00" * (size // 2)])
 
 
-@of_octets("vouch-parts", "an item of NULLs alone", "vouch", sizes=ONE_ITEM, known=OF_TREES)
+@of_octets("vouch-parts", "an item of NULLs alone", "vouch", sizes=ONE_ITEM, known=ELEMENTS)
 def vouch_parts(size):
     return Files([element(0x30, b"\x05\x00" * (size // 2 - 100))])
-
-
-# Sizes as those of the others, of families that miss nothing.
-FREE = {"sizes": SIGNED["sizes"], "small": SIGNED["small"]}
 
 
 def with_compressed(subject, issuer, count):
@@ -138,7 +131,7 @@ def vouch_ec_idle(count):
     return Files(with_compressed(LEAF, name("nowhere"), count))
 
 
-@family("vouch-many-names", "n/2 leaves, and n/2 issuers of a name each", "vouch", **SIGNED)
+@family("vouch-many-names", "n/2 leaves, and n/2 issuers of a name each", "vouch", **FREE)
 def vouch_many_names(count):
     names = [name(f"x{it}") for it in range(count // 2)]
     keys = zip(names, p256_keys(len(names)))
@@ -147,7 +140,7 @@ def vouch_many_names(count):
 
 
 @family("vouch-rsa", "16 issuers of one name, RSA keys of 16,384 bits, and n leaves", "vouch",
-        sizes=(25, 50, 100, 200), small=(2, 8), known=OF_RSA)
+        sizes=(25, 50, 100, 200), small=(2, 8), known=LARGE_KEYS)
 def vouch_rsa(count):
     roots = [signed_by_none(X, ROOT, slow_keys.large_rsa(it), it) for it in range(16)]
     algorithm, signature = slow_keys.RSA_SHA256, slow_keys.signed_by_rsa

@@ -1,14 +1,14 @@
 """Families of voucher files, of streams for `frame`, and of PEM and DER files for ./bundle."""
 import base64
 
-from family import Files, Known, family, of_octets
+from family import Files, family, of_octets
+from kinds import LEFT_OUT
 from one_item import deep
 from parts import certificate, drawn, drawn_lines, element, key, name, voucher
 
 X, KEY = name("x"), key(1)
 ITEM, LEAF = certificate(X, X, KEY), certificate(name("leaf"), X, key(2))
-REPORTED = Known("a line for each item that is left out", times=110)
-LINES = {"unit": "lines", "sizes": (125_000, 250_000, 500_000, 1_000_000), "small": (10_000, 40_000)}
+LINES = {"unit": "lines", "sizes": (125_000, 250_000, 500_000, 1_000_000), "small": (40_000, 160_000)}
 
 
 def with_lines(lines):
@@ -153,7 +153,7 @@ def bundle_high(size):
     return [pem(b"\x3f" + b"\x80" * (size * 3 // 4))]
 
 
-@of_octets("bundle-2", "items of two octets, each left out", "bundle", known=REPORTED)
+@of_octets("bundle-2", "items of two octets, each left out", "bundle", known=LEFT_OUT)
 def bundle_2(size):
     return [b"\x30\x00" * (size // 2)]
 

@@ -1,5 +1,6 @@
 """Bounds from outside: `ulimit -v`, `-t` and `-f`, and signals. A script that is short of memory
 says so in one line, with the status that is stated; no process and no cut file is left."""
+import errno
 import os
 import resource
 import signal
@@ -16,13 +17,21 @@ SECONDS = 600
 # So many seconds later a run has ended that is asked to. (It takes some hundredths of a second;
 # others may have the processors.)
 SOON = 10
+# So many seconds of a processor a run may take beside those that it has: it starts, and a program
+# may end in its last one.
+SOON_OVER = 1.5
+# How a run ends that has no seconds left, or a script whose program has none.
+ENDED_BY_TIME = {end for it in (signal.SIGXCPU, signal.SIGKILL) for end in (-it, 128 + it)}
+TOO_LARGE = os.strerror(errno.EFBIG)
+# So many octets hold all files of a run on the samples, and not its page.
+OF_FILES = 5_000
 MEGABYTE = 1 << 20
 SAMPLES = os.path.join(repo.TOP, "samples")
 FULL, LIST, ROOT, BUNDLE, ROOT_DER, VOUCHERS = (
     os.path.join(SAMPLES, it) for it in ("fullchain.pem", "list.pem", "root.pem", "bundle.der",
                                          "root.der", "vouchers.txt"))
 AT, DAY = ("--at", "2026-12-01T00:00:00"), ("--at", "2026-12-01")
-UNLIMITED = ("--limit", "4294967295")
+UNLIMITED, FEW = ("--limit", "4294967295"), ("--limit", "800")
 PATHS = ("paths", BUNDLE, ROOT_DER, VOUCHERS, *AT)
 # Command lines on the samples, and the statuses that say that there is no memory, or too little for
 # the library or a program.
@@ -45,6 +54,16 @@ ON_LARGE = (
 # what ./vouch or ./verify load; with the last one all are done. (What is between differs by the
 # machine; each of these sizes is away from where one of the commands begins to be done.)
 SOME_MEGABYTES, FEW_MEGABYTES, ENOUGH = (28, 30, 32, 36, 40, 44, 48, 56, 64, 80, 96), (28, 40, 64), 256
+# A PKCS #12 file without a certificate (RFC 7292, 4), of which the check of its MAC wants 2^31 - 1
+# iterations: four minutes of a processor. And how many of these a folder has.
+MANY_ITERATIONS = bytes.fromhex(
+    "304b020103301106092a864886f70d010701a0040402300030333021300906052b0e03021a05000414"
+    "00000000000000000000000000000000000000000408000000000000000002047fffffff")
+MANY_FILES = 50
+# What is said of a run that takes longer than it may.
+TOO_LONG = "verify: the run takes more than {} s of a processor, and has ended while openssl "
+# A command that reads its file to the end, which it hasn't.
+READS_ON = ("certpath", "path", "/dev/zero", ROOT_DER, VOUCHERS, "--target", "0", *AT)
 # What ./verify waits for: a program that doesn't end, and a call of a library that takes minutes.
 WAITING = '#!/bin/sh\necho $$ >>"$0.began"\nexec sleep 600\n'
 ENDLESS = """\
@@ -99,6 +118,11 @@ def script(name):
     return [sys.executable, "-ISB" if name != "verify" else "-IB", os.path.join(repo.TOP, name)]
 
 
+def on_script(words):
+    """The words of a run: those of a script before those that it is given."""
+    return [*script(words[0]), *words[1:]]
+
+
 def endless():
     """The words of a run of ./verify that is within a call of a library."""
     argv, tools = [os.path.join(repo.TOP, "verify"), FULL], os.path.join(repo.TOP, "tools")
@@ -117,6 +141,12 @@ def is_there(process):
             return file.read().rpartition(")")[2].split()[0] not in ("Z", "X")
     except OSError:
         return False
+
+
+def seconds_of_children():
+    """How many seconds of a processor all children took that have ended."""
+    used = resource.getrusage(resource.RUSAGE_CHILDREN)
+    return used.ru_utime + used.ru_stime
 
 
 def wait_for(what):
@@ -297,14 +327,65 @@ class Limits(Trial):
 
     def test_seconds(self):
         """`ulimit -t` ends a run that computes for long; no file of it stays."""
-        status = self.ran(endless(), resource.RLIMIT_CPU, 1)[0]
-        self.row(status in (-signal.SIGXCPU, -signal.SIGKILL), f"`ulimit -t 1`: {status}")
-        self.same("`ulimit -t 1`: files", os.listdir(self.temporary), [])
+        evidence = ("certpath", "paths", "/dev/zero", *PATHS[2:], "--evidence", "evidence")
+        for title, words in (("verify", endless()), ("path", on_script(READS_ON)),
+                             ("paths --evidence", on_script(evidence))):
+            status, output, _ = self.ran(words, resource.RLIMIT_CPU, 1)
+            # (a script says of its program's end what a shell would)
+            has_ended = status in ENDED_BY_TIME
+            is_right = has_ended and output in (b"", b"called\n")
+            self.row(is_right, f"{title}, `ulimit -t 1`: {status} {output!r:.100}")
+            self.same(f"{title}, `ulimit -t 1`: files", os.listdir(self.temporary), [])
+        self.same("`ulimit -t 1`: what is left", os.listdir(self.room), ["temporary"])
+
+    def test_timeout(self):
+        """`timeout` ends a run at once, with status 124."""
+        self.need("timeout")
+        for title, words in (("verify", endless()), ("path", on_script(READS_ON))):
+            begun = time.monotonic()
+            status = self.ran(["timeout", "1", *words], resource.RLIMIT_CPU, SECONDS)[0]
+            is_soon = time.monotonic() < begun + 1 + SOON
+            self.same(f"{title} with `timeout 1`", (status, is_soon), (124, True))
+        self.same("`timeout 1`: files", os.listdir(self.temporary), [])
+
+    def test_limit(self):
+        """`--limit` bounds what is read of an item that is larger."""
+        words = ("certpath", "path", BUNDLE, ROOT_DER, VOUCHERS, "--target", "0", *AT, *FEW)
+        status, output, _ = self.run_limited(words, resource.RLIMIT_CPU, SECONDS)
+        self.same("path --limit 800", (status, output.startswith(b"end fault 0\n")), (3, True))
+
+    def test_iterations(self):
+        """All files of a run have the same seconds, however many iterations each asks for."""
+        self.need("openssl")
+        folder, file = os.path.join(self.room, "many"), os.path.join(self.room, "one.p12")
+        sources.put(file, MANY_ITERATIONS)
+        many = [os.path.join(folder, f"{it}.p12") for it in range(MANY_FILES)]
+        for it in many:
+            sources.put(it, MANY_ITERATIONS)
+        for title, words in (("a file", (file, "--anchors", ROOT)),
+                             ("files", (*many, "--anchors", ROOT)),
+                             ("a folder of anchors", (FULL, "--anchors", folder))):
+            for seconds in size((1, 3), (1,)):
+                words_of = ("verify", *words, *DAY, "--seconds", str(seconds))
+                before = seconds_of_children()
+                status, output, errors = self.run_limited(words_of, resource.RLIMIT_CPU, SECONDS)
+                taken = seconds_of_children() - before
+                its = (status, output, [it.startswith(TOO_LONG.format(seconds)) for it in errors])
+                self.same(f"{title}, --seconds {seconds}", its, (9, b"", [True]))
+                self.row(taken < seconds + SOON_OVER, f"{title}: {taken} s of {seconds}")
 
     def test_output(self):
-        """`ulimit -f`, as a full disk, is said where the output isn't whole."""
-        for name, words in (("bundle", (FULL, LIST)), ("vouch", (BUNDLE, ROOT_DER))):
+        """`ulimit -f`, as a full disk, is said if the output isn't whole, or no program can be given
+        its files."""
+        asked = (FULL, LIST, "--anchors", ROOT, *DAY)
+        its = (*asked, "--html", "page.html")
+        for words, most, ends, said in (
+                (("bundle", FULL, LIST), 20, 7, "cannot write"),
+                (("vouch", BUNDLE, ROOT_DER), 20, 7, "cannot write"),
+                (("certpath", *PATHS), 20, 7, "cannot write"),
+                (("verify", *asked), 20, 70, f"verify: cannot hand on 2174 octets: {TOO_LARGE}"),
+                (("verify", *its), OF_FILES, 7, f"verify: page.html: cannot write it ({TOO_LARGE})")):
             with open(os.path.join(self.room, "output"), "wb") as out:
-                command, kind = [*script(name), *words], resource.RLIMIT_FSIZE
-                status, _, errors = self.ran(command, kind, 20, out)
-            self.same(f"{name} with `ulimit -f`", (status, errors[-1:]), (7, ["cannot write"]))
+                command, kind = [*script(words[0]), *words[1:]], resource.RLIMIT_FSIZE
+                status, _, errors = self.ran(command, kind, most, out)
+            self.same(f"{words} with `ulimit -f`", (status, errors[-1:]), (ends, [said]))
