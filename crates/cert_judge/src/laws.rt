@@ -98,7 +98,7 @@ pub fn example_of_places()
     ensures target { exchanged (exchanged 0) ≡ 0 }
 {}
 
-/// JudgingContext that vouch for more certificates, and for the same lists, never lose a path. `example_of_more` meets the premise.
+/// Rules that vouch for more certificates, and for the same lists, never lose a path. `example_of_more` meets the premise.
 pub fn vouching_for_more()
     ensures { (moment : CivilTime) (demand : Bool) (vouches more : List ℕ → List ℕ → Bool) (items anchors : List Item)
         → VouchesForMore (rules_from moment demand vouches) (rules_from moment demand more) items → HasPathsOf (λ v. v) (rules_from moment demand vouches) (rules_from moment demand more) items items anchors }
