@@ -1,5 +1,5 @@
 -- Stairs, one by one.
-use Rattle.std.proofs.Common.{◌≡◌, ℕ, ◌+◌, ◌<◌, ◌≤◌, List, [], ◌∷◌, ◌++◌, length, take, get_or, None, arith, ap, sym, ◌∙◌, subst, refl, inl, inr, length-append}
+use Rattle.std.proofs.Common.{◌≡◌, ℕ, ◌+◌, ◌-◌, ◌<◌, ◌≤◌, List, [], ◌∷◌, ◌++◌, length, take, get_or, None, arith, ap, sym, ◌∙◌, subst, refl, inl, inr, length-append}
 use Rattle.std.specs.Prelude.{Contains, ◌⊎◌}
 use Rattle.std.specs.List.Sorted.{IsStrictlyIncreasing}
 use Rattle.std.proofs.lemmas.Bool.{cases_lt}
@@ -39,6 +39,16 @@ first_is_least g row members stairs i count d h within takes before = (
       ],
 )
 
+-- if the last of some first stairs doesn't take a count, none of them does
+pub none_below : (g : Graph) (row : List Reach) (members : List ℕ) (stairs : List Stair) (i count : ℕ) (d : Stair) → AreStairs g row members stairs → i ≤ length stairs
+    → (0 < i → Takes (get_or stairs (i - 1) d).reach count → ⊥) → (k : ℕ) → k < i → Takes (get_or stairs k d).reach count → ⊥
+none_below g row members stairs i count d h within last k below t =
+    let some : 0 < i = omega arith in
+    elim (cases_lt k (i - 1)) [
+      | inl before ↦ last some (h.rise k (i - 1) count d before (omega arith) t)
+      | inr above ↦ let e : k ≡ i - 1 = omega arith in last some (subst (λ (j : ℕ). Takes (get_or stairs j d).reach count) e t)
+    ]
+
 -- where no stair takes a count, no member is open
 pub none_taking : (g : Graph) (row : List Reach) (members : List ℕ) (stairs : List Stair) (i count : ℕ) (d : Stair) → AreStairs g row members stairs → length stairs ≤ i
     → ((k : ℕ) → k < i → Takes (get_or stairs k d).reach count → ⊥) → IsLeastOption (OpenIn g row members count) None
@@ -73,6 +83,7 @@ pub record Climbed (g : Graph) (row : List Reach) (members : List ℕ) (i : ℕ)
   pub climbs : AreStairs g row (take i members) stairs
   pub seen : (k : ℕ) (d : Stair) → k < length stairs → (j : ℕ) × (j < i) × (get_or members j 0 ≡ (get_or stairs k d).position)
   pub reached : (c : ℕ) → Takes best c → (k : ℕ) × IsAt stairs k (λ s. Takes s.reach c)
+  pub under : (k c : ℕ) (d : Stair) → k < length stairs → Takes (get_or stairs k d).reach c → Takes best c
 
 -- an open one of the members up to a place, the last or before it
 open_more : (g : Graph) (row : List Reach) (members : List ℕ) (i w c : ℕ) → i < length members → OpenIn g row (take (i + 1) members) c w → (OpenIn g row (take i members) c w) ⊎ ((w ≡ get_or members i 0) × IsOpen g row c w)
@@ -109,9 +120,11 @@ climbed_past g row members i stairs best up within low h = record {
             ),
           )
     ];
+    rise = h.climbs.rise;
   };
   seen = λ k d lt. let y = h.seen k d lt in let before = y.1 in (y.0, omega arith, y.2);
   reached = h.reached;
+  under = h.under;
 }
 
 -- one element more
@@ -124,8 +137,9 @@ at_push xs x d k lt =
     ]
 
 pub climbed_on : (g : Graph) (row : List Reach) (members : List ℕ) (i : ℕ) (stairs : List Stair) (s : Stair) (best : Reach) → IsStrictlyIncreasing members → i < length members
-    → s.position ≡ get_or members i 0 → s.reach ≡ at_row row (get_or members i 0) → g.Fit (get_or members i 0) → Climbed g row members i stairs best → Climbed g row members (i + 1) (stairs ++ s ∷ []) s.reach
-climbed_on g row members i stairs s best up within place reach fit h =
+    → s.position ≡ get_or members i 0 → s.reach ≡ at_row row (get_or members i 0) → g.Fit (get_or members i 0)
+    → ((c : ℕ) → Takes best c → Takes s.reach c) → Climbed g row members i stairs best → Climbed g row members (i + 1) (stairs ++ s ∷ []) s.reach
+climbed_on g row members i stairs s best up within place reach fit higher h =
     let l = length-append stairs (s ∷ []) in
     let there : length stairs < length (stairs ++ s ∷ []) = omega arith in record {
       climbs = record {
@@ -167,10 +181,26 @@ climbed_on g row members i stairs s best up within place reach fit h =
               let takes : Takes s.reach c = subst (λ (r : Reach). Takes r c) (sym reach) (subst (λ (v : ℕ). Takes (at_row row v) c) last.0 last.1.1) in
               (length stairs, (there, λ d. subst (λ (a : Stair). (a.position ≤ w) × Takes a.reach c) (sym (get_or_push stairs s d (length stairs) refl)) (low, takes)))
         ];
+        rise = λ j k c d less lt t. elim (at_push stairs s d k lt) [
+          | inl old ↦
+              let below = old.0 in
+              let first : j < length stairs = omega arith in
+              subst (λ (b : Stair). Takes b.reach c) (sym old.1)
+              (h.climbs.rise j k c d less below (subst (λ (a : Stair). Takes a.reach c) (get_or_append_left stairs (s ∷ []) d j first) t))
+          | inr new ↦
+              let at = new.0 in
+              let first : j < length stairs = omega arith in
+              subst (λ (b : Stair). Takes b.reach c) (sym new.1)
+              (higher c (h.under j c d first (subst (λ (a : Stair). Takes a.reach c) (get_or_append_left stairs (s ∷ []) d j first) t)))
+        ];
       };
       seen = λ k d lt. elim (at_push stairs s d k lt) [
         | inl old ↦ let y = h.seen k d old.0 in let before = y.1 in (y.0, omega arith, y.2 ∙ ap (λ (a : Stair). a.position) (sym old.1))
         | inr new ↦ (i, omega arith, sym place ∙ ap (λ (a : Stair). a.position) (sym new.1))
       ];
       reached = λ c t. (length stairs, (there, λ d. subst (λ (a : Stair). Takes a.reach c) (sym (get_or_push stairs s d (length stairs) refl)) t));
+      under = λ k c d lt t. elim (at_push stairs s d k lt) [
+        | inl old ↦ higher c (h.under k c d old.0 (subst (λ (a : Stair). Takes a.reach c) old.1 t))
+        | inr new ↦ subst (λ (a : Stair). Takes a.reach c) new.1 t
+      ];
     }

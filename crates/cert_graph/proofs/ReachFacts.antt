@@ -1,5 +1,6 @@
 -- What the order on reaches means for the counts that they take.
-use Rattle.std.proofs.Common.{◌≡◌, ℕ, zero, suc, ◌+◌, ◌≤◌, Bool, true, false, not, cond, arith, ap, subst, refl}
+use Rattle.std.proofs.Common.{◌≡◌, ℕ, zero, suc, ◌+◌, ◌≤◌, Bool, true, false, not, cond, arith, ap, subst, refl, inl, inr}
+use Rattle.std.proofs.lemmas.Bool.{cases_lt}
 use Rattle.cert_graph.specs.declared.reach.Reach.{Reach}
 use Rattle.cert_graph.specs.declared.reach.Reach.TheVariants.{No, UpTo, Any}
 use Rattle.cert_graph.specs.Reach.{Takes, IsAtMost, lesser, less_one}
@@ -12,6 +13,16 @@ more_takes (UpTo m) Any c h t = tt
 more_takes Any No c h t = absurd h
 more_takes Any (UpTo n) c h t = absurd h
 more_takes Any Any c h t = tt
+
+pub beyond_takes : (r s : Reach) (c : ℕ) → (IsAtMost r s → ⊥) → Takes s c → Takes r c
+beyond_takes No s c h t = absurd (h tt)
+beyond_takes (UpTo m) No c h t = absurd t
+beyond_takes (UpTo m) (UpTo n) c h t = elim (cases_lt m c) [
+  | inl below ↦ absurd (h (omega arith))
+  | inr above ↦ omega arith
+]
+beyond_takes (UpTo m) Any c h t = absurd (h tt)
+beyond_takes Any s c h t = tt
 
 pub fewer_taken : (r : Reach) (c d : ℕ) → c ≤ d → Takes r d → Takes r c
 fewer_taken No c d h t = t

@@ -66,6 +66,7 @@ same_stairs g r s members stairs same h = record {
   ascend = h.ascend;
   opened = λ k count d lt t. let o = h.opened k count d lt t in open_same g r s members count _ (sym (same _ o.0)) o;
   covers = λ w count o. h.covers w count (open_same g s r members count w (same w o.0) o);
+  rise = h.rise;
 }
 
 -- the last flight has the stairs of the last row

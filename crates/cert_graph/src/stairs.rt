@@ -60,19 +60,29 @@ fn stairs_of(
     Ok(stairs)
 }
 
-/// The least member that takes a count: that of the first stair that does.
+/// The least member that takes a count: that of the first stair that does. Halves the stairs, since each takes what
+/// those before it take.
 fn first_stair(stairs: &[Stair], count: usize) -> Option<usize>
     ensures { (nodes : Nodes) (row : List Reach) (members : List ℕ) → AreStairs (graph_of nodes) row members stairs.now → IsLeastOption (OpenIn (graph_of nodes) row members count) result }
 {
-    for stair in stairs {
-        if stair.reach.takes(count) {
-            return Some(stair.position);
+    let mut low = 0;
+    let mut high = stairs.len();
+    while low < high {
+        let middle = low + (high - low) / 2;
+        if stairs[middle].reach.takes(count) {
+            high = middle;
+        } else {
+            low = middle + 1;
         }
     }
-    None
+    if low < stairs.len() {
+        Some(stairs[low].position)
+    } else {
+        None
+    }
 }
 
-/// The least member of a group that is open in a row at a count. Halves the flights, and then goes up the stairs of one.
+/// The least member of a group that is open in a row at a count. Halves the flights, and then the stairs of one.
 pub(crate) fn least_in(flights: &[Flight], row: usize, count: usize) -> Option<usize>
     ensures { (nodes : Nodes) (rows : List (List Reach)) (members : List ℕ) → AreFlights (graph_of nodes) rows members flights.now → row < length rows → IsLeastOption (OpenIn (graph_of nodes) (row_of rows row) members count) result }
 {

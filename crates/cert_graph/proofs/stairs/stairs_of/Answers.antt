@@ -4,7 +4,7 @@ use Rattle.std.specs.List.Sorted.{IsStrictlyIncreasing}
 use Rattle.cert_graph.specs.declared.reach.Reach.{Reach}
 use Rattle.cert_graph.specs.Reach.{Takes}
 use Rattle.cert_graph.specs.Nodes.{graph_of}
-use Rattle.cert_graph.proofs.ReachFacts.{more_takes}
+use Rattle.cert_graph.proofs.ReachFacts.{beyond_takes, more_takes}
 use Rattle.cert_graph.specs.declared.stairs.Stair.{Stair}
 use Rattle.cert_graph.proofs.Climbing.{Climbed, climbed_past, climbed_on}
 use Rattle.cert_graph.proofs.stairs.stairs_of.Goals as goal
@@ -22,7 +22,8 @@ loop-w-preserved c =
           let s : Stair = record { position = get_or members i 0; reach = w.reach_at-reach.result } in
           subst (λ (xs : List Stair). Climbed g row members (i + 1) xs c.if-is_fit.best) (sym (ap (λ (v : Vec Stair Global). v.items) w.stairs-is ∙ w.in_ok-push.ensures.items))
           (subst (λ (b : Reach). Climbed g row members (i + 1) (c.loop-w.stairs.items ++ s ∷ []) b) (sym w.best-is)
-          (climbed_on g row members i c.loop-w.stairs.items s c.loop-w.best up c.loop-w-test.true refl w.reach_at-reach.ensures (c.is_fit.ensures.0 w.if-is_fit.true) c.loop-w.invariant))
+          (climbed_on g row members i c.loop-w.stairs.items s c.loop-w.best up c.loop-w-test.true refl w.reach_at-reach.ensures (c.is_fit.ensures.0 w.if-is_fit.true)
+          (λ n t. beyond_takes w.reach_at-reach.result c.loop-w.best n (λ low. cc (w.if-not-is_at_most.true, w.is_at_most.ensures.1 low)) t) c.loop-w.invariant))
       | then-is_fit+else-not-is_at_most w ↦
           subst (λ (v : Vec Stair Global). Climbed g row members (i + 1) v.items c.if-is_fit.best) (sym w.stairs-is)
           (subst (λ (b : Reach). Climbed g row members (i + 1) c.loop-w.stairs.items b) (sym w.best-is)
