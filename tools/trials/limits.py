@@ -12,6 +12,7 @@ import time
 from program import repo, sources
 from trials.bundling import PEAK
 from trials.count import INTERRUPTIBLE, Trial, size
+from trials.scaling_runs import with_dask
 
 SECONDS = 600
 # So many seconds later a run has ended that is asked to. (It takes some hundredths of a second;
@@ -64,6 +65,8 @@ MANY_FILES = 50
 TOO_LONG = "verify: the run takes more than {} s of a processor, and has ended while openssl "
 # A command that reads its file to the end, which it hasn't.
 READS_ON = ("certpath", "path", "/dev/zero", ROOT_DER, VOUCHERS, "--target", "0", *AT)
+# How many megabytes are too few for what the inventory loads.
+FEW_FOR_DASK = (30, 64, 100)
 # What ./verify waits for: a program that doesn't end, and a call of a library that takes minutes.
 WAITING = '#!/bin/sh\necho $$ >>"$0.began"\nexec sleep 600\n'
 ENDLESS = """\
@@ -173,10 +176,10 @@ class Limits(Trial):
         """A script's status, its output, and its lines on standard error, with a limit."""
         return self.ran([*script(words[0]), *words[1:]], kind, most)
 
-    def ran(self, words, kind, most, output=subprocess.PIPE):
-        ran = subprocess.run(words, cwd=self.room, env=self.environment(), stdin=subprocess.DEVNULL,
-                             stdout=output, stderr=subprocess.PIPE, timeout=SECONDS,
-                             preexec_fn=limited(kind, most))
+    def ran(self, words, kind, most, output=subprocess.PIPE, **environment):
+        ran = subprocess.run(words, cwd=self.room, env=self.environment(**environment),
+                             stdin=subprocess.DEVNULL, stdout=output, stderr=subprocess.PIPE,
+                             timeout=SECONDS, preexec_fn=limited(kind, most))
         return ran.returncode, ran.stdout, ran.stderr.decode(errors="replace").splitlines()
 
     def test_memory(self):
@@ -189,6 +192,19 @@ class Limits(Trial):
                 is_short = status in statuses and output == b"" and len(errors) == 1
                 is_right = found == wanted or is_short and most < ENOUGH
                 self.row(is_right, f"{words[0]} with {most} MB: {found!r:.600}")
+
+    def test_inventory(self):
+        """The inventory says in a line that there isn't the memory for what it loads. (With some
+        more, Dask writes lines of its own before that.)"""
+        interpreter = with_dask()
+        if interpreter is None:
+            self.lack("Dask isn't there")
+        words = [interpreter, "-B", "-m", "certpath.inventory", BUNDLE, "--anchors", ROOT_DER, *AT,
+                 "--workers", "1", "--out", os.path.join(self.room, "table")]
+        for most in FEW_FOR_DASK:
+            path = os.path.join(repo.TOP, "python")
+            found = self.ran(words, resource.RLIMIT_AS, most * MEGABYTE, PYTHONPATH=path)
+            self.same(f"inventory with {most} MB", found, (6, b"", ["inventory: out of memory"]))
 
     def test_loading(self):
         """What comes of a lack of memory while a module is loaded is said as that, and nothing else
@@ -375,8 +391,8 @@ class Limits(Trial):
                 self.row(taken < seconds + SOON_OVER, f"{title}: {taken} s of {seconds}")
 
     def test_output(self):
-        """`ulimit -f`, as a full disk, is said if the output isn't whole, or no program can be given
-        its files."""
+        """`ulimit -f`, as a full disk, is said if the output isn't whole, or no program can be
+        given its files."""
         asked = (FULL, LIST, "--anchors", ROOT, *DAY)
         its = (*asked, "--html", "page.html")
         for words, most, ends, said in (
@@ -384,7 +400,8 @@ class Limits(Trial):
                 (("vouch", BUNDLE, ROOT_DER), 20, 7, "cannot write"),
                 (("certpath", *PATHS), 20, 7, "cannot write"),
                 (("verify", *asked), 20, 70, f"verify: cannot hand on 2174 octets: {TOO_LARGE}"),
-                (("verify", *its), OF_FILES, 7, f"verify: page.html: cannot write it ({TOO_LARGE})")):
+                (("verify", *its), OF_FILES, 7,
+                 f"verify: page.html: cannot write it ({TOO_LARGE})")):
             with open(os.path.join(self.room, "output"), "wb") as out:
                 command, kind = [*script(words[0]), *words[1:]], resource.RLIMIT_FSIZE
                 status, _, errors = self.ran(command, kind, most, out)
