@@ -287,13 +287,10 @@ their words name, on to the standard library and the crates of the kit. Which th
 
     $ python3 tools/dev/believe.py certcheck::check | tail -n 1
     {LAST_LINE}
-    $ python3 tools/dev/believe.py cert_questions
-    {OF_CRATE}
 
-The first prints each page of one call or law, with the definitions on it; `CRATE::Type::function`
-names a function of a type. The second prints, for each public call of a crate, its own pages and
-those of others. Types of the sources count beside them: their fields, their `Model`, and of a trait
-what its functions promise.
+That prints each page of one call or law, with the definitions on it; `CRATE::Type::function` names
+a function of a type. With the name of a crate it prints the pages of each public call. Types of the
+sources count beside them: their fields, their `Model`, and of a trait what its functions promise.
 
 """
 
@@ -423,8 +420,7 @@ def written():
     listed = [entry for entry in every if any(map(is_page, entry.pages))]
     kit = sorted({module.split()[0] for entry in every for module in entry.kit})
     heads = [*map(trust_of, HEADS), *map(trust_in, exports.public(C_CRATE))]
-    of_crate = "\n".join(f"    {line}" for line in printed_of_crate("cert_questions"))
-    head = HEADER.replace("{LAST_LINE}", [*printed("certcheck::check")][-1]).replace("    {OF_CRATE}", of_crate)
+    head = HEADER.replace("{LAST_LINE}", [*printed("certcheck::check")][-1])
     lines = [head + "## How much", "", *summary(heads), "",
              wrapped(f"Of {len(every)} public calls {len(listed)} depend on a page. Of the crates of the kit definitions of these are reached: {', '.join(f'`{entry}`' for entry in kit)}."), "",
              "A reader's clause `exact` says which error is returned, in definitions that follow its steps. To",

@@ -44,7 +44,7 @@ def crate_lines(crate):
     calls = [entry for entry in exports.public(crate) if entry.clauses]
     for functions in (exports.traits(crate), calls):
         for names, those in by_clauses(functions):
-            if names != (ONE,):
+            if ONE not in names:
                 yield f"- {', '.join(believe.grouped(those))}: {', '.join(names)}."
     laws = [entry for entry in exports.exported(crate) if entry.is_law]
     if laws:
