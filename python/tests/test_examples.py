@@ -24,6 +24,7 @@ MODULES = [it.name for it in pkgutil.iter_modules(certpath.__path__, "certpath."
            if not it.ispkg and not it.name.endswith(APART)]
 # What no example brings about.
 WITHOUT = {"LibraryMissing", "OutOfMemory"}
+README = os.path.join(TOP, "python", "README.md")
 PROGRAM = re.compile(r"(?ms)^```python\n(.*?)^```$")
 
 
@@ -50,9 +51,10 @@ class Examples(unittest.TestCase):
                 self.assertTrue(parser.get_examples(call.__doc__))
 
     @unittest.skipUnless(HAS_OPENSSL, "there is no libcrypto of OpenSSL 3")
+    @unittest.skipUnless(os.path.exists(README), "README.md of the package isn't beside the tests")
     def test_programs(self):
         """The programs of README.md of the package run."""
-        with open(os.path.join(TOP, "python", "README.md"), encoding="utf-8") as file:
+        with open(README, encoding="utf-8") as file:
             programs = PROGRAM.findall(file.read())
         self.assertEqual(len(programs), 1)
         printed = io.StringIO()
