@@ -162,7 +162,8 @@ fn digest_in(memory: &RefCell<Memory<'_>>, text: &[u8]) -> [u8; 32]
 /// The first question after a text was told sorts all that were told, compared whole. Each question
 /// takes as many comparisons of texts as a look-up in a sorted map, and two where it goes over the
 /// same items as before, in their order. A text that wasn't told is hashed each time; nothing else
-/// depends on what was told.
+/// depends on what was told. `vouched_by_each` asks by each item's digest if its keys are different,
+/// and otherwise for each pair of a key and a chosen item.
 #[derive(Drop)]
 pub struct RememberedVouchers<'a> {
     vouchers: &'a Vouchers,
@@ -232,6 +233,10 @@ impl Vouch for RememberedVouchers<'_> {
         if let Some(rows) = rows_of(alloc, &self.vouchers.pairs, self, keys, items, chosen)? {
             return Ok(rows);
         }
-        self.vouchers.vouched_by_each(alloc, keys, items, chosen)
+        let mut rows = Vec::with_capacity(alloc, keys.len())?;
+        for key in keys {
+            rows.push(self.vouched_by(alloc, key, items, chosen)?)?;
+        }
+        Ok(rows)
     }
 }

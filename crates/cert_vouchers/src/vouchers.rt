@@ -27,10 +27,11 @@ impl Digests for Computed {
 /// Pairs of the SHA-256 digests (FIPS 180-4) of a key element and of an item that the key vouches
 /// for.
 ///
-/// `vouched_by_each` digests each key and each chosen item once, and none of them where there is no
-/// key or no pair. It looks up the keys by each item's digest, so it goes once over the pairs that
-/// name the item, and takes as many comparisons as look-ups in sorted maps of the pairs and of the
-/// keys.
+/// Of different keys `vouched_by_each` digests each key and each chosen item once, and none of them
+/// if there is no key or no pair. It looks up the keys by each item's digest, so it goes once over
+/// the pairs that name the item, and takes as many comparisons as look-ups in sorted maps of the
+/// pairs and of the keys. If two keys are equal each pair of a key and a chosen item is asked for,
+/// and both are digested each time.
 #[derive(Drop)]
 pub struct Vouchers {
     alloc: Global,
