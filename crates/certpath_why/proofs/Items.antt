@@ -39,10 +39,10 @@ with_read P items v c h =
     let two = at_read (IsCertificateWith P) items v c h in
     (λ p. two.0 (one.1 p), λ a. one.0 (two.1 a))
 
-no_list : {l : RevocationList} {c : Certificate} → list l ≡ certificate c → ⊥
+pub no_list : {l : RevocationList} {c : Certificate} → list l ≡ certificate c → ⊥
 no_list e = cc
 
-no_other : {c : Certificate} → other ≡ certificate c → ⊥
+pub no_other : {c : Certificate} → other ≡ certificate c → ⊥
 no_other e = cc
 
 is_read : (x : ReadItem) → IsCertificateWith (λ c. Unit {0}) (item_of x) → IsCertificateRead x
@@ -61,10 +61,10 @@ none_read items v never h =
 
 -- ---- places by subjects
 
-held : {a b : List ℕ} → Some a ≡ Some b → a ≡ b
+pub held : {a b : List ℕ} → Some a ≡ Some b → a ≡ b
 held e = cc
 
-empty : {a : List ℕ} → None ≡ Some a → ⊥
+pub empty : {a : List ℕ} → None ≡ Some a → ⊥
 empty e = cc
 
 one_shows : (x : ReadItem) (q : List ℕ) → (shown_at Name (Some (subject_place x)) ≡ Some q) ↔ IsCertificateWith (λ d. name_octets d.subject ≡ q) (item_of x)

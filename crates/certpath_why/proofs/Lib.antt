@@ -18,3 +18,7 @@ mod Ranging
 mod Fating
 mod Fated
 mod Revoking
+mod Amongst
+mod Signing
+mod Signed
+mod Grouped
