@@ -1,6 +1,6 @@
 -- Links of one certificate, brought together by what is said of them.
 use Rattle.std.specs.Prelude.{◌↔◌}
-use Rattle.std.proofs.Common.{◌≡◌, ◌∙◌, ap, sym, subst, refl, ℕ, ◌<◌, List, [], length, map, arith, get_or, true, Some, None, Vec, Global}
+use Rattle.std.proofs.Common.{◌≡◌, ◌∙◌, ap, sym, subst, refl, ℕ, ◌<◌, List, [], length, map, arith, get_or, Some, Vec, Global}
 use Rattle.std.specs.List.{Contains}
 use Rattle.std.specs.List.Sorted.{IsStrictlyIncreasing}
 use Rattle.std.proofs.lemmas.List.{length-map}
@@ -17,11 +17,11 @@ use Rattle.cert_judge.proofs.Grouping.{element, one_certificate}
 use Rattle.cert_judge.proofs.Linking.{with_iff}
 use Rattle.cert_reasons.specs.declared.links.Unlinked.{Unlinked}
 use Rattle.cert_reasons.specs.declared.links.Unlinked.TheVariants.{NotVouched, KeyIdsDiffer, RevokedBy, NoUsedList}
-use Rattle.cert_reasons.specs.Links.{HasLinkReason, Revokes}
+use Rattle.cert_reasons.specs.Links.{Revokes}
 use Rattle.cert_reasons.proofs.Marks.{there_at}
 use Rattle.certpath_why.specs.declared.fates.Fate.{Fate}
 use Rattle.certpath_why.specs.declared.links.Groups.{Groups}
-use Rattle.certpath_why.specs.Fates.{AreFates, OfSome}
+use Rattle.certpath_why.specs.Fates.{AreFates}
 use Rattle.certpath_why.specs.Groups.{IsDiffering, AreListFates, AreGroups, AreInOrder, FailsIn}
 use Rattle.certpath_why.specs.Reached.{ArePositions, HasSubject}
 use Rattle.certpath_why.specs.Signers.{IsSignedBy, AreSignedBy}

@@ -1,9 +1,9 @@
 -- Lists of signers are those of the items.
 use Rattle.std.specs.Prelude.{◌↔◌, slice_get}
-use Rattle.std.proofs.Common.{◌≡◌, ◌∙◌, ap, sym, subst, refl, ℕ, ◌+◌, ◌<◌, ◌≤◌, List, [], ◌∷◌, ◌++◌, length, map, arith, get_or, take, option_map, Bor, Vec, Global, Some, None, inl, inr}
+use Rattle.std.proofs.Common.{◌≡◌, ◌∙◌, ap, sym, subst, refl, ℕ, ◌+◌, ◌<◌, ◌≤◌, List, [], ◌∷◌, ◌++◌, length, map, arith, get_or, take, option_map, Bor, Vec, Global, Some, inl, inr}
 use Rattle.std.specs.List.{Contains}
 use Rattle.std.proofs.lemmas.Bool.{cases_lt}
-use Rattle.std.proofs.lemmas.List.{length-map, get_or-map, get_or_default, map-append, take_more, take_all}
+use Rattle.std.proofs.lemmas.List.{length-map, get_or-map, map-append, take_more, take_all}
 use Rattle.std.proofs.lemmas.Option.{slice_get-map, slice_get-get_or}
 use Rattle.cert_graph.specs.Entries.{IsAt}
 use Rattle.cert_graph.specs.declared.places.Place.{Place}

@@ -1,5 +1,5 @@
 use Rattle.std.proofs.Common.{map}
-use Rattle.cert_judge.specs.Items.{item_of, certificate_of, certificate_item}
+use Rattle.cert_judge.specs.Items.{item_of, certificate_item}
 use Rattle.certpath_why.specs.Signers.{IsSignedBy}
 use Rattle.certpath_why.proofs.Grouped.{in_order_iff, unvouched_iff}
 use Rattle.certpath_why.proofs.Items.{positions_as}

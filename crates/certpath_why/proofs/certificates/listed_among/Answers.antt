@@ -4,7 +4,6 @@ use Rattle.cert_judge.specs.Items.{item_of, certificate_of, certificate_item, ru
 use Rattle.cert_judge.specs.Revoking.{HasUsedList}
 use Rattle.cert_model.specs.Fields.{Certificate}
 use Rattle.cert_model.specs.Octets.{name_octets, key_octets}
-use Rattle.cert_reasons.specs.declared.links.Unlinked.{Unlinked}
 use Rattle.certpath_why.specs.Why.{IsLinkedTo, FailsTo}
 use Rattle.certpath_why.proofs.Fated.{fails_named}
 use Rattle.certpath_why.proofs.Grouped.{listed_all, listed_none, none_revoked, none_lacking}

@@ -1,4 +1,4 @@
-use Rattle.std.proofs.Common.{◌≡◌, ◌+◌, ℕ, length, get_or, arith, sym, subst, map}
+use Rattle.std.proofs.Common.{◌≡◌, ◌+◌, length, get_or, arith, sym, subst, map}
 use Rattle.std.proofs.lemmas.List.Elements.{Contains-get_or}
 use Rattle.cert_graph.proofs.Sifted.{sifted_none, sifted_more, sifted_same, sifted_whole, nothing_added}
 use Rattle.cert_judge.proofs.Mapped.{not_both}

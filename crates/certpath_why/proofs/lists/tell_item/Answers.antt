@@ -1,7 +1,7 @@
-use Rattle.std.proofs.Common.{sym, subst, map, string_bytes}
+use Rattle.std.proofs.Common.{sym, subst, string_bytes}
 use Rattle.std.specs.Prelude.{OnOk}
 use Rattle.cert_judge.specs.declared.items.ReadItem.{ReadItem}
-use Rattle.cert_judge.specs.Items.{item_of, rules_by}
+use Rattle.cert_judge.specs.Items.{item_of}
 use Rattle.certpath_why.specs.Question.{anchors_in, items_in, rules_in}
 use Rattle.certpath_why.specs.Appended.{Appends}
 use Rattle.certpath_why.specs.Why.{TellsItem}

@@ -1,5 +1,4 @@
 use Rattle.std.proofs.Common.{map, Bor, List, ℕ}
-use Rattle.cert_judge.specs.Items.{item_of, rules_by}
 use Rattle.certpath_why.specs.Question.{anchors_in, items_in, rules_in}
 use Rattle.certpath_why.proofs.Telling.{tells_list}
 use Rattle.certpath_why.proofs.lists.tell_list.Goals as goal

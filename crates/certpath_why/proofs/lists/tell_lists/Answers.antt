@@ -1,5 +1,4 @@
-use Rattle.std.proofs.Common.{[], map}
-use Rattle.cert_judge.specs.Items.{item_of, rules_by}
+use Rattle.std.proofs.Common.{[]}
 use Rattle.certpath_why.specs.Question.{anchors_in, items_in, rules_in}
 use Rattle.certpath_why.specs.Why.{TellsItemAt}
 use Rattle.certpath_why.proofs.Texts.{texts_none}

@@ -1,4 +1,3 @@
-use Rattle.std.proofs.Common.{[], ◌++◌, List, ℕ}
 use Rattle.certpath_why.proofs.positions.in_order.Goals as goal
 
 pub returns : goal.returns

@@ -1,4 +1,4 @@
-use Rattle.std.proofs.Common.{◌≡◌, ◌+◌, ℕ, length, get_or, arith, subst, true, false}
+use Rattle.std.proofs.Common.{◌≡◌, ◌+◌, length, get_or, arith, subst}
 use Rattle.std.specs.List.{Contains}
 use Rattle.cert_graph.proofs.Sifted.{sifted_more, sifted_same, sifted_whole, nothing_added}
 use Rattle.certpath_why.proofs.positions.positions_but.Goals as goal

@@ -1,4 +1,4 @@
-use Rattle.std.proofs.Common.{sym, subst}
+use Rattle.std.proofs.Common.{subst}
 use Rattle.certpath_why.specs.declared.fates.Fate.{Fate}
 use Rattle.certpath_why.proofs.Revoking.{HasNamed, revokers_none, revokers_more, revokers_all}
 use Rattle.certpath_why.proofs.revokers.revokers_of.Goals as goal

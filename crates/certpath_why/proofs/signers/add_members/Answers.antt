@@ -1,4 +1,4 @@
-use Rattle.std.proofs.Common.{◌≡◌, sym, subst, ◌<◌, length, arith, List, Vec, ℕ, Global}
+use Rattle.std.proofs.Common.{◌≡◌, sym, subst, length, arith, List, Vec, ℕ, Global}
 use Rattle.cert_judge.specs.Rows.{AreRows}
 use Rattle.certpath_why.proofs.Signing.{rows_none, rows_more, rows_many, members_all}
 use Rattle.certpath_why.proofs.signers.add_members.Goals as goal

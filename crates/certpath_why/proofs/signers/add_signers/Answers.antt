@@ -1,4 +1,4 @@
-use Rattle.std.proofs.Common.{rules, ◌<◌, ◌≤◌, length}
+use Rattle.std.proofs.Common.{rules, ◌<◌, length}
 use Rattle.certpath_why.proofs.Signing.{adds_past, adds_set}
 use Rattle.certpath_why.proofs.signers.add_signers.Goals as goal
 
