@@ -7,7 +7,7 @@ mod Telling
 mod Bounding
 mod Lengths
 mod Worked
-mod Keys
+mod Keyed
 mod Listing
 mod Shown
 mod Unmet

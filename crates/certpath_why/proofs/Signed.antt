@@ -12,7 +12,6 @@ use Rattle.cert_graph.specs.declared.places.Part.TheVariants.{Name, Key}
 use Rattle.cert_graph.specs.Places.{shown_at, Shows}
 use Rattle.cert_model.specs.Fields.{Certificate}
 use Rattle.cert_model.specs.Octets.{name_octets, key_octets}
-use Rattle.cert_judge.specs.declared.items.CertificateItem.{CertificateItem}
 use Rattle.cert_judge.specs.declared.items.ReadItem.{ReadItem}
 use Rattle.cert_judge.specs.declared.items.ReadItem.TheVariants.{Certificate as certificate_read, List as list_read, Other as other_read}
 use Rattle.cert_judge.specs.Items.{item_of, certificate_of, certificate_item}
@@ -22,7 +21,7 @@ use Rattle.cert_judge.proofs.Grouping.{element}
 use Rattle.cert_judge.proofs.Linking.{with_iff}
 use Rattle.cert_reasons.proofs.Certain.{viewed_by}
 use Rattle.certpath_why.specs.Signers.{IsSigner, AreSigners, IsSignedBy, AreSignedBy, issued_place, member_place, issuer_name}
-use Rattle.certpath_why.proofs.Items.{at_read, held, empty, no_list, no_other}
+use Rattle.certpath_why.proofs.Items.{at_item, held, empty, no_list, no_other}
 use Rattle.certpath_why.proofs.Signing.{shows_below}
 
 -- ---- what items show
@@ -128,15 +127,15 @@ module _ (V : List ℕ → List ℕ → Type 0) (xs ys : List ReadItem) (os : Li
         (λ c. there.0 (here.0 (own.0 c)), λ s. own.1 (here.1 (there.1 s)));
   }
 
--- the list of a certificate that was read
-pub signed_at : (V : List ℕ → List ℕ → Type 0) (read : List ReadItem) (others : List Item) (ls : List (Vec ℕ Global)) (v : ℕ) (x : CertificateItem) (signers : List ℕ) → AreSignedBy V (map item_of read) others ls → IsAt read v (λ y. y ≡ certificate_read x)
-    → ((r : Vec ℕ Global) → signers ≡ (get_or ls v r).items) → (w : ℕ) → Contains signers w ↔ IsSignedBy V others (certificate_item x) w
-signed_at V read others ls v x signers h at is w =
+-- the list of an item that was read
+pub signed_at : (V : List ℕ → List ℕ → Type 0) (read : List ReadItem) (others : List Item) (ls : List (Vec ℕ Global)) (v : ℕ) (z : ReadItem) (signers : List ℕ) → AreSignedBy V (map item_of read) others ls → IsAt read v (λ y. y ≡ z)
+    → ((r : Vec ℕ Global) → signers ≡ (get_or ls v r).items) → (w : ℕ) → Contains signers w ↔ IsSignedBy V others (item_of z) w
+signed_at V read others ls v z signers h at is w =
     let long = length-map read item_of in
     let lt : v < length read = at.0 in
     let less : v < length (map item_of read) = omega arith in
     let count = h.count in
     let r = (element ls v (omega arith)).0 in
     let own = h.exact v w r less in
-    let there = at_read (λ y. IsSignedBy V others y w) read v x at in
+    let there = at_item (λ y. IsSignedBy V others y w) read v z at in
     (λ c. there.1 (own.0 (subst (λ l. Contains l w) (is r) c)), λ s. subst (λ l. Contains l w) (sym (is r)) (own.1 (there.0 s)))

@@ -154,7 +154,7 @@ fn push_why_by<'q, 'a, V: Vouch, S: Vouch>(
 /// entries of its issuer's lists, a step for each certificate and anchor of its issuer's name, and
 /// what `Linking::why_unlinked` costs for each of them whose key vouches for it; for each of the
 /// name, if lists are demanded or one that is in force has its serial number. Each list costs what
-/// `why_list_unused_by_any` costs for the keys of its issuer's name.
+/// `why_list_unused` costs.
 pub fn push_why<V: Vouch>(
     text: &mut String,
     alloc: Global,

@@ -1,3 +1,4 @@
+use Rattle.cert_judge.specs.declared.items.ReadItem.TheVariants.{Certificate as certificate_read}
 use Rattle.certpath_why.specs.Question.{anchors_in, items_in, rules_in}
 use Rattle.certpath_why.proofs.Grouped.{signed_within}
 use Rattle.certpath_why.proofs.Signed.{signed_at}
@@ -24,13 +25,13 @@ pub tell_links-requires-clause-signers : goal.tell_links-requires-clause-signers
 tell_links-requires-clause-signers g c =
     let q = c.args.question.now in
     rw (c.in_ok-linking.ensures.items, c.in_ok-linking.ensures.certificate)
-    (signed_at (g.V.Vouch.vouches_for q.vouch.now).Vouches q.found.now.items.now (items_in q) q.signers.now.issuers.items c.args.place c.args.certificate.now c.signers_at-signers.result.now c.requires.signed.issuers c.requires.at (rw c.deref.ensures.value at c.signers_at-signers.ensures))
+    (signed_at (g.V.Vouch.vouches_for q.vouch.now).Vouches q.found.now.items.now (items_in q) q.signers.now.issuers.items c.args.place (certificate_read c.args.certificate.now) c.signers_at-signers.result.now c.requires.signed.issuers c.requires.at (rw c.deref.ensures.value at c.signers_at-signers.ensures))
 
 pub tell_anchors-requires-clause-signers : goal.tell_anchors-requires-clause-signers
 tell_anchors-requires-clause-signers g c =
     let q = c.args.question.now in
     rw c.in_ok-linking.ensures.certificate
-    (signed_at (g.V.Vouch.vouches_for q.vouch.now).Vouches q.found.now.items.now (anchors_in q) q.signers.now.roots.items c.args.place c.args.certificate.now c.signers_at-signers-2.result.now c.requires.signed.roots c.requires.at (rw c.deref-2.ensures.value at c.signers_at-signers-2.ensures))
+    (signed_at (g.V.Vouch.vouches_for q.vouch.now).Vouches q.found.now.items.now (anchors_in q) q.signers.now.roots.items c.args.place (certificate_read c.args.certificate.now) c.signers_at-signers-2.result.now c.requires.signed.roots c.requires.at (rw c.deref-2.ensures.value at c.signers_at-signers-2.ensures))
 
 pub returns : goal.returns
 returns g c =

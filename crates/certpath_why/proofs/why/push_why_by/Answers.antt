@@ -8,6 +8,12 @@ tell_reached-requires-clause-signed g c = record {
   roots = rw (c.in_ok-found.ensures.items, c.in_ok-found.ensures.anchors) c.in_ok-signers.ensures.roots;
 }
 
+pub tell_lists-requires : goal.tell_lists-requires
+tell_lists-requires g c = record {
+  issuers = rw c.in_ok-found.ensures.items c.in_ok-signers.ensures.issuers;
+  roots = rw (c.in_ok-found.ensures.items, c.in_ok-found.ensures.anchors) c.in_ok-signers.ensures.roots;
+}
+
 pub returns : goal.returns
 returns g c =
     let a = c.in_ok-tell_reached.ensures in
