@@ -141,22 +141,6 @@ fn push_places(
     Ok(())
 }
 
-/// Appends the line of the links that one reason is against.
-fn push_group(
-    text: &mut String,
-    alloc: Global,
-    front: Front,
-    fates: &[Fate],
-    reason: Unlinked,
-) -> Result<(), OutOfMemory>
-    requires { AreSortedFates fates.now }
-    ensures { OnOk result (Appends (TellsGroup (front_text front) (Some reason) (OfSome (Some reason) fates.now)) (string_bytes text.old) (string_bytes text.new)) }
-{
-    let places = places_of(alloc, fates, Some(reason))?;
-    push_places(text, alloc, front, Some(reason), &places)?;
-    Ok(())
-}
-
 /// Appends a line for each of some lists that revoke.
 fn push_revoked(
     text: &mut String,
@@ -169,7 +153,9 @@ fn push_revoked(
     ensures { OnOk result (Appends (AreTexts (λ p. TellsGroup (front_text front) (Some (RevokedBy p)) (OfSome (Some (RevokedBy p)) fates.now)) lists.now) (string_bytes text.old) (string_bytes text.new)) }
 {
     for list in lists {
-        push_group(text, alloc, front, fates, Unlinked::RevokedBy(*list))?;
+        let revoked = Some(Unlinked::RevokedBy(*list));
+        let places = places_of(alloc, fates, revoked)?;
+        push_places(text, alloc, front, revoked, &places)?;
     }
     Ok(())
 }
@@ -191,6 +177,8 @@ pub(crate) fn push_groups(
     push_places(text, alloc, front, unvouched, &groups.unvouched)?;
     push_places(text, alloc, front, differing, &groups.differing)?;
     push_revoked(text, alloc, front, &groups.listed, &lists)?;
-    push_group(text, alloc, front, &groups.listed, Unlinked::NoUsedList)?;
+    let lacking = Some(Unlinked::NoUsedList);
+    let places = places_of(alloc, &groups.listed, lacking)?;
+    push_places(text, alloc, front, lacking, &places)?;
     Ok(())
 }
