@@ -78,7 +78,8 @@ module _ (V : Vouching) (moment : DateTime) (demand : Bool) (name key : List ℕ
   )
   revokes_item serial (other_read y) = (λ h. absurd h.0, λ h. absurd (used_from V moment demand name key (other_read y) (item_of (other_read y)) h.0 refl h.1))
 
-  revokes_at : (xs : List ReadItem) (serial : List ℕ) (p : ℕ) → ((IsInForceAt xs moment name p × HasSerialAt xs serial p) × IsVouchedAt V xs key p) ↔ IsAt (map item_of xs) p (Revokes (rules_by moment demand V) name key serial)
+  -- what the code looks at for an entry of a used list is what the definitions say
+  pub revokes_at : (xs : List ReadItem) (serial : List ℕ) (p : ℕ) → ((IsInForceAt xs moment name p × HasSerialAt xs serial p) × IsVouchedAt V xs key p) ↔ IsAt (map item_of xs) p (Revokes (rules_by moment demand V) name key serial)
   revokes_at xs serial p = (
     λ r.
         let lt : p < length xs = r.0.0.0 in

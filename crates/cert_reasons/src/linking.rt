@@ -1,12 +1,13 @@
 //! Links of one certificate to one issuer or anchor after the other (RFC 5280, 6.1.3).
 
-ghost use Rattle.std.specs.Prelude.{◌≡◌, ◌↔◌, [], ℕ, map, Contains, IfOk};
+ghost use Rattle.std.specs.Prelude.{◌≡◌, ◌↔◌, [], ℕ, List, map, true, false, Contains, IfOk, IsTrue};
 ghost use Rattle.std.specs.List.Sorted.{IsStrictlyIncreasing};
 ghost use Rattle.cert_graph.specs.Entries.{IsAt};
+ghost use Rattle.cert_model.specs.Fields.{Certificate};
 ghost use Rattle.cert_judge.specs.ItemGraph.{KeyIdsAgree, IsLink, IsAnchorLink};
 ghost use Rattle.cert_judge.specs.Items.{certificate_of, certificate_item, item_of, rules_by, IsListWith};
 ghost use Rattle.cert_reasons.specs.Order.{AreAll};
-ghost use Rattle.cert_reasons.specs.Links.{HasLinkReason, link_order};
+ghost use Rattle.cert_reasons.specs.Links.{HasLinkReason, Revokes, link_order};
 ghost use Rattle.cert_reasons.specs.Listed.{IsOf};
 ghost use Rattle.cert_reasons.specs.Linking.{HasItsLists};
 
@@ -27,6 +28,12 @@ pub struct Linking<'b, 'a> {
     certificate: &'b CertificateItem<'a>,
     policy: Policy,
     listed: Listed,
+}
+
+fn has_none(places: &[usize]) -> bool
+    ensures { IsTrue result ↔ (places.now ≡ []) }
+{
+    places.is_empty()
 }
 
 impl<'b, 'a> Linking<'b, 'a> {
@@ -64,6 +71,39 @@ impl<'b, 'a> Linking<'b, 'a> {
         ensures { result.now ≡ self.now.items.now }
     {
         self.items
+    }
+
+    /// Whether the certificate names a key identifier of its issuer (RFC 5280, 4.2.1.1). If it names
+    /// none, the key identifiers agree, whoever is the issuer.
+    pub fn names_key(&self) -> bool
+        ensures { result ≡ false → (d : Certificate) → KeyIdsAgree (certificate_of self.now.certificate.now) d }
+    {
+        match self.certificate.authority_key_id {
+            Some(_) => true,
+            None => false,
+        }
+    }
+
+    /// Whether the key identifier that the certificate names for its issuer is the issuer's own, or
+    /// one of them is missing (RFC 5280, 4.2.1.1 and 4.2.1.2). One comparison.
+    pub fn agrees(&self, issuer: &CertificateItem<'_>) -> bool
+        ensures { IsTrue result ↔ KeyIdsAgree (certificate_of self.now.certificate.now) (certificate_of issuer.now) }
+    {
+        agree_on_key_id(self.certificate, issuer)
+    }
+
+    /// Whether no list can be a reason against a link, whoever vouches for the lists: none of its
+    /// issuer that is in force has its serial number, and lists aren't demanded.
+    pub fn is_unlisted<V: Vouch>(&self, _vouch: &V) -> bool
+        requires { HasItsLists self.now }
+        ensures unrevoked { IsTrue result → (key : List ℕ) (p : ℕ)
+            → IsAt (map item_of self.now.items.now) p (Revokes (rules_by self.now.policy.moment self.now.policy.demand_lists (V.vouches_for _vouch.now)) self.now.certificate.now.issuer.now key (certificate_of self.now.certificate.now).serial) → ⊥ }
+        ensures undemanded { IsTrue result → self.now.policy.demand_lists ≡ true → ⊥ }
+    {
+        if self.policy.demands_lists() {
+            return false;
+        }
+        has_none(&self.listed.revoking)
     }
 
     /// What `why_unlinked` returns for an issuer of the certificate's issuer's name.

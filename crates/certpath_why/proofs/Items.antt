@@ -26,12 +26,16 @@ use Rattle.certpath_why.specs.Found.{subject_place, list_place, IsCertificateRea
 use Rattle.certpath_why.specs.Why.{octets_at}
 use Rattle.certpath_why.specs.Reached.{HasSubject, IsCertificateAt, IsIssuerByName, ArePositions}
 
+-- what is so of an item that was read is so of the item at its position
+pub at_item : (P : Item → Type 0) (items : List ReadItem) (v : ℕ) (z : ReadItem) → IsAt items v (λ x. x ≡ z) → P (item_of z) ↔ IsAt (map item_of items) v P
+at_item P items v z h =
+    let e = element items v h.0 in
+    let is : e.0 ≡ z = e.1 ∙ h.1 e.0 in
+    subst (λ x. P (item_of x) ↔ IsAt (map item_of items) v P) is (viewed_by item_of items v e.0 h.0 e.1 P)
+
 -- what is so of a certificate that was read is so of the item at its position
 pub at_read : (P : Item → Type 0) (items : List ReadItem) (v : ℕ) (c : CertificateItem) → IsAt items v (λ x. x ≡ certificate_read c) → P (certificate_item c) ↔ IsAt (map item_of items) v P
-at_read P items v c h =
-    let e = element items v h.0 in
-    let is : e.0 ≡ certificate_read c = e.1 ∙ h.1 e.0 in
-    subst (λ x. P (item_of x) ↔ IsAt (map item_of items) v P) is (viewed_by item_of items v e.0 h.0 e.1 P)
+at_read P items v c h = at_item P items v (certificate_read c) h
 
 pub with_read : (P : Certificate → Type 0) (items : List ReadItem) (v : ℕ) (c : CertificateItem) → IsAt items v (λ x. x ≡ certificate_read c) → P (certificate_of c) ↔ IsAt (map item_of items) v (IsCertificateWith P)
 with_read P items v c h =
@@ -39,10 +43,10 @@ with_read P items v c h =
     let two = at_read (IsCertificateWith P) items v c h in
     (λ p. two.0 (one.1 p), λ a. one.0 (two.1 a))
 
-no_list : {l : RevocationList} {c : Certificate} → list l ≡ certificate c → ⊥
+pub no_list : {l : RevocationList} {c : Certificate} → list l ≡ certificate c → ⊥
 no_list e = cc
 
-no_other : {c : Certificate} → other ≡ certificate c → ⊥
+pub no_other : {c : Certificate} → other ≡ certificate c → ⊥
 no_other e = cc
 
 is_read : (x : ReadItem) → IsCertificateWith (λ c. Unit {0}) (item_of x) → IsCertificateRead x
@@ -61,10 +65,10 @@ none_read items v never h =
 
 -- ---- places by subjects
 
-held : {a b : List ℕ} → Some a ≡ Some b → a ≡ b
+pub held : {a b : List ℕ} → Some a ≡ Some b → a ≡ b
 held e = cc
 
-empty : {a : List ℕ} → None ≡ Some a → ⊥
+pub empty : {a : List ℕ} → None ≡ Some a → ⊥
 empty e = cc
 
 one_shows : (x : ReadItem) (q : List ℕ) → (shown_at Name (Some (subject_place x)) ≡ Some q) ↔ IsCertificateWith (λ d. name_octets d.subject ≡ q) (item_of x)

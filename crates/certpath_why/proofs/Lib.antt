@@ -7,7 +7,7 @@ mod Telling
 mod Bounding
 mod Lengths
 mod Worked
-mod Keys
+mod Keyed
 mod Listing
 mod Shown
 mod Unmet
@@ -18,3 +18,7 @@ mod Ranging
 mod Fating
 mod Fated
 mod Revoking
+mod Amongst
+mod Signing
+mod Signed
+mod Grouped

@@ -1,6 +1,6 @@
 -- Ranges of positions, from the first on.
 use Rattle.std.specs.Prelude.{◌↔◌, ◌⊎◌}
-use Rattle.std.proofs.Common.{◌≡◌, ◌∙◌, refl, ap, sym, subst, ℕ, ◌+◌, ◌<◌, ◌≤◌, List, [], ◌∷◌, ◌++◌, length, length-append, arith, get_or, take, inl, inr}
+use Rattle.std.proofs.Common.{◌≡◌, ◌∙◌, refl, sym, subst, ℕ, ◌+◌, ◌<◌, ◌≤◌, List, [], ◌∷◌, ◌++◌, length, length-append, arith, get_or, take, inl, inr}
 use Rattle.std.specs.List.{Contains, AllPairs}
 use Rattle.std.proofs.Math.ListN.{get_or-append}
 use Rattle.std.proofs.Math.Seq.{get_or-append_seam}
@@ -9,7 +9,7 @@ use Rattle.std.proofs.lemmas.List.{get_or_default, take_more, take_all, get_or-t
 use Rattle.std.proofs.lemmas.List.Kept.{AllPairs-from_increasing}
 use Rattle.std.specs.List.Sorted.{IsStrictlyIncreasing}
 use Rattle.certpath_why.specs.declared.ranges.Range.{Range}
-use Rattle.certpath_why.specs.Ranges.{IsInRanges, AreRanges}
+use Rattle.certpath_why.specs.Ranges.{AreRanges}
 
 -- what a list with one element more contains
 pub contains_more : {R : Type 0} (rs : List R) (x r : R) → Contains (rs ++ x ∷ []) r ↔ (Contains rs r ⊎ (x ≡ r))

@@ -2,7 +2,6 @@
 use Rattle.std.proofs.Common.{◌+◌, add-one, nat_eq, if◌then◌else◌, eq-eqb, ne_eqb, ◌≡◌, ap, sym, subst, refl, ℕ, ◌<◌, ◌≤◌, List, [], ◌∷◌, ◌++◌, map, length, get_or, arith}
 use Rattle.std.proofs.lemmas.List.{length-map}
 use Rattle.cert_graph.specs.Entries.{IsAt}
-use Rattle.cert_model.specs.Fields.{Certificate}
 use Rattle.cert_model.specs.Octets.{name_octets}
 use Rattle.cert_judge.specs.declared.items.CertificateItem.{CertificateItem}
 use Rattle.cert_judge.specs.declared.items.ReadItem.{ReadItem}
@@ -26,7 +25,7 @@ use Rattle.certpath_why.specs.Lines.{subject_line}
 use Rattle.certpath_why.specs.Appended.{Appends}
 use Rattle.certpath_why.specs.Reached.{HasSubject, ArePositions}
 use Rattle.certpath_why.proofs.Joined.{then_appended}
-use Rattle.certpath_why.proofs.Items.{at_read, with_read}
+use Rattle.certpath_why.proofs.Items.{at_read}
 
 -- ---- texts that were told
 

@@ -1,15 +1,13 @@
 -- What the definitions say of worked demands.
-use Rattle.std.specs.Prelude.{codes, replicate, decimal}
-use Rattle.std.proofs.Common.{◌≡◌, ◌∙◌, sym, subst, refl, ℕ, ◌^◌, ◌<◌, List, [], ◌∷◌, ◌++◌, inl, inr, arith, lit<}
+use Rattle.std.specs.Prelude.{codes}
+use Rattle.std.proofs.Common.{◌≡◌, sym, subst, refl, ℕ, List, [], ◌∷◌, ◌++◌, inl, inr, arith, lit<}
 use Rattle.std.specs.List.{Contains}
 use Rattle.std.proofs.lemmas.List.{append-nil}
 use Rattle.std.proofs.lemmas.List.Elements.{Contains-push_cases}
-use Rattle.std.specs.Str.{IsAscii}
 use Rattle.std.proofs.lemmas.Str.Ascii.{IsAscii-nil, IsAscii-push}
 use Rattle.asn1_oid.specs.Identifier.{IsOidContent, subidentifier_octets}
 use Rattle.cert_model.specs.Octets.{sequence_octets}
 use Rattle.cert_judge.specs.Revoking.{Item}
-use Rattle.cert_purpose.specs.Found.{AreMore}
 use Rattle.cert_purpose.specs.Purposes.{extended_key_usage, IsOneUnder, ArePurposes, AreFor, Allows, any_purpose}
 use Rattle.cert_purpose.specs.Examples.{server_auth, usage}
 use Rattle.cert_purpose.proofs.Ones.{without_none, one_of_one, one_not_none}

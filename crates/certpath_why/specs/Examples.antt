@@ -1,7 +1,7 @@
 -- Worked examples of what is demanded.
 use Rattle.std.specs.Borrow.{Bor}
 use Rattle.std.specs.Prelude.{ℕ, List, [], ◌∷◌, ◌++◌, Some, None, codes}
-use Rattle.cert_model.specs.Fields.{Identifier, Certificate, Extension}
+use Rattle.cert_model.specs.Fields.{Identifier, Certificate}
 use Rattle.cert_judge.specs.Examples.{extended_by}
 use Rattle.cert_purpose.specs.Examples.{server_auth, usage}
 use Rattle.cert_serving.specs.Examples.{dns, naming}

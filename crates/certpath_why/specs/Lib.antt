@@ -5,6 +5,7 @@ pub mod Uses
 pub mod Hosts
 pub mod Demanded
 pub mod Reached
+pub mod Signers
 pub mod Bounds
 pub mod Why
 pub mod Laws
@@ -17,3 +18,4 @@ pub mod Directories
 pub mod Found
 pub mod Ranges
 pub mod Fates
+pub mod Groups

@@ -1,7 +1,8 @@
 //! The lines of one certificate that is reached: why it is not usable, what it doesn't meet, why it
 //! may not issue others, and its links to the certificates and anchors of its issuer's name.
 
-ghost use Rattle.std.specs.Prelude.{◌≡◌, ◌++◌, ℕ, List, [], nat_eq, OnOk, IfOk, map, string_bytes};
+ghost use Rattle.std.specs.Prelude.{◌≡◌, ◌↔◌, ◌++◌, ℕ, List, [], nat_eq, Contains, OnOk, IfOk, map, string_bytes};
+ghost use Rattle.std.specs.List.Sorted.{IsStrictlyIncreasing};
 ghost use Rattle.cert_graph.specs.Entries.{IsAt};
 ghost use Rattle.cert_model.specs.Octets.{name_octets};
 ghost use Rattle.cert_judge.specs.Items.{item_of, certificate_of, certificate_item};
@@ -9,18 +10,23 @@ ghost use Rattle.cert_judge.specs.declared.items.ReadItem.TheVariants.{Certifica
 ghost use Rattle.cert_reasons.specs.Linking.{HasItsLists};
 ghost use Rattle.certpath_why.specs.Reached.{ArePositions, HasSubject, IsCertificateAt};
 ghost use Rattle.certpath_why.specs.Lines.{missing_line, to_items, to_anchors};
-ghost use Rattle.certpath_why.specs.Question.{anchors_in, items_in, link_items, link_rules, rules_in};
+ghost use Rattle.certpath_why.specs.Question.{anchors_in, items_in, link_items, link_rules, rules_in, IsSigned};
 ghost use Rattle.certpath_why.specs.Why.{TellsUnusable, TellsNoIssuer, TellsGroups, IsLinkedTo, FailsTo, IsLinkedToAnchor, FailsToAnchor, missing_lines, TellsLinks, TellsCertificate, TellsAt, octets_at};
 ghost use Rattle.certpath_why.specs.Fates.{IsFate, AreFates};
 ghost use Rattle.certpath_why.specs.Found.{IsFound};
+ghost use Rattle.certpath_why.specs.Groups.{AreGroups, AreListFates};
+ghost use Rattle.certpath_why.specs.Signers.{IsSignedBy};
 ghost use Rattle.certpath_why.specs.Appended.{Appends};
 
 use crate::demanded::push_unmet;
-use crate::fates::Fate;
+use crate::differing::differing_among;
+use crate::fates::{Fate, places_of};
 use crate::found::{Found, certificate_at};
 use crate::lines::{push_all_no_issuer, push_all_unusable, push_missing, push_subject};
-use crate::links::{Front, push_groups};
+use crate::links::{Front, Groups, push_groups};
+use crate::positions::{in_order, positions_but};
 use crate::question::Question;
+use crate::signers::signers_at;
 use asn1_core::OutOfMemory;
 use cert_judge::{CertificateItem, ReadItem, Vouch};
 use cert_reasons::{Linking, why_no_issuer, why_unusable};
@@ -89,7 +95,7 @@ fn fate_of<V: Vouch>(
     })
 }
 
-/// The links to all certificates of the issuer's name.
+/// The links to some certificates of the issuer's name.
 fn fates_of<V: Vouch>(
     alloc: Global,
     linking: &Linking<'_, '_>,
@@ -97,7 +103,7 @@ fn fates_of<V: Vouch>(
     vouch: &V,
 ) -> Result<Vec<Fate>, AllocError>
     requires lists { HasItsLists linking.now }
-    requires issuers { ArePositions (HasSubject (link_items linking.now) linking.now.certificate.now.issuer.now) issuers.now }
+    requires issuers { (w : ℕ) → Contains issuers.now w → HasSubject (link_items linking.now) linking.now.certificate.now.issuer.now w }
     ensures { IfOk result (λ fates. AreFates (IsLinkedTo (link_rules V.Vouch linking.now vouch.now) (link_items linking.now) (certificate_item linking.now.certificate.now))
         (FailsTo (link_rules V.Vouch linking.now vouch.now) (link_items linking.now) (certificate_item linking.now.certificate.now) (certificate_of linking.now.certificate.now)) issuers.now fates.items) }
 {
@@ -109,23 +115,90 @@ fn fates_of<V: Vouch>(
     Ok(fates)
 }
 
-/// Appends the lines of the links to all certificates of the issuer's name.
+/// The links to the certificates of the issuer's name that signed the certificate.
+fn linked_among<V: Vouch>(
+    alloc: Global,
+    linking: &Linking<'_, '_>,
+    signers: &[usize],
+    vouch: &V,
+) -> Result<Vec<usize>, AllocError>
+    requires lists { HasItsLists linking.now }
+    requires ascend { IsStrictlyIncreasing signers.now }
+    requires signers { (w : ℕ) → Contains signers.now w ↔ IsSignedBy (V.vouches_for vouch.now).Vouches (link_items linking.now) (certificate_item linking.now.certificate.now) w }
+    ensures { IfOk result (λ linked. ArePositions (IsLinkedTo (link_rules V.Vouch linking.now vouch.now) (link_items linking.now) (certificate_item linking.now.certificate.now)) linked.items) }
+{
+    let fates = fates_of(alloc, linking, signers, vouch)?;
+    let linked = places_of(alloc, &fates, None)?;
+    Ok(linked)
+}
+
+/// The links to the certificates of the issuer's name, with the reasons that are lists: none if no
+/// list can be a reason.
+fn listed_among<V: Vouch>(
+    alloc: Global,
+    linking: &Linking<'_, '_>,
+    issuers: &[usize],
+    vouch: &V,
+) -> Result<Vec<Fate>, AllocError>
+    requires lists { HasItsLists linking.now }
+    requires issuers { ArePositions (HasSubject (link_items linking.now) linking.now.certificate.now.issuer.now) issuers.now }
+    ensures { IfOk result (λ fates. AreListFates (FailsTo (link_rules V.Vouch linking.now vouch.now) (link_items linking.now) (certificate_item linking.now.certificate.now) (certificate_of linking.now.certificate.now)) fates.items) }
+{
+    if linking.is_unlisted(vouch) {
+        return Ok(Vec::new(alloc));
+    }
+    let fates = fates_of(alloc, linking, issuers, vouch)?;
+    Ok(fates)
+}
+
+/// Brings the links to the certificates of the issuer's name together, given those that signed the
+/// certificate.
+fn groups_of<V: Vouch>(
+    alloc: Global,
+    linking: &Linking<'_, '_>,
+    issuers: &[usize],
+    signers: &[usize],
+    vouch: &V,
+) -> Result<Groups, AllocError>
+    requires lists { HasItsLists linking.now }
+    requires issuers { ArePositions (HasSubject (link_items linking.now) linking.now.certificate.now.issuer.now) issuers.now }
+    requires signers { (w : ℕ) → Contains signers.now w ↔ IsSignedBy (V.vouches_for vouch.now).Vouches (link_items linking.now) (certificate_item linking.now.certificate.now) w }
+    ensures { IfOk result (AreGroups (IsLinkedTo (link_rules V.Vouch linking.now vouch.now) (link_items linking.now) (certificate_item linking.now.certificate.now))
+        (FailsTo (link_rules V.Vouch linking.now vouch.now) (link_items linking.now) (certificate_item linking.now.certificate.now) (certificate_of linking.now.certificate.now))) }
+{
+    let signers = in_order(alloc, signers)?;
+    let linked = linked_among(alloc, linking, &signers, vouch)?;
+    let unvouched = positions_but(alloc, issuers, &signers)?;
+    let differing = differing_among(alloc, linking, issuers)?;
+    let listed = listed_among(alloc, linking, issuers, vouch)?;
+    Ok(Groups {
+        linked,
+        unvouched,
+        differing,
+        listed,
+    })
+}
+
+/// Appends the lines of the links to all certificates of the issuer's name, given those that signed
+/// the certificate.
 fn tell_links<V: Vouch>(
     text: &mut String,
     alloc: Global,
     place: usize,
     linking: &Linking<'_, '_>,
     issuers: &[usize],
+    signers: &[usize],
     vouch: &V,
 ) -> Result<(), OutOfMemory>
     requires lists { HasItsLists linking.now }
     requires issuers { ArePositions (HasSubject (link_items linking.now) linking.now.certificate.now.issuer.now) issuers.now }
+    requires signers { (w : ℕ) → Contains signers.now w ↔ IsSignedBy (V.vouches_for vouch.now).Vouches (link_items linking.now) (certificate_item linking.now.certificate.now) w }
     ensures { OnOk result (Appends (TellsGroups (to_items place) (IsLinkedTo (link_rules V.Vouch linking.now vouch.now) (link_items linking.now) (certificate_item linking.now.certificate.now))
         (FailsTo (link_rules V.Vouch linking.now vouch.now) (link_items linking.now) (certificate_item linking.now.certificate.now) (certificate_of linking.now.certificate.now)))
         (string_bytes text.old) (string_bytes text.new)) }
 {
-    let fates = fates_of(alloc, linking, issuers, vouch)?;
-    push_groups(text, alloc, Front::Items(place), &fates)?;
+    let groups = groups_of(alloc, linking, issuers, signers, vouch)?;
+    push_groups(text, alloc, Front::Items(place), &groups)?;
     Ok(())
 }
 
@@ -152,7 +225,7 @@ fn root_fate_of<V: Vouch>(
     })
 }
 
-/// The links to all anchors of the issuer's name.
+/// The links to some anchors of the issuer's name.
 fn root_fates_of<V: Vouch>(
     alloc: Global,
     anchors: &[ReadItem<'_>],
@@ -161,7 +234,7 @@ fn root_fates_of<V: Vouch>(
     vouch: &V,
 ) -> Result<Vec<Fate>, AllocError>
     requires lists { HasItsLists linking.now }
-    requires roots { ArePositions (HasSubject (map item_of anchors.now) linking.now.certificate.now.issuer.now) roots.now }
+    requires roots { (w : ℕ) → Contains roots.now w → HasSubject (map item_of anchors.now) linking.now.certificate.now.issuer.now w }
     ensures { IfOk result (λ fates. AreFates (IsLinkedToAnchor (link_rules V.Vouch linking.now vouch.now) (link_items linking.now) (map item_of anchors.now) (certificate_item linking.now.certificate.now))
         (FailsToAnchor (link_rules V.Vouch linking.now vouch.now) (link_items linking.now) (map item_of anchors.now) (certificate_item linking.now.certificate.now) (certificate_of linking.now.certificate.now)) roots.now fates.items) }
 {
@@ -173,7 +246,74 @@ fn root_fates_of<V: Vouch>(
     Ok(fates)
 }
 
-/// Appends the lines of the links to all anchors of the issuer's name.
+/// The links to the anchors of the issuer's name that signed the certificate.
+fn linked_anchors<V: Vouch>(
+    alloc: Global,
+    anchors: &[ReadItem<'_>],
+    linking: &Linking<'_, '_>,
+    signers: &[usize],
+    vouch: &V,
+) -> Result<Vec<usize>, AllocError>
+    requires lists { HasItsLists linking.now }
+    requires ascend { IsStrictlyIncreasing signers.now }
+    requires signers { (w : ℕ) → Contains signers.now w ↔ IsSignedBy (V.vouches_for vouch.now).Vouches (map item_of anchors.now) (certificate_item linking.now.certificate.now) w }
+    ensures { IfOk result (λ linked. ArePositions (IsLinkedToAnchor (link_rules V.Vouch linking.now vouch.now) (link_items linking.now) (map item_of anchors.now) (certificate_item linking.now.certificate.now)) linked.items) }
+{
+    let fates = root_fates_of(alloc, anchors, linking, signers, vouch)?;
+    let linked = places_of(alloc, &fates, None)?;
+    Ok(linked)
+}
+
+/// The links to the anchors of the issuer's name, with the reasons that are lists: none if no list
+/// can be a reason.
+fn listed_anchors<V: Vouch>(
+    alloc: Global,
+    anchors: &[ReadItem<'_>],
+    linking: &Linking<'_, '_>,
+    roots: &[usize],
+    vouch: &V,
+) -> Result<Vec<Fate>, AllocError>
+    requires lists { HasItsLists linking.now }
+    requires roots { ArePositions (HasSubject (map item_of anchors.now) linking.now.certificate.now.issuer.now) roots.now }
+    ensures { IfOk result (λ fates. AreListFates (FailsToAnchor (link_rules V.Vouch linking.now vouch.now) (link_items linking.now) (map item_of anchors.now) (certificate_item linking.now.certificate.now) (certificate_of linking.now.certificate.now)) fates.items) }
+{
+    if linking.is_unlisted(vouch) {
+        return Ok(Vec::new(alloc));
+    }
+    let fates = root_fates_of(alloc, anchors, linking, roots, vouch)?;
+    Ok(fates)
+}
+
+/// Brings the links to the anchors of the issuer's name together, given those that signed the
+/// certificate. Of an anchor the key identifier doesn't count.
+fn root_groups_of<V: Vouch>(
+    alloc: Global,
+    anchors: &[ReadItem<'_>],
+    linking: &Linking<'_, '_>,
+    roots: &[usize],
+    signers: &[usize],
+    vouch: &V,
+) -> Result<Groups, AllocError>
+    requires lists { HasItsLists linking.now }
+    requires roots { ArePositions (HasSubject (map item_of anchors.now) linking.now.certificate.now.issuer.now) roots.now }
+    requires signers { (w : ℕ) → Contains signers.now w ↔ IsSignedBy (V.vouches_for vouch.now).Vouches (map item_of anchors.now) (certificate_item linking.now.certificate.now) w }
+    ensures { IfOk result (AreGroups (IsLinkedToAnchor (link_rules V.Vouch linking.now vouch.now) (link_items linking.now) (map item_of anchors.now) (certificate_item linking.now.certificate.now))
+        (FailsToAnchor (link_rules V.Vouch linking.now vouch.now) (link_items linking.now) (map item_of anchors.now) (certificate_item linking.now.certificate.now) (certificate_of linking.now.certificate.now))) }
+{
+    let signers = in_order(alloc, signers)?;
+    let linked = linked_anchors(alloc, anchors, linking, &signers, vouch)?;
+    let unvouched = positions_but(alloc, roots, &signers)?;
+    let listed = listed_anchors(alloc, anchors, linking, roots, vouch)?;
+    Ok(Groups {
+        linked,
+        unvouched,
+        differing: Vec::new(alloc),
+        listed,
+    })
+}
+
+/// Appends the lines of the links to all anchors of the issuer's name, given those that signed the
+/// certificate.
 fn tell_anchors<V: Vouch>(
     text: &mut String,
     alloc: Global,
@@ -181,16 +321,18 @@ fn tell_anchors<V: Vouch>(
     place: usize,
     linking: &Linking<'_, '_>,
     roots: &[usize],
+    signers: &[usize],
     vouch: &V,
 ) -> Result<(), OutOfMemory>
     requires lists { HasItsLists linking.now }
     requires roots { ArePositions (HasSubject (map item_of anchors.now) linking.now.certificate.now.issuer.now) roots.now }
+    requires signers { (w : ℕ) → Contains signers.now w ↔ IsSignedBy (V.vouches_for vouch.now).Vouches (map item_of anchors.now) (certificate_item linking.now.certificate.now) w }
     ensures { OnOk result (Appends (TellsGroups (to_anchors place) (IsLinkedToAnchor (link_rules V.Vouch linking.now vouch.now) (link_items linking.now) (map item_of anchors.now) (certificate_item linking.now.certificate.now))
         (FailsToAnchor (link_rules V.Vouch linking.now vouch.now) (link_items linking.now) (map item_of anchors.now) (certificate_item linking.now.certificate.now) (certificate_of linking.now.certificate.now)))
         (string_bytes text.old) (string_bytes text.new)) }
 {
-    let fates = root_fates_of(alloc, anchors, linking, roots, vouch)?;
-    push_groups(text, alloc, Front::Anchors(place), &fates)?;
+    let groups = root_groups_of(alloc, anchors, linking, roots, signers, vouch)?;
+    push_groups(text, alloc, Front::Anchors(place), &groups)?;
     Ok(())
 }
 
@@ -225,6 +367,8 @@ fn tell_all_links<'q, 'a, V: Vouch>(
     certificate: &'q CertificateItem<'a>,
 ) -> Result<(), OutOfMemory>
     requires known { IsFound question.now.found.now }
+    requires signed { IsSigned V.Vouch question.now }
+    requires at { IsAt question.now.found.now.items.now place (λ x. x ≡ certificate_read certificate.now) }
     ensures { OnOk result (Appends (TellsLinks (rules_in V.Vouch question.now)
         (items_in question.now) (anchors_in question.now) place (certificate_item certificate.now) (certificate_of certificate.now))
         (string_bytes text.old) (string_bytes text.new)) }
@@ -233,7 +377,17 @@ fn tell_all_links<'q, 'a, V: Vouch>(
     let issuers = found.issuers(certificate.issuer);
     let roots = found.roots(certificate.issuer);
     let linking = found.linking(alloc, certificate, question.policy)?;
-    tell_links(text, alloc, place, &linking, issuers, question.vouch)?;
+    let signers = signers_at(&question.signers.issuers, place);
+    tell_links(
+        text,
+        alloc,
+        place,
+        &linking,
+        issuers,
+        signers,
+        question.vouch,
+    )?;
+    let signers = signers_at(&question.signers.roots, place);
     tell_anchors(
         text,
         alloc,
@@ -241,6 +395,7 @@ fn tell_all_links<'q, 'a, V: Vouch>(
         place,
         &linking,
         roots,
+        signers,
         question.vouch,
     )?;
     tell_missing(text, alloc, found, place, certificate, issuers, roots)?;
@@ -256,6 +411,8 @@ fn tell_certificate<'q, 'a, V: Vouch>(
     certificate: &'q CertificateItem<'a>,
 ) -> Result<(), OutOfMemory>
     requires known { IsFound question.now.found.now }
+    requires signed { IsSigned V.Vouch question.now }
+    requires at { IsAt question.now.found.now.items.now place (λ x. x ≡ certificate_read certificate.now) }
     requires target { question.now.sought.target.now ≡ octets_at (items_in question.now) question.now.target }
     ensures { OnOk result (Appends (TellsCertificate question.now.sought.demand.now (rules_in V.Vouch question.now) (items_in question.now) (anchors_in question.now)
         question.now.target place (certificate_item certificate.now) (certificate_of certificate.now)) (string_bytes text.old) (string_bytes text.new)) }
@@ -282,6 +439,7 @@ pub(crate) fn tell_at<V: Vouch>(
     place: usize,
 ) -> Result<(), OutOfMemory>
     requires known { IsFound question.now.found.now }
+    requires signed { IsSigned V.Vouch question.now }
     requires target { question.now.sought.target.now ≡ octets_at (items_in question.now) question.now.target }
     requires certificate { IsCertificateAt (items_in question.now) place }
     ensures { OnOk result (Appends (TellsAt question.now.sought.demand.now (rules_in V.Vouch question.now)

@@ -31,7 +31,7 @@ pub(crate) struct Sought<'b, 'a> {
 }
 
 /// Returns the octets of an item.
-fn octets_of<'a>(item: &ReadItem<'a>) -> &'a [u8]
+pub(crate) fn octets_of<'a>(item: &ReadItem<'a>) -> &'a [u8]
     ensures { result.now ≡ (item_of item.now).octets }
 {
     match item {

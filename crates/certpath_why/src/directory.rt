@@ -24,7 +24,7 @@ pub(crate) struct Directory<'a> {
 }
 
 /// Returns the numbers below a count, in ascending order.
-fn numbers_below(alloc: Global, count: usize) -> Result<Vec<usize>, AllocError>
+pub(crate) fn numbers_below(alloc: Global, count: usize) -> Result<Vec<usize>, AllocError>
     ensures ascends { IfOk result (λ numbers. IsStrictlyIncreasing numbers.items) }
     ensures exact { IfOk result (λ numbers. (v : ℕ) → Contains numbers.items v ↔ (v < count)) }
 {

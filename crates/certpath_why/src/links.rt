@@ -1,10 +1,12 @@
 //! The lines of the links of one certificate: one for those that hold, and one for each reason why
 //! others don't, with the positions as ranges.
 
-ghost use Rattle.std.specs.Prelude.{◌≡◌, ◌↔◌, ◌++◌, [], None, Some, IsTrue, OnOk, string_bytes};
+ghost use Rattle.std.specs.Prelude.{◌≡◌, ◌↔◌, ◌++◌, [], Contains, Some, IsTrue, OnOk, string_bytes};
+ghost use Rattle.std.specs.List.Sorted.{IsStrictlyIncreasing};
 ghost use Rattle.cert_reasons.specs.declared.links.Unlinked.TheVariants.{RevokedBy};
 ghost use Rattle.certpath_why.specs.Appended.{Appends};
 ghost use Rattle.certpath_why.specs.Fates.{AreSortedFates, OfSome};
+ghost use Rattle.certpath_why.specs.Groups.{AreInOrder, FailsIn};
 ghost use Rattle.certpath_why.specs.Lines.{link_end, link_lines};
 ghost use Rattle.certpath_why.specs.LinkText.{front_text};
 ghost use Rattle.certpath_why.specs.Ranges.{range_text};
@@ -26,6 +28,19 @@ pub(crate) enum Front {
     Items(usize),
     /// Anchors, from the certificate at a position.
     Anchors(usize),
+}
+
+/// The links of one certificate to those of its issuer's name, by their positions in ascending order.
+#[derive(Drop)]
+pub(crate) struct Groups {
+    /// To whom it is linked.
+    pub(crate) linked: Vec<usize>,
+    /// Whose keys nobody says to have signed it.
+    pub(crate) unvouched: Vec<usize>,
+    /// Whose key identifiers differ from the one that it names.
+    pub(crate) differing: Vec<usize>,
+    /// Links with the reasons that are lists; none where no list is a reason.
+    pub(crate) listed: Vec<Fate>,
 }
 
 /// Appends a position, or the first and the last of several.
@@ -110,19 +125,18 @@ fn push_links(
     Ok(())
 }
 
-/// Appends the line of the links that hold, or that one reason is against.
-fn push_group(
+/// Appends the line of some positions, given in ascending order; nothing for none.
+fn push_places(
     text: &mut String,
     alloc: Global,
     front: Front,
-    fates: &[Fate],
     what: Option<Unlinked>,
+    places: &[usize],
 ) -> Result<(), OutOfMemory>
-    requires { AreSortedFates fates.now }
-    ensures { OnOk result (Appends (TellsGroup (front_text front) what (OfSome what fates.now)) (string_bytes text.old) (string_bytes text.new)) }
+    requires { IsStrictlyIncreasing places.now }
+    ensures { OnOk result (Appends (TellsGroup (front_text front) what (Contains places.now)) (string_bytes text.old) (string_bytes text.new)) }
 {
-    let places = places_of(alloc, fates, what)?;
-    let ranges = ranges_of(alloc, &places)?;
+    let ranges = ranges_of(alloc, places)?;
     push_links(text, alloc, front, what, &ranges)?;
     Ok(())
 }
@@ -139,7 +153,9 @@ fn push_revoked(
     ensures { OnOk result (Appends (AreTexts (λ p. TellsGroup (front_text front) (Some (RevokedBy p)) (OfSome (Some (RevokedBy p)) fates.now)) lists.now) (string_bytes text.old) (string_bytes text.new)) }
 {
     for list in lists {
-        push_group(text, alloc, front, fates, Some(Unlinked::RevokedBy(*list)))?;
+        let revoked = Some(Unlinked::RevokedBy(*list));
+        let places = places_of(alloc, fates, revoked)?;
+        push_places(text, alloc, front, revoked, &places)?;
     }
     Ok(())
 }
@@ -149,16 +165,20 @@ pub(crate) fn push_groups(
     text: &mut String,
     alloc: Global,
     front: Front,
-    fates: &[Fate],
+    groups: &Groups,
 ) -> Result<(), OutOfMemory>
-    requires { AreSortedFates fates.now }
-    ensures { OnOk result (Appends (TellsGroups (front_text front) (OfSome None fates.now) (λ reason. OfSome (Some reason) fates.now)) (string_bytes text.old) (string_bytes text.new)) }
+    requires { AreInOrder groups.now }
+    ensures { OnOk result (Appends (TellsGroups (front_text front) (Contains groups.now.linked.items) (FailsIn groups.now)) (string_bytes text.old) (string_bytes text.new)) }
 {
-    let lists = revokers_of(alloc, fates)?;
-    push_group(text, alloc, front, fates, None)?;
-    push_group(text, alloc, front, fates, Some(Unlinked::NotVouched))?;
-    push_group(text, alloc, front, fates, Some(Unlinked::KeyIdsDiffer))?;
-    push_revoked(text, alloc, front, fates, &lists)?;
-    push_group(text, alloc, front, fates, Some(Unlinked::NoUsedList))?;
+    let lists = revokers_of(alloc, &groups.listed)?;
+    let unvouched = Some(Unlinked::NotVouched);
+    let differing = Some(Unlinked::KeyIdsDiffer);
+    push_places(text, alloc, front, None, &groups.linked)?;
+    push_places(text, alloc, front, unvouched, &groups.unvouched)?;
+    push_places(text, alloc, front, differing, &groups.differing)?;
+    push_revoked(text, alloc, front, &groups.listed, &lists)?;
+    let lacking = Some(Unlinked::NoUsedList);
+    let places = places_of(alloc, &groups.listed, lacking)?;
+    push_places(text, alloc, front, lacking, &places)?;
     Ok(())
 }

@@ -2,6 +2,7 @@
 
 use crate::demanded::Sought;
 use crate::found::Found;
+use crate::signers::Signers;
 use cert_judge::Policy;
 
 /// A target among items, what is demanded of it, and how certificates and lists are judged.
@@ -15,6 +16,8 @@ pub(crate) struct Question<'q, 'a, V> {
     pub(crate) sought: Sought<'q, 'a>,
     /// Which key vouches for which item.
     pub(crate) vouch: &'q V,
+    /// Whose keys vouch for each item.
+    pub(crate) signers: &'q Signers,
     /// The moment, and whether revocation lists are demanded.
     pub(crate) policy: &'q Policy,
 }

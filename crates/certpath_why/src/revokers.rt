@@ -6,6 +6,7 @@ ghost use Rattle.cert_reasons.specs.declared.links.Unlinked.TheVariants.{Revoked
 ghost use Rattle.certpath_why.specs.Fates.{OfSome, revoker};
 
 use crate::fates::Fate;
+use crate::positions::put_in_order;
 use cert_reasons::Unlinked;
 use std::alloc::{AllocError, Global};
 
@@ -29,16 +30,6 @@ fn add_revokers(lists: &mut Vec<usize>, reasons: &[Unlinked]) -> Result<(), Allo
         };
         lists.push(list)?;
     }
-    Ok(())
-}
-
-/// Sorts numbers, and keeps one of equal ones.
-fn put_in_order(numbers: &mut Vec<usize>) -> Result<(), AllocError>
-    ensures ascend { OnOk result (IsStrictlyIncreasing numbers.new.items) }
-    ensures kept { OnOk result ((p : ℕ) → Contains numbers.old.items p → Contains numbers.new.items p) }
-{
-    numbers.sort()?;
-    numbers.dedup();
     Ok(())
 }
 

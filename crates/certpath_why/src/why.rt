@@ -5,7 +5,7 @@ ghost use Rattle.std.specs.Prelude.{◌≡◌, ◌⊎◌, OnOk, [], map, string_
 ghost use Rattle.cert_judge.specs.Items.{item_of, rules_by};
 ghost use Rattle.cert_judge.specs.Vouching.{processing_too};
 ghost use Rattle.cert_purpose.specs.Restricting.{restricted_by};
-ghost use Rattle.certpath_why.specs.Question.{anchors_in, items_in, rules_in};
+ghost use Rattle.certpath_why.specs.Question.{anchors_in, items_in, rules_in, IsSigned};
 ghost use Rattle.certpath_why.specs.Reached.{ArePositions, IsFurther, IsCertificateAt};
 ghost use Rattle.certpath_why.specs.Why.{AreTexts, TellsAt, TellsReached, AppendsWhy, AppendsWhyFor, octets_at};
 ghost use Rattle.certpath_why.specs.Found.{IsFound};
@@ -19,6 +19,7 @@ use crate::lists::tell_lists;
 use crate::processing::Processing;
 use crate::question::Question;
 use crate::reached::further_than;
+use crate::signers::Signers;
 use asn1_core::OutOfMemory;
 use cert_graph::Answer;
 use cert_judge::{Policy, ReadItem, Vouch};
@@ -33,6 +34,7 @@ fn tell_target<V: Vouch>(
     question: &Question<'_, '_, V>,
 ) -> Result<(), OutOfMemory>
     requires known { IsFound question.now.found.now }
+    requires signed { IsSigned V.Vouch question.now }
     requires target { question.now.sought.target.now ≡ octets_at (items_in question.now) question.now.target }
     ensures { OnOk result (Appends (λ own. TellsAt question.now.sought.demand.now (rules_in V.Vouch question.now)
         (items_in question.now) (anchors_in question.now) question.now.target question.now.target own
@@ -53,6 +55,7 @@ fn tell_further<V: Vouch>(
     further: &[usize],
 ) -> Result<(), OutOfMemory>
     requires known { IsFound question.now.found.now }
+    requires signed { IsSigned V.Vouch question.now }
     requires target { question.now.sought.target.now ≡ octets_at (items_in question.now) question.now.target }
     requires further { ArePositions (IsFurther (items_in question.now) question.now.target) further.now }
     ensures { OnOk result (Appends (AreTexts (TellsAt question.now.sought.demand.now (rules_in V.Vouch question.now)
@@ -75,6 +78,7 @@ fn tell_reached<V: Vouch, S: Vouch>(
     search: &S,
 ) -> Result<(), OutOfMemory>
     requires known { IsFound question.now.found.now }
+    requires signed { IsSigned V.Vouch question.now }
     requires target { question.now.sought.target.now ≡ octets_at (items_in question.now) question.now.target }
     ensures { OnOk result (Appends (TellsReached question.now.sought.demand.now (rules_in V.Vouch question.now) (rules_by question.now.policy.now.moment question.now.policy.now.demand_lists (S.vouches_for search.now))
         (items_in question.now) (anchors_in question.now) question.now.target answer.now) (string_bytes text.old) (string_bytes text.new)) }
@@ -84,6 +88,7 @@ fn tell_reached<V: Vouch, S: Vouch>(
         target: question.target,
         sought: question.sought,
         vouch: search,
+        signers: question.signers,
         policy: question.policy,
     };
     let further = further_than(alloc, question.found, question.target)?;
@@ -113,6 +118,7 @@ fn push_why_by<'q, 'a, V: Vouch, S: Vouch>(
         (string_bytes text.old) (string_bytes text.new)) }
 {
     let found = Found::new(alloc, items, anchors)?;
+    let signers = Signers::new(alloc, items, anchors, vouch)?;
     let question = Question {
         found: &found,
         target,
@@ -121,6 +127,7 @@ fn push_why_by<'q, 'a, V: Vouch, S: Vouch>(
             target: octets_at(items, target),
         },
         vouch,
+        signers: &signers,
         policy,
     };
     tell_reached(text, alloc, &question, answer, search)?;
@@ -141,9 +148,13 @@ fn push_why_by<'q, 'a, V: Vouch, S: Vouch>(
 /// leads.
 ///
 /// The only error is out of memory; the text then ends anywhere. Certificates and lists are found
-/// by sorted maps of names. Each certificate that is told costs one pass over the entries of its
-/// issuer's lists, each link what `Linking::why_unlinked` costs, and each list what
-/// `why_list_unused_by_any` costs for the keys of its issuer's name.
+/// by sorted maps of names. `vouched_by_each` is called twice for each name, with the keys of its
+/// certificates among the items and then among the anchors, each key once, and the certificates and
+/// lists that were issued under it. Each certificate that is reported costs one pass over the
+/// entries of its issuer's lists, a step for each certificate and anchor of its issuer's name, and
+/// what `Linking::why_unlinked` costs for each of them whose key vouches for it; for each of the
+/// name, if lists are demanded or one that is in force has its serial number. Each list costs what
+/// `why_list_unused` costs.
 pub fn push_why<V: Vouch>(
     text: &mut String,
     alloc: Global,

@@ -1,5 +1,3 @@
-use Rattle.std.proofs.Common.{map}
-use Rattle.cert_judge.specs.Items.{item_of, rules_by}
 use Rattle.certpath_why.specs.Question.{items_in, rules_in}
 use Rattle.certpath_why.specs.Bounds.{reach_by}
 use Rattle.certpath_why.proofs.Items.{positions_as}

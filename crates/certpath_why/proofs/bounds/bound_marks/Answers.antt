@@ -1,6 +1,5 @@
-use Rattle.std.proofs.Common.{map, get_or, arith}
+use Rattle.std.proofs.Common.{get_or, arith}
 use Rattle.std.proofs.lemmas.List.Elements.{Contains-get_or}
-use Rattle.cert_judge.specs.Items.{item_of, rules_by}
 use Rattle.certpath_why.specs.Question.{items_in, rules_in}
 use Rattle.certpath_why.specs.Bounds.{reach_by, IsHeldBack}
 use Rattle.certpath_why.proofs.Bounding.{of_none, of_more, of_all}

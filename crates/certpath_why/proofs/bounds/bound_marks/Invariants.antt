@@ -1,6 +1,5 @@
 use Rattle.std.specs.List.{Contains}
-use Rattle.std.proofs.Common.{ℕ, take, map}
-use Rattle.cert_judge.specs.Items.{item_of, rules_by}
+use Rattle.std.proofs.Common.{ℕ, take}
 use Rattle.certpath_why.specs.Question.{items_in, rules_in}
 use Rattle.certpath_why.specs.Bounds.{reach_by, IsHeldBack}
 use Rattle.certpath_why.specs.Found.{AreMarked}

@@ -1,9 +1,9 @@
-use Rattle.std.proofs.Common.{◌≡◌, ◌∙◌, sym, map, refl}
+use Rattle.std.proofs.Common.{◌≡◌, ◌∙◌, sym, refl}
 use Rattle.std.specs.List.{Contains}
 use Rattle.cert_graph.specs.Entries.{IsAt}
 use Rattle.cert_graph.specs.declared.reach.Reach.TheVariants.{UpTo}
 use Rattle.cert_judge.specs.ItemGraph.{IsLink}
-use Rattle.cert_judge.specs.Items.{item_of, certificate_item, rules_by}
+use Rattle.cert_judge.specs.Items.{certificate_item}
 use Rattle.cert_judge.proofs.Mapped.{not_both}
 use Rattle.certpath_why.specs.Question.{items_in, rules_in}
 use Rattle.certpath_why.specs.Bounds.{reach_by, IsHeldBack}

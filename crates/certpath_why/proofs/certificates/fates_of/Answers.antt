@@ -6,7 +6,7 @@ use Rattle.certpath_why.proofs.Fating.{fates_none, fates_more, fates_all}
 use Rattle.certpath_why.proofs.certificates.fates_of.Goals as goal
 
 pub fate_of-requires-clause-subject : goal.fate_of-requires-clause-subject
-fate_of-requires-clause-subject g c = (c.requires.issuers.exact _).0 (Contains-get_or c.args.issuers.now c.loop-issuer.issuer-index 0 c.loop-issuer-test.true)
+fate_of-requires-clause-subject g c = c.requires.issuers _ (Contains-get_or c.args.issuers.now c.loop-issuer.issuer-index 0 c.loop-issuer-test.true)
 
 pub loop-issuer-init : goal.loop-issuer-init
 loop-issuer-init g c = let l = c.args.linking.now in rw c.new-fates.ensures.items (fates_none (IsLinkedTo (rules_by l.policy.moment l.policy.demand_lists (g.V.Vouch.vouches_for c.args.vouch.now)) (map item_of l.items.now) (certificate_item l.certificate.now)) (FailsTo (rules_by l.policy.moment l.policy.demand_lists (g.V.Vouch.vouches_for c.args.vouch.now)) (map item_of l.items.now) (certificate_item l.certificate.now) (certificate_of l.certificate.now)) c.args.issuers.now)

@@ -1,7 +1,6 @@
-use Rattle.std.proofs.Common.{map, refl, ◌∙◌, sym}
-use Rattle.cert_graph.specs.Entries.{IsAt}
-use Rattle.cert_judge.specs.ItemGraph.{IsLink, IsAnchorLink, KeyIdsAgree}
-use Rattle.cert_judge.specs.Items.{item_of, certificate_of, certificate_item, rules_by}
+use Rattle.std.proofs.Common.{map, refl}
+use Rattle.cert_judge.specs.ItemGraph.{IsAnchorLink}
+use Rattle.cert_judge.specs.Items.{item_of, certificate_item, rules_by}
 use Rattle.cert_model.specs.Fields.{Certificate}
 use Rattle.certpath_why.proofs.Items.{none_read, read_subject, subject_certificate}
 use Rattle.certpath_why.proofs.Fated.{there_iff, fails_there}

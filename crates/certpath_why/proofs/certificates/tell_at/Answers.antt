@@ -1,5 +1,4 @@
-use Rattle.std.proofs.Common.{map, refl}
-use Rattle.cert_judge.specs.Items.{item_of, rules_by}
+use Rattle.std.proofs.Common.{refl}
 use Rattle.certpath_why.specs.Question.{anchors_in, rules_in}
 use Rattle.certpath_why.proofs.Items.{none_read}
 use Rattle.certpath_why.proofs.Telling.{tells_at}

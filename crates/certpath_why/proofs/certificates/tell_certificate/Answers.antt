@@ -1,5 +1,3 @@
-use Rattle.std.proofs.Common.{map}
-use Rattle.cert_judge.specs.Items.{item_of, rules_by}
 use Rattle.certpath_why.specs.Question.{anchors_in, items_in, rules_in}
 use Rattle.certpath_why.proofs.Telling.{tells_certificate}
 use Rattle.certpath_why.proofs.certificates.tell_certificate.Goals as goal

@@ -1,5 +1,5 @@
 use Rattle.std.specs.Prelude.{codes}
-use Rattle.std.proofs.Common.{◌≡◌, ◌∙◌, ◌∷◌, [], sym, subst, map, refl, Some, false, string_bytes}
+use Rattle.std.proofs.Common.{◌∙◌, ◌∷◌, [], sym, subst, map, refl, Some, string_bytes}
 use Rattle.std.proofs.lemmas.Bool.{false≢true}
 use Rattle.cert_judge.specs.Items.{certificate_of}
 use Rattle.cert_model.specs.View.{ext_view}

@@ -1,6 +1,5 @@
 use Rattle.cert_judge.proofs.Mapped.{not_both}
-use Rattle.std.proofs.Common.{◌≡◌, ◌∙◌, refl, sym, get_or, arith, ap, subst, inl, inr}
-use Rattle.std.proofs.lemmas.List.{get_or_default}
+use Rattle.std.proofs.Common.{refl}
 use Rattle.certpath_why.proofs.Fating.{one_has, more_none, none_has}
 use Rattle.certpath_why.proofs.fates.has.Goals as goal
 

@@ -1,4 +1,4 @@
-use Rattle.std.proofs.Common.{◌≡◌, ◌∙◌, ap, sym, subst, [], ◌++◌, string_bytes, append-nil}
+use Rattle.std.proofs.Common.{◌∙◌, ap, sym, ◌++◌, string_bytes, append-nil}
 use Rattle.certpath_why.specs.LinkText.{front_text}
 use Rattle.certpath_why.specs.Lines.{link_end, link_lines}
 use Rattle.certpath_why.specs.Listed.{listed}

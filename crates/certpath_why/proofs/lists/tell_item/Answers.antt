@@ -1,11 +1,15 @@
-use Rattle.std.proofs.Common.{sym, subst, map, string_bytes}
+use Rattle.std.proofs.Common.{◌≡◌, sym, subst, string_bytes}
 use Rattle.std.specs.Prelude.{OnOk}
+use Rattle.cert_graph.specs.Entries.{IsAt}
 use Rattle.cert_judge.specs.declared.items.ReadItem.{ReadItem}
-use Rattle.cert_judge.specs.Items.{item_of, rules_by}
+use Rattle.cert_judge.specs.Items.{item_of}
 use Rattle.certpath_why.specs.Question.{anchors_in, items_in, rules_in}
 use Rattle.certpath_why.specs.Appended.{Appends}
 use Rattle.certpath_why.specs.Why.{TellsItem}
 use Rattle.certpath_why.proofs.lists.tell_item.Goals as goal
+
+pub tell_list-requires-clause-at : goal.tell_list-requires-clause-at
+tell_list-requires-clause-at g c = subst (λ (y : ReadItem). IsAt c.args.question.now.found.now.items.now c.args.place (λ x. x ≡ y)) c.in-List.is c.requires.at
 
 pub returns-in-List : goal.returns-in-List
 returns-in-List g c =

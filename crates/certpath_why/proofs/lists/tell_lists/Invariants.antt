@@ -1,5 +1,4 @@
-use Rattle.std.proofs.Common.{map, string_bytes}
-use Rattle.cert_judge.specs.Items.{item_of, rules_by}
+use Rattle.std.proofs.Common.{string_bytes}
 use Rattle.certpath_why.specs.Question.{anchors_in, items_in, rules_in}
 use Rattle.certpath_why.specs.Why.{AreTexts, TellsItemAt, positions}
 use Rattle.certpath_why.specs.Appended.{Appends}

@@ -1,4 +1,4 @@
-use Rattle.std.proofs.Common.{◌≡◌, ◌∙◌, ◌-◌, sym, subst, ap, [], ◌∷◌, ◌++◌, ℕ, List, take, arith}
+use Rattle.std.proofs.Common.{◌≡◌, ◌∙◌, ◌-◌, sym, subst, ap, [], ◌∷◌, ◌++◌, List, take, arith}
 use Rattle.std.proofs.lemmas.List.{append-nil}
 use Rattle.std.specs.List.{Contains}
 use Rattle.certpath_why.specs.declared.ranges.Range.{Range}

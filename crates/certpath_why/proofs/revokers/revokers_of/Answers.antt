@@ -1,4 +1,4 @@
-use Rattle.std.proofs.Common.{sym, subst}
+use Rattle.std.proofs.Common.{subst}
 use Rattle.certpath_why.specs.declared.fates.Fate.{Fate}
 use Rattle.certpath_why.proofs.Revoking.{HasNamed, revokers_none, revokers_more, revokers_all}
 use Rattle.certpath_why.proofs.revokers.revokers_of.Goals as goal
@@ -13,4 +13,4 @@ loop-fate-preserved c =
     revokers_more c.args.fates.now c.loop-fate.fate-index x c.loop-fate.lists.items c.add_revokers.new.lists.items c.loop-fate-test.true c.loop-fate.invariant (subst (λ (f : Fate). HasNamed c.loop-fate.lists.items f.reasons.items c.add_revokers.new.lists.items) c.fate-item.is added)
 
 pub returns-clause-all : goal.returns-clause-all
-returns-clause-all c = λ p w h. c.in_ok-put_in_order.ensures.kept p (revokers_all c.args.fates.now c.loop-fate.fate-index c.loop-fate.lists.items c.loop-fate-test.false c.loop-fate.invariant p w h)
+returns-clause-all c = λ p w h. (c.in_ok-put_in_order.ensures.kept p).1 (revokers_all c.args.fates.now c.loop-fate.fate-index c.loop-fate.lists.items c.loop-fate-test.false c.loop-fate.invariant p w h)

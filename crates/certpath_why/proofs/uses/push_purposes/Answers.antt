@@ -1,5 +1,5 @@
 use Rattle.std.specs.Prelude.{codes}
-use Rattle.std.proofs.Common.{◌≡◌, ◌∙◌, ◌++◌, ap, sym, refl, map, ℕ, List, append_assoc, string_bytes, inl}
+use Rattle.std.proofs.Common.{◌≡◌, ◌∙◌, ◌++◌, ap, map, ℕ, List, append_assoc, string_bytes, inl}
 use Rattle.cert_reasons.specs.declared.values.Purpose.{Purpose}
 use Rattle.certpath_why.specs.Listed.{listed}
 use Rattle.certpath_why.specs.Uses.{purpose_text}

@@ -2,6 +2,18 @@ use Rattle.std.proofs.Common.{refl}
 use Rattle.certpath_why.proofs.Joined.{then_appended}
 use Rattle.certpath_why.proofs.why.push_why_by.Goals as goal
 
+pub tell_reached-requires-clause-signed : goal.tell_reached-requires-clause-signed
+tell_reached-requires-clause-signed g c = record {
+  issuers = rw c.in_ok-found.ensures.items c.in_ok-signers.ensures.issuers;
+  roots = rw (c.in_ok-found.ensures.items, c.in_ok-found.ensures.anchors) c.in_ok-signers.ensures.roots;
+}
+
+pub tell_lists-requires : goal.tell_lists-requires
+tell_lists-requires g c = record {
+  issuers = rw c.in_ok-found.ensures.items c.in_ok-signers.ensures.issuers;
+  roots = rw (c.in_ok-found.ensures.items, c.in_ok-found.ensures.anchors) c.in_ok-signers.ensures.roots;
+}
+
 pub returns : goal.returns
 returns g c =
     let a = c.in_ok-tell_reached.ensures in

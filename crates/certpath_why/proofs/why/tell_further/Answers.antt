@@ -1,6 +1,5 @@
-use Rattle.std.proofs.Common.{map, get_or}
+use Rattle.std.proofs.Common.{get_or}
 use Rattle.std.proofs.lemmas.List.Elements.{Contains-get_or}
-use Rattle.cert_judge.specs.Items.{item_of, rules_by}
 use Rattle.certpath_why.specs.Question.{anchors_in, items_in, rules_in}
 use Rattle.certpath_why.specs.Why.{TellsAt}
 use Rattle.certpath_why.proofs.Texts.{texts_none, texts_more, texts_all}

@@ -1,5 +1,4 @@
-use Rattle.std.proofs.Common.{take, map, string_bytes}
-use Rattle.cert_judge.specs.Items.{item_of, rules_by}
+use Rattle.std.proofs.Common.{take, string_bytes}
 use Rattle.certpath_why.specs.Question.{anchors_in, items_in, rules_in}
 use Rattle.certpath_why.specs.Why.{AreTexts, TellsAt}
 use Rattle.certpath_why.specs.Appended.{Appends}

@@ -1,0 +1,158 @@
+-- Links of one certificate, brought together by what is said of them.
+use Rattle.std.specs.Prelude.{◌↔◌}
+use Rattle.std.proofs.Common.{◌≡◌, ◌∙◌, ap, sym, subst, refl, ℕ, ◌<◌, List, [], length, map, arith, get_or, Some, Vec, Global}
+use Rattle.std.specs.List.{Contains}
+use Rattle.std.specs.List.Sorted.{IsStrictlyIncreasing}
+use Rattle.std.proofs.lemmas.List.{length-map}
+use Rattle.cert_graph.specs.Entries.{IsAt}
+use Rattle.cert_model.specs.Class.{certificate}
+use Rattle.cert_model.specs.Fields.{Certificate}
+use Rattle.cert_model.specs.Octets.{name_octets, key_octets}
+use Rattle.cert_judge.specs.declared.items.CertificateItem.{CertificateItem}
+use Rattle.cert_judge.specs.declared.items.ReadItem.{ReadItem}
+use Rattle.cert_judge.specs.Items.{item_of, certificate_of, certificate_item}
+use Rattle.cert_judge.specs.ItemGraph.{IsCertificateWith, IsLink, IsAnchorLink, KeyIdsAgree}
+use Rattle.cert_judge.specs.Revoking.{Item, JudgingContext}
+use Rattle.cert_judge.proofs.Grouping.{element, one_certificate}
+use Rattle.cert_judge.proofs.Linking.{with_iff}
+use Rattle.cert_reasons.specs.declared.links.Unlinked.{Unlinked}
+use Rattle.cert_reasons.specs.declared.links.Unlinked.TheVariants.{NotVouched, KeyIdsDiffer, RevokedBy, NoUsedList}
+use Rattle.cert_reasons.specs.Links.{Revokes}
+use Rattle.cert_reasons.proofs.Marks.{there_at}
+use Rattle.certpath_why.specs.declared.fates.Fate.{Fate}
+use Rattle.certpath_why.specs.declared.links.Groups.{Groups}
+use Rattle.certpath_why.specs.Fates.{AreFates}
+use Rattle.certpath_why.specs.Groups.{IsDiffering, AreListFates, AreGroups, AreInOrder, FailsIn}
+use Rattle.certpath_why.specs.Reached.{ArePositions, HasSubject}
+use Rattle.certpath_why.specs.Signers.{IsSignedBy, AreSignedBy}
+use Rattle.certpath_why.proofs.Fating.{fates_sorted, fails_iff}
+use Rattle.certpath_why.proofs.Items.{held}
+
+-- the item at a position, and the certificate that it is
+pub cert_here : (items : List Item) (w : ℕ) (S : Certificate → Type 0) → IsAt items w (IsCertificateWith S) → (y : Item) × (d : Certificate) × (w < length items) × (y ≡ get_or items w y) × (y.class ≡ certificate d) × S d
+cert_here items w S h =
+    let e = element items w h.0 in
+    let p = h.1 e.0 in
+    (e.0, p.0, h.0, e.1, subst (λ (z : Item). z.class ≡ certificate p.0) (sym e.1) p.1, p.2)
+
+pub cert_iff : (items : List Item) (w : ℕ) (y : Item) (d : Certificate) → w < length items → y ≡ get_or items w y → y.class ≡ certificate d → (P : Certificate → Type 0) → P d ↔ IsAt items w (IsCertificateWith P)
+cert_iff items w y d lt at is P =
+    let a = with_iff P y d is in
+    let b = there_at items w y lt at (IsCertificateWith P) in
+    (λ p. b.0 (a.1 p), λ h. a.0 (b.1 h))
+
+-- ---- signers
+
+pub signed_within : (V : List ℕ → List ℕ → Type 0) (read : List ReadItem) (others : List Item) (ls : List (Vec ℕ Global)) (v : ℕ) → AreSignedBy V (map item_of read) others ls → v < length read → v < length ls
+signed_within V read others ls v h lt =
+    let long = length-map read item_of in
+    let count = h.count in
+    omega arith
+
+pub in_order_iff : (S : ℕ → Type 0) (ss os : List ℕ) → ArePositions (Contains ss) os → ((w : ℕ) → Contains ss w ↔ S w) → (w : ℕ) → Contains os w ↔ S w
+in_order_iff S ss os h iff w = (λ c. (iff w).0 ((h.exact w).0 c), λ s. (h.exact w).1 ((iff w).1 s))
+
+-- whoever signed has the issuer's name
+pub signed_named : (V : List ℕ → List ℕ → Type 0) (others : List Item) (x : CertificateItem) (w : ℕ) → IsSignedBy V others (certificate_item x) w → HasSubject others x.issuer.now w
+signed_named V others x w s = (s.0, λ e. let p = s.1 e in (p.0, p.1, sym (x.issuer_is ∙ held p.2.0)))
+
+-- whoever it is linked to signed
+pub linked_signed : (r : JudgingContext) (items : List Item) (x : CertificateItem) (w : ℕ) → IsAt items w (IsLink r items (certificate_item x)) → IsSignedBy r.Vouches items (certificate_item x) w
+linked_signed r items x w h = (
+  h.0,
+  λ e.
+      let p = h.1 e in
+      let q = p.2 in
+      let same : certificate_of x ≡ p.0 = one_certificate (certificate_item x).class (certificate_of x) p.0 refl p.1 in
+      (q.0, q.1, (ap Some (subst (λ (c : Certificate). name_octets c.issuer ≡ name_octets q.0.subject) (sym same) q.2.0.issuer), q.2.0.vouched)),
+)
+
+pub linked_anchor_signed : (r : JudgingContext) (items anchors : List Item) (x : CertificateItem) (a : ℕ) → IsAt anchors a (IsAnchorLink r items (certificate_item x)) → IsSignedBy r.Vouches anchors (certificate_item x) a
+linked_anchor_signed r items anchors x a h = (
+  h.0,
+  λ e.
+      let p = h.1 e in
+      let q = p.2 in
+      let same : certificate_of x ≡ p.0 = one_certificate (certificate_item x).class (certificate_of x) p.0 refl p.1 in
+      (q.0, q.1, (ap Some (subst (λ (c : Certificate). name_octets c.issuer ≡ name_octets q.0.subject) (sym same) q.2.issuer), q.2.vouched)),
+)
+
+-- those of the name that did not sign are those of which nobody says so
+pub unvouched_iff : (V : List ℕ → List ℕ → Type 0) (others : List Item) (x : CertificateItem) (ws ss : List ℕ) → ArePositions (HasSubject others x.issuer.now) ws → ((w : ℕ) → Contains ss w ↔ IsSignedBy V others (certificate_item x) w)
+    → (w : ℕ) → (Contains ws w × (Contains ss w → ⊥)) ↔ IsAt others w (IsCertificateWith (λ d. (name_octets d.subject ≡ name_octets (certificate_of x).issuer) × (V (key_octets d.key) x.octets.now → ⊥)))
+unvouched_iff V others x ws ss named signed w =
+    let S : Certificate → Type 0 = λ d. name_octets d.subject ≡ x.issuer.now in
+    let F : Certificate → Type 0 = λ d. (name_octets d.subject ≡ name_octets (certificate_of x).issuer) × (V (key_octets d.key) x.octets.now → ⊥) in
+    let G : Certificate → Type 0 = λ d. (Some (name_octets (certificate_of x).issuer) ≡ Some (name_octets d.subject)) × V (key_octets d.key) x.octets.now in (
+      λ h.
+          let z = cert_here others w S ((named.exact w).0 h.0) in
+          let same = z.5 ∙ x.issuer_is in
+          (cert_iff others w z.0 z.1 z.2 z.3 z.4 F).0 (same, λ v. h.1 ((signed w).1 ((cert_iff others w z.0 z.1 z.2 z.3 z.4 G).0 (ap Some (sym same), v)))),
+      λ f.
+          let z = cert_here others w F f in (
+            (named.exact w).1 ((cert_iff others w z.0 z.1 z.2 z.3 z.4 S).0 (z.5.0 ∙ sym x.issuer_is)),
+            λ c. z.5.1 ((cert_iff others w z.0 z.1 z.2 z.3 z.4 G).1 ((signed w).0 c)).1,
+          ),
+    )
+
+-- ---- key identifiers
+
+pub differing_named : (items : List Item) (x : CertificateItem) (w : ℕ) → IsDiffering items (certificate_of x) w → HasSubject items x.issuer.now w
+differing_named items x w h = (h.0, λ e. let p = h.1 e in (p.0, p.1, p.2.0 ∙ sym x.issuer_is))
+
+pub none_differing : (items : List Item) (c : Certificate) → ((d : Certificate) → KeyIdsAgree c d) → ArePositions (IsDiffering items c) []
+none_differing items c agree = record {
+  ascends = λ k lt. absurd (omega arith);
+  exact = λ w. (
+    λ h. let lt = h.1 in absurd (omega arith),
+    λ h. let z = cert_here items w (λ d. (name_octets d.subject ≡ name_octets c.issuer) × (KeyIdsAgree c d → ⊥)) h in absurd (z.5.1 (agree z.1)),
+  );
+}
+
+-- of anchors no key identifier counts
+pub none_differing_there : (anchors : List Item) (c : Certificate) → ArePositions (λ w. IsAt anchors w (IsCertificateWith (λ d. (name_octets d.subject ≡ name_octets c.issuer) × (Unit {0} → ⊥)))) []
+none_differing_there anchors c = record {
+  ascends = λ k lt. absurd (omega arith);
+  exact = λ w. (
+    λ h. let lt = h.1 in absurd (omega arith),
+    λ h. let z = cert_here anchors w (λ d. (name_octets d.subject ≡ name_octets c.issuer) × (Unit {0} → ⊥)) h in absurd (z.5.1 tt),
+  );
+}
+
+-- ---- reasons that are lists
+
+pub listed_none : (Fails : Unlinked → ℕ → Type 0) → ((p w : ℕ) → Fails (RevokedBy p) w → ⊥) → ((w : ℕ) → Fails NoUsedList w → ⊥) → AreListFates Fails []
+listed_none Fails revoked lacking = record {
+  ascend = λ k lt. absurd (omega arith);
+  revoked = λ p w. (λ o. let at = o.1 in let lt = at.1 in absurd (omega arith), λ f. absurd (revoked p w f));
+  lacking = λ w. (λ o. let at = o.1 in let lt = at.1 in absurd (omega arith), λ f. absurd (lacking w f));
+}
+
+pub none_revoked : (r : JudgingContext) (items others : List Item) (x : CertificateItem) → ((key : List ℕ) (p : ℕ) → IsAt items p (Revokes r x.issuer.now key (certificate_of x).serial) → ⊥) → (p w : ℕ)
+    → IsAt others w (IsCertificateWith (λ d. (name_octets d.subject ≡ name_octets (certificate_of x).issuer) × IsAt items p (Revokes r (name_octets d.subject) (key_octets d.key) (certificate_of x).serial))) → ⊥
+none_revoked r items others x none p w h =
+    let z = cert_here others w (λ d. (name_octets d.subject ≡ name_octets (certificate_of x).issuer) × IsAt items p (Revokes r (name_octets d.subject) (key_octets d.key) (certificate_of x).serial)) h in
+    none (key_octets z.1.key) p (subst (λ n. IsAt items p (Revokes r n (key_octets z.1.key) (certificate_of x).serial)) (z.5.0 ∙ sym x.issuer_is) z.5.1)
+
+pub none_lacking : (demanded : Type 0) (others : List Item) (c : Certificate) (Q : Certificate → Type 0) → (demanded → ⊥) → (w : ℕ) → IsAt others w (IsCertificateWith (λ d. (name_octets d.subject ≡ name_octets c.issuer) × (demanded × Q d))) → ⊥
+none_lacking demanded others c Q none w h =
+    let z = cert_here others w (λ d. (name_octets d.subject ≡ name_octets c.issuer) × (demanded × Q d)) h in
+    none z.5.1.0
+
+pub listed_all : (Linked : ℕ → Type 0) (Fails : Unlinked → ℕ → Type 0) (ps : List ℕ) (fs : List Fate) → AreFates Linked Fails ps fs → IsStrictlyIncreasing ps → ((reason : Unlinked) (w : ℕ) → Fails reason w → Contains ps w) → AreListFates Fails fs
+listed_all Linked Fails ps fs h up there = record {
+  ascend = fates_sorted Linked Fails ps fs h up;
+  revoked = λ p. fails_iff Linked Fails ps fs (RevokedBy p) h (there (RevokedBy p));
+  lacking = fails_iff Linked Fails ps fs NoUsedList h (there NoUsedList);
+}
+
+-- ---- groups
+
+pub groups_ordered : (Linked : ℕ → Type 0) (Fails : Unlinked → ℕ → Type 0) (g : Groups) → AreGroups Linked Fails g → AreInOrder g
+groups_ordered Linked Fails g h = record { linked = h.linked.ascends; unvouched = h.unvouched.ascends; differing = h.differing.ascends; listed = h.listed.ascend }
+
+pub fails_in : (Linked : ℕ → Type 0) (Fails : Unlinked → ℕ → Type 0) (g : Groups) → AreGroups Linked Fails g → (reason : Unlinked) (w : ℕ) → FailsIn g reason w ↔ Fails reason w
+fails_in Linked Fails g h NotVouched w = h.unvouched.exact w
+fails_in Linked Fails g h KeyIdsDiffer w = h.differing.exact w
+fails_in Linked Fails g h (RevokedBy p) w = h.listed.revoked p w
+fails_in Linked Fails g h NoUsedList w = h.listed.lacking w
