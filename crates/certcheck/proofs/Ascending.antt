@@ -1,5 +1,5 @@
 -- Parts ascend if they do from the first of them on.
-use Rattle.std.proofs.Common.{◌≡◌, ◌∙◌, refl, sym, ap, Bool, true, false, ◌&&◌, List, ℕ}
+use Rattle.std.proofs.Common.{◌≡◌, ◌∙◌, refl, sym, ap, true, false, ◌&&◌, List, ℕ}
 use Rattle.der_tree.specs.Tree.{Tree, Trees, none, more, octets}
 use Rattle.cert_model.specs.Range.{is_at_most}
 use Rattle.cert_model.specs.Reads.{ascend}

@@ -2,7 +2,7 @@
 use Rattle.std.proofs.Common.{◌≡◌, ◌∙◌, sym, ap, refl, Option, Some, None, option_map, List, [], ◌∷◌, ◌++◌, map, append_assoc}
 use Rattle.std.specs.Option.{option_and_then}
 use Rattle.std.proofs.lemmas.List.{map-append, append-nil}
-use Rattle.der_tree.specs.Tree.{Tree, Trees, none, more}
+use Rattle.der_tree.specs.Tree.{Tree, Trees, more}
 use Rattle.der_tree.specs.Access.{first_at}
 use Rattle.cert_model.specs.Reads.{list_at}
 use Rattle.certcheck.proofs.WindowTrees.{first_more, first_none}

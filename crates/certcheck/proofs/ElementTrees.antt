@@ -6,7 +6,7 @@ use Rattle.std.proofs.Math.Seq.{drop-append_seam, take-length}
 use Rattle.asn1_core.specs.Elements.{Element, head_of_element, element_octets}
 use Rattle.asn1_core.specs.Strict.{strict_header}
 use Rattle.der_tree.specs.Table.{Kind, integer, octet_string, object_descriptor, utf8_string, relative_oid, numeric_string, printable_string, t61_string, videotex_string, ia5_string, utc_time, generalized_time, graphic_string, visible_string, general_string, universal_string, bmp_string, tag_of, is_listed}
-use Rattle.der_tree.specs.Tree.{Leaf, boolean, bit_string, null, oid, enumerated, plain, raw, Content, leaf, sequence, set, Trees, octets}
+use Rattle.der_tree.specs.Tree.{Leaf, boolean, null, oid, enumerated, raw, Content, leaf, sequence, set, Trees, octets}
 use Rattle.der_tree.specs.Access.{sequence_of, set_of, boolean_of, oid_of, bit_string_of, plain_of, sequence_at, set_at, boolean_at, oid_at, bit_string_at, plain_at, element_at}
 use Rattle.der_tree.proofs.Objects.{kind_at, same_kind, kind_listed}
 use Rattle.der_tree.proofs.OneTree.{is_true, bits_in, plain_in, listed_leaf, at_listed, plain_leaf}

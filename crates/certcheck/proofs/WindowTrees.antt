@@ -11,9 +11,9 @@ use Rattle.asn1_core.specs.Elements.{Element, head_of_element, element_octets}
 use Rattle.asn1_core.specs.Reading.{strict_at, identity_at}
 use Rattle.asn1_core.specs.Strict.{Head, strict_header}
 use Rattle.asn1_core.proofs.StrictLaws.{strict_again}
-use Rattle.der_tree.specs.Table.{Kind, tag_of, IsConstructed, is_listed}
+use Rattle.der_tree.specs.Table.{IsConstructed}
 use Rattle.der_tree.specs.Object.{IsCut, IsDerObject}
-use Rattle.der_tree.specs.Tree.{Leaf, raw, Tree, node, Content, leaf, sequence, set, Trees, none, more, octets, all_octets}
+use Rattle.der_tree.specs.Tree.{Leaf, Tree, node, Content, leaf, sequence, set, Trees, none, more, octets, all_octets}
 use Rattle.der_tree.specs.Shape.{Holds, IsObject, IsContent, AreObjects}
 use Rattle.der_tree.specs.Access.{first_at, end_at}
 use Rattle.der_tree.proofs.Cuts.{header_long, cut_front, element_of}
