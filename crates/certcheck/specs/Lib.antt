@@ -1,2 +1,4 @@
+pub mod Ascending
 pub mod PieceView
 pub mod Stopping
+pub mod Windows

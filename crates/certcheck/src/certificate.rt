@@ -1,9 +1,8 @@
-//! Certificates (RFC 5280, 4.1), from the tree of an item to fields.
+//! Certificates (RFC 5280, 4.1), from the element of an item to fields.
 
 ghost use Rattle.std.specs.Prelude.{◌≡◌, ℕ, Option, option_map, map};
 ghost use Rattle.der_tree.specs.Tree.{octets};
 ghost use Rattle.der_tree.specs.Shape.{IsObject};
-ghost use Rattle.der_tree.specs.View.{view, views};
 ghost use Rattle.cert_model.specs.Octets.{certificate_octets};
 ghost use Rattle.cert_model.specs.Range.{AreCertificateFields};
 ghost use Rattle.cert_model.specs.Assembly.{version_number, version_in, bits_in, id_in, fits_version};
@@ -13,16 +12,17 @@ ghost use Rattle.cert_model.specs.Reads.{name_at};
 ghost use Rattle.cert_model.specs.Pieces.{validity_at, tbs_at, signed_at};
 ghost use Rattle.certcheck.specs.PieceView.{cert_pieces_view, signed_certificate_view};
 ghost use Rattle.certcheck.specs.Stopping.{Finds, Settles};
+ghost use Rattle.certcheck.specs.Windows.{tree_of};
 
 use crate::extensions::extensions_in;
 use crate::names::name_of;
 use crate::parts::{next_algorithm, next_bits, next_key, next_number, sequence_of, tagged_of};
 use crate::stop::Stop;
 use crate::times::time_of;
+use crate::windows::{end_of, first_of};
 use cert_model::fields::{
     AlgField, AnyField, BitField, CertFields, ExtField, KeyField, NameFields,
 };
-use der_tree::{BerObject, end_of, first_of};
 use jiff::civil::DateTime;
 use std::alloc::Global;
 
@@ -63,32 +63,32 @@ pub(crate) struct CertPieces<'a> {
 
 /// Validity (RFC 5280, 4.1.2.5).
 #[tactic(auto, unfolding(cert_model::specs::Pieces::validity_at))]
-fn validity_of(object: &BerObject<'_>) -> Option<(DateTime, DateTime)>
-    ensures { option_map (λ p. (time_view p.0, time_view p.1)) result ≡ validity_at (view object.now) }
+fn validity_of(object: &AnyField<'_>) -> Option<(DateTime, DateTime)>
+    ensures { option_map (λ p. (time_view p.0, time_view p.1)) result ≡ validity_at (tree_of (any_view object.now)) }
 {
     let (first, rest) = first_of(sequence_of(object)?)?;
-    let not_before = time_of(first)?;
+    let not_before = time_of(&first)?;
     let (second, rest) = first_of(rest)?;
-    let not_after = time_of(second)?;
+    let not_after = time_of(&second)?;
     end_of(rest)?;
     Some((not_before, not_after))
 }
 
 /// TBSCertificate.
 #[tactic(auto, unfolding(cert_model::specs::Pieces::tbs_at))]
-pub(crate) fn tbs_of<'a>(alloc: Global, object: &BerObject<'a>) -> Result<CertPieces<'a>, Stop>
-    ensures { Finds cert_pieces_view result (tbs_at (view object.now)) }
+pub(crate) fn tbs_of<'a>(alloc: Global, object: &AnyField<'a>) -> Result<CertPieces<'a>, Stop>
+    ensures { Finds cert_pieces_view result (tbs_at (tree_of (any_view object.now))) }
 {
     let parts = sequence_of(object).ok_or(Stop::Other)?;
     let (version, rest) = tagged_of(VERSION, parts);
     let (serial, rest) = next_number(rest).ok_or(Stop::Other)?;
     let (signature, rest) = next_algorithm(rest).ok_or(Stop::Other)?;
     let (first, rest) = first_of(rest).ok_or(Stop::Other)?;
-    let issuer = name_of(alloc, first)?;
+    let issuer = name_of(alloc, &first)?;
     let (validity, rest) = first_of(rest).ok_or(Stop::Other)?;
-    let (not_before, not_after) = validity_of(validity).ok_or(Stop::Other)?;
+    let (not_before, not_after) = validity_of(&validity).ok_or(Stop::Other)?;
     let (first, rest) = first_of(rest).ok_or(Stop::Other)?;
-    let subject = name_of(alloc, first)?;
+    let subject = name_of(alloc, &first)?;
     let (key, rest) = next_key(rest).ok_or(Stop::Other)?;
     let (issuer_id, rest) = tagged_of(ISSUER_ID, rest);
     let (subject_id, rest) = tagged_of(SUBJECT_ID, rest);
@@ -119,13 +119,13 @@ pub(crate) struct SignedCertificate<'a> {
 
 fn signed_certificate<'a>(
     alloc: Global,
-    object: &BerObject<'a>,
+    object: &AnyField<'a>,
 ) -> Result<SignedCertificate<'a>, Stop>
-    ensures { Finds signed_certificate_view result (signed_at tbs_at (view object.now)) }
+    ensures { Finds signed_certificate_view result (signed_at tbs_at (tree_of (any_view object.now))) }
 {
     let parts = sequence_of(object).ok_or(Stop::Other)?;
     let (first, rest) = first_of(parts).ok_or(Stop::Other)?;
-    let tbs = tbs_of(alloc, first)?;
+    let tbs = tbs_of(alloc, &first)?;
     let (algorithm, rest) = next_algorithm(rest).ok_or(Stop::Other)?;
     let (signature_value, rest) = next_bits(rest).ok_or(Stop::Other)?;
     end_of(rest).ok_or(Stop::Other)?;
@@ -210,11 +210,11 @@ fn fits_version(
 /// The fields of the certificate that the object is.
 pub(crate) fn certificate_of<'a>(
     alloc: Global,
-    object: &BerObject<'a>,
+    object: &AnyField<'a>,
 ) -> Result<CertFields<'a>, Stop>
-    requires { IsObject 50 (view object.now) }
-    ensures { Settles result (λ f. AreCertificateFields (certificate_view f) × (certificate_octets (certificate_view f) ≡ octets (view object.now)))
-        (NoCertificate (octets (view object.now))) }
+    requires { IsObject 50 (tree_of (any_view object.now)) }
+    ensures { Settles result (λ f. AreCertificateFields (certificate_view f) × (certificate_octets (certificate_view f) ≡ octets (tree_of (any_view object.now))))
+        (NoCertificate (octets (tree_of (any_view object.now)))) }
 {
     let signed = signed_certificate(alloc, object)?;
     let version = version_of(signed.tbs.version).ok_or(Stop::Other)?;

@@ -1,7 +1,7 @@
 //! Checks answers on paths: says of each item what it is, a certificate or a revocation list in its
 //! one spelling or something else, and whether an answer on items is true.
 //!
-//! Items are read as trees, by `read_tree`. `check` says whether an answer on one item is true,
+//! Items are read by `read_tree`. `check` says whether an answer on one item is true,
 //! `check_all` whether an inventory of verdicts on all of them is, and `check_read` is `check` on items
 //! that were read. It depends on no search and on none of the search's readers.
 #![tactic(auto)]
@@ -18,6 +18,7 @@ mod parts;
 mod reading;
 mod stop;
 mod times;
+mod windows;
 
 pub use crate::class::read_tree;
 pub use crate::judge::{check, check_read};

@@ -1,87 +1,130 @@
-//! The parts of certificates and lists that hold no list themselves, each from its place in the tree
+//! The parts of certificates and lists that hold no list themselves, each from its element
 //! (RFC 5280, 4.1.1.2, 4.1.2.4 and 4.1.2.7).
 
 ghost use Rattle.std.specs.Prelude.{◌≡◌, ℕ, option_map};
-ghost use Rattle.asn1_core.specs.Views.{head_of, size_of};
 ghost use Rattle.der_tree.specs.Table.{integer, octet_string, is_negative};
-ghost use Rattle.der_tree.specs.Access.{sequence_at, set_at, plain_at, element_at};
-ghost use Rattle.der_tree.specs.View.{view, views};
+ghost use Rattle.der_tree.specs.Access.{sequence_at, set_at, boolean_at, oid_at, bit_string_at, plain_at, element_at};
+ghost use Rattle.der_tree.proofs.OneTree.{is_true};
 ghost use Rattle.cert_model.specs.View.{any_view, alg_view, attr_view, bit_view, key_view};
 ghost use Rattle.cert_model.specs.Reads.{identifier_at, number_at, bits_at, last_element_at, algorithm_at, attribute_at, key_at, is_tagged, tagged_at, next_at};
+ghost use Rattle.certcheck.specs.Windows.{is_universal, is_constructed, trees_in, tree_of};
 
-use asn1_core::{Class, Length};
+use crate::windows::{end_of, first_of};
+use asn1_core::{Class, Tag};
 use cert_model::fields::{AlgField, AnyField, AttrField, BitField, KeyField};
-use der_tree::{BerObject, BerObjectContent, end_of, first_of};
 
 /// The bit of a first content octet by which an INTEGER is negative (X.690, 8.3.3).
 const SIGN: u8 = 0x80;
 
-pub(crate) fn sequence_of<'b, 'a>(object: &'b BerObject<'a>) -> Option<&'b [BerObject<'a>]>
-    ensures { option_map (λ parts. views parts.now) result ≡ sequence_at (view object.now) }
+/// The content octet of a BOOLEAN that is true (X.690, 11.1).
+const TRUE: u8 = 0xff;
+
+/// Whether the element is a universal one of this tag number. Whether it is primitive isn't asked: an
+/// element that is DER has one form for each number (X.690, 8 and 10.2).
+pub(crate) fn is_universal(object: &AnyField<'_>, tag: Tag) -> bool
+    ensures { result ≡ is_universal tag.0 (any_view object.now) }
 {
-    match object.as_sequence() {
-        Ok(parts) => Some(parts.as_slice()),
-        Err(_) => None,
+    object.class == Class::Universal && object.tag.0 == tag.0
+}
+
+fn is_constructed(object: &AnyField<'_>, tag: Tag) -> bool
+    ensures { result ≡ is_constructed tag.0 (any_view object.now) }
+{
+    object.constructed && is_universal(object, tag)
+}
+
+#[tactic(auto, using(crate::proofs::ElementTrees::sequence_of_tree))]
+pub(crate) fn sequence_of<'a>(object: &AnyField<'a>) -> Option<&'a [u8]>
+    ensures { option_map (λ parts. trees_in parts.now) result ≡ sequence_at (tree_of (any_view object.now)) }
+{
+    if is_constructed(object, Tag::Sequence) {
+        Some(object.content)
+    } else {
+        None
     }
 }
 
-pub(crate) fn set_of<'b, 'a>(object: &'b BerObject<'a>) -> Option<&'b [BerObject<'a>]>
-    ensures { option_map (λ parts. views parts.now) result ≡ set_at (view object.now) }
+#[tactic(auto, using(crate::proofs::ElementTrees::set_of_tree))]
+pub(crate) fn set_of<'a>(object: &AnyField<'a>) -> Option<&'a [u8]>
+    ensures { option_map (λ parts. trees_in parts.now) result ≡ set_at (tree_of (any_view object.now)) }
 {
-    match object.as_set() {
-        Ok(parts) => Some(parts.as_slice()),
-        Err(_) => None,
+    if is_constructed(object, Tag::Set) {
+        Some(object.content)
+    } else {
+        None
     }
 }
 
 /// The element that the object is, whatever it holds.
-pub(crate) fn element_of<'a>(object: &BerObject<'a>) -> AnyField<'a>
-    ensures { any_view result ≡ element_at (view object.now) }
+#[tactic(auto, using(crate::proofs::ElementTrees::element_of_tree))]
+pub(crate) fn element_of<'a>(object: &AnyField<'a>) -> AnyField<'a>
+    ensures { any_view result ≡ element_at (tree_of (any_view object.now)) }
 {
-    let raw = object.as_raw();
-    let size = size_of(object.header.length());
-    AnyField {
-        class: object.header.class(),
-        constructed: object.header.constructed(),
-        tag: object.header.tag(),
-        content: &raw[raw.len().saturating_sub(size)..],
-    }
+    *object
 }
 
-fn size_of(length: Length) -> usize
-    ensures { result ≡ size_of length }
+#[tactic(auto, using(crate::proofs::ElementTrees::oid_of_tree))]
+fn oid_of<'a>(object: &AnyField<'a>) -> Option<&'a [u8]>
+    ensures { option_map (λ octets. octets.now) result ≡ oid_at (tree_of (any_view object.now)) }
 {
-    match length {
-        Length::Definite(size) => size,
-        Length::Indefinite => 0,
+    if is_universal(object, Tag::Oid) {
+        Some(object.content)
+    } else {
+        None
     }
 }
 
 #[tactic(auto, unfolding(cert_model::specs::Reads::identifier_at))]
-pub(crate) fn identifier_of<'a>(object: &BerObject<'a>) -> Option<&'a [u8]>
-    ensures { option_map (λ octets. octets.now) result ≡ identifier_at (view object.now) }
+pub(crate) fn identifier_of<'a>(object: &AnyField<'a>) -> Option<&'a [u8]>
+    ensures { option_map (λ octets. octets.now) result ≡ identifier_at (tree_of (any_view object.now)) }
 {
-    match object.as_oid() {
-        Ok(_) => Some(element_of(object).content),
-        Err(_) => None,
+    match oid_of(object) {
+        Some(_) => Some(element_of(object).content),
+        None => None,
     }
 }
 
-pub(crate) fn integer_of<'a>(object: &BerObject<'a>) -> Option<&'a [u8]>
-    ensures { option_map (λ octets. octets.now) result ≡ plain_at integer (view object.now) }
+#[tactic(auto, using(crate::proofs::ElementTrees::boolean_of_tree))]
+pub(crate) fn boolean_of(object: &AnyField<'_>) -> Option<bool>
+    ensures { result ≡ boolean_at (tree_of (any_view object.now)) }
 {
-    match &object.content {
-        BerObjectContent::Integer(octets) => Some(octets),
-        _ => None,
+    if is_universal(object, Tag::Boolean) {
+        Some(is_true(object.content))
+    } else {
+        None
     }
 }
 
-pub(crate) fn octet_string_of<'a>(object: &BerObject<'a>) -> Option<&'a [u8]>
-    ensures { option_map (λ octets. octets.now) result ≡ plain_at octet_string (view object.now) }
+/// Whether a BOOLEAN's content is true (X.690, 8.2 and 11.1).
+#[tactic(auto, unfolding(der_tree::proofs::OneTree::is_true))]
+fn is_true(content: &[u8]) -> bool
+    ensures { result ≡ is_true content.now }
 {
-    match &object.content {
-        BerObjectContent::OctetString(octets) => Some(octets),
-        _ => None,
+    match content {
+        [] => false,
+        [octet, ..] => *octet == TRUE,
+    }
+}
+
+#[tactic(auto, using(crate::proofs::ElementTrees::plain_of_tree))]
+pub(crate) fn integer_of<'a>(object: &AnyField<'a>) -> Option<&'a [u8]>
+    ensures { option_map (λ octets. octets.now) result ≡ plain_at integer (tree_of (any_view object.now)) }
+{
+    if is_universal(object, Tag::Integer) {
+        Some(object.content)
+    } else {
+        None
+    }
+}
+
+#[tactic(auto, using(crate::proofs::ElementTrees::plain_of_tree))]
+pub(crate) fn octet_string_of<'a>(object: &AnyField<'a>) -> Option<&'a [u8]>
+    ensures { option_map (λ octets. octets.now) result ≡ plain_at octet_string (tree_of (any_view object.now)) }
+{
+    if is_universal(object, Tag::OctetString) {
+        Some(object.content)
+    } else {
+        None
     }
 }
 
@@ -97,8 +140,8 @@ fn is_negative(number: &[u8]) -> bool
 
 /// A number that is not negative.
 #[tactic(auto, unfolding(cert_model::specs::Reads::number_at))]
-pub(crate) fn number_of<'a>(object: &BerObject<'a>) -> Option<&'a [u8]>
-    ensures { option_map (λ number. number.now) result ≡ number_at (view object.now) }
+pub(crate) fn number_of<'a>(object: &AnyField<'a>) -> Option<&'a [u8]>
+    ensures { option_map (λ number. number.now) result ≡ number_at (tree_of (any_view object.now)) }
 {
     let number = integer_of(object)?;
     if is_negative(number) {
@@ -108,36 +151,48 @@ pub(crate) fn number_of<'a>(object: &BerObject<'a>) -> Option<&'a [u8]>
     }
 }
 
-#[tactic(auto, unfolding(cert_model::specs::Reads::bits_at))]
-pub(crate) fn bits_of<'a>(object: &BerObject<'a>) -> Option<BitField<'a>>
-    ensures { option_map bit_view result ≡ bits_at (view object.now) }
+/// How many bits are unused, and the octets of the bits (X.690, 8.6.2).
+#[tactic(auto, using(crate::proofs::ElementTrees::bits_of_tree), unfolding(der_tree::proofs::OneTree::bits_in))]
+fn bit_string_of<'a>(object: &AnyField<'a>) -> Option<(u8, &'a [u8])>
+    ensures { option_map (λ p. (p.0, p.1.now)) result ≡ bit_string_at (tree_of (any_view object.now)) }
 {
-    match object.as_bitstring() {
-        Ok((unused, octets)) => Some(BitField { unused, octets }),
-        Err(_) => None,
+    if !is_universal(object, Tag::BitString) {
+        return None;
+    }
+    match object.content {
+        [] => None,
+        [unused, octets @ ..] => Some((*unused, octets)),
     }
 }
 
+#[tactic(auto, unfolding(cert_model::specs::Reads::bits_at))]
+pub(crate) fn bits_of<'a>(object: &AnyField<'a>) -> Option<BitField<'a>>
+    ensures { option_map bit_view result ≡ bits_at (tree_of (any_view object.now)) }
+{
+    let (unused, octets) = bit_string_of(object)?;
+    Some(BitField { unused, octets })
+}
+
 /// An element or nothing, to the end.
-fn last_element<'a>(parts: &[BerObject<'a>]) -> Option<Option<AnyField<'a>>>
-    ensures { option_map (option_map any_view) result ≡ last_element_at (views parts.now) }
+fn last_element<'a>(parts: &'a [u8]) -> Option<Option<AnyField<'a>>>
+    ensures { option_map (option_map any_view) result ≡ last_element_at (trees_in parts.now) }
 {
     match first_of(parts) {
         None => Some(None),
         Some((first, rest)) => {
             end_of(rest)?;
-            Some(Some(element_of(first)))
+            Some(Some(element_of(&first)))
         }
     }
 }
 
 /// AlgorithmIdentifier (RFC 5280, 4.1.1.2).
 #[tactic(auto, unfolding(cert_model::specs::Reads::algorithm_at))]
-pub(crate) fn algorithm_of<'a>(object: &BerObject<'a>) -> Option<AlgField<'a>>
-    ensures { option_map alg_view result ≡ algorithm_at (view object.now) }
+pub(crate) fn algorithm_of<'a>(object: &AnyField<'a>) -> Option<AlgField<'a>>
+    ensures { option_map alg_view result ≡ algorithm_at (tree_of (any_view object.now)) }
 {
     let (first, rest) = first_of(sequence_of(object)?)?;
-    let identifier = identifier_of(first)?;
+    let identifier = identifier_of(&first)?;
     let parameters = last_element(rest)?;
     Some(AlgField {
         identifier,
@@ -147,28 +202,28 @@ pub(crate) fn algorithm_of<'a>(object: &BerObject<'a>) -> Option<AlgField<'a>>
 
 /// AttributeTypeAndValue (RFC 5280, 4.1.2.4).
 #[tactic(auto, unfolding(cert_model::specs::Reads::attribute_at))]
-pub(crate) fn attribute_of<'a>(object: &BerObject<'a>) -> Option<AttrField<'a>>
-    ensures { option_map attr_view result ≡ attribute_at (view object.now) }
+pub(crate) fn attribute_of<'a>(object: &AnyField<'a>) -> Option<AttrField<'a>>
+    ensures { option_map attr_view result ≡ attribute_at (tree_of (any_view object.now)) }
 {
     let (first, rest) = first_of(sequence_of(object)?)?;
-    let identifier = identifier_of(first)?;
+    let identifier = identifier_of(&first)?;
     let (second, rest) = first_of(rest)?;
     end_of(rest)?;
     Some(AttrField {
         identifier,
-        value: element_of(second),
+        value: element_of(&second),
     })
 }
 
 /// SubjectPublicKeyInfo (RFC 5280, 4.1.2.7).
 #[tactic(auto, unfolding(cert_model::specs::Reads::key_at))]
-pub(crate) fn key_of<'a>(object: &BerObject<'a>) -> Option<KeyField<'a>>
-    ensures { option_map key_view result ≡ key_at (view object.now) }
+pub(crate) fn key_of<'a>(object: &AnyField<'a>) -> Option<KeyField<'a>>
+    ensures { option_map key_view result ≡ key_at (tree_of (any_view object.now)) }
 {
     let (first, rest) = first_of(sequence_of(object)?)?;
-    let algorithm = algorithm_of(first)?;
+    let algorithm = algorithm_of(&first)?;
     let (second, rest) = first_of(rest)?;
-    let key = bits_of(second)?;
+    let key = bits_of(&second)?;
     end_of(rest)?;
     Some(KeyField { algorithm, key })
 }
@@ -181,15 +236,12 @@ fn is_tagged(tag: u32, element: AnyField<'_>) -> bool
 
 /// The element of a context-specific tag at the front, where there is one, and the rest.
 #[tactic(auto, unfolding(cert_model::specs::Reads::tagged_at))]
-pub(crate) fn tagged_of<'b, 'a>(
-    tag: u32,
-    parts: &'b [BerObject<'a>],
-) -> (Option<AnyField<'a>>, &'b [BerObject<'a>])
-    ensures { tagged_at tag (views parts.now) ≡ (option_map any_view result.0, views result.1.now) }
+pub(crate) fn tagged_of<'a>(tag: u32, parts: &'a [u8]) -> (Option<AnyField<'a>>, &'a [u8])
+    ensures { tagged_at tag (trees_in parts.now) ≡ (option_map any_view result.0, trees_in result.1.now) }
 {
     match first_of(parts) {
         Some((first, rest)) => {
-            let element = element_of(first);
+            let element = element_of(&first);
             if is_tagged(tag, element) {
                 (Some(element), rest)
             } else {
@@ -200,38 +252,30 @@ pub(crate) fn tagged_of<'b, 'a>(
     }
 }
 
-pub(crate) fn next_number<'b, 'a>(
-    parts: &'b [BerObject<'a>],
-) -> Option<(&'a [u8], &'b [BerObject<'a>])>
-    ensures { option_map (λ p. (p.0.now, views p.1.now)) result ≡ next_at number_at (views parts.now) }
+pub(crate) fn next_number<'a>(parts: &'a [u8]) -> Option<(&'a [u8], &'a [u8])>
+    ensures { option_map (λ p. (p.0.now, trees_in p.1.now)) result ≡ next_at number_at (trees_in parts.now) }
 {
     let (first, rest) = first_of(parts)?;
-    Some((number_of(first)?, rest))
+    Some((number_of(&first)?, rest))
 }
 
-pub(crate) fn next_algorithm<'b, 'a>(
-    parts: &'b [BerObject<'a>],
-) -> Option<(AlgField<'a>, &'b [BerObject<'a>])>
-    ensures { option_map (λ p. (alg_view p.0, views p.1.now)) result ≡ next_at algorithm_at (views parts.now) }
+pub(crate) fn next_algorithm<'a>(parts: &'a [u8]) -> Option<(AlgField<'a>, &'a [u8])>
+    ensures { option_map (λ p. (alg_view p.0, trees_in p.1.now)) result ≡ next_at algorithm_at (trees_in parts.now) }
 {
     let (first, rest) = first_of(parts)?;
-    Some((algorithm_of(first)?, rest))
+    Some((algorithm_of(&first)?, rest))
 }
 
-pub(crate) fn next_bits<'b, 'a>(
-    parts: &'b [BerObject<'a>],
-) -> Option<(BitField<'a>, &'b [BerObject<'a>])>
-    ensures { option_map (λ p. (bit_view p.0, views p.1.now)) result ≡ next_at bits_at (views parts.now) }
+pub(crate) fn next_bits<'a>(parts: &'a [u8]) -> Option<(BitField<'a>, &'a [u8])>
+    ensures { option_map (λ p. (bit_view p.0, trees_in p.1.now)) result ≡ next_at bits_at (trees_in parts.now) }
 {
     let (first, rest) = first_of(parts)?;
-    Some((bits_of(first)?, rest))
+    Some((bits_of(&first)?, rest))
 }
 
-pub(crate) fn next_key<'b, 'a>(
-    parts: &'b [BerObject<'a>],
-) -> Option<(KeyField<'a>, &'b [BerObject<'a>])>
-    ensures { option_map (λ p. (key_view p.0, views p.1.now)) result ≡ next_at key_at (views parts.now) }
+pub(crate) fn next_key<'a>(parts: &'a [u8]) -> Option<(KeyField<'a>, &'a [u8])>
+    ensures { option_map (λ p. (key_view p.0, trees_in p.1.now)) result ≡ next_at key_at (trees_in parts.now) }
 {
     let (first, rest) = first_of(parts)?;
-    Some((key_of(first)?, rest))
+    Some((key_of(&first)?, rest))
 }

@@ -1,4 +1,4 @@
-//! The reader of the check: items read as trees.
+//! The reader of the check.
 
 ghost use Rattle.std.specs.Prelude.{◌≡◌};
 ghost use Rattle.cert_model.specs.Class.{IsCertificateItem, IsClassOf};
@@ -12,7 +12,7 @@ use cert_model::ItemClass;
 use cert_model::fields::CertFields;
 use std::alloc::Global;
 
-/// Reads items as trees, by `read_tree`: the reader of `check`, `check_all` and `check_read`. A
+/// Reads items by `read_tree`: the reader of `check`, `check_all` and `check_read`. A
 /// search that is to be checked reads by another one.
 ///
 /// It costs time and memory linear in the item.

@@ -1,4 +1,4 @@
-//! Why a reader of trees has no value: the octets are of another form, which makes the item other, or
+//! Why a reader has no value: the octets are of another form, which makes the item other, or
 //! memory ran out, which is an error. `settled` takes the two apart.
 
 ghost use Rattle.std.specs.Prelude.{◌≡◌};

@@ -5,31 +5,38 @@ ghost use Rattle.std.specs.Prelude.{◌≡◌, ℕ, option_map, Some, None, if�
 ghost use Rattle.der_tree.specs.Table.{utc_time, generalized_time};
 ghost use Rattle.der_tree.specs.TimeReading.{moment_of, IsWritable};
 ghost use Rattle.der_tree.specs.Access.{plain_at};
-ghost use Rattle.der_tree.specs.View.{view, views};
-ghost use Rattle.cert_model.specs.View.{time_view};
+ghost use Rattle.cert_model.specs.View.{any_view, time_view};
 ghost use Rattle.cert_model.specs.Times.{is_real, civil_of, is_zulu, utc_time_at, late_time_at, time_at};
+ghost use Rattle.certcheck.specs.Windows.{tree_of};
 
-use der_tree::{BerObject, BerObjectContent, Clock, generalized_of, utc_of};
+use crate::parts::is_universal;
+use asn1_core::Tag;
+use cert_model::fields::AnyField;
+use der_tree::{Clock, generalized_of, utc_of};
 use jiff::civil::DateTime;
 
 /// The first year that is written as GeneralizedTime (RFC 5280, 4.1.2.5).
 const FIRST_LATE_YEAR: u16 = 2050;
 
-fn utc_content<'a>(object: &BerObject<'a>) -> Option<&'a [u8]>
-    ensures { option_map (λ octets. octets.now) result ≡ plain_at utc_time (view object.now) }
+#[tactic(auto, using(crate::proofs::ElementTrees::plain_of_tree))]
+fn utc_content<'a>(object: &AnyField<'a>) -> Option<&'a [u8]>
+    ensures { option_map (λ octets. octets.now) result ≡ plain_at utc_time (tree_of (any_view object.now)) }
 {
-    match &object.content {
-        BerObjectContent::UTCTime(octets) => Some(octets),
-        _ => None,
+    if is_universal(object, Tag::UtcTime) {
+        Some(object.content)
+    } else {
+        None
     }
 }
 
-fn generalized_content<'a>(object: &BerObject<'a>) -> Option<&'a [u8]>
-    ensures { option_map (λ octets. octets.now) result ≡ plain_at generalized_time (view object.now) }
+#[tactic(auto, using(crate::proofs::ElementTrees::plain_of_tree))]
+fn generalized_content<'a>(object: &AnyField<'a>) -> Option<&'a [u8]>
+    ensures { option_map (λ octets. octets.now) result ≡ plain_at generalized_time (tree_of (any_view object.now)) }
 {
-    match &object.content {
-        BerObjectContent::GeneralizedTime(octets) => Some(octets),
-        _ => None,
+    if is_universal(object, Tag::GeneralizedTime) {
+        Some(object.content)
+    } else {
+        None
     }
 }
 
@@ -64,8 +71,8 @@ fn civil_of(clock: Clock) -> Option<DateTime>
 
 /// YYMMDDHHMMSSZ.
 #[tactic(auto, unfolding(cert_model::specs::Times::utc_time_at))]
-fn utc_time_of(object: &BerObject<'_>) -> Option<DateTime>
-    ensures { option_map time_view result ≡ utc_time_at (view object.now) }
+fn utc_time_of(object: &AnyField<'_>) -> Option<DateTime>
+    ensures { option_map time_view result ≡ utc_time_at (tree_of (any_view object.now)) }
 {
     let (clock, rest) = utc_of(utc_content(object)?)?;
     if is_zulu(rest) { civil_of(clock) } else { None }
@@ -73,8 +80,8 @@ fn utc_time_of(object: &BerObject<'_>) -> Option<DateTime>
 
 /// YYYYMMDDHHMMSSZ from the year 2050 on.
 #[tactic(auto, unfolding(cert_model::specs::Times::late_time_at))]
-fn late_time_of(object: &BerObject<'_>) -> Option<DateTime>
-    ensures { option_map time_view result ≡ late_time_at (view object.now) }
+fn late_time_of(object: &AnyField<'_>) -> Option<DateTime>
+    ensures { option_map time_view result ≡ late_time_at (tree_of (any_view object.now)) }
 {
     let (clock, rest) = generalized_of(generalized_content(object)?)?;
     if clock.year >= FIRST_LATE_YEAR && is_zulu(rest) {
@@ -86,8 +93,8 @@ fn late_time_of(object: &BerObject<'_>) -> Option<DateTime>
 
 /// Time.
 #[tactic(auto, unfolding(cert_model::specs::Times::time_at))]
-pub(crate) fn time_of(object: &BerObject<'_>) -> Option<DateTime>
-    ensures { option_map time_view result ≡ time_at (view object.now) }
+pub(crate) fn time_of(object: &AnyField<'_>) -> Option<DateTime>
+    ensures { option_map time_view result ≡ time_at (tree_of (any_view object.now)) }
 {
     match utc_time_of(object) {
         Some(time) => Some(time),

@@ -1,0 +1,23 @@
+use Rattle.std.proofs.Common.{rules, ◌≡◌, Some, None, map}
+use Rattle.cert_model.specs.View.{any_view, attr_view}
+use Rattle.cert_model.specs.Reads.{list_at, relative_name_at}
+use Rattle.certcheck.specs.Windows.{trees_in, tree_of}
+use Rattle.certcheck.proofs.EachPart.{part_read, parts_read, part_refused}
+use Rattle.certcheck.proofs.names.relative_names_of.Goals as goal
+
+pub loop-part-preserved : goal.loop-part-preserved
+loop-part-preserved c =
+    let t = tree_of (any_view c.in-Some.part) in
+    let e : Some (map attr_view c.in_ok-set.set.items) ≡ relative_name_at t = search rules in
+    part_read (λ set. map attr_view set.items) relative_name_at c.loop-part.sets.items _ c.in_ok-set.set (trees_in c.loop-part.rest.now) (trees_in c.in-Some.after.now) t (list_at relative_name_at (trees_in c.args.parts.now))
+    c.in-Some.ensures.trees e c.in_ok-push.ensures.items c.loop-part.invariant
+
+pub returns-in_err-set : goal.returns-in_err-set
+returns-in_err-set c =
+    let t = tree_of (any_view c.in-Some.part) in
+    let stopped : None ≡ relative_name_at t → None ≡ list_at relative_name_at (trees_in c.args.parts.now) = λ n.
+    part_refused (λ set. map attr_view set.items) relative_name_at c.loop-part.sets.items (trees_in c.loop-part.rest.now) (trees_in c.in-Some.after.now) t _ c.in-Some.ensures.trees n c.loop-part.invariant in
+    search (rules, stopped)
+
+pub returns : goal.returns
+returns c = parts_read (λ set. map attr_view set.items) relative_name_at c.loop-part.sets.items (trees_in c.loop-part.rest.now) _ c.in_default.ensures.trees c.loop-part.invariant
