@@ -125,7 +125,7 @@ LAYERS = (
     ("Certificates: extension values", "x509_ext_flags x509_ext_policies x509_ext_names x509_ext_points x509_ext_basic x509_ext_types x509_ext_sct x509_ext_parse"),
     ("Certificates: whole", "x509_ext x509_certs x509_lists x509_requests x509_algorithms x509_validate x509_parser"),
     ("Items, classes, names of hosts and purposes", "cert_framing cert_model cert_faults host_names purpose_names"),
-    ("Graphs and judging", "cert_graph cert_judge cert_purpose cert_vouchers"),
+    ("Graphs and judging", "cert_graph cert_judge cert_purpose cert_vouchers fault_texts"),
     ("The check", "certcheck cert_questions cert_serving cert_reasons"),
     ("The search", "x509_links certpath_rebuild certpath_typed cert_search certpath_find"),
     ("The program", "certpath_pem certpath_files certpath_bundle certpath_why certpath_inputs certpath_evidence "

@@ -6,7 +6,7 @@ use Rattle.cert_model.specs.Reads.{list_at, next_at}
 use Rattle.cert_faults.specs.declared.places.Expected.{Expected}
 use Rattle.cert_faults.specs.declared.steps.Place.{Place}
 use Rattle.cert_faults.specs.declared.steps.Blame.{Blame}
-use Rattle.cert_faults.specs.Steps.{Outcome, ◌>>=◌, behind, Rest, check, parts_or, first_in, end_in, next_or, each_in}
+use Rattle.cert_faults.specs.Steps.{Outcome, ◌>>=◌, left_after, Rest, check, parts_or, first_in, end_in, next_or, each_in}
 
 -- a step has no fault exactly where a value is read
 abbrev pub Agrees : {A C : Type 0} → Outcome A → Option C → Type 0
@@ -59,11 +59,11 @@ parts_agree b n None f g h = tt
 
 -- the first part
 pub first_agrees : {B D : Type 0} (place : Place) (expected : Expected) (n : ℕ) (ts : Trees) (f : Tree × Rest → Outcome B) (g : Tree × Trees → Option D) →
-    ((t : Tree) (us : Trees) → Agrees (f (t, (us, behind n t))) (g (t, us))) → Agrees (first_in place expected n ts >>= f) (option_and_then g (first_at ts))
+    ((t : Tree) (us : Trees) → Agrees (f (t, (us, left_after n t))) (g (t, us))) → Agrees (first_in place expected n ts >>= f) (option_and_then g (first_at ts))
 first_agrees place expected n none f g h = tt
 first_agrees place expected n (more t ts) f g h = h t ts
 
--- a part that is read, and then those behind it
+-- a part that is read, and then those after it
 read_agrees : {A B D : Type 0} (r : Outcome (Unit {0})) (o : Option A) (s : Rest) (f : Rest → Outcome B) (g : A → Option D) → Agrees r o → ((a : A) → Agrees (f s) (g a)) →
     Agrees ((r >>= (λ ok. Ok s)) >>= f) (option_and_then g o)
 read_agrees (Ok x) (Some a) s f g p h = h a
@@ -72,10 +72,10 @@ read_agrees (Err b) (Some a) s f g p h = absurd p
 read_agrees (Err b) None s f g p h = tt
 
 pub part_agrees : {A B D : Type 0} (fault : ℕ → Tree → Outcome (Unit {0})) (read : Tree → Option A) → ((n : ℕ) (t : Tree) → Agrees (fault n t) (read t)) → (place : Place) (expected : Expected) (n : ℕ) (ts : Trees)
-    (f : Rest → Outcome B) (g : Tree × Trees → A → Option D) → ((t : Tree) (us : Trees) (a : A) → Agrees (f (us, behind n t)) (g (t, us) a)) →
+    (f : Rest → Outcome B) (g : Tree × Trees → A → Option D) → ((t : Tree) (us : Trees) (a : A) → Agrees (f (us, left_after n t)) (g (t, us) a)) →
     Agrees (next_or fault place expected (ts, n) >>= f) (option_and_then (λ first. option_and_then (g first) (read first.0)) (first_at ts))
 part_agrees fault read laws place expected n none f g h = tt
-part_agrees fault read laws place expected n (more t ts) f g h = read_agrees (fault n t) (read t) (ts, behind n t) f (g (t, ts)) (laws n t) (h t ts)
+part_agrees fault read laws place expected n (more t ts) f g h = read_agrees (fault n t) (read t) (ts, left_after n t) f (g (t, ts)) (laws n t) (h t ts)
 
 next_read_agrees : {A B D : Type 0} (r : Outcome (Unit {0})) (o : Option A) (s : Rest) (f : Rest → Outcome B) (g : A × Trees → Option D) → Agrees r o → ((a : A) → Agrees (f s) (g (a, s.0))) →
     Agrees ((r >>= (λ ok. Ok s)) >>= f) (option_and_then g (option_and_then (λ (a : A). Some (a, s.0)) o))
@@ -88,9 +88,9 @@ pub next_agrees : {A B D : Type 0} (fault : ℕ → Tree → Outcome (Unit {0}))
     (f : Rest → Outcome B) (g : A × Trees → Option D) → ((s : Rest) (a : A) → Agrees (f s) (g (a, s.0))) →
     Agrees (next_or fault place expected (ts, n) >>= f) (option_and_then g (next_at read ts))
 next_agrees fault read laws place expected n none f g h = tt
-next_agrees fault read laws place expected n (more t ts) f g h = next_read_agrees (fault n t) (read t) (ts, behind n t) f g (laws n t) (h (ts, behind n t))
+next_agrees fault read laws place expected n (more t ts) f g h = next_read_agrees (fault n t) (read t) (ts, left_after n t) f g (laws n t) (h (ts, left_after n t))
 
 -- each of some parts
 pub each_agrees : {A : Type 0} (fault : ℕ → Tree → Outcome (Unit {0})) (read : Tree → Option A) → ((n : ℕ) (t : Tree) → Agrees (fault n t) (read t)) → (n : ℕ) (ts : Trees) → Agrees (each_in fault n ts) (list_at read ts)
 each_agrees fault read laws n none = tt
-each_agrees fault read laws n (more t ts) = then_agrees (fault n t) (read t) _ _ (laws n t) (λ ok a. made_agrees (each_in fault (behind n t) ts) (list_at read ts) _ (each_agrees fault read laws (behind n t) ts))
+each_agrees fault read laws n (more t ts) = then_agrees (fault n t) (read t) _ _ (laws n t) (λ ok a. made_agrees (each_in fault (left_after n t) ts) (list_at read ts) _ (each_agrees fault read laws (left_after n t) ts))

@@ -54,7 +54,7 @@ part_left k s front rest others e ts lt begun cut is h p content = λ none_left.
     let held = holder_content (k - 1) e ts h p whole in
     begun (begins k s front rest e held.0 lt cut is held.1)
 
--- parts that are objects, one more behind them
+-- parts that are objects, one more after them
 
 pub joined : Trees → Trees → Trees
 joined none us = us

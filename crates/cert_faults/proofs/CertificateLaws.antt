@@ -17,7 +17,7 @@ use Rattle.cert_model.proofs.Cases.{both_true}
 use Rattle.cert_model.proofs.StrictItems.{certificate_item}
 use Rattle.cert_faults.specs.declared.places.Field.TheVariants as fields
 use Rattle.cert_faults.specs.declared.places.Expected.TheVariants as wants
-use Rattle.cert_faults.specs.Steps.{whole, inside, behind, Rest, there_or, sequence_or, first_or, end_or, next_or}
+use Rattle.cert_faults.specs.Steps.{whole, inside, left_after, Rest, there_or, sequence_or, first_or, end_or, next_or}
 use Rattle.cert_faults.specs.Walks.{number_fault, bits_fault, algorithm_fault, name_fault, validity_fault, key_fault}
 use Rattle.cert_faults.specs.Items.{tagged, certificate_version, id_or, Front, certificate_front, signed_front, signed_end, HasTagged}
 use Rattle.cert_faults.proofs.PartLaws.{number_agrees, bits_agrees, algorithm_agrees, name_agrees, validity_agrees, key_agrees}
@@ -186,7 +186,7 @@ certificate_complete n t c o m =
     let l = both_true (implies (is_there c.issuer_id) (nat_lt 0 c.version)) (implies (is_there c.subject_id) (nat_lt 0 c.version)) k.0 in
     let w = front_ok (inside n t) first.0 m.pieces.signed c.version c.issuer_id c.subject_id (f1 ∙ ap Some whole_is) m.version m.issuer_id m.subject_id l.0 l.1 in
     let first_is = first_is_ok (whole fields.TbsCertificate) wants.Sequence (inside n t) parts first f0 in
-    let rest : Rest = (first.1, behind (inside n t) first.0) in
+    let rest : Rest = (first.1, left_after (inside n t) first.0) in
     let at_rest : rest.0 ≡ signed.1 = ap (λ (z : TbsPieces × Trees). z.1) both in
     let s2 = next_ok _ algorithm_at (algorithm_agrees fields.SignatureAlgorithm) (whole fields.SignatureAlgorithm) wants.Sequence rest.1 rest.0 algorithm (ap (next_at algorithm_at) at_rest ∙ e2) in
     let s3 = next_ok _ bits_at (bits_agrees (whole fields.SignatureValue)) (whole fields.SignatureValue) wants.BitString s2.0.1 s2.0.0 value (ap (next_at bits_at) s2.2 ∙ e3) in

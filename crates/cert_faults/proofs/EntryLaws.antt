@@ -1,4 +1,4 @@
--- The steps of a list that a certificate hasn't: its version, a second time, entries.
+-- The steps of a list that a certificate hasn't: its version, entries.
 use Rattle.std.proofs.Common.{◌≡◌, ◌∙◌, refl, sym, ap, ℕ, ◌==◌, ◌&&◌, nat_lt, Bool, true, false, if◌then◌else◌, List, [], ◌∷◌, length, Option, Some, None, Ok, Err, option_and_then, subst, arith}
 use Rattle.std.proofs.lemmas.Bool.{lt-ltb}
 use Rattle.std.proofs.lemmas.Option.{option_and_then_some}
@@ -8,7 +8,7 @@ use Rattle.der_tree.specs.Access.{sequence_at, first_at, plain_at}
 use Rattle.cert_model.specs.Fields.{CivilTime, Extension, Entry}
 use Rattle.cert_model.specs.Reads.{next_at, number_at, list_at, extension_at, extensions_at}
 use Rattle.cert_model.specs.Times.{time_at}
-use Rattle.cert_model.specs.Pieces.{last_extensions_at, entry_at, list_version_at, maybe_time_of, maybe_time_at, some_entries_at, behind_entries}
+use Rattle.cert_model.specs.Pieces.{last_extensions_at, entry_at, list_version_at, some_entries_at, behind_entries}
 use Rattle.cert_model.specs.Pieces as pieces
 use Rattle.cert_model.specs.Assembly.{is_there, is_some, implies, is_version_two, entries_fit}
 use Rattle.cert_model.proofs.Cases.{chosen}
@@ -17,9 +17,9 @@ use Rattle.cert_faults.specs.declared.places.Expected.{Expected}
 use Rattle.cert_faults.specs.declared.places.Expected.TheVariants as wants
 use Rattle.cert_faults.specs.declared.steps.Place.{Place}
 use Rattle.cert_faults.specs.declared.steps.Blame.{Blame}
-use Rattle.cert_faults.specs.Steps.{Outcome, ◌>>=◌, unlike, whole, inside, behind, Rest, test, parts_or, first_or, next_or, each_in}
+use Rattle.cert_faults.specs.Steps.{Outcome, ◌>>=◌, unlike, whole, inside, left_after, Rest, test, parts_or, first_or, next_or, each_in}
 use Rattle.cert_faults.specs.Walks.{number_fault, time_fault, extensions_fault, entry_extensions_in, entry_fault}
-use Rattle.cert_faults.specs.Items.{list_version_of, list_version_in, past_time_in, entries_of, entries_in}
+use Rattle.cert_faults.specs.Items.{list_version_of, list_version_in, entries_of, entries_in}
 use Rattle.cert_faults.proofs.Agreeing.{Agrees, no_fault, is_read, next_agrees, each_agrees}
 use Rattle.cert_faults.proofs.PartLaws.{number_agrees, time_agrees, extensions_agree}
 use Rattle.cert_faults.proofs.Opening.{the_ok, outcome_then, first_read}
@@ -68,7 +68,7 @@ entry_last version serial date n none = tt
 entry_last version serial date n (more t none) =
     last_by serial date (unlike (whole fields.EntryExtensions) wants.LaterVersion n) (is_version_two version) (extensions_fault fields.EntryExtensions n t) (extensions_at t) (extensions_agree fields.EntryExtensions n t) (extensions_are_some t)
 entry_last version serial date n (more t (more u us)) =
-    ends_in_fault (unlike (whole fields.EntryExtensions) wants.LaterVersion n) (unlike (whole fields.Entry) wants.NothingMore (behind n t)) (is_version_two version) (extensions_fault fields.EntryExtensions n t)
+    ends_in_fault (unlike (whole fields.EntryExtensions) wants.LaterVersion n) (unlike (whole fields.Entry) wants.NothingMore (left_after n t)) (is_version_two version) (extensions_fault fields.EntryExtensions n t)
 
 -- steps, and a test of what is read at the end
 
@@ -147,7 +147,7 @@ entries_by version n t ts (Some parts) s e =
     let listed = is_read (each_in (entry_fault version) (inside n t) parts) (list_at (fitting version) parts) ok (each_agrees (entry_fault version) (fitting version) (entry_agrees version) (inside n t) parts) e1 in
     let all = fit_read version (list_at entry_at parts) listed.0 (sym (fitting_all version parts) ∙ listed.1) in
     let long = list_long first.0 first.1.0 listed.0 (subst (λ z. list_at entry_at z ≡ Some listed.0) m.1 all.0) in
-    (listed.0, rw (all.0, long) refl, ap (λ (z : Rest). z.0) (sym (the_ok (ts, behind n t) s r1)), all.1)))
+    (listed.0, rw (all.0, long) refl, ap (λ (z : Rest). z.0) (sym (the_ok (ts, left_after n t) s r1)), all.1)))
 
 pub entries_read : (version : Option ℕ) (n : ℕ) (ts : Trees) (s : Rest) → entries_in version n ts ≡ Ok s →
     (es : List Entry) × (pieces.entries_in ts ≡ Some es) × (s.0 ≡ behind_entries ts) × (entries_fit version es ≡ true)
@@ -173,7 +173,7 @@ entries_ok_by version n t ts None es e fits = ((more t ts, n), refl, refl)
 entries_ok_by version n t ts (Some parts) es e fits =
     option_and_then_some _ (list_at entry_at parts) es e (λ fs e0 r0.
     let c = chosen (nat_lt 0 (length fs)) fs es r0 in
-    let z : Rest = (ts, behind n t) in
+    let z : Rest = (ts, left_after n t) in
     (z, some_first version (inside n t) parts fs z e0 c.0 (subst (λ y. entries_fit version y ≡ true) (sym c.1) fits), refl))
 
 pub entries_ok : (version : Option ℕ) (n : ℕ) (ts : Trees) (es : List Entry) → pieces.entries_in ts ≡ Some es → entries_fit version es ≡ true →
@@ -192,7 +192,7 @@ version_by false version n e rest p q = absurd cc
 version_of_read : (o : Option (List ℕ)) (n : ℕ) (t : Tree) (ts : Trees) (p : Option ℕ × Rest) → list_version_of o n t ts ≡ Ok p → pieces.list_version_of o t ts ≡ Some (p.0, p.1.0)
 version_of_read None n t ts p e = ap (λ (z : Option ℕ × Rest). Some (z.0, z.1.0)) (the_ok (None, (more t ts, n)) p e)
 version_of_read (Some []) n t ts p e = absurd cc
-version_of_read (Some (version ∷ [])) n t ts p e = version_by (version == 1) version n (unlike (whole fields.ListVersion) wants.VersionTwo n) (ts, behind n t) p e
+version_of_read (Some (version ∷ [])) n t ts p e = version_by (version == 1) version n (unlike (whole fields.ListVersion) wants.VersionTwo n) (ts, left_after n t) p e
 version_of_read (Some (a ∷ b ∷ s)) n t ts p e = absurd cc
 
 pub version_read : (n : ℕ) (ts : Trees) (p : Option ℕ × Rest) → list_version_in n ts ≡ Ok p → list_version_at ts ≡ Some (p.0, p.1.0)
@@ -213,7 +213,7 @@ version_of_ok None n t ts m e =
     let same : ◌≡◌ {A = Option ℕ × Trees} (None, more t ts) m = cc in
     ((None, (more t ts, n)), refl, ap (λ (z : Option ℕ × Trees). z.0) same, ap (λ (z : Option ℕ × Trees). z.1) same)
 version_of_ok (Some []) n t ts m e = absurd cc
-version_of_ok (Some (version ∷ [])) n t ts m e = version_ok_by (version == 1) version (unlike (whole fields.ListVersion) wants.VersionTwo n) (ts, behind n t) m e
+version_of_ok (Some (version ∷ [])) n t ts m e = version_ok_by (version == 1) version (unlike (whole fields.ListVersion) wants.VersionTwo n) (ts, left_after n t) m e
 version_of_ok (Some (a ∷ b ∷ s)) n t ts m e = absurd cc
 
 pub version_ok : (n : ℕ) (ts : Trees) (m : Option ℕ × Trees) → list_version_at ts ≡ Some m → (p : Option ℕ × Rest) × (list_version_in n ts ≡ Ok p) × (p.0 ≡ m.0) × (p.1.0 ≡ m.1)
@@ -222,17 +222,6 @@ version_ok n none m e =
     let same : ◌≡◌ {A = Option ℕ × Trees} (None, none) m = cc in
     ((None, (none, n)), refl, ap (λ (z : Option ℕ × Trees). z.0) same, ap (λ (z : Option ℕ × Trees). z.1) same)
 version_ok n (more t ts) m e = version_of_ok (plain_at integer t) n t ts m e
-
--- a second time
-
-time_by : (o : Option CivilTime) (n j : ℕ) (t : Tree) (ts : Trees) → (let r : Rest = if is_there o then (ts, j) else (more t ts, n) in r.0) ≡ (maybe_time_of o t ts).1
-time_by None n j t ts = refl
-time_by (Some c) n j t ts = refl
-
-pub time_same : (n : ℕ) (ts : Trees) → (past_time_in n ts).0 ≡ (maybe_time_at ts).1
-unfolding maybe_time_at
-time_same n none = refl
-time_same n (more t ts) = time_by (time_at t) n (behind n t) t ts
 
 -- a fault of an entry
 

@@ -119,7 +119,7 @@ not_an_object s refused =
     let none_there : IsObjectItem s → ⊥ = λ p. let t = object_to 50 s p.object in refused (t.0, [], t.1, sym t.2 ∙ sym (append-nil (octets t.0))) in
     (λ c p. none_there p.object, λ l p. none_there p.object)
 
--- octets behind an object make them other
+-- octets after an object make them other
 pub more_behind : (s others : List ℕ) (t : Tree) → IsObject 50 t → s ≡ octets t ++ others → 0 < length others → IsClassOf s other
 more_behind s others t o is long =
     let none_there : IsObjectItem s → ⊥ = λ p.

@@ -3,6 +3,7 @@ pub mod PartLaws
 pub mod Opening
 pub mod CertificateLaws
 pub mod EntryLaws
+pub mod UpdateLaws
 pub mod ListLaws
 pub mod Faults
 pub mod Broken

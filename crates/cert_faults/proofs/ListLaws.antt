@@ -1,8 +1,9 @@
 -- An object has no fault as a list exactly where it is one.
-use Rattle.std.proofs.Common.{◌≡◌, ◌∙◌, refl, sym, ap, ℕ, ◌&&◌, true, Option, Some, None, Ok, option_and_then, subst}
+use Rattle.std.proofs.Common.{◌≡◌, ◌∙◌, refl, sym, ap, ℕ, ◌-◌, ◌&&◌, true, Option, Some, None, Ok, option_and_then, subst}
 use Rattle.std.proofs.lemmas.Option.{option_and_then_some}
 use Rattle.der_tree.specs.Tree.{Tree, Trees, octets}
-use Rattle.der_tree.specs.Shape.{IsObject}
+use Rattle.der_tree.specs.Shape.{IsObject, AreObjects}
+use Rattle.der_tree.proofs.Shapes.{sequence_found, first_found}
 use Rattle.der_tree.specs.Access.{sequence_at, first_at, end_at}
 use Rattle.cert_model.specs.Fields.{RevocationList}
 use Rattle.cert_model.specs.Class.{IsListItem}
@@ -12,19 +13,22 @@ use Rattle.cert_model.specs.Pieces.{TbsListPieces, tbs_list_at, Signed, signed_a
 use Rattle.cert_model.specs.Pieces as pieces
 use Rattle.cert_model.specs.Assembly.{AreExtensionsIn, is_some, implies, is_version_two, entries_fit, list_from}
 use Rattle.cert_model.proofs.Assemblies.{list_found, ReadsList}
-use Rattle.cert_model.specs.Range.{IfThere}
+use Rattle.cert_model.specs.Range.{IfThere, IsAlgorithm, IsName, IsTimeField}
 use Rattle.cert_model.specs.PieceOctets.{HasSmallContent}
 use Rattle.cert_model.proofs.RevocationLists.{list_extensions_small}
 use Rattle.cert_model.proofs.Cases.{both_true}
 use Rattle.cert_model.proofs.StrictItems.{list_item}
+use Rattle.cert_model.proofs.Next.{next_found, algorithms, algorithm_laws, names, name_laws}
+use Rattle.cert_model.proofs.TimeParts.{times, time_laws}
 use Rattle.cert_faults.specs.declared.places.Field.TheVariants as fields
 use Rattle.cert_faults.specs.declared.places.Expected.TheVariants as wants
-use Rattle.cert_faults.specs.Steps.{whole, inside, behind, Rest, sequence_or, first_or, end_or, next_or}
+use Rattle.cert_faults.specs.Steps.{whole, inside, left_after, Rest, sequence_or, first_or, end_or, next_or}
 use Rattle.cert_faults.specs.Walks.{bits_fault, time_fault, algorithm_fault, name_fault}
-use Rattle.cert_faults.specs.Items.{tagged, list_version_in, past_time_in, entries_in, Front, list_front, signed_front, signed_end, HasTagged}
+use Rattle.cert_faults.specs.Items.{tagged, list_version_in, next_update_in, entries_in, Front, list_front, signed_front, signed_end, HasTagged}
 use Rattle.cert_faults.proofs.PartLaws.{bits_agrees, time_agrees, algorithm_agrees, name_agrees}
 use Rattle.cert_faults.proofs.Opening.{the_ok, outcome_then, parts_read, first_read, first_is_ok, end_read, end_ok, next_read, next_ok, tagged_same}
-use Rattle.cert_faults.proofs.EntryLaws.{version_read, version_ok, time_same, entries_read, entries_ok}
+use Rattle.cert_faults.proofs.EntryLaws.{version_read, version_ok, entries_read, entries_ok}
+use Rattle.cert_faults.proofs.UpdateLaws.{update_read, update_ok, version_left}
 
 -- the first part up to its extensions, as it is read
 pub record ReadsFront (t : Tree) (f : Front) : Type 0 where
@@ -47,9 +51,9 @@ front_read n t f e =
     let p3 = next_read _ name_at (name_agrees fields.ListIssuer) (whole fields.ListIssuer) wants.Sequence signature.1 signature.0 issuer e3 in
     outcome_then (next_or (time_fault (whole fields.ThisUpdate)) (whole fields.ThisUpdate) wants.Time issuer) _ f r3 (λ this_update e4 r4.
     let p4 = next_read _ time_at (time_agrees (whole fields.ThisUpdate)) (whole fields.ThisUpdate) wants.Time issuer.1 issuer.0 this_update e4 in
-    let next_update = past_time_in this_update.1 this_update.0 in
-    let p5 = time_same this_update.1 this_update.0 in
-    outcome_then (entries_in version.0 next_update.1 next_update.0) _ f r4 (λ entries e6 r6.
+    outcome_then (next_update_in this_update.1 this_update.0) _ f r4 (λ next_update e5 r5.
+    let p5 = update_read this_update.1 this_update.0 next_update e5 in
+    outcome_then (entries_in version.0 next_update.1 next_update.0) _ f r5 (λ entries e6 r6.
     let p6 = entries_read version.0 next_update.1 next_update.0 entries e6 in
     let q6 = the_ok (is_version_two version.0, entries) f r6 in
     let listed : pieces.entries_in (maybe_time_at this_update.0).1 ≡ Some p6.0 = ap pieces.entries_in (sym p5) ∙ p6.1 in
@@ -59,7 +63,7 @@ front_read n t f e =
       later = ap (λ (z : Front). z.0) (sym q6);
       read = λ over. rw (p0.0, p1, p2.1, p3.1, p4.1, listed, last, over) refl;
       fit = p6.3;
-    }))))))
+    })))))))
 
 pub list_sound : (n : ℕ) (t : Tree) (f : Front × Rest) → IsObject 50 t → signed_front fields.TbsCertList list_front n t ≡ Ok f → HasTagged 0 f.0.0 f.0.1 →
     signed_end fields.TbsCertList (tagged 0 f.0.1).2 f.1 ≡ Ok tt → (l : RevocationList) × IsListItem (octets t) l
@@ -92,10 +96,10 @@ list_sound n t f o before has_es after =
     let l = list_from s has_es.0 in
     (l, list_item t l o found.0 found.1)))))))
 
-front_ok : (n : ℕ) (t : Tree) (p : TbsListPieces) → tbs_list_at t ≡ Some p → entries_fit p.version p.entries ≡ true →
+front_ok : (k n : ℕ) (t : Tree) (p : TbsListPieces) → IsObject k t → tbs_list_at t ≡ Some p → entries_fit p.version p.entries ≡ true →
     (f : Front) × (list_front n t ≡ Ok f) × (f.0 ≡ is_version_two p.version) × ((tagged_at 0 f.1.0).0 ≡ p.extensions) × (end_at (tagged_at 0 f.1.0).1 ≡ Some tt)
 unfolding list_front tbs_list_at
-front_ok n t p e fits =
+front_ok k n t p o e fits =
     option_and_then_some _ (sequence_at t) p e (λ parts e0 r0.
     option_and_then_some _ (list_version_at parts) p r0 (λ version e1 r1.
     option_and_then_some _ (next_at algorithm_at version.1) p r1 (λ signature e2 r2.
@@ -112,14 +116,21 @@ front_ok n t p e fits =
     let s2 = next_ok _ algorithm_at (algorithm_agrees fields.ListSignature) (whole fields.ListSignature) wants.Sequence s1.0.1.1 s1.0.1.0 signature (ap (next_at algorithm_at) s1.3 ∙ e2) in
     let s3 = next_ok _ name_at (name_agrees fields.ListIssuer) (whole fields.ListIssuer) wants.Sequence s2.0.1 s2.0.0 issuer (ap (next_at name_at) s2.2 ∙ e3) in
     let s4 = next_ok _ time_at (time_agrees (whole fields.ThisUpdate)) (whole fields.ThisUpdate) wants.Time s3.0.1 s3.0.0 this_update (ap (next_at time_at) s3.2 ∙ e4) in
-    let r5 = past_time_in s4.0.1 s4.0.0 in
-    let at5 : r5.0 ≡ next_update.1 = time_same s4.0.1 s4.0.0 ∙ ap (λ z. (maybe_time_at z).1) s4.2 in
+    let held = (sequence_found k t parts o e0).1 in
+    let held1 = version_left (k - 1) parts version held e1 in
+    let held2 = (next_found algorithms IsAlgorithm algorithm_laws (k - 1) version.1 signature held1 e2).1 in
+    let held3 = (next_found names IsName name_laws (k - 1) signature.1 issuer held2 e3).1 in
+    let held4 = (next_found times IsTimeField time_laws (k - 1) issuer.1 this_update held3 e4).1 in
+    let ended : end_at (tagged_at 0 (behind_entries (maybe_time_at s4.0.0).1)).1 ≡ Some tt = ap (λ z. end_at (tagged_at 0 (behind_entries (maybe_time_at z).1)).1) s4.2 ∙ e6 in
+    let s5 = update_ok (k - 1) s4.0.1 s4.0.0 (subst (AreObjects (k - 1)) (sym s4.2) held4) ended in
+    let r5 = s5.0 in
+    let at5 : r5.0 ≡ next_update.1 = s5.2 ∙ ap (λ z. (maybe_time_at z).1) s4.2 in
     let fit : entries_fit s1.0.0 entries ≡ true = ap (λ v. entries_fit v entries) s1.2 ∙ ap (λ (z : TbsListPieces). entries_fit z.version z.entries) same ∙ fits in
     let s6 = entries_ok s1.0.0 r5.1 r5.0 entries (ap pieces.entries_in at5 ∙ e5) fit in
     let at6 : s6.0.0 ≡ behind_entries next_update.1 = s6.2 ∙ ap behind_entries at5 in
     let f : Front = (is_version_two s1.0.0, s6.0) in (
       f,
-      rw (e0, s1.1, s2.1, s3.1, s4.1, s6.1) refl,
+      rw (e0, s1.1, s2.1, s3.1, s4.1, s5.1, s6.1) refl,
       ap is_version_two s1.2 ∙ ap (λ (z : TbsListPieces). is_version_two z.version) same,
       ap (λ z. (tagged_at 0 z).0) at6 ∙ ap (λ (z : TbsListPieces). z.extensions) same,
       ap (λ z. end_at (tagged_at 0 z).1) at6 ∙ e6,
@@ -140,9 +151,11 @@ list_complete n t l o m =
     let both : ◌≡◌ {A = TbsListPieces × Trees} (p, first.1) signed = cc in
     let whole_is : p ≡ m.pieces.signed = ap (λ (z : TbsListPieces × Trees). z.0) both ∙ ap (λ (z : Signed TbsListPieces). z.signed) same in
     let k = both_true (entries_fit m.pieces.signed.version m.pieces.signed.entries) (implies (is_some l.extensions) (is_version_two m.pieces.signed.version)) m.fits in
-    let w = front_ok (inside n t) first.0 m.pieces.signed (f1 ∙ ap Some whole_is) k.0 in
+    let parted = (sequence_found 50 t parts o e0).1 in
+    let held = (first_found 49 parts first.0 first.1 parted f0).0 in
+    let w = front_ok 49 (inside n t) first.0 m.pieces.signed held (f1 ∙ ap Some whole_is) k.0 in
     let first_is = first_is_ok (whole fields.TbsCertList) wants.Sequence (inside n t) parts first f0 in
-    let rest : Rest = (first.1, behind (inside n t) first.0) in
+    let rest : Rest = (first.1, left_after (inside n t) first.0) in
     let at_rest : rest.0 ≡ signed.1 = ap (λ (z : TbsListPieces × Trees). z.1) both in
     let s2 = next_ok _ algorithm_at (algorithm_agrees fields.SignatureAlgorithm) (whole fields.SignatureAlgorithm) wants.Sequence rest.1 rest.0 algorithm (ap (next_at algorithm_at) at_rest ∙ e2) in
     let s3 = next_ok _ bits_at (bits_agrees (whole fields.SignatureValue)) (whole fields.SignatureValue) wants.BitString s2.0.1 s2.0.0 value (ap (next_at bits_at) s2.2 ∙ e3) in

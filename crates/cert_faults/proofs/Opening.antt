@@ -12,7 +12,7 @@ use Rattle.cert_faults.specs.declared.places.Expected.{Expected}
 use Rattle.cert_faults.specs.declared.places.Expected.TheVariants as wants
 use Rattle.cert_faults.specs.declared.steps.Place.{Place}
 use Rattle.cert_faults.specs.declared.steps.Blame.{Blame}
-use Rattle.cert_faults.specs.Steps.{Outcome, ◌>>=◌, unlike, inside, behind, Rest, there_or, check, test, parts_or, first_in, end_in, next_or}
+use Rattle.cert_faults.specs.Steps.{Outcome, ◌>>=◌, unlike, inside, left_after, Rest, there_or, check, test, parts_or, first_in, end_in, next_or}
 use Rattle.cert_faults.specs.Items.{tagged_in, id_of}
 use Rattle.cert_faults.proofs.Agreeing.{Agrees, no_fault, is_read}
 
@@ -37,14 +37,14 @@ parts_read b n None r e = absurd cc
 pub first_read : (place : Place) (expected : Expected) (n : ℕ) (ts : Trees) (m : Tree × Rest) → first_in place expected n ts ≡ Ok m → (first_at ts ≡ Some (m.0, m.1.0)) × (ts ≡ more m.0 m.1.0)
 first_read place expected n none m e = absurd cc
 first_read place expected n (more t ts) m e =
-    let same = the_ok (t, (ts, behind n t)) m e in
+    let same = the_ok (t, (ts, left_after n t)) m e in
     (ap (λ (z : Tree × Rest). Some (z.0, z.1.0)) same, ap (λ (z : Tree × Rest). more z.0 z.1.0) same)
 
-pub first_is_ok : (place : Place) (expected : Expected) (n : ℕ) (ts : Trees) (m : Tree × Trees) → first_at ts ≡ Some m → first_in place expected n ts ≡ Ok (m.0, (m.1, behind n m.0))
+pub first_is_ok : (place : Place) (expected : Expected) (n : ℕ) (ts : Trees) (m : Tree × Trees) → first_at ts ≡ Some m → first_in place expected n ts ≡ Ok (m.0, (m.1, left_after n m.0))
 first_is_ok place expected n none m e = absurd cc
 first_is_ok place expected n (more t ts) m e =
     let same : ◌≡◌ {A = Tree × Trees} (t, ts) m = cc in
-    ap (λ (z : Tree × Trees). Ok (z.0, (z.1, behind n z.0))) same
+    ap (λ (z : Tree × Trees). Ok (z.0, (z.1, left_after n z.0))) same
 
 -- the end
 
@@ -56,7 +56,7 @@ pub end_ok : (place : Place) (n : ℕ) (ts : Trees) (u : Unit {0}) → end_at ts
 end_ok place n none u e = refl
 end_ok place n (more t ts) u e = absurd cc
 
--- a part that is read, and those behind it
+-- a part that is read, and those after it
 
 abbrev pub Laws : {A : Type 0} → (ℕ → Tree → Outcome (Unit {0})) → (Tree → Option A) → Type 0
 Laws fault read = (n : ℕ) (t : Tree) → Agrees (fault n t) (read t)
@@ -65,9 +65,9 @@ pub next_read : {A : Type 0} (fault : ℕ → Tree → Outcome (Unit {0})) (read
     next_or fault place expected (ts, n) ≡ Ok s → (a : A) × (next_at read ts ≡ Some (a, s.0))
 next_read fault read laws place expected n none s e = absurd cc
 next_read {A} fault read laws place expected n (more t ts) s e =
-    outcome_then (fault n t) (λ ok. Ok (ts, behind n t)) s e (λ u e1 r1.
+    outcome_then (fault n t) (λ ok. Ok (ts, left_after n t)) s e (λ u e1 r1.
     let a = is_read (fault n t) (read t) u (laws n t) e1 in
-    let same = the_ok (ts, behind n t) s r1 in
+    let same = the_ok (ts, left_after n t) s r1 in
     (a.0, ap (option_and_then (λ (v : A). Some (v, ts))) a.1 ∙ ap (λ (z : Rest). Some (a.0, z.0)) same))
 
 pub next_ok : {A : Type 0} (fault : ℕ → Tree → Outcome (Unit {0})) (read : Tree → Option A) → Laws fault read → (place : Place) (expected : Expected) (n : ℕ) (ts : Trees) (m : A × Trees) →
@@ -77,7 +77,7 @@ next_ok {A} fault read laws place expected n (more t ts) m e =
     option_and_then_some _ (read t) m e (λ value e1 r1.
     let ok = no_fault (fault n t) (read t) value (laws n t) e1 in
     let same : ◌≡◌ {A = A × Trees} (value, ts) m = cc in
-    ((ts, behind n t), rw ok.1 refl, ap (λ (z : A × Trees). z.1) same))
+    ((ts, left_after n t), rw ok.1 refl, ap (λ (z : A × Trees). z.1) same))
 
 -- tagged elements
 
@@ -91,7 +91,7 @@ tagged_by false e i n j t ts = (refl, refl)
 pub tagged_same : (tag n : ℕ) (ts : Trees) → ((tagged_in tag n ts).0 ≡ (tagged_at tag ts).0) × ((tagged_in tag n ts).2.0 ≡ (tagged_at tag ts).1)
 unfolding tagged_at
 tagged_same tag n none = (refl, refl)
-tagged_same tag n (more t ts) = tagged_by (is_tagged tag (element_at t)) (element_at t) (inside n t) n (behind n t) t ts
+tagged_same tag n (more t ts) = tagged_by (is_tagged tag (element_at t)) (element_at t) (inside n t) n (left_after n t) t ts
 
 pub there_read : {A : Type 0} (b : Blame) (o : Option A) (x : A) → there_or b o ≡ Ok x → o ≡ Some x
 there_read b (Some a) x e = ap Some (the_ok a x e)

@@ -16,7 +16,7 @@ use Rattle.cert_faults.specs.declared.places.Expected.TheVariants as wants
 use Rattle.cert_faults.specs.declared.steps.Place.{Place}
 use Rattle.cert_faults.specs.declared.steps.Blame.{Blame}
 use Rattle.cert_faults.specs.declared.places.Expected.{Expected}
-use Rattle.cert_faults.specs.Steps.{Outcome, ◌>>=◌, unlike, whole, within, inside, behind, Rest, test, first_or, end_or, next_or, each_in}
+use Rattle.cert_faults.specs.Steps.{Outcome, ◌>>=◌, unlike, whole, within, inside, left_after, Rest, test, first_or, end_or, next_or, each_in}
 use Rattle.cert_faults.specs.Walks as walks
 use Rattle.cert_faults.specs.Walks.{identifier_fault, number_fault, bits_fault, octets_fault, time_fault, any_fault, last_in, algorithm_fault, attribute_fault, ascending_fault, attributes_in, relative_name_fault, name_fault, validity_fault, key_fault, critical_in, extension_fault, extensions_fault}
 use Rattle.cert_faults.proofs.Agreeing.{Agrees, check_agrees, end_agrees, made_agrees, parts_agree, part_agrees, next_agrees, each_agrees}
@@ -46,7 +46,7 @@ unfolding algorithm_fault algorithm_at
 algorithm_agrees field n t =
     parts_agree _ (inside n t) (sequence_at t) _ _ (λ ts.
     part_agrees (identifier_fault (within field parts.Algorithm)) identifier_at (identifier_agrees (within field parts.Algorithm)) (within field parts.Algorithm) wants.Identifier (inside n t) ts _ _ (λ u us a.
-    made_agrees (last_in (within field parts.Parameters) (behind (inside n t) u) us) (last_element_at us) _ (last_agrees (within field parts.Parameters) (behind (inside n t) u) us)))
+    made_agrees (last_in (within field parts.Parameters) (left_after (inside n t) u) us) (last_element_at us) _ (last_agrees (within field parts.Parameters) (left_after (inside n t) u) us)))
 
 any_last : {A : Type 0} (place last : Place) (n : ℕ) (ts : Trees) (h : Tree × Trees → A) → Agrees (next_or any_fault place wants.AnyElement (ts, n) >>= end_or last) (option_and_then (λ second. option_and_then (λ end. Some (h second)) (end_at second.1)) (first_at ts))
 any_last place last n none h = tt
@@ -58,9 +58,9 @@ unfolding attribute_fault attribute_at
 attribute_agrees field n t =
     parts_agree _ (inside n t) (sequence_at t) _ _ (λ ts.
     part_agrees (identifier_fault (within field parts.Type)) identifier_at (identifier_agrees (within field parts.Type)) (within field parts.Type) wants.Identifier (inside n t) ts _ _ (λ u us a.
-    any_last (within field parts.Value) (within field parts.Attribute) (behind (inside n t) u) us _))
+    any_last (within field parts.Value) (within field parts.Attribute) (left_after (inside n t) u) us _))
 
--- attributes behind one whose octets are known
+-- attributes after one whose octets are known
 
 abbrev at_most : Option (List ℕ) → Tree → Bool
 at_most None t = true
@@ -90,11 +90,11 @@ tested e false c f l p = tt
 attributes_agree : (field : Field) (n : ℕ) (ts : Trees) (before : Option (List ℕ)) → Agrees (attributes_in field before n ts) (if ordered ts before then list_at attribute_at ts else None)
 attributes_agree field n none before = tt
 attributes_agree field n (more t ts) None =
-    one_more (attribute_fault field n t) (attributes_in field (Some (octets t)) (behind n t) ts) (attribute_at t) (ordered ts (Some (octets t))) (list_at attribute_at ts) (attribute_agrees field n t) (attributes_agree field (behind n t) ts (Some (octets t)))
+    one_more (attribute_fault field n t) (attributes_in field (Some (octets t)) (left_after n t) ts) (attribute_at t) (ordered ts (Some (octets t))) (list_at attribute_at ts) (attribute_agrees field n t) (attributes_agree field (left_after n t) ts (Some (octets t)))
 attributes_agree field n (more t ts) (Some s) =
     tested (unlike (within field parts.Attribute) wants.Ascending n) (is_at_most s (octets t)) (ordered ts (Some (octets t)))
-    (attribute_fault field n t >>= (λ ok. attributes_in field (Some (octets t)) (behind n t) ts)) (list_at attribute_at (more t ts))
-    (one_more (attribute_fault field n t) (attributes_in field (Some (octets t)) (behind n t) ts) (attribute_at t) (ordered ts (Some (octets t))) (list_at attribute_at ts) (attribute_agrees field n t) (attributes_agree field (behind n t) ts (Some (octets t))))
+    (attribute_fault field n t >>= (λ ok. attributes_in field (Some (octets t)) (left_after n t) ts)) (list_at attribute_at (more t ts))
+    (one_more (attribute_fault field n t) (attributes_in field (Some (octets t)) (left_after n t) ts) (attribute_at t) (ordered ts (Some (octets t))) (list_at attribute_at ts) (attribute_agrees field n t) (attributes_agree field (left_after n t) ts (Some (octets t))))
 
 is_long : {A : Type 0} (a : A) (bs : List A) → nat_lt 0 (length (a ∷ bs)) ≡ true
 is_long a bs = lt-ltb 0 (length (a ∷ bs)) (omega arith)
@@ -152,15 +152,15 @@ unfolding key_fault key_at
 key_agrees n t =
     parts_agree _ (inside n t) (sequence_at t) _ _ (λ ts.
     part_agrees (algorithm_fault fields.KeyAlgorithm) algorithm_at (algorithm_agrees fields.KeyAlgorithm) (whole fields.KeyAlgorithm) wants.Sequence (inside n t) ts _ _ (λ u us a.
-    part_agrees (bits_fault (whole fields.SubjectPublicKey)) bits_at (bits_agrees (whole fields.SubjectPublicKey)) (whole fields.SubjectPublicKey) wants.BitString (behind (inside n t) u) us _ _ (λ v vs b.
-    made_agrees (end_or (whole fields.SubjectPublicKeyInfo) (vs, behind (behind (inside n t) u) v)) (end_at vs) _ (end_agrees (whole fields.SubjectPublicKeyInfo) (behind (behind (inside n t) u) v) vs))))
+    part_agrees (bits_fault (whole fields.SubjectPublicKey)) bits_at (bits_agrees (whole fields.SubjectPublicKey)) (whole fields.SubjectPublicKey) wants.BitString (left_after (inside n t) u) us _ _ (λ v vs b.
+    made_agrees (end_or (whole fields.SubjectPublicKeyInfo) (vs, left_after (left_after (inside n t) u) v)) (end_at vs) _ (end_agrees (whole fields.SubjectPublicKeyInfo) (left_after (left_after (inside n t) u) v) vs))))
 
 -- extensions
 
 critical_by : {B D : Type 0} (field : Field) (n : ℕ) (t : Tree) (ts : Trees) (o : Option Bool) (f : Rest → Outcome B) (g : Bool × Trees → Option D) → ((s : Rest) (c : Bool) → Agrees (f s) (g (c, s.0))) →
     Agrees (walks.critical_of o field n t ts >>= f) (option_and_then g (critical_of o t ts))
 critical_by field n t ts None f g h = h (more t ts, n) false
-critical_by field n t ts (Some true) f g h = h (ts, behind n t) true
+critical_by field n t ts (Some true) f g h = h (ts, left_after n t) true
 critical_by field n t ts (Some false) f g h = tt
 
 critical_agrees : {B D : Type 0} (field : Field) (n : ℕ) (ts : Trees) (f : Rest → Outcome B) (g : Bool × Trees → Option D) → ((s : Rest) (c : Bool) → Agrees (f s) (g (c, s.0))) →
@@ -174,9 +174,9 @@ unfolding extension_fault extension_at
 extension_agrees field n t =
     parts_agree _ (inside n t) (sequence_at t) _ _ (λ ts.
     part_agrees (identifier_fault (within field parts.ExtnId)) identifier_at (identifier_agrees (within field parts.ExtnId)) (within field parts.ExtnId) wants.Identifier (inside n t) ts _ _ (λ u us a.
-    critical_agrees field (behind (inside n t) u) us _ _ (λ s c.
+    critical_agrees field (left_after (inside n t) u) us _ _ (λ s c.
     part_agrees (octets_fault (within field parts.ExtnValue)) (plain_at octet_string) (octets_agrees (within field parts.ExtnValue)) (within field parts.ExtnValue) wants.OctetString s.1 s.0 _ _ (λ v vs b.
-    made_agrees (end_or (within field parts.Extension) (vs, behind s.1 v)) (end_at vs) _ (end_agrees (within field parts.Extension) (behind s.1 v) vs)))))
+    made_agrees (end_or (within field parts.Extension) (vs, left_after s.1 v)) (end_at vs) _ (end_agrees (within field parts.Extension) (left_after s.1 v) vs)))))
 
 pub extensions_agree : (field : Field) (n : ℕ) (t : Tree) → Agrees (extensions_fault field n t) (extensions_at t)
 unfolding extensions_fault extensions_at

@@ -12,7 +12,7 @@ use Rattle.cert_faults.specs.declared.places.Expected.{Expected}
 use Rattle.cert_faults.specs.declared.places.Expected.TheVariants as wants
 use Rattle.cert_faults.specs.declared.steps.Place.{Place}
 use Rattle.cert_faults.specs.declared.steps.Blame.{Blame}
-use Rattle.cert_faults.specs.Steps.{unlike, behind}
+use Rattle.cert_faults.specs.Steps.{unlike, left_after}
 
 -- what a header that is refused lacks
 abbrev pub header_wants : Refusal Error → Expected
@@ -22,7 +22,7 @@ header_wants (refusals.Error errors.InvalidLength) = wants.ShortLength
 header_wants (refusals.Error _) = wants.DefiniteLength
 header_wants (refusals.Failure _) = wants.DefiniteLength
 
--- what the content of an element must be, by its tag number, where it holds none
+-- what the content of an element must be, by its tag number, if it isn't that
 abbrev pub content_wants : Element → Expected
 content_wants e =
     if e.constructed then wants.Primitive else
@@ -52,7 +52,7 @@ pub data IsElementFault (k : ℕ) (Inner : List ℕ → ℕ → Blame → Type 0
       e.content ≡ all_octets ts ++ others → others ≢ [] → (BeginsWithObject k others → ⊥) →
       Inner others (n - (length s - length rest - length others)) b → IsElementFault k Inner place s n b
 
--- The fault of the first element that isn't as it must be. Where no level is left, that is any element.
+-- The fault of the first element that isn't as it must be. If no level is left, that is any element.
 unfoldable pub IsBroken : ℕ → Place → List ℕ → ℕ → Blame → Type 0
 IsBroken zero place s n b = b ≡ unlike place wants.FewLevels n
 IsBroken (suc k) place s n b = IsElementFault k (IsBroken k place) place s n b
@@ -60,6 +60,6 @@ IsBroken (suc k) place s n b = IsElementFault k (IsBroken k place) place s n b
 -- Octets that aren't one object of at most 50 levels, or one that isn't as `Inner` wants.
 pub data IsObjectFault (Inner : Tree → Blame → Type 0) (place : Place) (s : List ℕ) (n : ℕ) (b : Blame) : Type 0 where
   elements : (BeginsWithObject 50 s → ⊥) → IsBroken 50 place s n b → IsObjectFault Inner place s n b
-  rest : (t : Tree) → (others : List ℕ) → IsObject 50 t → s ≡ octets t ++ others → others ≢ [] → b ≡ unlike place wants.NothingMore (behind n t) →
+  rest : (t : Tree) → (others : List ℕ) → IsObject 50 t → s ≡ octets t ++ others → others ≢ [] → b ≡ unlike place wants.NothingMore (left_after n t) →
       IsObjectFault Inner place s n b
   inner : (t : Tree) → IsObject 50 t → octets t ≡ s → Inner t b → IsObjectFault Inner place s n b

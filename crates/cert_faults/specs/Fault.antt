@@ -46,13 +46,13 @@ abbrev pub HeadsBy : Answer BerHead → Option Header → Type 0
 HeadsBy (Ok h) found = (header : Header) × (found ≡ Some header) × (ber_head_of header ≡ h.0)
 HeadsBy (Err e) found = found ≡ None
 
--- what is found at a fault: nothing, where what holds it ends, else the header there
+-- what is found at a fault: nothing, if the element that holds it ends there, else the header there
 abbrev pub IsFound : Bool → List ℕ → Option Header → Type 0
 IsFound true s found = found ≡ None
 IsFound false s found = HeadsBy (ber_header_at s) found
 
--- a fault tells where a blame is, what is expected, and what is found there
-pub record Tells (s : List ℕ) (b : Blame) (f : Fault) : Type 0 where
+-- a fault has the place of a blame, what is expected, and what is found there
+pub record IsFaultOf (s : List ℕ) (b : Blame) (f : Fault) : Type 0 where
   pub field : f.field ≡ b.place.field
   pub part : f.part ≡ b.place.part
   pub expected : f.expected ≡ b.expected
@@ -61,4 +61,4 @@ pub record Tells (s : List ℕ) (b : Blame) (f : Fault) : Type 0 where
 
 -- the first fault of octets that are other
 abbrev pub IsFirstFault : List ℕ → Fault → Type 0
-IsFirstFault s f = (b : Blame) × IsItemFault s b × Tells s b f
+IsFirstFault s f = (b : Blame) × IsItemFault s b × IsFaultOf s b f

@@ -13,14 +13,14 @@ use Rattle.cert_faults.specs.declared.places.Field.TheVariants as fields
 use Rattle.cert_faults.specs.declared.places.Expected.TheVariants as wants
 use Rattle.cert_faults.specs.declared.steps.Place.{Place}
 use Rattle.cert_faults.specs.declared.steps.Blame.{Blame}
-use Rattle.cert_faults.specs.Steps.{Outcome, ◌>>=◌, unlike, whole, inside, behind, Rest, there_or, check, test, sequence_or, first_or, end_or, next_or, each_in}
+use Rattle.cert_faults.specs.Steps.{Outcome, ◌>>=◌, unlike, whole, inside, left_after, Rest, there_or, check, test, sequence_or, first_or, end_or, next_or, each_in}
 use Rattle.cert_faults.specs.Walks.{number_fault, bits_fault, time_fault, algorithm_fault, name_fault, validity_fault, key_fault, entry_fault, extensions_fault}
 use Rattle.cert_faults.specs.Elements.{IsObjectFault}
 
--- the element of a context-specific tag at the front, if there is one, the octets left behind its header, and what follows
+-- the element of a context-specific tag at the front, if there is one, the octets left after its header, and the parts that follow
 abbrev pub tagged_in : ℕ → ℕ → Trees → Option Element × ℕ × Rest
 tagged_in tag n none = (None, n, (none, n))
-tagged_in tag n (more t ts) = if is_tagged tag (element_at t) then (Some (element_at t), inside n t, (ts, behind n t)) else (None, n, (more t ts, n))
+tagged_in tag n (more t ts) = if is_tagged tag (element_at t) then (Some (element_at t), inside n t, (ts, left_after n t)) else (None, n, (more t ts, n))
 
 abbrev pub tagged : ℕ → Rest → Option Element × ℕ × Rest
 tagged tag r = tagged_in tag r.1 r.0
@@ -68,16 +68,25 @@ one_or (a ∷ b ∷ s) n rest = Err (unlike (whole fields.ListVersion) wants.Ver
 
 abbrev pub list_version_of : Option (List ℕ) → ℕ → Tree → Trees → Outcome (Option ℕ × Rest)
 list_version_of None n t ts = Ok (None, (more t ts, n))
-list_version_of (Some s) n t ts = one_or s n (ts, behind n t)
+list_version_of (Some s) n t ts = one_or s n (ts, left_after n t)
 
 abbrev pub list_version_in : ℕ → Trees → Outcome (Option ℕ × Rest)
 list_version_in n none = Ok (None, (none, n))
 list_version_in n (more t ts) = list_version_of (plain_at integer t) n t ts
 
--- behind a time, if there is one
-abbrev pub past_time_in : ℕ → Trees → Rest
-past_time_in n none = (none, n)
-past_time_in n (more t ts) = if is_there (time_at t) then (ts, behind n t) else (more t ts, n)
+-- a UTCTime or a GeneralizedTime, of any form that X.690 allows
+abbrev pub is_time : Tree → Bool
+is_time t = is_there (plain_at utc_time t) || is_there (plain_at generalized_time t)
+
+-- nextUpdate: a time in the form of RFC 5280, 4.1.2.5, or none; a time in another form is no other field (RFC 5280, 5.1.2.5)
+abbrev pub next_update_of : Bool → Bool → ℕ → Tree → Trees → Outcome Rest
+next_update_of true _ n t ts = Ok (ts, left_after n t)
+next_update_of false true n t ts = Err (unlike (whole fields.NextUpdate) wants.Time n)
+next_update_of false false n t ts = Ok (more t ts, n)
+
+abbrev pub next_update_in : ℕ → Trees → Outcome Rest
+next_update_in n none = Ok (none, n)
+next_update_in n (more t ts) = next_update_of (is_there (time_at t)) (is_time t) n t ts
 
 -- revokedCertificates: one entry or more, or no SEQUENCE (RFC 5280, 5.1.2.6)
 abbrev pub entries_of : Option Trees → Option ℕ → ℕ → Tree → Trees → Outcome Rest
@@ -85,7 +94,7 @@ entries_of None version n t ts = Ok (more t ts, n)
 entries_of (Some parts) version n t ts = do
   first ← first_or (whole fields.RevokedCertificates) wants.OneEntry (parts, inside n t)
   ok ← each_in (entry_fault version) (inside n t) parts
-  Ok (ts, behind n t)
+  Ok (ts, left_after n t)
 
 abbrev pub entries_in : Option ℕ → ℕ → Trees → Outcome Rest
 entries_in version n none = Ok (none, n)
@@ -98,11 +107,11 @@ list_front n t = do
   signature ← next_or (algorithm_fault fields.ListSignature) (whole fields.ListSignature) wants.Sequence version.1
   issuer ← next_or (name_fault fields.ListIssuer) (whole fields.ListIssuer) wants.Sequence signature
   this_update ← next_or (time_fault (whole fields.ThisUpdate)) (whole fields.ThisUpdate) wants.Time issuer
-  let next_update = past_time_in this_update.1 this_update.0
+  next_update ← next_update_in this_update.1 this_update.0
   entries ← entries_in version.0 next_update.1 next_update.0
   Ok (is_version_two version.0, entries)
 
--- Certificate and CertificateList alike: the first part up to its extensions, and what stands behind the first part.
+-- Certificate and CertificateList alike: the first part up to its extensions, and the parts after the first one.
 abbrev pub signed_front : Field → (ℕ → Tree → Outcome Front) → ℕ → Tree → Outcome (Front × Rest)
 signed_front field front n t = do
   all ← sequence_or (whole fields.Item) n t
@@ -110,7 +119,7 @@ signed_front field front n t = do
   inner ← front all.1 first.0
   Ok (inner, first.1)
 
--- what stands behind the extensions, and behind the first part
+-- the parts after the extensions, and those after the first part
 abbrev pub signed_end : Field → Rest → Rest → Outcome (Unit {0})
 signed_end field inner outer = do
   over ← end_or (whole field) inner
@@ -130,7 +139,7 @@ pub data IsTaggedFault (field : Field) (tag : ℕ) (later : Bool) (r : Rest) (b 
 abbrev pub HasTagged : ℕ → Bool → Rest → Type 0
 HasTagged tag later r = (es : List Extension) × AreExtensionsIn (tagged tag r).0 es × (implies (is_some es) later ≡ true)
 
--- The first fault of a certificate or of a list: before its extensions, in them, or behind them.
+-- The first fault of a certificate or of a list: before its extensions, in them, or after them.
 pub data IsSignedFault (field : Field) (front : ℕ → Tree → Outcome Front) (extensions : Field) (tag : ℕ) (n : ℕ) (t : Tree) (b : Blame) : Type 0 where
   before : signed_front field front n t ≡ Err b → IsSignedFault field front extensions tag n t b
   within : (f : Front × Rest) → signed_front field front n t ≡ Ok f → IsTaggedFault extensions tag f.0.0 f.0.1 b →

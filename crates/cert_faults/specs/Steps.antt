@@ -16,7 +16,7 @@ use Rattle.cert_faults.specs.declared.steps.At.{At}
 abbrev pub Outcome : Type 0 → Type 0
 Outcome A = Result A Blame
 
--- the second step goes on behind the first
+-- the second step goes on after the first
 infixl 10 ◌>>=◌
 abbrev pub ◌>>=◌ : {A B : Type 0} → Outcome A → (A → Outcome B) → Outcome B
 (Ok x) >>= f = f x
@@ -31,7 +31,7 @@ Gives view (Err b) outcome = outcome ≡ Err b
 abbrev pub unlike : Place → Expected → ℕ → Blame
 unlike place expected left = record { place = place; expected = expected; left = left; is_missing = false }
 
--- an element that is expected where what holds it ends
+-- an element that is expected, and the element that holds it ends before
 abbrev pub missing : Place → Expected → ℕ → Blame
 missing place expected left = record { place = place; expected = expected; left = left; is_missing = true }
 
@@ -41,12 +41,12 @@ whole field = record { field = field; part = Whole }
 abbrev pub within : Field → Part → Place
 within field part = record { field = field; part = part }
 
--- the octets left behind a header, and behind an element
+-- the octets left after a header, and after an element
 abbrev pub inside : ℕ → Tree → ℕ
 inside n (node h s c) = n - (length s - h.size)
 
-abbrev pub behind : ℕ → Tree → ℕ
-behind n t = n - length (octets t)
+abbrev pub left_after : ℕ → Tree → ℕ
+left_after n t = n - length (octets t)
 
 -- parts that are still to be read, and the octets that are left from the first of them on
 abbrev pub Rest : Type 0
@@ -80,10 +80,10 @@ sequence_or place n t = parts_or (unlike place Sequence n) (inside n t) (sequenc
 abbrev pub set_or : Place → ℕ → Tree → Outcome Rest
 set_or place n t = parts_or (unlike place Set n) (inside n t) (set_at t)
 
--- the first of the parts, and those behind it
+-- the first of the parts, and those after it
 abbrev pub first_in : Place → Expected → ℕ → Trees → Outcome (Tree × Rest)
 first_in place expected n none = Err (missing place expected n)
-first_in place expected n (more t ts) = Ok (t, (ts, behind n t))
+first_in place expected n (more t ts) = Ok (t, (ts, left_after n t))
 
 abbrev pub first_or : Place → Expected → Rest → Outcome (Tree × Rest)
 first_or place expected r = first_in place expected r.1 r.0
@@ -101,9 +101,9 @@ abbrev pub each_in : (ℕ → Tree → Outcome (Unit {0})) → ℕ → Trees →
 each_in fault n none = Ok tt
 each_in fault n (more t ts) = do
   ok ← fault n t
-  each_in fault (behind n t) ts
+  each_in fault (left_after n t) ts
 
--- the first of the parts, which has no fault, and then those behind it
+-- the first of the parts, which has no fault, and then those after it
 abbrev pub next_or : (ℕ → Tree → Outcome (Unit {0})) → Place → Expected → Rest → Outcome Rest
 next_or fault place expected r = do
   first ← first_or place expected r

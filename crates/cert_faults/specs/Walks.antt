@@ -13,7 +13,7 @@ use Rattle.cert_faults.specs.declared.places.Field.TheVariants as fields
 use Rattle.cert_faults.specs.declared.places.Part.TheVariants as parts
 use Rattle.cert_faults.specs.declared.places.Expected.TheVariants as wants
 use Rattle.cert_faults.specs.declared.steps.Place.{Place}
-use Rattle.cert_faults.specs.Steps.{Outcome, ◌>>=◌, unlike, whole, within, behind, Rest, check, test, sequence_or, set_or, first_or, end_or, next_or, each_in}
+use Rattle.cert_faults.specs.Steps.{Outcome, ◌>>=◌, unlike, whole, within, left_after, Rest, check, test, sequence_or, set_or, first_or, end_or, next_or, each_in}
 
 -- single elements
 
@@ -41,7 +41,7 @@ any_fault n t = Ok tt
 -- an element or nothing, to the end
 abbrev pub last_in : Place → ℕ → Trees → Outcome (Unit {0})
 last_in place n none = Ok tt
-last_in place n (more t ts) = end_or place (ts, behind n t)
+last_in place n (more t ts) = end_or place (ts, left_after n t)
 
 unfoldable pub algorithm_fault : Field → ℕ → Tree → Outcome (Unit {0})
 algorithm_fault field n t = do
@@ -68,7 +68,7 @@ attributes_in field before n none = Ok tt
 attributes_in field before n (more t ts) = do
   ordered ← ascending_fault field before n t
   ok ← attribute_fault field n t
-  attributes_in field (Some (octets t)) (behind n t) ts
+  attributes_in field (Some (octets t)) (left_after n t) ts
 
 unfoldable pub relative_name_fault : Field → ℕ → Tree → Outcome (Unit {0})
 relative_name_fault field n t = do
@@ -102,7 +102,7 @@ key_fault n t = do
 -- a BOOLEAN that is true, or nothing (X.690, 11.5)
 abbrev pub critical_of : Option Bool → Field → ℕ → Tree → Trees → Outcome Rest
 critical_of None field n t ts = Ok (more t ts, n)
-critical_of (Some true) field n t ts = Ok (ts, behind n t)
+critical_of (Some true) field n t ts = Ok (ts, left_after n t)
 critical_of (Some false) field n t ts = Err (unlike (within field parts.Critical) wants.TrueOrNothing n)
 
 abbrev pub critical_in : Field → ℕ → Trees → Outcome Rest
@@ -130,7 +130,7 @@ entry_extensions_in version n none = Ok tt
 entry_extensions_in version n (more t ts) = do
   later ← test (unlike (whole fields.EntryExtensions) wants.LaterVersion n) (is_version_two version)
   ok ← extensions_fault fields.EntryExtensions n t
-  end_or (whole fields.Entry) (ts, behind n t)
+  end_or (whole fields.Entry) (ts, left_after n t)
 
 unfoldable pub entry_fault : Option ℕ → ℕ → Tree → Outcome (Unit {0})
 entry_fault version n t = do

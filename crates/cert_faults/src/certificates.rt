@@ -57,7 +57,7 @@ fn version_number(content: &[u8]) -> Option<u8>
     }
 }
 
-/// The version, 0 where it isn't written.
+/// The version, 0 if it isn't written.
 fn version_of(element: Option<AnyField<'_>>) -> Option<u8>
     ensures { result ≡ version_in (option_map any_view element.entry) }
 {
@@ -142,7 +142,7 @@ fn certificate_front<'b, 'a>(
     Ok((version == VERSION_3, subject_id))
 }
 
-/// Certificate up to the extensions, and what is left behind TBSCertificate.
+/// Certificate up to the extensions, and the parts after TBSCertificate.
 fn certificate_fronts<'b, 'a>(
     left: usize,
     object: &'b BerObject<'a>,

@@ -22,7 +22,7 @@ struct Cut<'a> {
     content: &'a [u8],
 }
 
-/// The strict element at the front, of at most `MAX_OBJECT_SIZE` content octets, and the octets behind it.
+/// The strict element at the front, of at most `MAX_OBJECT_SIZE` content octets, and the rest.
 fn cut_of<'a>(octets: &'a [u8]) -> ParseResult<'a, Cut<'a>>
     ensures exact { Gives (λ p. (element_under p.1.header p.1.content.now, p.0.now)) result (cut_at octets.now) }
     ensures found { IfOk result (λ p. (front : List ℕ) × IsCut front (element_under p.1.header p.1.content.now) × (octets.now ≡ front ++ p.0.now)) }
@@ -42,7 +42,7 @@ fn cut_of<'a>(octets: &'a [u8]) -> ParseResult<'a, Cut<'a>>
     Ok((after, Cut { header, content }))
 }
 
-/// What a header that is refused lacks.
+/// What is expected of a header that is refused.
 fn header_wants(refusal: Refusal<Error>) -> Expected
     ensures { result ≡ header_wants refusal }
 {
@@ -93,7 +93,7 @@ fn is_holder(header: Header, content: &[u8]) -> bool
         && (header.tag().0 == 16 || header.tag().0 == 17)
 }
 
-/// The octets behind the object that begins octets, or none.
+/// The octets after the object that begins octets, or none.
 fn skip(i: &[u8], levels: usize) -> Option<&[u8]>
     ensures { MatchOption result (BeginsWithObject levels i.now → ⊥)
         (λ rest. (t : Tree) × IsObject levels t × (i.now ≡ octets t ++ rest.now)) }
@@ -102,8 +102,8 @@ fn skip(i: &[u8], levels: usize) -> Option<&[u8]>
     skip_object_counted(i, levels, &mut count)
 }
 
-/// The octets behind the objects that begin octets, as many as there are.
-fn behind_objects(content: &[u8], levels: usize) -> &[u8]
+/// The octets after the objects that begin octets, as many as there are.
+fn after_objects(content: &[u8], levels: usize) -> &[u8]
     ensures objects { (ts : Trees) × AreObjects levels ts × (content.now ≡ all_octets ts ++ result.now) }
     ensures over { BeginsWithObject levels result.now → ⊥ }
 {
@@ -129,7 +129,7 @@ pub(crate) fn first_broken(place: Place, octets: &[u8], left: usize, levels: usi
     if !is_holder(cut.header, cut.content) {
         return unlike(place, content_wants(cut.header, cut.content), left);
     }
-    let others = behind_objects(cut.content, levels - 1);
+    let others = after_objects(cut.content, levels - 1);
     let before = octets.len().saturating_sub(after.len());
     let before = before.saturating_sub(others.len());
     first_broken(place, others, left.saturating_sub(before), levels - 1)

@@ -8,7 +8,7 @@ ghost use Rattle.cert_faults.specs.Walks.{critical_in, extension_fault, extensio
 
 use crate::fields::{next_identifier, next_number, next_octets, next_time};
 use crate::places::{Expected, Field, Part};
-use crate::steps::{At, Blame, behind, end, first, sequence, unlike, whole, within};
+use crate::steps::{At, Blame, end, first, left_after, sequence, unlike, whole, within};
 use der_tree::{BerObject, first_of};
 
 /// Version 2 of a list as it is written (RFC 5280, 5.1.2.1).
@@ -25,7 +25,7 @@ fn next_critical<'b, 'a>(field: Field, at: At<'b, 'a>) -> Result<At<'b, 'a>, Bla
                 if critical {
                     Ok(At {
                         parts: rest,
-                        left: behind(object, at.left),
+                        left: left_after(object, at.left),
                     })
                 } else {
                     Err(unlike(
@@ -59,7 +59,7 @@ fn each_extension_fault(field: Field, at: At<'_, '_>) -> Result<(), Blame>
     let mut left = at.left;
     for object in at.parts {
         extension_fault(field, left, object)?;
-        left = behind(object, left);
+        left = left_after(object, left);
     }
     Ok(())
 }
@@ -100,7 +100,7 @@ fn entry_extensions_fault(version: Option<u8>, at: At<'_, '_>) -> Result<(), Bla
             extensions_fault(Field::EntryExtensions, at.left, object)?;
             let rest = At {
                 parts: rest,
-                left: behind(object, at.left),
+                left: left_after(object, at.left),
             };
             end(whole(Field::Entry), rest)
         }

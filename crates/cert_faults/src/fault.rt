@@ -5,35 +5,35 @@ ghost use Rattle.der_tree.specs.Tree.{octets};
 ghost use Rattle.der_tree.specs.Shape.{IsObject};
 ghost use Rattle.der_tree.specs.View.{view};
 ghost use Rattle.cert_model.specs.Class.{IsClassOf, NoCertificate, NoList, other};
-ghost use Rattle.cert_faults.specs.Fault.{stopped, IsFieldFault, IsItemFault, IsFound, Tells, IsFirstFault};
+ghost use Rattle.cert_faults.specs.Fault.{stopped, IsFieldFault, IsItemFault, IsFound, IsFaultOf, IsFirstFault};
 
 use crate::certificates::certificate_fault;
 use crate::elements::first_broken;
 use crate::lists::{list_fault, means_list};
 use crate::places::{Expected, Field, Part};
-use crate::steps::{Blame, Stop, behind, unlike, whole};
+use crate::steps::{Blame, Stop, left_after, unlike, whole};
 use asn1_core::{Err as Refusal, Header, OutOfMemory};
 use der_tree::{BerObject, MAX_RECURSION, parse_der_recursive};
 use std::alloc::Global;
 
-/// The first fault of an item: where the strict grammar fails, what it wants there, and what is found.
+/// The first fault of an item: its place in the strict grammar, what that expects, and what is found.
 #[derive(Clone, Copy, Debug)]
 pub struct Fault {
     /// The field, `Field::Item` of a fault among the elements.
     pub field: Field,
     /// The part of the field.
     pub part: Part,
-    /// What the grammar wants.
+    /// What the grammar expects there.
     pub expected: Expected,
     /// The first octet of the element that fails, counted from the item's first. If an element is
-    /// missing, it is the end of the one that would hold it.
+    /// missing, it is the end of the element that has to hold it.
     pub offset: usize,
     /// The header of the element that fails, in any form of BER. `None` if an element is missing, or
     /// no header is there.
     pub found: Option<Header>,
 }
 
-/// What ends a walk: the fault, or memory ran out.
+/// How a walk ends: with no fault, with one, or out of memory.
 fn stopped(walked: Result<(), Stop>) -> Result<Option<Blame>, OutOfMemory>
     ensures { result ≡ stopped walked }
 {
@@ -79,7 +79,7 @@ fn item_fault(alloc: Global, item: &[u8]) -> Result<Option<Blame>, OutOfMemory>
             if rest.is_empty() {
                 field_fault(alloc, left, &object)
             } else {
-                let left = behind(&object, left);
+                let left = left_after(&object, left);
                 Ok(Some(unlike(whole(Field::Item), Expected::NothingMore, left)))
             }
         }
@@ -103,9 +103,9 @@ fn found_at(is_missing: bool, octets: &[u8]) -> Option<Header>
     }
 }
 
-/// The fault that a blame tells.
+/// The fault that a blame stands for.
 fn fault_of(item: &[u8], blame: Blame) -> Fault
-    ensures { Tells item.now blame result }
+    ensures { IsFaultOf item.now blame result }
 {
     let offset = item.len().saturating_sub(blame.left);
     Fault {
@@ -117,14 +117,19 @@ fn fault_of(item: &[u8], blame: Blame) -> Fault
     }
 }
 
-/// The first fault of an item, or `None` of a certificate or a revocation list in its one spelling.
+/// Returns the first fault of an item, or `None` of a certificate or a revocation list.
 ///
 /// An item that isn't one DER object of at most `MAX_RECURSION` levels has the fault of its first
-/// element that isn't as X.690 wants. Any other item has the fault of its first field that isn't as
-/// RFC 5280 wants: as a list if a time is among the parts of its first part, else as a certificate.
+/// element that X.690 doesn't allow. Any other item has the fault of its first field that RFC 5280
+/// doesn't allow: as a list if a time is among the parts of its first part, else as a certificate.
 ///
-/// The only error is out of memory. It costs time and memory linear in the item, and for a fault of
-/// elements up to `MAX_RECURSION` times that.
+/// # Errors
+///
+/// Out of memory alone.
+///
+/// # Cost
+///
+/// Time and memory linear in the item; for a fault of elements up to `MAX_RECURSION` times that.
 pub fn first_fault(alloc: Global, item: &[u8]) -> Result<Option<Fault>, OutOfMemory>
     ensures exact { IfOk result (λ found. MatchOption found (IsClassOf item.now other → ⊥) (λ f. IsClassOf item.now other)) }
     ensures first { IfOk result (λ found. IfSome found (IsFirstFault item.now)) }

@@ -1,4 +1,4 @@
-//! Why an item is other: the first fault of the strict grammar, by its place, what was expected and
+//! Why an item is other: the first fault of the strict grammar, by its place, what is expected and
 //! what is found (RFC 5280, 4.1 and 5.1; X.690, 8, 10 and 11).
 //!
 //! `first_fault` reads an item as a tree of DER elements, and then field by field. An item that isn't

@@ -1,17 +1,15 @@
 //! Revocation lists (RFC 5280, 5.1).
 
-ghost use Rattle.std.specs.Prelude.{◌≡◌, ◌==◌, ◌||◌, ℕ, List, Ok, Err, option_map};
-ghost use Rattle.der_tree.specs.Access.{plain_at};
-ghost use Rattle.cert_model.specs.Assembly.{is_there, is_version_two};
+ghost use Rattle.std.specs.Prelude.{◌≡◌, ◌==◌, ℕ, List, Ok, Err, option_map};
+ghost use Rattle.cert_model.specs.Assembly.{is_version_two};
 ghost use Rattle.der_tree.specs.Tree.{octets};
-ghost use Rattle.der_tree.specs.Table.{utc_time, generalized_time};
 ghost use Rattle.der_tree.specs.Shape.{IsObject};
 ghost use Rattle.der_tree.specs.View.{view, views};
 ghost use Rattle.cert_model.specs.Fields.{RevocationList};
 ghost use Rattle.cert_model.specs.Class.{IsListItem, NoList};
 ghost use Rattle.cert_faults.specs.Steps.{Gives, at_view, whole, each_in};
 ghost use Rattle.cert_faults.specs.Walks.{entry_fault};
-ghost use Rattle.cert_faults.specs.Items.{one_or, list_version_in, past_time_in, entries_in, list_front, signed_front, IsListFault, has_time, has_time_in, first_has_time, means_list};
+ghost use Rattle.cert_faults.specs.Items.{one_or, list_version_in, next_update_in, is_time, entries_in, list_front, signed_front, IsListFault, has_time, has_time_in, first_has_time, means_list};
 ghost use Rattle.cert_faults.specs.Fault.{Walks};
 
 use crate::extensions::{entry_fault, is_version_two};
@@ -20,7 +18,7 @@ use crate::names::next_name;
 use crate::parts::integer_of;
 use crate::places::{Expected, Field};
 use crate::signed::signed_end;
-use crate::steps::{At, Blame, Stop, behind, first, inside, sequence, unlike, whole};
+use crate::steps::{At, Blame, Stop, first, inside, left_after, sequence, unlike, whole};
 use crate::tagged::next_tagged;
 use crate::times::{generalized_content, time_of, utc_content};
 use der_tree::{BerObject, first_of};
@@ -64,26 +62,33 @@ fn next_version<'b, 'a>(at: At<'b, 'a>) -> Result<(Option<u8>, At<'b, 'a>), Blam
         Some(number) => {
             let rest = At {
                 parts: rest,
-                left: behind(object, at.left),
+                left: left_after(object, at.left),
             };
             version_of(number, at.left, rest)
         }
     }
 }
 
-/// Past a time, if there is one.
-fn past_time<'b, 'a>(at: At<'b, 'a>) -> At<'b, 'a>
-    ensures { at_view result ≡ past_time_in at.entry.left (views at.entry.parts.now) }
+/// Past nextUpdate, if there is one. A time in another form than that of RFC 5280, 4.1.2.5, is one
+/// too, since no other field of TBSCertList there is a time.
+fn next_update<'b, 'a>(at: At<'b, 'a>) -> Result<At<'b, 'a>, Blame>
+    ensures { Gives at_view result (next_update_in at.entry.left (views at.entry.parts.now)) }
 {
     let Some((object, rest)) = first_of(at.parts) else {
-        return at;
+        return Ok(at);
     };
     match time_of(object) {
-        Some(_) => At {
+        Some(_) => Ok(At {
             parts: rest,
-            left: behind(object, at.left),
-        },
-        None => at,
+            left: left_after(object, at.left),
+        }),
+        None => {
+            if is_time(object) {
+                Err(unlike(whole(Field::NextUpdate), Expected::Time, at.left))
+            } else {
+                Ok(at)
+            }
+        }
     }
 }
 
@@ -94,7 +99,7 @@ fn each_entry_fault(version: Option<u8>, at: At<'_, '_>) -> Result<(), Blame>
     let mut left = at.left;
     for object in at.parts {
         entry_fault(version, left, object)?;
-        left = behind(object, left);
+        left = left_after(object, left);
     }
     Ok(())
 }
@@ -121,7 +126,7 @@ fn next_entries<'b, 'a>(version: Option<u8>, at: At<'b, 'a>) -> Result<At<'b, 'a
             match each_entry_fault(version, entries) {
                 Ok(()) => Ok(At {
                     parts: rest,
-                    left: behind(object, at.left),
+                    left: left_after(object, at.left),
                 }),
                 Err(blame) => Err(blame),
             }
@@ -139,12 +144,12 @@ fn list_front<'b, 'a>(left: usize, object: &'b BerObject<'a>) -> Result<(bool, A
     let signature = next_algorithm(Field::ListSignature, rest)?;
     let issuer = next_name(Field::ListIssuer, signature)?;
     let this_update = next_time(whole(Field::ThisUpdate), issuer)?;
-    let next_update = past_time(this_update);
+    let next_update = next_update(this_update)?;
     let entries = next_entries(version, next_update)?;
     Ok((is_version_two(version), entries))
 }
 
-/// CertificateList up to the extensions, and what is left behind TBSCertList.
+/// CertificateList up to the extensions, and the parts after TBSCertList.
 fn list_fronts<'b, 'a>(
     left: usize,
     object: &'b BerObject<'a>,
@@ -176,7 +181,7 @@ pub(crate) fn list_fault(alloc: Global, left: usize, object: &BerObject<'_>) -> 
 }
 
 fn is_time(object: &BerObject<'_>) -> bool
-    ensures { result ≡ (is_there (plain_at utc_time (view object.now)) || is_there (plain_at generalized_time (view object.now))) }
+    ensures { result ≡ is_time (view object.now) }
 {
     utc_content(object).is_some() || generalized_content(object).is_some()
 }

@@ -8,7 +8,7 @@ ghost use Rattle.cert_faults.specs.Walks.{attribute_fault, ascending_fault, attr
 
 use crate::fields::{next_any, next_identifier};
 use crate::places::{Expected, Field, Part};
-use crate::steps::{At, Blame, behind, end, first, sequence, set, unlike, whole, within};
+use crate::steps::{At, Blame, end, first, left_after, sequence, set, unlike, whole, within};
 use der_tree::BerObject;
 
 /// AttributeTypeAndValue.
@@ -59,7 +59,7 @@ fn attributes_fault(field: Field, at: At<'_, '_>) -> Result<(), Blame>
         ascending_fault(field, before, left, object)?;
         attribute_fault(field, left, object)?;
         before = Some(object.as_raw());
-        left = behind(object, left);
+        left = left_after(object, left);
     }
     Ok(())
 }
@@ -85,7 +85,7 @@ fn relative_names_fault(field: Field, at: At<'_, '_>) -> Result<(), Blame>
     let mut left = at.left;
     for object in at.parts {
         relative_name_fault(field, left, object)?;
-        left = behind(object, left);
+        left = left_after(object, left);
     }
     Ok(())
 }

@@ -1,4 +1,4 @@
-//! What certificates and lists have alike behind their first part.
+//! The fields after the first part, which certificates and lists have alike (RFC 5280, 4.1.1 and 5.1.1).
 
 ghost use Rattle.std.specs.Prelude.{◌≡◌};
 ghost use Rattle.cert_faults.specs.Steps.{at_view};
@@ -8,7 +8,7 @@ use crate::fields::{next_algorithm, next_bits};
 use crate::places::Field;
 use crate::steps::{At, Blame, end, whole};
 
-/// The end of the first part behind its extensions, and then the algorithm and the signature.
+/// The end of the first part after its extensions; then the algorithm and the signature.
 pub(crate) fn signed_end(field: Field, inner: At<'_, '_>, outer: At<'_, '_>) -> Result<(), Blame>
     ensures { result ≡ signed_end field (at_view inner.entry) (at_view outer.entry) }
 {

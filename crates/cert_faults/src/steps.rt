@@ -5,7 +5,7 @@ ghost use Rattle.asn1_core.specs.Views.{head_of, size_of};
 ghost use Rattle.der_tree.specs.Tree.{octets};
 ghost use Rattle.der_tree.specs.Access.{sequence_at, set_at, end_at};
 ghost use Rattle.der_tree.specs.View.{view, views};
-ghost use Rattle.cert_faults.specs.Steps.{Gives, at_view, unlike, missing, inside, behind, sequence_or, set_or, first_or, end_or};
+ghost use Rattle.cert_faults.specs.Steps.{Gives, at_view, unlike, missing, inside, left_after, sequence_or, set_or, first_or, end_or};
 
 use crate::places::{Expected, Field, Part};
 use asn1_core::Length;
@@ -35,13 +35,13 @@ pub(crate) fn within(field: Field, part: Part) -> Place
     Place { field, part }
 }
 
-/// A fault: its place, what is expected, and how many octets of the item are left there.
+/// A fault: its place, what is expected, and how many octets of the item are left from it on.
 #[derive(Clone, Copy)]
 pub(crate) struct Blame {
     pub place: Place,
     pub expected: Expected,
     pub left: usize,
-    /// Nothing is found there: what holds it ends.
+    /// Nothing is found there: the element that holds it ends.
     pub is_missing: bool,
 }
 
@@ -57,7 +57,7 @@ pub(crate) fn unlike(place: Place, expected: Expected, left: usize) -> Blame
     }
 }
 
-/// An element that is expected, and what holds it ends.
+/// An element that is expected, and the element that holds it ends before.
 fn missing(place: Place, expected: Expected, left: usize) -> Blame
     ensures { result ≡ missing place expected left }
 {
@@ -94,7 +94,7 @@ fn size_of(length: Length) -> usize
     }
 }
 
-/// The octets left behind an object's header.
+/// The octets left after an object's header.
 pub(crate) fn inside(object: &BerObject<'_>, left: usize) -> usize
     ensures { result ≡ inside left (view object.now) }
 {
@@ -105,9 +105,9 @@ pub(crate) fn inside(object: &BerObject<'_>, left: usize) -> usize
     left.saturating_sub(header)
 }
 
-/// The octets left behind an object.
-pub(crate) fn behind(object: &BerObject<'_>, left: usize) -> usize
-    ensures { result ≡ behind left (view object.now) }
+/// The octets left after an object.
+pub(crate) fn left_after(object: &BerObject<'_>, left: usize) -> usize
+    ensures { result ≡ left_after left (view object.now) }
 {
     left.saturating_sub(object.as_raw().len())
 }
@@ -146,7 +146,7 @@ pub(crate) fn set<'b, 'a>(
     }
 }
 
-/// The first of the parts, and those behind it.
+/// The first of the parts, and those after it.
 pub(crate) fn first<'b, 'a>(
     place: Place,
     expected: Expected,
@@ -159,7 +159,7 @@ pub(crate) fn first<'b, 'a>(
             first,
             At {
                 parts: rest,
-                left: behind(first, at.left),
+                left: left_after(first, at.left),
             },
         )),
         None => Err(missing(place, expected, at.left)),

@@ -17,14 +17,14 @@ use crate::elements::first_broken;
 use crate::extensions::extensions_fault;
 use crate::parts::{element_of, is_tagged};
 use crate::places::{Expected, Field};
-use crate::steps::{At, Stop, behind, inside, unlike, whole};
+use crate::steps::{At, Stop, inside, left_after, unlike, whole};
 use asn1_core::Err as Refusal;
 use cert_model::fields::AnyField;
 use der_tree::{MAX_RECURSION, first_of, parse_der_recursive};
 use std::alloc::Global;
 
-/// The element of a context-specific tag at the front, if there is one, the octets left behind its header, and what
-/// follows.
+/// The element of a context-specific tag at the front, if there is one, the octets left after its
+/// header, and the parts that follow.
 pub(crate) fn tagged<'b, 'a>(tag: u32, at: At<'b, 'a>) -> (Option<AnyField<'a>>, usize, At<'b, 'a>)
     ensures { tagged tag (at_view at.entry) ≡ (option_map any_view result.0, result.1, at_view result.2) }
 {
@@ -34,7 +34,7 @@ pub(crate) fn tagged<'b, 'a>(tag: u32, at: At<'b, 'a>) -> (Option<AnyField<'a>>,
             if is_tagged(tag, element) {
                 let rest = At {
                     parts: rest,
-                    left: behind(object, at.left),
+                    left: left_after(object, at.left),
                 };
                 (Some(element), inside(object, at.left), rest)
             } else {
@@ -59,7 +59,7 @@ fn content_fault(alloc: Global, field: Field, content: &[u8], left: usize) -> Re
                     Err(blame) => Err(Stop::Fault(blame)),
                 }
             } else {
-                let left = behind(&object, left);
+                let left = left_after(&object, left);
                 Err(Stop::Fault(unlike(whole(field), Expected::NothingMore, left)))
             }
         }

@@ -43,7 +43,7 @@ fn is_zulu(rest: &[u8]) -> bool
     }
 }
 
-/// The date and time, where the calendar has the date and a clock shows the time.
+/// The date and time, if the calendar has the date and a clock shows the time.
 fn civil_of(clock: Clock) -> Option<DateTime>
     requires { IsWritable (moment_of clock) }
     ensures { option_map time_view result ≡ (if is_real (moment_of clock) then Some (civil_of (moment_of clock)) else None) }

@@ -27,12 +27,12 @@ returns t c =
     let e = element_under c.in-Ok.found.1.header c.in-Ok.found.1.content.now in
     let cut = c.in-Ok.ensures.found in
     let rest = c.in-Ok.found.0.now in
-    let others = c.behind_objects-others.result.now in
-    let parts = c.behind_objects-others.ensures.objects in
+    let others = c.after_objects-others.result.now in
+    let parts = c.after_objects-others.ensures.objects in
     let holds : is_holder e ≡ true = cc in
     let left_is : c.saturating_sub.result ≡ c.args.left - (length c.args.octets.now - length rest - length others) =
     c.saturating_sub.ensures ∙ ap (λ z. c.args.left - z) (c.saturating_sub-before-2.ensures ∙ ap (λ z. z - length others) c.saturating_sub-before.ensures) in
     let some = part_left c.args.levels c.args.octets.now cut.0 rest others e parts.0 (omega arith) c.requires cut.1 cut.2 holds parts.1 parts.2 in
     let inner = subst (λ n. IsBroken (c.args.levels - 1) c.args.place others n c.first_broken.result) left_is c.first_broken.ensures in
     broken_some c.args.levels c.args.place c.args.octets.now c.args.left _ (omega arith)
-    (part e rest parts.0 others c.in-Ok.ensures.exact holds parts.1 parts.2 some c.behind_objects-others.ensures.over inner)
+    (part e rest parts.0 others c.in-Ok.ensures.exact holds parts.1 parts.2 some c.after_objects-others.ensures.over inner)

@@ -3,7 +3,7 @@ use Rattle.std.proofs.lemmas.Grind.{common_steps}
 use Rattle.der_tree.specs.View.{view}
 use Rattle.cert_faults.specs.declared.places.Field.TheVariants as fields
 use Rattle.cert_faults.specs.declared.places.Expected.TheVariants as wants
-use Rattle.cert_faults.specs.Steps.{unlike, whole, behind}
+use Rattle.cert_faults.specs.Steps.{unlike, whole, left_after}
 use Rattle.cert_faults.specs.Elements.{elements, rest, IsBroken}
 use Rattle.cert_faults.proofs.Faults.{all_read, item_is, more_behind, not_empty, not_an_object, refused_plainly}
 use Rattle.cert_faults.proofs.fault.item_fault.Goals as goal
@@ -18,7 +18,7 @@ pub returns-in-Ok : goal.returns-in-Ok
 returns-in-Ok c =
     let found = c.in-Ok.ensures.found in
     let long : 0 < length c.in-Ok.rest.now = grind (arith, common_steps) in
-    let same : c.unlike.result ≡ unlike (whole fields.Item) wants.NothingMore (behind (length c.args.item.now) (view c.in-Ok.object)) = cc in (
+    let same : c.unlike.result ≡ unlike (whole fields.Item) wants.NothingMore (left_after (length c.args.item.now) (view c.in-Ok.object)) = cc in (
       rest (view c.in-Ok.object) c.in-Ok.rest.now found.0 found.1 (not_empty c.in-Ok.rest.now long) same,
       more_behind c.args.item.now c.in-Ok.rest.now (view c.in-Ok.object) found.0 found.1 long,
     )

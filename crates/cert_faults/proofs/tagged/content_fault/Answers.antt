@@ -3,7 +3,7 @@ use Rattle.std.proofs.lemmas.Grind.{common_steps}
 use Rattle.der_tree.specs.View.{view}
 use Rattle.cert_model.proofs.ExtensionTrees.{no_object, object_with_rest}
 use Rattle.cert_faults.specs.declared.places.Expected.TheVariants as wants
-use Rattle.cert_faults.specs.Steps.{unlike, whole, behind}
+use Rattle.cert_faults.specs.Steps.{unlike, whole, left_after}
 use Rattle.cert_faults.specs.Walks.{extensions_fault}
 use Rattle.cert_faults.specs.Elements.{elements, rest, inner, IsBroken}
 use Rattle.cert_faults.proofs.Faults.{all_read, extensions_sound, extensions_refused, refused_plainly, not_empty}
@@ -26,7 +26,7 @@ pub returns-in-Ok : goal.returns-in-Ok
 returns-in-Ok c =
     let found = c.in-Ok.ensures.found in
     let long : 0 < length c.in-Ok.rest.now = grind (arith, common_steps) in
-    let same : c.unlike.result ≡ unlike (whole c.args.field) wants.NothingMore (behind c.args.left (view c.in-Ok.object)) = cc in (
+    let same : c.unlike.result ≡ unlike (whole c.args.field) wants.NothingMore (left_after c.args.left (view c.in-Ok.object)) = cc in (
       rest (view c.in-Ok.object) c.in-Ok.rest.now found.0 found.1 (not_empty c.in-Ok.rest.now long) same,
       λ small. object_with_rest c.args.content.now c.in-Ok.rest.now (view c.in-Ok.object) small found.0 found.1 long,
     )

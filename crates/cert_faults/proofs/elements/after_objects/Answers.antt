@@ -3,7 +3,7 @@ use Rattle.der_tree.specs.Tree.{none, more, octets, all_octets}
 use Rattle.der_tree.specs.Shape.{AreObjects}
 use Rattle.der_tree.proofs.Objects.{object_long}
 use Rattle.cert_faults.proofs.Broken.{joined, joined_objects, joined_octets}
-use Rattle.cert_faults.proofs.elements.behind_objects.Goals as goal
+use Rattle.cert_faults.proofs.elements.after_objects.Goals as goal
 
 pub loop-rest-init : goal.loop-rest-init
 unfolding AreObjects

@@ -1,9 +1,9 @@
 use Rattle.std.proofs.Common.{◌≡◌, ◌++◌, length}
 use Rattle.der_tree.specs.Tree.{Trees, all_octets}
 use Rattle.der_tree.specs.Shape.{AreObjects}
-use Rattle.cert_faults.proofs.elements.behind_objects.Given as goal
+use Rattle.cert_faults.proofs.elements.after_objects.Given as goal
 
--- What is left of the content stands behind objects.
+-- What is left of the content stands after objects.
 abbrev pub invariant-loop-rest : goal.invariant-loop-rest
 invariant-loop-rest l = (ts : Trees) × AreObjects l.levels ts × (l.content ≡ all_octets ts ++ l.others)
 
