@@ -1,8 +1,9 @@
-"""Evidence that `certpath paths` writes: beside its file, and with its name once it is whole."""
+"""Files that are written beside their place, and get their name once they are whole: evidence, pages."""
 import os
 import signal
 import stat
 import sys
+from contextlib import suppress
 
 from program import programs, streams
 
@@ -27,6 +28,26 @@ def is_replaced(file):
         return False
     is_writable = os.access(file, os.W_OK) or not os.path.exists(file)
     return is_writable and bool(file) and os.access(os.path.dirname(file) or ".", os.W_OK | os.X_OK)
+
+
+def put(file, octets):
+    """Writes a file whole, or leaves it as it was: an ordinary one. Signals wait until then."""
+    begun = f"{file}.{os.getpid()}.begun" if is_replaced(file) else file
+    before = signal.pthread_sigmask(signal.SIG_BLOCK, SIGNALS)
+    try:
+        with open(begun, "wb") as out:
+            out.write(octets)
+        if begun != file:
+            if os.path.exists(file):
+                os.chmod(begun, stat.S_IMODE(os.stat(file).st_mode))
+            os.replace(begun, file)
+    except OSError:
+        if begun != file:
+            with suppress(OSError):
+                os.unlink(begun)
+        raise
+    finally:
+        signal.pthread_sigmask(signal.SIG_SETMASK, before)
 
 
 def run(words):

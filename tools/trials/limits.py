@@ -406,3 +406,5 @@ class Limits(Trial):
                 command, kind = [*script(words[0]), *words[1:]], resource.RLIMIT_FSIZE
                 status, _, errors = self.ran(command, kind, most, out)
             self.same(f"{words} with `ulimit -f`", (status, errors[-1:]), (ends, [said]))
+        left = [name for name in os.listdir(self.room) if name.startswith("page")]
+        self.same("what is left of the page", left, [])

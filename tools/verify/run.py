@@ -5,6 +5,7 @@ from itertools import islice
 from pki import reading
 from pki.reporting import counted
 from program import programs, repo, streams
+from program.beside import put
 from verify import (answers, asking, core, demands, faults, files, graph, machine, page, people, roles, signing, spelling, stores, waiting,
                     words)
 from verify.core import Kind
@@ -267,8 +268,7 @@ def keep(file, text):
             raise Fault(faults.UNWRITTEN, "standard output fails")
         return
     try:
-        with open(file, "wb") as entry:
-            entry.write(octets)
+        put(file, octets)
     except (OSError, ValueError) as error:
         raise Fault(faults.UNWRITTEN, f"{file}: cannot write it ({getattr(error, 'strerror', error)})") from error
 
