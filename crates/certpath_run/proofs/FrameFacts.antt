@@ -49,7 +49,7 @@ pub record WritesWhy (text : List ℕ) (items : List (List ℕ)) (k offset : ℕ
   pub sizes : offset + length (concat (drop k items)) ≡ length (concat items)
 
 pub why_begins : (items : List (List ℕ)) → WritesWhy [] items 0 0
-why_begins items = record { lines = λ rest h. h; sizes = refl }
+why_begins items = record { lines = λ rest h. h; sizes = omega arith }
 
 pub why_item_fits : (text : List ℕ) (items : List (List ℕ)) (k offset : ℕ) (item : List ℕ) → WritesWhy text items k offset → slice_get items k ≡ Some item
     → offset + length item ≤ length (concat items)
@@ -59,13 +59,13 @@ why_item_fits text items k offset item w e =
     let parts = length-append item (concat (drop (k + 1) items)) in
     omega (arith, whole, parts)
 
-pub writes_fault : (text middle text' : List ℕ) (items : List (List ℕ)) (k offset size : ℕ) (item : List ℕ) → WritesWhy text items k offset → slice_get items k ≡ Some item → size ≡ length item
-    → middle ≡ text ++ item_line k offset size → AppendsFault Items k item middle text' → WritesWhy text' items (k + 1) (offset + length item)
-writes_fault text middle text' items k offset size item w e sized more a =
+pub writes_fault : (text middle text' : List ℕ) (items : List (List ℕ)) (k offset : ℕ) (item : List ℕ) → WritesWhy text items k offset → slice_get items k ≡ Some item
+    → middle ≡ text ++ item_line k offset (length item) → AppendsFault Items k item middle text' → WritesWhy text' items (k + 1) (offset + length item)
+writes_fault text middle text' items k offset item w e more a =
     let left = drop (k + 1) items in
     let split = drop_from items k item e in
     let line = item_line k offset (length item) in
-    let begun : text' ≡ (text ++ line) ++ a.0 = a.1 ∙ ap (λ t. t ++ a.0) (more ∙ ap (λ n. text ++ item_line k offset n) sized) in
+    let begun : text' ≡ (text ++ line) ++ a.0 = a.1 ∙ ap (λ t. t ++ a.0) more in
     record {
       lines = λ rest h. subst (λ t. AreItemLines 0 0 items t) (sym (ap (λ t. t ++ rest) begun ∙ append_assoc (text ++ line) a.0 rest ∙ append_assoc text line (a.0 ++ rest)))
           (w.lines (line ++ (a.0 ++ rest)) (subst (λ (d : List (List ℕ)). AreItemLines k offset d (line ++ (a.0 ++ rest))) (sym split) (a.0, rest, a.2, h, refl)));

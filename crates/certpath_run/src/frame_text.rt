@@ -33,9 +33,10 @@ pub(crate) fn why_text_of(alloc: Global, items: &Items) -> Result<String, OutOfM
     let mut offset = 0;
     for k in 0..items.len() {
         let item = items.get(k);
-        push_item(&mut text, k, offset, item.len())?;
+        let length = item.len();
+        push_item(&mut text, k, offset, length)?;
         push_fault_of(&mut text, alloc, Whose::Items, k, item)?;
-        offset += item.len();
+        offset += length;
     }
     push_end(&mut text, items.end())?;
     Ok(text)
