@@ -8,7 +8,7 @@ _certpath() {
   case ${COMP_WORDS[1]} in
     help) words="bundle frame path paths questions recheck why" ;;
     bundle) words="--help" ;;
-    frame) words="--help --limit" ;;
+    frame) words="--help --limit --why" ;;
     path) words="--at --demand-lists --help --host --limit --purpose --target" ;;
     paths) words="--at --demand-lists --evidence --help --limit --purpose" ;;
     questions) words="--help --limit" ;;

@@ -34,6 +34,7 @@ TOP = os.path.dirname(os.path.dirname(HERE))
 sys.dont_write_bytecode = True
 sys.path[:0] = [HERE, os.path.join(TOP, "tools")]
 from program import programs
+import faults
 import graphs
 import judged
 import links

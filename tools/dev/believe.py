@@ -39,7 +39,9 @@ FOLLOWS = re.compile(r"retrace|step by step|as the code|from where it lies in th
 FOLLOWS_BY_NAME = re.compile(r"(?:Reading|Readers)\.antt$")
 FOLLOWING = {f"crates/{entry}.antt" for entry in (
     "asn1_any/specs/Reading", "asn1_core/specs/Reading", "asn1_oid/specs/Reading", "cert_judge/specs/Limits",
-    "cert_judge/specs/Named", "x509_core/specs/Reading", "x509_names/specs/Reading")}
+    "cert_judge/specs/Named", "x509_core/specs/Reading", "x509_names/specs/Reading",
+    # The first fault of an item that is other, which `why` prints, is that of a walk over its parts, and what a part may be the reads say.
+    "cert_model/specs/Assembly", "cert_model/specs/Reads", "cert_model/specs/Times", "der_tree/specs/TimeReading")}
 HEAD = re.compile(r"^(?:(?:pattern|unfoldable|abbrev|axiom|pub) )*(record|data)? ?(?:pub )?([^\s:(){}]+)(?= )")
 OPENING = re.compile(r"^(?:abbrev|unfoldable|record|data|pub (?:record|data|abbrev|unfoldable)|pattern|axiom)\b|^(?:pub )?\S+(?: \{[^}]*\})? :(?= )")
 OTHER = re.compile(r"(?:pub )?(?:use|mod|infix\w*) ")

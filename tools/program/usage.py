@@ -30,7 +30,7 @@ Commands:
   paths      prints the first of the shortest valid paths of every item of a file at once
   recheck    checks what paths found elsewhere, by the evidence that it wrote, without a search
   questions  prints which keys may have signed which items
-  frame      prints where each item of a file begins and how long it is
+  frame      prints where each item of a file begins; with --why also why an item is other
   bundle     writes the certificates and revocation lists of PEM, DER and PKCS #7 files as DER
   help       prints this help, or that of the command after it, with its words and options
 

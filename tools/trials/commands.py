@@ -45,6 +45,27 @@ STREAMS = [
     (FIRST.hex(), 66, "end_fault_0", 1),
     ((FIRST + THIRD).hex(), LARGEST, "0_0_69 1_69_89 end_clean", 0),
 ]
+# Items that are other, and what `frame --why` prints of each after `other K`: they are rows of crates/rows_faults/stdin.
+OTHERS = [
+    # an empty sequence
+    ("3000", "at 2: tbsCertificate: expected a SEQUENCE; found no element"),
+    # a sequence of a number
+    ("3003020105", "at 2: tbsCertificate: expected a SEQUENCE; found universal primitive 2 of 1"),
+    # a negative serial number
+    ("30433038020180300406022a033000301e170d3235303130313030303030305a170d3236303130313030303030305a30003009300406022a03030100300406022a03030100",
+     "at 4: tbsCertificate.serialNumber: expected an INTEGER that isn't negative; found universal primitive 2 of 1"),
+    # a padded serial number
+    ("304430390202007f300406022a033000301e170d3235303130313030303030305a170d3236303130313030303030305a30003009300406022a03030100300406022a03030100",
+     "at 4: item: expected an INTEGER in the fewest octets, one or more; found universal primitive 2 of 2"),
+    # attributes of a set in descending order
+    ("3059304e020101300406022a033000301e170d3235303130313030303030305a170d3236303130313030303030305a30163114300806035504030c0162300806035504030c0161"
+     "3009300406022a03030100300406022a03030100",
+     "at 61: tbsCertificate.subject.AttributeTypeAndValue: expected attributes in ascending order of their octets; found universal constructed 16 of 8"),
+    # a next update in 2049 as GeneralizedTime
+    ("3049303e300406022a033000170d3235303130313030303030305a180f32303439303130313030303030305a30143012020101170d3235303130313030303030305a"
+     "300406022a03030100",
+     "at 27: tbsCertList.nextUpdate: expected a UTCTime to 2049, a GeneralizedTime from 2050 on; found universal primitive 24 of 15"),
+]
 
 
 class Some:
@@ -67,7 +88,7 @@ def table(room):
             file.write(octets)
         return name
 
-    return [*frame_table(room, made), *paths.table(made)]
+    return [*frame_table(room, made), *fault_table(made), *paths.table(made)]
 
 
 def frame_table(room, made):
@@ -121,7 +142,35 @@ def frame_table(room, made):
         (["path", three, three, three, "--target", "x", "--at", "2026-01-01T00:00:00"], b"", 2, b"", b"bad number\n"),
         (["path", three, three, three, "--target", "0", "--at", "2026-02-29T00:00:00"], b"", 2, b"", b"bad moment\n"),
         (["--help"], b"", 2, b"", Some(b"Reads certificates")),
-        (["frame", "--help"], b"", 2, b"", Some(b"Tells where the items of a file lie")),
+        (["frame", "--help"], b"", 2, b"", Some(b"Prints where the items of a file lie")),
+    ]
+
+
+def fault_table(made):
+    """Rows of `frame --why`: of items that are other alone, and between a certificate and one of version 3; of other streams, and of
+    words that it doesn't take."""
+    items = [FIRST, *(bytes.fromhex(octets) for octets, _ in OTHERS), THIRD]
+    lines, offset = [], 0
+    for k, item in enumerate(items):
+        lines.append(f"{k} {offset} {len(item)}\n")
+        lines += [f"other {k} {OTHERS[k - 1][1]}\n"] if 0 < k <= len(OTHERS) else []
+        offset += len(item)
+    alone = [(["frame", "--why", made(f"other{k}", bytes.fromhex(octets))], b"", 0, f"0 0 {len(octets) // 2}\nother 0 {said}\nend clean\n".encode(), b"")
+             for k, (octets, said) in enumerate(OTHERS)]
+    one = f"0 0 5\nother 0 {OTHERS[1][1]}\n".encode()
+    three, cut = made("why_three", THREE), made("why_cut", THREE + CUT)
+    return [
+        *alone,
+        (["frame", made("mixed", b"".join(items)), "--why"], b"", 0, "".join([*lines, "end clean\n"]).encode(), b""),
+        (["frame", "--why", "/dev/stdin"], b"".join(items), 0, "".join([*lines, "end clean\n"]).encode(), b""),
+        (["frame", "--why", BUNDLE], b"", 0, LINES, b""),
+        (["frame", "--why", made("why_empty", b"")], b"", 0, b"end clean\n", b""),
+        (["frame", "--why", cut], b"", 1, one + b"end cut 5\n", b""),
+        (["frame", "--why", three, "--limit", "2"], b"", 1, b"end fault 0\n", b""),
+        (["frame", "--why", "none.der"], b"", 4, b"", b"cannot read none.der\n"),
+        (["frame", "--why", three, "--limit", "x"], b"", 2, b"", b"bad number\n"),
+        (["frame", "--why=yes", three], b"", 2, b"", Some(b"error: ")),
+        (["path", three, three, three, "--target", "0", "--at", "2026-01-01T00:00:00", "--why"], b"", 2, b"", Some(b"error: ")),
     ]
 
 

@@ -12,6 +12,8 @@ PRINTED = {"path": "tools/trials/paths.txt", "why": "tools/trials/why.txt", "pat
 CASE_BUNDLE = "path_bundle"
 # Copies of one certificate, each of which an anchor vouches for; the last is asked for.
 EQUALS = 300
+# An item that is other, and how many anchors have a line of their own in what `why` prints.
+EMPTY, MOST_LINES = bytes.fromhex("3000"), 20
 # What is printed of one certificate that is its own anchor, where a key vouches for it and where none does.
 FOUND = b"0 cert\nend clean\nanchors 1 of 1, clean\npath 0 anchor 0\ncheck yes\n"
 ABSENT = b"0 cert\nend clean\nanchors 1 of 1, clean\nnone\ncheck yes\n"
@@ -103,7 +105,22 @@ def table(made):
     words = ["path", many, made("equal", one), made("equal_vouchers", vouchers([(key, one)])), "--target", str(EQUALS - 1), "--at", "2025-06-01T00:00:00"]
     lines = [f"{k} cert\n" for k in range(EQUALS)] + ["end clean\n", "anchors 1 of 1, clean\n", f"path {EQUALS - 1} anchor 0\n", "check yes\n"]
     rows.append((words, b"", 0, "".join(lines).encode(), b""))
+    rows += other_rows(made, one)
     return rows + voucher_rows(made, one, key) + file_rows(made, one, key) + word_rows(made, one) + command_rows(made, one, key) + demand_rows(made, one, key)
+
+
+def other_rows(made, one):
+    """Rows of `why` on anchors that are other: each has a line up to the twentieth, and what follows is counted. A certificate
+    among them has none."""
+    line = "at 2: tbsCertificate: expected a SEQUENCE; found no element"
+    rows, none, item = [], made("no_voucher", b""), made("why_item", one)
+    for count, last in ((1, ""), (20, ""), (21, "other anchors and 1 more\n"), (24, "other anchors and 4 more\n")):
+        anchors = made(f"other_anchors{count}", EMPTY + one + EMPTY * (count - 1))
+        own = "".join(f"other anchor {0 if k == 0 else k + 1} {line}\n" for k in range(min(count, MOST_LINES)))
+        found = "at 0 (empty)\nat 0 to 0 not linked: no voucher\nat 0 to anchor 1 not linked: no voucher\n"
+        words = ["why", item, anchors, none, "--target", "0", "--at", "2025-06-01T00:00:00"]
+        rows.append((words, b"", 1, f"none\ncheck yes\n{own}{last}{found}".encode(), b""))
+    return rows
 
 
 def command_rows(made, one, key):

@@ -136,7 +136,13 @@ ALTERNATIVES = [alternatives(*index) for index in (
     [("dns", f"{place}.test".encode()) for place in range(21)])]
 BAD_ALTERNATIVES = malformed("3000", "", "308103820161", "30038201e4", "0500")
 NULL = b"\x05\0"
-OTHERS = [Other(bytes.fromhex(each)) for each in ("3000", "3003020105", "30073005a003020100")]
+# Items that are other, each with its first fault; one with a NULL after its signature has this.
+NOTHING_MORE = "item: expected nothing more; found universal primitive 5 of 0"
+OTHERS = [Other(bytes.fromhex(octets), fault) for octets, fault in (
+    ("3000", "at 2: tbsCertificate: expected a SEQUENCE; found no element"),
+    ("3003020105", "at 2: tbsCertificate: expected a SEQUENCE; found universal primitive 2 of 1"),
+    ("30073005a003020100", "at 4: tbsCertificate.version: expected the INTEGER 1 or 2 in a constructed "
+                           "[0], or nothing; found context-specific constructed 0 of 3"))]
 
 
 def extension_octets(made):
@@ -346,7 +352,10 @@ class Chance:
     def other(self):
         """An item that is neither; some are like certificates and lists, with a NULL at the end."""
         made = self.pick((self.certificate(0, 1), self.revocations(self.names[0]), None))
-        return Other(octets_of(made, NULL)) if made else self.pick(OTHERS)
+        if made is None:
+            return self.pick(OTHERS)
+        octets = octets_of(made, NULL)
+        return Other(octets, f"at {len(octets) - len(NULL)}: {NOTHING_MORE}")
 
     def items(self):
         """Certificates of each name and some more, and lists; an item may be there twice."""

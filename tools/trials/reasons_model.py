@@ -85,8 +85,9 @@ class RevocationList(NamedTuple):
 
 
 class Other(NamedTuple):
-    """An item that is neither."""
+    """An item that is neither, and its first fault in the words of `why`."""
     octets: bytes
+    fault: str
 
 
 class Question(NamedTuple):
@@ -120,7 +121,8 @@ KINDS = (
       for words in ("linked", "no voucher", "revoked by list", "no list used")),
     "to a certificate: key identifiers differ", "no issuer here", "leads to an anchor", "list",
     "no voucher by a key of its issuer", "no next update", "not current before",
-    "past next update", "critical extension of a list", "has a critical extension")
+    "past next update", "critical extension of a list", "has a critical extension", "other",
+    "other anchor")
 
 
 def shown_moment(moment):
@@ -252,6 +254,9 @@ class Model:
             for items in (asked.items, asked.anchors))
         self.lists = {k: item for k, item in enumerate(asked.items) if isinstance(item, RevocationList)}
         self.target = self.certificates.get(asked.target)
+        self.others, self.other_anchors = (
+            {k: it for k, it in enumerate(items) if isinstance(it, Other)}
+            for items in (asked.items, asked.anchors))
         self.reached = self.all_reached()
         self.fit = [v for v, certificate in self.certificates.items()
                     if not self.unusable(certificate) and not unissued(certificate)]
@@ -466,6 +471,13 @@ class Model:
         own = [Line("list", f"list {p} {shown_name(one.issuer)}")] * bool(reasons)
         return own + [reason._replace(text=f"list {p} not used: {reason.text}") for reason in reasons]
 
+    def fault_lines(self):
+        """Why the target is other, if it is, and why anchors are: there are never more than 20."""
+        own = self.others.get(self.asked.target)
+        found = [Line("other", f"other {self.asked.target} {own.fault}")] if own else []
+        return found + [Line("other anchor", f"other anchor {a} {it.fault}")
+                        for a, it in self.other_anchors.items()]
+
     def report(self):
         """All lines, and the status."""
         asked, found = self.asked, []
@@ -474,7 +486,7 @@ class Model:
         if asked.host:
             found.append(Line("host", f"host {asked.host}"))
         answer, status = self.answer()
-        found += [answer, Line("check yes", "check yes")]
+        found += [answer, Line("check yes", "check yes"), *self.fault_lines()]
         for v in [asked.target] * (self.target is not None) + sorted(self.reached - {asked.target}):
             found += self.certificate_lines(v)
         if status == NONE:

@@ -10,8 +10,8 @@ use certpath_bundle::{BundleError, File, bundle, read_file};
 use certpath_engine::{
     BundleOutcome, Command, Exit, FrameOutcome, Input, ItemFiles, ItemInput, ItemsError, PathFiles,
     PathOutcome, PathsOutcome, Question, QuestionsOutcome, RecheckFiles, RecheckOutcome, WordFault,
-    asked_of, bundle_status, frame, frame_status, path_status, paths_status, questions_status,
-    read_words, recheck_status, words_status,
+    asked_of, bundle_status, frame, frame_status, frame_why, path_status, paths_status,
+    questions_status, read_words, recheck_status, words_status,
 };
 use certpath_inputs::{InputError, write_text};
 use certpath_recheck::{RecheckError, run_recheck_for};
@@ -35,7 +35,9 @@ fn status_of<R: Runtime + AllocGlobal>(rt: &R) -> u8 {
         Err(fault) => return say(rt, words_status(fault)),
     };
     match read_words(rt.alloc(), words.as_slice()) {
-        Ok(Command::Frame { file, limit }) => say(rt, frame_status(frame_file(rt, file, limit))),
+        Ok(Command::Frame { file, limit, why }) => {
+            say(rt, frame_status(frame_file(rt, file, limit, why)))
+        }
         Ok(Command::Bundle { files }) => say(rt, bundle_status(bundle_files(rt, &files))),
         Ok(Command::Path(question)) => say(rt, path_status(find_path(rt, &question))),
         Ok(Command::Why(question)) => say(rt, path_status(explain(rt, &question))),
@@ -88,15 +90,25 @@ fn unreadable_words(alloc: Global, error: &io::Error) -> WordFault {
     }
 }
 
-/// Frames a file to standard output.
-fn frame_file<'a, R: Runtime + AllocGlobal>(rt: &R, file: &'a str, limit: u32) -> FrameOutcome<'a>
+/// Frames a file to standard output, with the reasons why items are other if these are asked for.
+fn frame_file<'a, R: Runtime + AllocGlobal>(
+    rt: &R,
+    file: &'a str,
+    limit: u32,
+    why: bool,
+) -> FrameOutcome<'a>
     ensures { IsOfFile file.entry.now result }
 {
     match fs::open(rt, file) {
         Ok(opened) => {
             let mut reader = ReadSource::new(opened);
             let mut writer = WriteSink::new(io::writer(rt));
-            FrameOutcome::Framed(file, frame(rt.alloc(), &mut reader, limit, &mut writer))
+            let answer = if why {
+                frame_why(rt.alloc(), &mut reader, limit, &mut writer)
+            } else {
+                frame(rt.alloc(), &mut reader, limit, &mut writer)
+            };
+            FrameOutcome::Framed(file, answer)
         }
         Err(error) if error.kind() == io::ErrorKind::OutOfMemory => {
             FrameOutcome::Framed(file, Err(ItemsError::OutOfMemory))

@@ -83,8 +83,8 @@ refused_texts app words kind faults.OutOfMemory is passes n = tt
 -- ---- values
 
 pub frame_values : (found : ArgMatches) (t : FrameTexts) → Some t.file.now ≡ first_value (found_of found) (codes "FILE") → Some t.limit.now ≡ first_value (found_of found) (codes "limit")
-    → AreFrameTexts (rows_of (found_of found)) t
-frame_values found t file limit = record { file = value found (codes "FILE") t.file.now file; limit = value found (codes "limit") t.limit.now limit }
+    → Some t.why.now ≡ first_value (found_of found) (codes "why") → AreFrameTexts (rows_of (found_of found)) t
+frame_values found t file limit why = record { file = value found (codes "FILE") t.file.now file; limit = value found (codes "limit") t.limit.now limit; why = value found (codes "why") t.why.now why }
 
 pub path_values : (found : ArgMatches) (t : PathTexts) → Some t.target.now ≡ first_value (found_of found) (codes "target") → option_map (λ s. s.now) t.host ≡ first_value (found_of found) (codes "host")
     → AreAllTexts (rows_of (found_of found)) t.all → ArePathTexts (rows_of (found_of found)) t

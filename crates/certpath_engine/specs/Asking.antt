@@ -43,6 +43,7 @@ use Rattle.certpath_engine.specs.declared.words.WordFault.TheVariants.{Refused, 
 pub record AreFrameTexts (rows : List Row) (t : FrameTexts) : Type 0 where
   pub file : first_of (codes "FILE") rows ≡ Some t.file.now
   pub limit : first_of (codes "limit") rows ≡ Some t.limit.now
+  pub why : first_of (codes "why") rows ≡ Some t.why.now
 
 pub record AreBundleTexts (rows : List Row) (t : BundleTexts) : Type 0 where
   pub files : all_of (codes "FILE") rows ≡ Some (map (λ s. s.now) t.files.items)
@@ -94,7 +95,7 @@ name_of (asks.Recheck t) = codes "recheck"
 
 -- the words of the arguments that each command has a value of; those of `why` are those of `path`
 abbrev pub frame_arguments : List Text
-frame_arguments = codes "FILE" ∷ codes "limit" ∷ []
+frame_arguments = codes "FILE" ∷ codes "limit" ∷ codes "why" ∷ []
 
 abbrev pub all_arguments : List Text
 all_arguments = codes "BUNDLE" ∷ codes "ANCHORS" ∷ codes "VOUCHERS" ∷ codes "at" ∷ codes "demand-lists" ∷ codes "limit" ∷ []
@@ -165,9 +166,9 @@ IsNoNumber text = (n : ℕ) → n < 2 ^ 32 → ¬ (WritesNumber text n)
 abbrev pub IsNoMoment : Text → Type 0
 IsNoMoment text = (t : CivilTime) → ¬ (WritesMoment text t)
 
--- what is answered to the words behind `frame`
+-- what is answered to the words after `frame`
 abbrev pub ReadsFrame : FrameTexts → Result Command WordFault → Type 0
-ReadsFrame t (Ok (Frame file limit)) = (file.now ≡ t.file.now) × WritesNumber t.limit.now limit
+ReadsFrame t (Ok (Frame file limit why)) = (file.now ≡ t.file.now) × WritesNumber t.limit.now limit × (IsTrue why ↔ (t.why.now ≡ codes "true"))
 ReadsFrame t (Ok _) = ⊥
 ReadsFrame t (Err (Refused said)) = ⊥
 ReadsFrame t (Err Number) = IsNoNumber t.limit.now

@@ -28,9 +28,13 @@ demand_rule = record (new_rule (codes "demand-lists")) { long = Some (codes "dem
 abbrev pub limit_rule : Rule
 limit_rule = record (new_rule (codes "limit")) { long = Some (codes "limit"); value_names = 1; defaults = codes "16777216" ∷ [] }
 
--- `frame FILE [--limit N]`
+-- `--why`
+abbrev pub faults_rule : Rule
+faults_rule = record (new_rule (codes "why")) { long = Some (codes "why"); action = Some SetTrue }
+
+-- `frame FILE [--limit N] [--why]`
 abbrev pub frame_app : App
-frame_app = with_rule (with_rule (new_app (codes "frame")) (file_rule (codes "FILE"))) limit_rule
+frame_app = with_rule (with_rule (with_rule (new_app (codes "frame")) (file_rule (codes "FILE"))) limit_rule) faults_rule
 
 -- `bundle FILE..`
 abbrev pub bundle_app : App

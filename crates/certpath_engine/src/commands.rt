@@ -2,7 +2,7 @@
 ghost use Rattle.std.specs.Prelude.{◌≡◌, false, IfOk};
 ghost use Rattle.clap.specs.Words.{app_of, rule_of};
 ghost use Rattle.clap.specs.declared.builder.command.Command.TheViews.{out-Command};
-ghost use Rattle.certpath_engine.specs.Words.{certpath_app, targets_app, items_app, frame_app, bundle_app, path_app, why_app, questions_app, paths_app, recheck_app, with_question, with_host, with_purpose, with_files, with_policy, file_rule, files_rule, target_rule, moment_rule, demand_rule, limit_rule, evidence_rule, host_rule, purpose_rule};
+ghost use Rattle.certpath_engine.specs.Words.{certpath_app, targets_app, items_app, frame_app, bundle_app, path_app, why_app, questions_app, paths_app, recheck_app, with_question, with_host, with_purpose, with_files, with_policy, faults_rule, file_rule, files_rule, target_rule, moment_rule, demand_rule, limit_rule, evidence_rule, host_rule, purpose_rule};
 
 use clap::{Arg, ArgAction, Command};
 use std::alloc::{AllocError, Global};
@@ -46,9 +46,10 @@ fn frame_command<'a>(alloc: Global) -> Result<Command<'a>, AllocError>
     ensures local { IfOk result (λ c. (out-Command c).has_globals ≡ false) }
 {
     Command::new(alloc, "frame")
-        .about("Tells where the items of a file lie, and how it ends")
-        .arg(file_argument(alloc, "FILE", "The items, one behind the other"))?
-        .arg(limit_argument(alloc))
+        .about("Prints where the items of a file lie, and how it ends")
+        .arg(file_argument(alloc, "FILE", "The items, one after another"))?
+        .arg(limit_argument(alloc))?
+        .arg(faults_argument(alloc))
 }
 
 /// The command `bundle`.
@@ -249,6 +250,17 @@ fn limit_argument<'a>(alloc: Global) -> Arg<'a>
         .value_name("N")
         .help("The most content octets of an item")
         .default_value("16777216")
+}
+
+/// `--why`.
+fn faults_argument<'a>(alloc: Global) -> Arg<'a>
+    ensures rule { rule_of result ≡ faults_rule }
+    ensures local { result.global ≡ false }
+{
+    Arg::new(alloc, "why")
+        .long("why")
+        .action(ArgAction::SetTrue)
+        .help("Prints why an item is neither a certificate nor a list")
 }
 
 /// `--evidence FILE`.

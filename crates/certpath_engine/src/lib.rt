@@ -22,7 +22,7 @@ mod words;
 pub use bundle_exit::{BundleOutcome, bundle_status};
 pub use cert_framing::End;
 pub use certpath_inputs::{MAX_READS, READ_SIZE};
-pub use certpath_run::{Input, ItemInput, ItemsError, frame};
+pub use certpath_run::{Input, ItemInput, ItemsError, frame, frame_why};
 pub use demands::Purpose;
 pub use exit::{Exit, Message, words_status};
 pub use items_exit::{FrameOutcome, ItemFiles, QuestionsOutcome, frame_status, questions_status};

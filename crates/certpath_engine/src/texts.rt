@@ -28,6 +28,7 @@ pub(crate) enum Asked<'a> {
 pub(crate) struct FrameTexts<'a> {
     pub(crate) file: &'a str,
     pub(crate) limit: &'a str,
+    pub(crate) why: &'a str,
 }
 
 /// The words after `path`, and after `why`.
@@ -110,7 +111,10 @@ fn frame_texts<'a>(found: &ArgMatches<'a>) -> Result<Asked<'a>, WordFault>
     let Some(limit) = found.get_str("limit") else {
         return Err(WordFault::OutOfMemory);
     };
-    Ok(Asked::Frame(FrameTexts { file, limit }))
+    let Some(why) = found.get_str("why") else {
+        return Err(WordFault::OutOfMemory);
+    };
+    Ok(Asked::Frame(FrameTexts { file, limit, why }))
 }
 
 /// The words after `path`.

@@ -20,12 +20,14 @@ use std::alloc::Global;
 /// What the words ask for.
 #[derive(Drop)]
 pub enum Command<'a> {
-    /// Tell where the items of a file lie.
+    /// Print where the items of a file lie.
     Frame {
         /// The file's name.
         file: &'a str,
         /// The most content octets that an item has.
         limit: u32,
+        /// Whether to print why items are other.
+        why: bool,
     },
     /// Join the certificates and revocation lists of files.
     Bundle {
@@ -34,7 +36,7 @@ pub enum Command<'a> {
     },
     /// Find a path.
     Path(Question<'a>),
-    /// Tell what stands in the way of a path.
+    /// Print what prevents a path.
     Why(Question<'a>),
     /// Find the paths of all items.
     Paths {
@@ -151,6 +153,7 @@ fn frame_of<'a>(texts: FrameTexts<'a>) -> Result<Command<'a>, WordFault>
     Ok(Command::Frame {
         file: texts.file,
         limit,
+        why: texts.why == "true",
     })
 }
 

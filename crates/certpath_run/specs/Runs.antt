@@ -24,6 +24,7 @@ use Rattle.certpath_run.specs.Report.{report_with, answer_line}
 use Rattle.certpath_inputs.specs.Check.{check_line}
 use Rattle.certpath_find.specs.Answered.{IsFound}
 use Rattle.certpath_why.specs.Why.{IsWhyFor}
+use Rattle.fault_texts.specs.FaultLines.{AreFaultLines}
 
 abbrev pub kind_of : Answer → Outcome
 kind_of (answers.Path positions anchor table) = Path
@@ -45,9 +46,9 @@ pub record IsReportWith (lines : List ℕ) (r : JudgingContext) (items anchors :
 abbrev pub IsReport : JudgingContext → Framed → Framed → ℕ → List ℕ → Outcome → Type 0
 IsReport = IsReportWith []
 
--- The lines of what is demanded, the answer, what the check says of it: yes; and what stands in the way of a path. The answer is true,
--- and its rows hold exactly how far each issuer leads, so the lines of path lengths are fixed. The lines of
--- certificates are by the first rules, and the answer is by the second: these vouch for less where something is demanded.
+-- The lines of what is demanded, the answer, what the check says of it: yes; why the target and the anchors that are other are so; and
+-- what prevents a path. The answer is true, and its rows hold exactly how far each issuer leads, so the lines of path lengths are fixed.
+-- The lines of certificates are by the first rules, and the answer is by the second: these vouch for less if something is demanded.
 pub record IsWhyReportWith (demand : Demand) (r search : JudgingContext) (items anchors : Framed) (target : ℕ) (text : List ℕ) (outcome : Outcome) : Type 0 where
   pub classed : List Item
   pub classed_anchors : List Item
@@ -55,9 +56,11 @@ pub record IsWhyReportWith (demand : Demand) (r search : JudgingContext) (items 
   pub are_classed : AreClassed items.items classed
   pub anchors_are_classed : AreClassed anchors.items classed_anchors
   pub found : IsFound (graph_of_items search classed classed_anchors) target answer
+  pub faults : List ℕ
+  pub faults_are : AreFaultLines classed target classed_anchors faults
   pub why : List ℕ
   pub is_why : IsWhyFor demand r search classed classed_anchors target answer why
-  pub text_is : text ≡ demand_lines demand ++ (answer_line answer ++ (check_line true ++ why))
+  pub text_is : text ≡ demand_lines demand ++ (answer_line answer ++ (check_line true ++ (faults ++ why)))
   pub outcome_is : outcome ≡ kind_of answer
 
 -- without a demand

@@ -4,11 +4,12 @@
 //! `path`, `why` and `paths` read bundle, anchors and vouchers. They are one function,
 //! [`run_report`], over what is reported: a type that implements [`Reports`]. Items are judged by
 //! `certpath_find`, the answer is found over what was judged, and `certcheck` checks it over the
-//! items themselves. [`run_questions`] and [`frame`] are over items alone.
+//! items themselves. [`run_questions`], [`frame`] and [`frame_why`] are over items alone.
 #![tactic(auto)]
 
 mod answering;
 mod asking;
+mod explaining;
 mod finding;
 mod frame_text;
 mod framing;
@@ -25,6 +26,7 @@ mod running;
 mod settings;
 
 pub use crate::asking::run_questions;
+pub use crate::explaining::frame_why;
 pub use crate::framing::frame;
 pub use crate::items::{ItemInput, ItemsError};
 pub use crate::reports::{

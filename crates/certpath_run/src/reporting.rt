@@ -13,6 +13,7 @@ ghost use Rattle.certpath_run.specs.Report.{answer_line};
 ghost use Rattle.certpath_inputs.specs.Check.{check_line};
 ghost use Rattle.certpath_inputs.specs.Demands.{ArePermitsOf, VouchesWhere, demanded, demand_lines, target_octets};
 ghost use Rattle.certpath_inputs.specs.Inputs.{VouchesBy};
+ghost use Rattle.fault_texts.specs.FaultLines.{AppendsFaults};
 ghost use Rattle.certpath_run.specs.Runs.{IsReportWith, IsReportFor, IsWhyOn, IsWhyReportFor, IsWhyReportWith, VouchesAnyWhere};
 
 use crate::answering::{Answered, answer_on};
@@ -28,6 +29,7 @@ use cert_vouchers::RememberedVouchers;
 use certcheck::TreeReader;
 use certpath_inputs::{Demand, Inputs, permits_of, push_check, push_demand};
 use certpath_why::{push_why, push_why_for};
+use fault_texts::push_faults;
 use std::alloc::{AllocError, Global};
 
 /// Finds the answer by what vouches, checks it, and builds the report.
@@ -145,7 +147,24 @@ fn both_read<'a>(alloc: Global, inputs: &'a Inputs) -> Result<Both<'a>, OutOfMem
     Ok(Both { items, anchors })
 }
 
-/// Finds the answer, checks it, and reports what stands in the way of a path.
+/// The lines of what is demanded, of the answer and of what the check says, and then why the target
+/// and the anchors that are other are so.
+fn faulted_text(
+    alloc: Global,
+    demand: &Demand<'_>,
+    answered: &Answered,
+    read: &Both<'_>,
+    target: usize,
+) -> Result<String, OutOfMemory>
+    ensures { IfOk result (λ text. AppendsFaults (map item_of read.now.items.items) target (map item_of read.now.anchors.items)
+        (demand_lines demand.now ++ (answer_line answered.now.answer ++ check_line answered.now.said)) (string_bytes text)) }
+{
+    let mut text = answer_text(alloc, demand, answered)?;
+    push_faults(&mut text, alloc, &read.items, target, &read.anchors)?;
+    Ok(text)
+}
+
+/// Finds the answer, checks it, and reports why items are other and what prevents a path.
 fn why_alone<'a>(
     alloc: Global,
     inputs: &'a Inputs,
@@ -160,8 +179,8 @@ fn why_alone<'a>(
 {
     let demand = Demand::none();
     let answered = answer_on(alloc, inputs, items, anchors, vouch, settings)?;
-    let mut text = answer_text(alloc, &demand, &answered)?;
     let read = both_read(alloc, inputs)?;
+    let mut text = faulted_text(alloc, &demand, &answered, &read, settings.target)?;
     push_why(
         &mut text,
         alloc,
@@ -196,8 +215,8 @@ fn why_by<'a, P: Permit>(
 {
     let restricted = Restricted::new(vouch, permit);
     let answered = answer_on(alloc, inputs, items, anchors, &restricted, settings)?;
-    let mut text = answer_text(alloc, demand, &answered)?;
     let read = both_read(alloc, inputs)?;
+    let mut text = faulted_text(alloc, demand, &answered, &read, settings.target)?;
     push_why_for(
         &mut text,
         alloc,
@@ -236,8 +255,8 @@ fn why_within<'a>(
     )
 }
 
-/// Finds the answer where something may be demanded, checks it, and reports what stands in the way
-/// of a path.
+/// Finds the answer of what may be demanded, checks it, and reports why items are other and what
+/// prevents a path.
 pub(crate) fn why_on(
     alloc: Global,
     inputs: &Inputs,
