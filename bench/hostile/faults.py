@@ -1,6 +1,7 @@
 """Families of `certpath frame --why` and `certpath why`: items that are other, whose first fault is at their end or deep within."""
 from family import UNLIMITED, Files, family, of_octets
-from one_item import ANCHOR, FRAME, MANY, ONE_ITEM, SMALL_PARTS, X, nested
+from kinds import ELEMENTS
+from one_item import ANCHOR, FRAME, MANY, ONE_ITEM, X, nested
 from parts import element, entry, integer, revocation_list
 
 WHY = ("--why",)
@@ -17,17 +18,17 @@ def ending_broken(size):
     return element(0x30, NULL * ((size - FRAME) // len(NULL)), BROKEN)
 
 
-@of_octets("frame-why-flat", "an item of NULLs whose last element is broken", "frame", words=WHY, sizes=ONE_ITEM, known=SMALL_PARTS)
+@of_octets("frame-why-flat", "an item of NULLs whose last element is broken", "frame", words=WHY, sizes=ONE_ITEM, known=ELEMENTS)
 def frame_why_flat(size):
     return [ending_broken(size)]
 
 
-@of_octets("frame-why-deep", "an item of NULLs at the fiftieth level, the last element broken", "frame", words=WHY, sizes=ONE_ITEM, known=SMALL_PARTS)
+@of_octets("frame-why-deep", "an item of NULLs at the fiftieth level, the last element broken", "frame", words=WHY, sizes=ONE_ITEM, known=ELEMENTS)
 def frame_why_deep(size):
     return [nested(LEVELS, ending_broken(size))]
 
 
-@family("frame-why-entries", "a list whose last entry has a negative serial number", "frame", words=(*WHY, *UNLIMITED), known=SMALL_PARTS, **MANY)
+@family("frame-why-entries", "a list whose last entry has a negative serial number", "frame", words=(*WHY, *UNLIMITED), known=ELEMENTS, **MANY)
 def frame_why_entries(count):
     return [revocation_list(X, entry(integer(1)) * count + entry(NEGATIVE))]
 
