@@ -41,7 +41,6 @@ NOT_RUN = (
     ("examples/c/README.md", "", "tools/trials/embedding.py compiles and runs what it does"),
     ("python/README.md", "certpath-verify", "it is about files of the reader's; tools/trials/installing_wheel.py runs the command where it is installed"),
     ("", "echo 'der:u32 02 03 00 00 01' | ./rows", "its program isn't in dist/, and rt builds it"),
-    ("", "od -An -v -tx1 samples/leaf.der | tr -d ' \\n' | ./rows", "its program isn't in dist/, and rt builds it"),
 )
 # What a page's commands need of the machine, by how one of them begins; without it none of the page's is run.
 NEEDED = (("cc ", lambda: shutil.which("cc") and os.path.exists(HEADERS), "there is no C compiler, or no header of OpenSSL"),)
