@@ -1,6 +1,6 @@
 """Families of `certpath frame --why` and `certpath why`: items that are other, whose first fault is at their end or deep within."""
 from family import UNLIMITED, Files, family, of_octets
-from kinds import ELEMENTS
+from kinds import ELEMENTS, ITEMS_OF_WHY
 from one_item import ANCHOR, FRAME, MANY, ONE_ITEM, X, nested
 from parts import element, entry, integer, revocation_list
 
@@ -38,6 +38,6 @@ def frame_why_empty(count):
     return [EMPTY * count]
 
 
-@family("why-anchors-other", "n anchors without parts", "why", other=None)
+@family("why-anchors-other", "n anchors without parts", "why", other=None, known=ITEMS_OF_WHY)
 def why_anchors_other(count):
     return Files([ANCHOR], [EMPTY] * count, [])

@@ -13,7 +13,7 @@ def square(name, times=300):
 # reads; entries that are looked up for many keys.
 ROWS = square("rows")
 LOOKED_UP = Known("rows", growth=8, times=600)
-STAIRS = Known("stairs", growth=4, times=400, seconds=20.0)
+STAIRS = Known("stairs", growth=4, times=400, seconds=5.0)
 PATHS = square("paths")
 QUESTIONS = square("questions", 5_000)
 EVIDENCE = square("evidence")
@@ -23,6 +23,7 @@ WHY = square("why", 20_000)
 WHY_OF_VERIFY = WHY._replace(seconds=11.0)
 # Items of two octets, and elements of two octets within an item.
 ITEMS = Known("items", times=280)
+ITEMS_OF_WHY = ITEMS._replace(times=420)
 ELEMENTS = Known("elements", times=93)
 # What ./bundle says of each item that it leaves out.
 LEFT_OUT = Known("left out", times=110)

@@ -19,7 +19,7 @@ also("why", "extensions", "attributes", "entries", known=ELEMENTS)
 
 also("paths", "chain-path", "chain-beside", **LONG_PATHS)
 also("paths", "rises", "rises-ids", sizes=(750, 1_500, 3_000, 6_000), small=(1_500, 6_000), known=LOOKED_UP)
-also("paths", "stairs", sizes=(500, 1_000, 2_000, 4_000), small=(1_000, 4_000), known=STAIRS)
+also("paths", "stairs", sizes=(1_000, 2_000, 4_000, 8_000), small=(1_000, 4_000), known=STAIRS)
 also("paths", "copies-keys", "chain-none", "keys-each", "issuers-each", "anchors-equal", "ids-different", "list-long", "list-keys",
      "self-copies", "no-issuers")
 
