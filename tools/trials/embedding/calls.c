@@ -8,16 +8,6 @@
  */
 #include "calls.h"
 
-static int is_kept(const void *from, size_t size)
-{
-    const unsigned char *octets = from;
-    size_t k;
-    for (k = 0; k < size; k++)
-        if (octets[k] != KEPT)
-            return 0;
-    return 1;
-}
-
 /* ---- no octets, no room, and numbers at their ends */
 
 static void of_nothing(void)

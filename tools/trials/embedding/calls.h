@@ -1,12 +1,13 @@
 /*
- * What calls.c and changed.c share: the files that they are run on, and how they count.
+ * What calls.c, items.c and changed.c share: the files that they are run on, and how they count.
  */
 #include "certpath.h"
+#include "kept.h"
 #include <stdio.h>
 #include <stdlib.h>
 #include <string.h>
 
-enum { ROOM = 1 << 16, MOST = 64, KEPT = 0x5a };
+enum { ROOM = 1 << 16, MOST = 64 };
 
 static unsigned char bundle[ROOM], anchors[ROOM], lines[3 * ROOM];
 static certpath_voucher vouchers[ROOM / sizeof(certpath_voucher)];

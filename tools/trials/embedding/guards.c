@@ -12,6 +12,7 @@
  */
 #define _DEFAULT_SOURCE
 #include "certpath.h"
+#include "kept.h"
 #include <pthread.h>
 #include <stdint.h>
 #include <stdio.h>
@@ -20,7 +21,7 @@
 #include <sys/mman.h>
 #include <unistd.h>
 
-enum { ROOM = 1 << 16, THREADS = 8, RESULT = 256, KEPT = 0x5a, LARGEST = 32 };
+enum { ROOM = 1 << 16, THREADS = 8, RESULT = 256, LARGEST = 32 };
 
 /* ---- what is read, and what is written */
 
@@ -358,16 +359,6 @@ static void plain(const call *it, const inputs *of, answer *to)
     to->one = to->two = 0;
     if (to->status == CERTPATH_DONE)
         it->needed(to->result, &to->one, &to->two);
-}
-
-static int is_kept(const void *from, size_t size)
-{
-    const unsigned char *octets = from;
-    size_t k;
-    for (k = 0; k < size; k++)
-        if (octets[k] != KEPT)
-            return 0;
-    return 1;
 }
 
 /* A call with so much room, all of it between such pages. */
