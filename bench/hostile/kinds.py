@@ -21,10 +21,10 @@ LISTS = Known("lists", growth=3.4)
 # Pairs of what `why` looks at, and runs of ./verify that ask it until their seconds are over.
 WHY = square("why", 20_000)
 WHY_OF_VERIFY = WHY._replace(seconds=11.0)
-WHY_OF_COPIES = WHY._replace(growth=8)
-# Items of two octets, and elements of two octets within an item.
+# Items of two octets, small certificates, and elements of two octets within an item.
 ITEMS = Known("items", times=280)
 ITEMS_OF_WHY = ITEMS._replace(times=420)
+CERTIFICATES_OF_WHY = ITEMS._replace(times=21)
 ELEMENTS = Known("elements", times=93)
 # What ./bundle says of each item that it leaves out.
 LEFT_OUT = Known("left out", times=110)

@@ -4,7 +4,7 @@ from math import isqrt
 from family import Files, also, family, of_octets
 from graphs import (ANCHOR, COMMON_KEY, LEAF, NOWHERE, ROOT, ROOT_KEY, X, chain_path, lists,
                     own_keys, rising)
-from kinds import EVIDENCE, ITEMS, LISTS, LOOKED_UP, WHY
+from kinds import EVIDENCE, ITEMS, ITEMS_OF_WHY, LISTS, LOOKED_UP, WHY
 from parts import (certificate, element, entry, extension, integer, key, name, revocation_list,
                    voucher, vouchers_by_all)
 from reports import LONG_PATHS, SQUARE
@@ -71,7 +71,7 @@ def number(value):
 
 
 @family("why-anchors-2", "a leaf, n/16 anchors of its issuer's name, and n items of two octets",
-        "why", other=None)
+        "why", other=None, known=ITEMS_OF_WHY)
 def why_anchors_small(count):
     return Files([certificate(LEAF, X, COMMON_KEY), *[EMPTY] * count], own_keys(count // 16))
 

@@ -1,6 +1,6 @@
 """Families for `why`, `paths` and ./verify: over files that were made for `path`, and over certificates with signatures in their form."""
 from family import FAMILIES, Files, also, family
-from kinds import ELEMENTS, LOOKED_UP, OBJECTS, PATHS, QUESTIONS, STAIRS, WHY, WHY_OF_COPIES, WHY_OF_VERIFY
+from kinds import CERTIFICATES_OF_WHY, ELEMENTS, LOOKED_UP, OBJECTS, PATHS, QUESTIONS, STAIRS, WHY, WHY_OF_VERIFY
 from parts import name, p256_keys
 from signed import KEY, ROOT, X, issuers, signed_by_none
 
@@ -13,8 +13,8 @@ LONG_PATHS = {"sizes": (1_000, 2_000, 4_000, 8_000), "small": (1_000, 4_000), "k
 also("why", "keys-none", "ids-never", "self-serials", **SQUARE, known=WHY)
 also("why", "lists-none", "lists-vouched", known=WHY)
 also("why", "chain-path")
-also("why", "copies-keys", known=WHY_OF_COPIES)
-also("why", "chain-none", "no-issuers", "list-long", "list-keys", "names-alike")
+also("why", "no-issuers", known=CERTIFICATES_OF_WHY)
+also("why", "copies-keys", "chain-none", "list-long", "list-keys", "names-alike")
 also("why", "extensions", "attributes", "entries", known=ELEMENTS)
 
 also("paths", "chain-path", "chain-beside", **LONG_PATHS)

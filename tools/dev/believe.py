@@ -23,11 +23,12 @@ from program import repo
 
 PAGE, WIDTH = "docs/TRUST.md", 100
 # The calls of the table at the head of docs/TRUST.md: what is judged, and the readers.
-JUDGED = ["certcheck::check", "certcheck::check_all", "certpath_find::find", "certpath_find::find_all", "certpath_run::run",
+JUDGED = ["certcheck::check", "certcheck::check_all", "certpath_find::find", "certpath_find::find_all", "certpath_run::run", "certpath_run::PathReport::report",
           "certpath_run::WhyReport::report", "certpath_run::PathsReport::report", "certpath_run::EvidenceReport::report", "certpath_recheck::run_recheck",
-          "certpath_run::run_questions", "cert_questions::questions", "certpath_why::push_why"]
-HEADS = ["certpath_engine::read_words", "certpath_run::frame", "cert_framing::Bundle::feed", "cert_framing::Bundle::finish",
-         "certcheck::read_tree", "certpath_typed::read_typed", *JUDGED, "cert_vouchers::read_vouchers",
+          "certpath_run::run_questions", "cert_questions::questions", "certpath_why::push_why",
+          *(f"cert_reasons::{it}" for it in ("why_unusable", "why_no_issuer", "why_unlinked", "why_unlinked_to_anchor", "why_list_unused"))]
+HEADS = ["certpath_engine::read_words", "certpath_run::frame", "certpath_run::frame_why", "certpath_bundle::bundle", "cert_framing::Bundle::feed",
+         "cert_framing::Bundle::finish", "certcheck::read_tree", "certpath_typed::read_typed", *JUDGED, "cert_vouchers::read_vouchers",
          "certpath_evidence::read_evidence", "x509_certs::X509Certificate::from_der",
          "x509_lists::CertificateRevocationList::from_der", "x509_requests::X509CertificationRequest::from_der",
          "x509_names::X509Name::from_der", "x509_time::ASN1Time::from_der"]

@@ -133,7 +133,7 @@ LAYERS = (
     ("For other languages", "certpath_c"),
     ("Rows, tests, benches, examples, worked laws", "rows_hex rows_asn1 rows_cert rows_x509 rows_check rows_reasons rows_faults tests_asn1 tests_der tests_graph "
                                        "tests_run bench_graph bench_item bench_workload example_certificate example_own_type example_path "
-                                       "laws_asn1 laws_der laws_graph laws_x509"),
+                                       "laws_asn1 laws_der laws_graph laws_items laws_judge laws_paths laws_x509"),
 )
 
 

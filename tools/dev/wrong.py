@@ -3,10 +3,9 @@
 
     ./test wrong [NAME..]
 
-Each crate is tried on a copy of the sources, without out/. There `rt check` begins with what checks of the same crates kept, in this or in
-another copy of the repository, and proves the rest first, the crates below too. Edits of different functions are tried together, by one
-`rt check --jobs 1`, and what isn't refused there alone, by `rt must-fail`. Change no source until it ends. Each edit counts as passed or
-failed; one that is bad, or wasn't tried, has failed.
+Each crate is tried on a copy of the sources, with what `rt` kept in this checkout. There `rt check` proves what is left first, the crates
+below too. Edits of different functions are tried together, by one `rt check --jobs 1`, and what isn't refused there alone, by
+`rt must-fail`. Change no source until it ends. Each edit counts as passed or failed; one that is bad, or wasn't tried, has failed.
 """
 import collections
 import os
@@ -26,8 +25,9 @@ from gate import edits
 from gate.lanes import OVER_KEPT, lanes, weights
 from program import repo
 
-# What isn't copied of a crate: what `rt` made, and the edits.
-LEFT_OUT = ("out", *edits.FOLDERS)
+# What isn't copied of a crate with its sources: what `rt` made, and the edits.
+KEPT = "out"
+LEFT_OUT = (KEPT, *edits.FOLDERS)
 TRIED = re.compile(r"^rt: must-fail \w+/(\S+\.edit): (.*)$", re.M)
 REFUSED = "refused, as it must be"
 BY_NAME = "only because a proof file names"
@@ -73,8 +73,16 @@ def ran(words, folder, shown=None):
     return status, "".join(printed)
 
 
+def linked(source, target):
+    """Has a file at a second path, as a copy if it can't be a link."""
+    try:
+        os.link(source, target)
+    except OSError:
+        shutil.copy2(source, target)
+
+
 def copied(room, crate):
-    """Copies what a check of the crate reads, with the crates below it; gives the crate's folder."""
+    """Copies what a check of the crate reads, with the crates below it, and what `rt` kept of them; gives the crate's folder."""
     lines, taken = repo.lines(), repo.below([crate], repo.crates())
     # (the search for a repository's top ends at a .git)
     os.makedirs(os.path.join(room, ".git"))
@@ -82,7 +90,11 @@ def copied(room, crate):
     with open(os.path.join(room, "crates.txt"), "w", encoding="utf-8") as to:
         to.write("".join(f"{lines[one]}\n" for one in taken))
     for entry in taken:
-        shutil.copytree(os.path.join(repo.TOP, "crates", entry), os.path.join(room, "crates", entry), ignore=shutil.ignore_patterns(*LEFT_OUT))
+        source, target = (os.path.join(top, "crates", entry) for top in (repo.TOP, room))
+        shutil.copytree(source, target, ignore=shutil.ignore_patterns(*LEFT_OUT))
+        # (what is kept of crates below isn't written)
+        if os.path.isdir(os.path.join(source, KEPT)):
+            shutil.copytree(os.path.join(source, KEPT), os.path.join(target, KEPT), copy_function=shutil.copy2 if entry == crate else linked)
     return os.path.join(room, "crates", crate)
 
 

@@ -13,6 +13,8 @@ import time
 from program import building, programs, repo, sources
 from trials import running
 
+# Where the system's own programs are.
+OF_THE_SYSTEM = "/usr/bin"
 COUNTED = re.compile(r"(\d+) passed, (\d+) failed")
 NO_PROOF = ("./test: no proof was run: rt, the Rattle toolchain, isn't on the path (docs/FAQ.md says where it can be had).\n"
             "./test: with rt on the path, ./test proves every crate, and runs all trials at their full size.")
@@ -47,10 +49,15 @@ def keep_programs(before):
             building.keep(crate, program, digest)
 
 
+def environment():
+    """That of `rt`, a script of Python: the system's own Python comes first, since others on the path may be slower."""
+    return {**os.environ, "PATH": os.pathsep.join((OF_THE_SYSTEM, os.environ.get("PATH", os.defpath)))}
+
+
 def proofs(words):
     """Runs `rt ci` and keeps the programs that it built; gives how many passed and failed, by its last line."""
     began, before = time.monotonic(), digests()
-    child = subprocess.Popen(["rt", "ci", *words], cwd=repo.TOP, stdout=subprocess.PIPE, text=True, errors="replace")
+    child = subprocess.Popen(["rt", "ci", *words], cwd=repo.TOP, env=environment(), stdout=subprocess.PIPE, text=True, errors="replace")
     passed = failed = 0
     for line in child.stdout:
         print(line, end="", flush=True)
@@ -73,6 +80,14 @@ def compared():
     return int(not amiss), len(amiss)
 
 
+def trials_of_the_gate():
+    """Runs all trials, several files at a time; gives how many rows passed and failed."""
+    began, before = time.monotonic(), running.spent()
+    passed, failed, _ = running.run_apart(is_gate=True)
+    print(f"trials: {running.spent() - before:.0f} s of processors, {time.monotonic() - began:.0f} s by the clock", flush=True)
+    return passed, failed
+
+
 def gate(is_anew=False):
     """Runs the gate, of which each step counts; gives the status. If a look or a proof fails, the rest isn't run."""
     from gate import quick
@@ -80,7 +95,7 @@ def gate(is_anew=False):
     if not counts[-1][1]:
         counts.append(proofs(words_of(is_anew)))
     if not counts[-1][1]:
-        counts += [compared(), running.run(is_gate=True)[:2]]
+        counts += [compared(), trials_of_the_gate()]
     passed, failed = map(sum, zip(*counts))
     print(f"{passed} passed, {failed} failed")
     return 1 if failed else 0
@@ -89,7 +104,7 @@ def gate(is_anew=False):
 def without_toolchain():
     """Runs all that needs no toolchain; gives the status."""
     from gate import quick
-    looks, trials = quick.looked(), running.run_apart()
+    looks, trials = quick.looked(), running.run_apart(is_small=True)
     passed, failed, left = looks[0] + trials[0], looks[1] + trials[1], trials[2]
     print(NO_PROOF)
     return counted(passed, failed, left)
@@ -101,9 +116,11 @@ def counted(passed, failed, left):
     return programs.OUTDATED if programs.is_outdated() else 1 if failed else 0
 
 
-def trials(names, is_small=False):
+def trials(words, is_small=False):
     """Runs single trials, or all, at the sizes of the gate or at small ones; gives the status."""
-    return counted(*(running.run_apart() if is_small and not names else running.run(names, is_small=is_small)))
+    is_gate = words[:1] == [running.BY_THE_GATE]
+    names = words[is_gate:]
+    return counted(*(running.run(names, is_gate, is_small) if names else running.run_apart(is_gate, is_small)))
 
 
 def main(words):

@@ -2,11 +2,11 @@
 
 A law is a public function with an empty body; its clauses are what it says. A premise is what comes before an arrow of a
 clause. An example is a law that says something of values, or of all values, without a premise: the prover works it out. It
-fits a clause if its parts, between `×`, are all premises of the clause with values in the place of the clause's variables,
-each variable the same value everywhere. A name counts as what the file's `use` lines say that it is.
+fits a clause if its parts, between `×`, are all premises of the clause with values in the place of the clause's variables
+and of the law's arguments, each the same value everywhere. A name counts as what the file's `use` lines say that it is.
 
 A clause that is the name of a definition says what the definition does; of a record each field is a part. What is denied
-(`.. → ⊥`) is one part. A premise that an example meets in the words of another definition isn't seen, nor one with a `let`.
+(`.. → ⊥`) is one part. A premise that an example meets in the words of another definition isn't seen.
 
 LEFT is how many clauses have no example; it may only fall. `python3 tools/gate/quick.py laws` prints them.
 """
@@ -16,7 +16,7 @@ import re
 from dev import believe
 from gate import calls, syntax
 
-LEFT = 119
+LEFT = 13
 OPEN, CLOSE = "({⟦", ")}⟧"
 ARROW, TIMES, COLON, FALSE = "→", "×", ":", "⊥"
 TOKEN = re.compile(r"""[(){}⟦⟧]|[^\s(){}⟦⟧;,"]+|[;,]""")
@@ -38,12 +38,39 @@ def tree(text, name_of):
         if word in OPEN:
             stack.append([word])
         elif word in CLOSE and len(stack) > 1:
-            inner = stack.pop()
+            inner = without_lets(stack.pop())
             alone = inner[0] == "(" and len(inner) == 2
             stack[-1].append(inner[1] if alone else tuple(inner))
         else:
             stack[-1].append(name_of(word))
-    return tuple(stack[0])
+    return tuple(without_lets(stack[0]))
+
+
+def without_lets(words_of_group):
+    """The words with what a `let` names in the place of each name; a `let` reaches to the end of its brackets."""
+    found = [*words_of_group]
+    while "let" in found:
+        at = len(found) - 1 - found[::-1].index("let")
+        equals, ends = (found.index(sign, at) for sign in ("=", "in"))
+        value = found[equals + 1:ends]
+        found[at:] = put(found[ends + 1:], found[at + 1], value[0] if len(value) == 1 else ("(", *value))
+    return found
+
+
+def put(part, name, value):
+    """The words of a part with a value in the place of a name."""
+    found = []
+    for word in part:
+        if isinstance(word, tuple):
+            found.append(tuple(put(word, name, value)))
+        elif word == name:
+            found.append(value)
+        elif word.startswith(f"{name}."):
+            field = word[len(name):]
+            found += [value + field] if isinstance(value, str) else [value, field]
+        else:
+            found.append(word)
+    return found
 
 
 def inside(part):
@@ -145,15 +172,17 @@ def said(function, text):
     names, modules = function.file.ghosts(function.at)
     whole = tree(text, named(names, modules, "", ()))
     parameters = re.findall(r"(?:^|[<,])\s*(?:const )?(\w+)\s*(?=[:,>])", function.signature.partition("(")[0].partition("<")[2])
+    # (what a law is called with may be any value, too)
+    arguments = re.findall(r"(\w+)\s*:", function.signature.partition("(")[2])
     name = re.match(r"\s*(\S*)", text)[1]
     is_named = all(isinstance(word, str) and word.partition(".")[0] in parameters for word in whole[1:])
     for entry in believe.words_of(function.file, name, function.at) if is_named else ():
         if isinstance(entry, believe.Definition) and entry.name == name and entry.kind != "data":
             inner = of_definition(entry)
             inner.parts += [whole]
-            inner.variables |= {*parameters}
+            inner.variables |= {*parameters, *arguments}
             return inner
-    return Said(parameters, whole)
+    return Said([*parameters, *arguments], whole)
 
 
 # ---- fitting
@@ -186,7 +215,12 @@ def fits(pattern, value, variables, bound):
             yield from fits(rest, value[1:], variables, bound)
         return
     if dot:
-        if value and isinstance(value[0], str) and value[0].endswith(dot + field):
+        # (a field of a value in brackets is the word after them)
+        if len(value) > 1 and isinstance(value[0], tuple) and value[1] == dot + field:
+            found = bind(head, inside(tuple(value[:1])), bound)
+            if found is not None:
+                yield from fits(rest, value[2:], variables, found)
+        elif value and isinstance(value[0], str) and value[0].endswith(dot + field):
             found = bind(head, (value[0][:-len(dot + field)],), bound)
             if found is not None:
                 yield from fits(rest, value[1:], variables, found)

@@ -2,13 +2,15 @@
 
 What leads from the words to the files isn't seen by a contract of a library, so it is run: the limit, each status, each message, and what is written where.
 """
+import fcntl
 import os
 import subprocess
+import sys
 import tempfile
 
 from program import repo
 from trials import paths, pieces
-from trials.count import Trial
+from trials.count import Trial, size
 
 SECONDS = 600
 BUNDLE = os.path.join(repo.TOP, "samples", "bundle.der")
@@ -16,6 +18,10 @@ LINES = repo.read("samples/bundle.frame").encode()
 LARGEST = 16_777_216
 # More items than one read holds.
 MANY = 20_000
+# An input that gives octets at each of so many reads is too long. A writer of an octet for each, into a pipe whose reads each give
+# what one write put there; and how many octets of memory hold what the writer is ahead.
+READS, AHEAD, SET_PIPE_SIZE = 16_777_216, 1 << 20, 1031
+WRITER = f"import os\nfor _ in range({READS}): os.write(1, b'\\n')"
 # An element of 3 content octets, and the same behind it, cut in its content.
 THREE, CUT = bytes.fromhex("3003020105"), bytes.fromhex("30030201")
 # Certificates of version 1, and of version 3 with an empty basicConstraints.
@@ -189,6 +195,17 @@ def ran(program, words, room, octets, output):
     return it.returncode, it.stdout, it.stderr
 
 
+def begun_on_octets(program, words, room):
+    """A run that begins, whose standard input gives an octet at each of so many reads."""
+    source, sink = os.pipe2(os.O_CLOEXEC | os.O_DIRECT)
+    fcntl.fcntl(sink, SET_PIPE_SIZE, AHEAD)
+    run = subprocess.Popen([program, *words], cwd=room, stdin=source, stdout=subprocess.PIPE, stderr=subprocess.PIPE)
+    os.close(source)
+    writer = subprocess.Popen([sys.executable, "-ISc", WRITER], stdin=subprocess.DEVNULL, stdout=sink, stderr=subprocess.DEVNULL)
+    os.close(sink)
+    return run, writer
+
+
 class Commands(Trial):
     def test_command_lines(self):
         program = self.program()
@@ -206,3 +223,19 @@ class Commands(Trial):
             with open("/dev/full", "wb") as full:
                 count(["frame", "three", ">/dev/full"], ran(program, ["frame", "three"], room, b"", full), (7, None, b"cannot write\n"))
                 count([*paths.FULL, ">/dev/full"], ran(program, paths.FULL, room, b"", full), (7, None, b"cannot write\n"))
+
+    def test_too_many_reads(self):
+        """Anchors, vouchers and evidence from a pipe that gives an octet at each of 16,777,216 reads are too long."""
+        program, stdin = self.program(), "/dev/stdin"
+        with tempfile.TemporaryDirectory(prefix="reads-") as room:
+            for name, octets in (("one", FIRST), ("lines", b"")):
+                with open(os.path.join(room, name), "wb") as file:
+                    file.write(octets)
+            vouchers, anchors = paths.asked("one", "one", stdin), paths.asked("one", stdin, "lines")
+            evidence = ["recheck", "one", "one", "lines", stdin, "--at", "2025-06-01T00:00:00"]
+            titles = size({"vouchers": vouchers, "anchors": anchors, "evidence": evidence}, {"vouchers": vouchers})
+            begun = {title: begun_on_octets(program, words, room) for title, words in titles.items()}
+            for title, (run, writer) in begun.items():
+                output, error = run.communicate(timeout=SECONDS)
+                self.same(f"{title} too long", (run.returncode, output, error), (4, b"", b"cannot read /dev/stdin\n"))
+                writer.wait(timeout=SECONDS)

@@ -65,8 +65,9 @@ MANY_FILES = 50
 TOO_LONG = "verify: the run takes more than {} s of a processor, and has ended while openssl "
 # A command that reads its file to the end, which it hasn't.
 READS_ON = ("certpath", "path", "/dev/zero", ROOT_DER, VOUCHERS, "--target", "0", *AT)
-# How many megabytes are too few for what the inventory loads.
-FEW_FOR_DASK = (30, 64, 100)
+# How many megabytes are too few for what the inventory loads, and, with the last one, for a process
+# that reads.
+FEW_FOR_DASK = (30, 64, 100, 160)
 # What ./verify waits for: a program that doesn't end, and a call of a library that takes minutes.
 WAITING = '#!/bin/sh\necho $$ >>"$0.began"\nexec sleep 600\n'
 ENDLESS = """\
@@ -194,8 +195,8 @@ class Limits(Trial):
                 self.row(is_right, f"{words[0]} with {most} MB: {found!r:.600}")
 
     def test_inventory(self):
-        """The inventory says in a line that there isn't the memory for what it loads. (With some
-        more, Dask writes lines of its own before that.)"""
+        """The inventory says in a line that there isn't the memory for what it loads, or for its
+        processes, and ends."""
         interpreter = with_dask()
         if interpreter is None:
             self.lack("Dask isn't there")

@@ -141,6 +141,12 @@ def command_trials(program, room):
         for command in paths.PRINTED:
             words = paths.words_of(command, files, {"target": "0"}, case)
             yield trial(f"{command}, {title}", words)
+        words, policy = paths.words_of("paths", files, {}, case), len(files) + 1
+        yield trial(f"paths --evidence, {title}", [*words, "--evidence", "/dev/stdout"])
+        evidence = f"evidence{place}"
+        subprocess.run([program, *words, "--evidence", evidence], cwd=room, timeout=SECONDS,
+                       stdin=subprocess.DEVNULL, stdout=subprocess.DEVNULL)
+        yield trial(f"recheck, {title}", ["recheck", *files, evidence, *words[policy:]])
     one, case = octets["A"], cases[CASES[0]]
     parts = one[:1], one[1:40], one[40:]
     files = "/dev/stdin", "anchors0", "vouchers0"

@@ -1,9 +1,11 @@
 """Runs the trials: those of tools/trials, and the tests of python/tests; each is found by `unittest`.
 
-    ./test trial            all of them, at the sizes of the gate
+    ./test trial            all of them, at the sizes of the gate, several files at a time
     ./test trial NAME..     single ones: a file, as commands or test_names, or a part of it after
                             dots, as vouching.Vouching.test_items
-    ./test small [NAME..]   likewise at smaller sizes; all of them several at a time
+    ./test small [NAME..]   likewise at smaller sizes
+
+In the gate a trial fails that lacks what it needs; elsewhere it is skipped.
 """
 import os
 import re
@@ -23,8 +25,11 @@ FOLDERS = ((os.path.join("tools", "trials"), "*.py", "tools"),
            (os.path.join("python", "tests"), "test_*.py", "python"))
 MOST_SHOWN = 3_000
 # Files that take longest begin first, where several run at a time; and how many do at most.
-LONGEST = ("scaling", "verifying", "readme", "embedding", "installing_prefix", "vouching", "stores")
+LONGEST = ("scaling", "hostile", "verifying", "embedding", "keys", "installing_wheel", "limits", "hosts", "readme",
+           "installing_prefix", "vouching", "stores")
 MOST_AT_A_TIME = 4
+# The word of `./test trial` by which the gate runs a file.
+BY_THE_GATE = "--gate"
 LAST_LINE = re.compile(r"(\d+) passed, (\d+) failed(?:, (\d+) skipped)?\n\Z")
 
 
@@ -144,9 +149,9 @@ def files():
     return sorted(names, key=lambda name: LONGEST.index(name) if name in LONGEST else len(LONGEST))
 
 
-def run_file(name):
-    """Runs the trials of a file in a process of its own, at small sizes; gives what it printed, and its counts."""
-    ran = subprocess.run([sys.executable, os.path.join(repo.TOP, "test"), "small", name], stdin=subprocess.DEVNULL,
+def run_file(words, name):
+    """Runs the trials of a file by a `./test` of its own with the words; gives what it printed, and its counts."""
+    ran = subprocess.run([sys.executable, os.path.join(repo.TOP, "test"), *words, name], stdin=subprocess.DEVNULL,
                          stdout=subprocess.PIPE, stderr=subprocess.STDOUT, text=True, errors="replace")
     counted = LAST_LINE.search(ran.stdout)
     if counted is None:
@@ -154,15 +159,16 @@ def run_file(name):
     return ran.stdout[:counted.start()], tuple(int(count or 0) for count in counted.groups())
 
 
-def run_apart():
-    """Runs all trials at small sizes, each file in a process of its own; gives how many rows passed and failed, and
+def run_apart(is_gate=False, is_small=False):
+    """Runs all trials, each file in a process of its own, several at a time; gives how many rows passed and failed, and
     how many were skipped."""
     if programs.is_outdated():
         return run()
+    words = ["small" if is_small else "trial", *([BY_THE_GATE] if is_gate else [])]
     at_a_time = min(MOST_AT_A_TIME, len(os.sched_getaffinity(0)))
     counts = [(0, 0, 0)]
     with ThreadPoolExecutor(at_a_time) as pool:
-        for running in as_completed([pool.submit(run_file, name) for name in files()]):
+        for running in as_completed([pool.submit(run_file, words, name) for name in files()]):
             text, counted = running.result()
             print(text, end="", flush=True)
             counts.append(counted)

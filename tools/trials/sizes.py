@@ -150,12 +150,15 @@ def by_program(count, program, room, case):
     asked, row = paths.Case(), {"target": str(case.target)}
     asked.moment, asked.demand = MOMENT, case.demand
     commands = [paths.words_of(entry, files, row, asked) for entry in paths.PRINTED]
+    all_words, evidence = paths.words_of("paths", files, row, asked), os.path.join(room, "evidence")
+    commands.append([*all_words, "--evidence", evidence])
+    commands.append(["recheck", *files, evidence, *all_words[len(files) + 1:]])
+    known = {"path": case.report(), "recheck": "check yes\n"}
     for words in (["frame", files[0]], *commands):
         ran = subprocess.run([program, *words], stdin=subprocess.DEVNULL, stdout=subprocess.PIPE,
                              stderr=subprocess.PIPE, text=True, timeout=SECONDS)
         is_right = ran.returncode in (0, 1) and not ran.stderr
-        if words[0] == "path":
-            is_right = is_right and ran.stdout == case.report()
+        is_right = is_right and ran.stdout == known.get(words[0], ran.stdout)
         count.row(is_right, f"{case.title}: {words[0]} ended with status {ran.returncode}: "
                             f"{ran.stderr or ran.stdout[-200:]}")
 
@@ -173,6 +176,13 @@ def by_package(count, case):
         count.row(line_of(answer) == case.answer, f"{case.title}: {line_of(answer)[:200]}")
         says_yes = certpath.check(*asked, answer, demand_lists=case.demand)
         count.row(says_yes, f"{case.title}: the check says no")
+        report = certpath.path(*asked, demand_lists=case.demand)
+        count.row(report == case.report(), f"{case.title}: path gives {report[-200:]}")
+        lines = f"{case.answer}\ncheck yes\n"
+        reasons = certpath.why(*asked, demand_lists=case.demand)
+        count.row(reasons.startswith(lines), f"{case.title}: why gives {reasons[:200]}")
+        of_all = certpath.paths(*asked[:3], asked[-1], demand_lists=case.demand)
+        count.row(of_all.endswith("check yes\n"), f"{case.title}: paths gives {of_all[-200:]}")
     except certpath.Error as error:
         count.row(False, f"{case.title}: {error!r}")
 

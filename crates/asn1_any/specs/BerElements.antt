@@ -1,5 +1,6 @@
--- An element by the rules of BER: of definite length, or of the indefinite form, whose content is BER elements one after
--- the other, up to end-of-contents octets (X.690, 8.1.1, 8.1.3.6 and 8.1.5). The content of a definite element is any octets.
+-- An element by the rules of BER: of definite length, or of the indefinite form, whose content is
+-- BER elements one after the other, up to end-of-contents octets (X.690, 8.1.1, 8.1.3.6 and 8.1.5).
+-- The content of a definite element is any octets.
 use Rattle.std.specs.Prelude.{◌≡◌, ◌≢◌, ℕ, zero, suc, Option, Some, None, List, [], ◌∷◌, ◌++◌, length}
 use Rattle.std.specs.List.{AllByRecursion, concat}
 use Rattle.asn1_core.specs.Elements.{Element}
@@ -24,12 +25,13 @@ pub record AreAll (Kind : List ℕ → Type 0) (octets : List ℕ) : Type 0 wher
   pub each : AllByRecursion Kind pieces
   pub whole : octets ≡ concat pieces
 
--- the octets behind a header: as many as a length says, or elements of this kind and end-of-contents octets
+-- the octets after a header: as many as a length says, or elements of this kind and end-of-contents
+-- octets
 abbrev pub Closes : (List ℕ → Type 0) → Option ℕ → List ℕ → List ℕ → Type 0
 Closes Kind (Some n) content body = (n ≡ length content) × (body ≡ content)
 Closes Kind None content body = AreAll Kind content × (body ≡ content ++ end_of_contents)
 
--- one element; `Kind` says what may stand within an indefinite one
+-- one element; `Kind` says what may be in an indefinite one
 pub record SpellsBer (Kind : List ℕ → Type 0) (octets : List ℕ) (e : BerElement) : Type 0 where
   pub header : List ℕ
   pub body : List ℕ
@@ -38,8 +40,8 @@ pub record SpellsBer (Kind : List ℕ → Type 0) (octets : List ℕ) (e : BerEl
   pub closes : Closes Kind e.head.size e.content body
   pub whole : octets ≡ header ++ body
 
--- an element of at most so many levels that may stand within an indefinite one. Each element takes a level; within a
--- definite one nothing is looked at. Octets 00 00 are no element there, but the end.
+-- an element of at most so many levels that may be in an indefinite one. Each element takes a
+-- level; in a definite one nothing is looked at. Octets 00 00 are no element there, but the end.
 unfoldable pub IsWithin : ℕ → List ℕ → Type 0
 IsWithin zero octets = ⊥
 IsWithin (suc levels) octets = (octets ≢ end_of_contents) × ((e : BerElement) × SpellsBer (IsWithin levels) octets e)
@@ -48,7 +50,8 @@ IsWithin (suc levels) octets = (octets ≢ end_of_contents) × ((e : BerElement)
 abbrev pub definite_element : Element → BerElement
 definite_element e = record { head = record { class = e.class; constructed = e.constructed; tag = e.tag; size = Some (length e.content) }; content = e.content }
 
--- the octets begin with an element of at most so many levels beside its own, and the rest comes after it
+-- the octets begin with an element of at most so many levels beside its own, and the rest comes
+-- after it
 pub record BeginsWithBerElement (levels : ℕ) (octets : List ℕ) (e : BerElement) (rest : List ℕ) : Type 0 where
   pub front : List ℕ
   pub spells : SpellsBer (IsWithin levels) front e

@@ -12,7 +12,7 @@ piece_of element = record { octets = element.octets.now; element = any_of elemen
 abbrev pub pieces_of : List Element → List Piece
 pieces_of elements = map piece_of elements
 
--- the header tells the number of the content octets
+-- the length in the header is the number of the content octets
 abbrev pub HasCountedContent : Element → Type 0
 HasCountedContent element = length_of element.any.header ≡ Definite (length element.any.content.now)
 

@@ -1,5 +1,5 @@
--- A content cut into the elements that stand in it one after the other (X.690, 8.1.1): as many as there are from its front
--- on, and the octets after them, which no element begins.
+-- A content cut into its elements, one after another (X.690, 8.1.1): as many as there are from its
+-- front on, and the octets after them, which no element begins.
 use Rattle.std.specs.Prelude.{◌≡◌, ℕ, ◌+◌, List, [], ◌∷◌, ◌++◌, length}
 use Rattle.std.specs.List.{AllByRecursion, flat_map}
 use Rattle.asn1_core.specs.Elements.{Element}
@@ -14,7 +14,8 @@ pub record Piece : Type 0 where
 abbrev pub IsPiece : Piece → Type 0
 IsPiece piece = SpellsElement piece.octets piece.element
 
--- the pieces' octets and the tail are the content, each piece is an element, and no element begins the tail
+-- the pieces' octets and the tail are the content, each piece is an element, and no element begins
+-- the tail
 pub record IsCutting (content : List ℕ) (pieces : List Piece) (tail : List ℕ) : Type 0 where
   pub whole : content ≡ flat_map (λ piece. piece.octets) pieces ++ tail
   pub each : AllByRecursion IsPiece pieces

@@ -1,5 +1,6 @@
--- An element of definite length as octets: identifier, length and content octets, one after the other (X.690, 8.1.1). The
--- header may be spelled in any of its definite forms (X.690, 8.1.2, and 8.1.3.3 to 8.1.3.5).
+-- An element of definite length as octets: identifier, length and content octets, one after the
+-- other (X.690, 8.1.1). The header may be spelled in any of its definite forms (X.690, 8.1.2, and
+-- 8.1.3.3 to 8.1.3.5).
 use Rattle.std.specs.Prelude.{◌≡◌, ℕ, List, ◌++◌}
 use Rattle.asn1_core.specs.Strict.{Head}
 use Rattle.asn1_core.specs.Elements.{Element, head_of_element, IsElement}

@@ -1,5 +1,6 @@
--- The readers of elements as functions on lists of octets, step by step, with their refusals in the order in which they
--- come. Nothing of the meaning stands here: `proofs/` shows what they accept, in the words of `DerElements` and `BerElements`.
+-- The readers of elements as functions on lists of octets, step by step, with their errors in the
+-- order in which they come. The meaning isn't here: `proofs/` shows what they accept, in the words
+-- of `DerElements` and `BerElements`.
 use Rattle.std.specs.Prelude.{ℕ, zero, suc, ◌-◌, ◌==◌, ◌&&◌, nat_lt, if◌then◌else◌, Option, Some, None, option_map, List, [], ◌∷◌, length, take, drop, Result, Ok, Err}
 use Rattle.std.specs.Result.{result_ok}
 use Rattle.asn1_core.specs.Strict.{Head}
@@ -20,7 +21,7 @@ use Rattle.asn1_any.specs.DerElements.{element_of}
 abbrev pub part_at : ℕ → List ℕ → Answer (List ℕ)
 part_at n octets = if nat_lt (length octets) n then lack (n - length octets) else Ok (take n octets, drop n octets)
 
--- the element of a header, behind that
+-- the element of a header, and the octets after it
 abbrev pub content_at : Head → List ℕ → Answer Element
 content_at h after = then_read (part_at h.size after) (λ content rest. Ok (element_of h content, rest))
 
@@ -31,7 +32,7 @@ der_element_at octets = then_read (header_at octets) content_at
 abbrev pub any_der : List ℕ → Option (Element × List ℕ)
 any_der octets = result_ok (der_element_at octets)
 
--- the octets after some, or a refusal
+-- the octets after some, or an error
 abbrev pub Rest : Type 0
 Rest = Result (List ℕ) (Refusal Error)
 
@@ -41,19 +42,20 @@ end_at [] = None
 end_at (first ∷ []) = None
 end_at (first ∷ second ∷ rest) = if (first == 0) && (second == 0) then Some rest else None
 
--- goes on behind a length: past the octets that it counts, or into the content of one more open element
+-- goes on after a length: past the octets that it counts, or into the content of one more open
+-- element
 abbrev pub past_length : (ℕ → ℕ → List ℕ → Rest) → ℕ → ℕ → Option ℕ → List ℕ → Rest
 past_length go levels nested None after = go levels (suc (suc nested)) after
 past_length go levels nested (Some n) after =
     if nat_lt (length after) n then Err (refusals.Incomplete (needed.Size (n - length after))) else go (suc levels) (suc nested) (drop n after)
 
--- goes on behind a header, where a level is left for its element
+-- goes on after a header, if a level is left for its element
 abbrev pub past_header : (ℕ → ℕ → List ℕ → Rest) → ℕ → ℕ → Answer BerHead → Rest
 past_header go levels nested (Err e) = Err e
 past_header go zero nested (Ok p) = Err (refusals.Error errors.BerMaxDepth)
 past_header go (suc levels) nested (Ok p) = past_length go levels nested p.0.size p.1
 
--- goes on behind end-of-contents octets, or else a header
+-- goes on after end-of-contents octets, or else a header
 abbrev pub past_end : (ℕ → ℕ → List ℕ → Rest) → ℕ → ℕ → List ℕ → Option (List ℕ) → Rest
 past_end go levels nested octets (Some after) = go (suc levels) nested after
 past_end go levels nested octets None = past_header go levels nested (ber_header_at octets)
@@ -63,8 +65,8 @@ abbrev pub past_part : (ℕ → ℕ → List ℕ → Rest) → ℕ → ℕ → L
 past_part go levels zero octets = Ok octets
 past_part go levels (suc nested) octets = past_end go levels nested octets (end_at octets)
 
--- past the contents of as many elements as are open, the innermost first, in at most so many steps; `levels` are left for
--- elements within the innermost
+-- past the contents of as many elements as are open, the innermost first, in at most so many steps;
+-- `levels` are left for elements within the innermost
 unfoldable pub past_contents : ℕ → ℕ → ℕ → List ℕ → Rest
 past_contents zero levels zero octets = Ok octets
 past_contents zero levels (suc nested) octets = Err (refusals.Incomplete (needed.Size 1))
@@ -80,7 +82,7 @@ abbrev pub sized_at : ℕ → BerHead → Option ℕ → List ℕ → Answer Ber
 sized_at levels h (Some n) after = then_read (part_at n after) (λ content rest. Ok (record { head = h; content = content }, rest))
 sized_at levels h None after = indefinite_at h after (past_contents (length after) levels 1 after)
 
--- the element of a header, behind that
+-- the element of a header, and the octets after it
 abbrev pub ber_content_at : ℕ → BerHead → List ℕ → Answer BerElement
 ber_content_at levels h after = sized_at levels h h.size after
 
@@ -88,11 +90,13 @@ ber_content_at levels h after = sized_at levels h h.size after
 unfoldable pub ber_element_at : ℕ → List ℕ → Answer BerElement
 ber_element_at levels octets = then_read (ber_header_at octets) (ber_content_at levels)
 
--- an element of at most so many levels, its own counted: where none is left, the header is read and refused
+-- an element of at most so many levels, its own counted: if none is left, the header is read and
+-- rejected
 abbrev pub ber_levels_at : ℕ → List ℕ → Answer BerElement
 ber_levels_at zero octets = then_read (ber_header_at octets) (λ h after. refuse errors.BerMaxDepth)
 ber_levels_at (suc levels) octets = ber_element_at levels octets
 
--- the BER element that begins the octets, and the octets after it, where there is one of at most 50 levels
+-- the BER element that begins the octets, and the octets after it, where there is one of at most 50
+-- levels
 abbrev pub any_ber : List ℕ → Option (Element × List ℕ)
 any_ber octets = option_map (λ p. (element_of_ber p.0, p.1)) (result_ok (ber_element_at (MAX_RECURSION - 1) octets))

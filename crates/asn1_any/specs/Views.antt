@@ -9,6 +9,6 @@ use Rattle.asn1_any.specs.DerElements.{element_of}
 abbrev pub any_of : Any → Element
 any_of any = element_of (head_of any.header) any.content.now
 
--- the same with the length as its header tells it
+-- class, constructed bit, tag number, content, and the length in the header
 abbrev pub ber_any_of : Any → BerElement
 ber_any_of any = record { head = ber_head_of any.header; content = any.content.now }

@@ -1,4 +1,4 @@
-//! A content cut into its elements.
+//! Cutting a content into its elements.
 
 ghost use Rattle.std.specs.Prelude.{◌≡◌, ◌+◌, ◌^◌, ◌<◌, ◌≤◌, ◌++◌, All, IfOk, IfSome, IfNone, length, min};
 ghost use Rattle.asn1_core.specs.Counts.{attempts};
@@ -11,25 +11,28 @@ use crate::read;
 use asn1_core::{HeaderCount, OutOfMemory};
 use std::alloc::Global;
 
-/// An element with all its octets, those of its header too.
+/// An element with all its octets, those of its header included.
 #[derive(Clone, Copy, Debug, PartialEq, Eq)]
 pub struct Element<'a> {
-    /// Header and content octets.
+    /// Header and content octets, a window of the content that was cut.
     pub octets: &'a [u8],
-    /// The same element, read.
+    /// The element as `Any::from_der` reads it.
     pub any: Any<'a>,
 }
 
-/// A content's elements, in order, and the octets after the last.
+/// The elements of a content, in order, and the octets after the last.
 #[derive(Debug, Drop, PartialEq, Eq)]
 pub struct Elements<'a> {
     /// The elements.
     pub items: Vec<Element<'a>>,
-    /// What is left of the content; no element begins it.
+    /// The octets after the last element; no element begins there. Empty if the content is elements
+    /// to its end.
     pub tail: &'a [u8],
 }
 
-/// Cuts a content into the elements that `Any::from_der` reads one after the other, and the octets at which it reads none.
+/// Cuts a content into the elements that `Any::from_der` reads one after another, and the octets at
+/// which it fails. Malformed octets are no error: they are the tail. The only error is
+/// `OutOfMemory`. Time is linear in the content, memory in the number of elements.
 pub fn cut_elements<'a>(alloc: Global, content: &'a [u8]) -> Result<Elements<'a>, OutOfMemory>
     ensures cut { IfOk result (λ cut. IsCutting content.now (pieces_of cut.items.items) cut.tail.now) }
     ensures lengths { IfOk result (λ cut. All HasCountedContent cut.items.items) }
@@ -39,8 +42,9 @@ pub fn cut_elements<'a>(alloc: Global, content: &'a [u8]) -> Result<Elements<'a>
     cut_elements_counted(alloc, content, &mut count)
 }
 
-/// `cut_elements`, and as many header attempts more in the count as there are elements, and one more for a tail that is not
-/// empty. Where memory runs out, the attempts are at most one for each octet.
+/// Cuts a content as `cut_elements` does, and adds to `count` one header attempt for each element,
+/// and one for a tail that isn't empty. If memory runs out, the attempts are at most one for each
+/// octet.
 pub fn cut_elements_counted<'a>(
     alloc: Global,
     content: &'a [u8],
@@ -67,8 +71,11 @@ pub fn cut_elements_counted<'a>(
     Ok(Elements { items, tail })
 }
 
-/// The element that begins the octets, behind those after it, by one header attempt more in the count. It is none where
-/// `Any::from_der` reads none; of no octets nothing is tried. So a content is cut as `cut_elements_counted` cuts it, one element at
+/// Reads one element from the front of `content` and adds one header attempt to `count`. Returns
+/// `(rest, element)`; `None` if `Any::from_der` fails there, and for no octets, where nothing is
+/// tried.
+///
+/// Called until it returns `None`, it cuts a content as `cut_elements_counted` does, one element at
 /// a time and without memory.
 #[inline(always)]
 pub fn first_element_counted<'a>(

@@ -1,4 +1,5 @@
-//! Elements with their header and content octets, read by DER's rules with a lenient header, or by BER's rules.
+//! Elements with their header and content octets, read by DER's rules with a lenient header, or by
+//! BER's rules.
 #![tactic(auto)]
 
 mod any;

@@ -1,7 +1,7 @@
 //! Reading elements from the front of a slice.
 //!
-//! Each reader gives what a function on lists of `specs/Reading.antt` gives, refusals included; the meaning stands at the
-//! public readers of `Any`.
+//! Each reader returns what a function on lists of `specs/Reading.antt` returns, errors included;
+//! the meaning is in the contracts of the public readers of `Any`.
 
 ghost use Rattle.std.specs.Prelude.{◌≡◌, ◌+◌, ◌-◌, ◌^◌, ◌<◌, length, option_map, IfOk};
 ghost use Rattle.asn1_core.specs.Answers.{Gives};
@@ -13,10 +13,11 @@ ghost use Rattle.asn1_any.specs.Views.{any_of, ber_any_of};
 use crate::any::Any;
 use asn1_core::{Err as Refusal, Error, Header, HeaderCount, Length, Needed, ParseResult};
 
-/// How many elements may lie within one another where the outer ones are of the indefinite form, the outermost counted.
+/// How many elements `Any::from_ber` nests, the outermost counted: 50. Elements in a definite
+/// content don't count.
 pub const MAX_RECURSION: usize = 50;
 
-// The first `n` octets, behind those after them.
+// Reads `n` octets, whatever they are; returns `(rest, octets)`.
 #[inline(always)]
 fn part(n: usize, octets: &[u8]) -> ParseResult<'_, &[u8]>
     ensures { Gives (λ r. (r.1.now, r.0.now)) result (part_at n octets.now) }
@@ -42,7 +43,7 @@ fn definite<'a>(header: Header, after: &'a [u8]) -> ParseResult<'a, Any<'a>>
     Ok((rest, Any { header, content }))
 }
 
-/// An element of definite length.
+/// Reads an element of definite length.
 #[inline(always)]
 #[tactic(auto, unfolding(crate::specs::Reading::der_element_at))]
 pub(crate) fn der_element(i: &[u8]) -> ParseResult<'_, Any<'_>>
@@ -53,7 +54,7 @@ pub(crate) fn der_element(i: &[u8]) -> ParseResult<'_, Any<'_>>
     definite(header, after)
 }
 
-/// An element of definite length, and one header attempt more in the count.
+/// Reads an element of definite length, and adds one header attempt to `count`.
 #[inline(always)]
 #[tactic(auto, unfolding(crate::specs::Reading::der_element_at))]
 pub(crate) fn der_element_counted<'a>(
@@ -79,8 +80,9 @@ fn after_end(octets: &[u8]) -> Option<&[u8]>
     }
 }
 
-// The octets after the end-of-contents octets of an element of the indefinite form, whose content begins here (X.690,
-// 8.1.3.6). `nested` elements are open, and `levels` are left for those within the innermost.
+// The octets after the end-of-contents octets of an element of the indefinite form, whose content
+// begins here (X.690, 8.1.3.6). `nested` elements are open, and `levels` are left for those within
+// the innermost.
 fn after_contents(octets: &[u8], within: usize) -> Result<&[u8], Refusal<Error>>
     requires { within + 1 < 2 ^ 64 }
     ensures { Gives (λ r. r.now) result (past_contents (length octets.now) within 1 octets.now) }
@@ -117,7 +119,8 @@ fn after_contents(octets: &[u8], within: usize) -> Result<&[u8], Refusal<Error>>
     Ok(rest)
 }
 
-// The content of an element of this header, of the indefinite form, behind the octets after the element.
+// Reads the content of an element with this header, of the indefinite form; returns `(rest,
+// element)`.
 fn indefinite<'a>(header: Header, after: &'a [u8], levels: usize) -> ParseResult<'a, Any<'a>>
     requires { levels + 1 < 2 ^ 64 }
     ensures { Gives (λ r. (ber_any_of r.1, r.0.now)) result
@@ -128,7 +131,8 @@ fn indefinite<'a>(header: Header, after: &'a [u8], levels: usize) -> ParseResult
     Ok((rest, Any { header, content }))
 }
 
-/// An element of definite length or of the indefinite form, with at most so many levels within it.
+/// Reads an element of definite length or of the indefinite form, with at most `levels` nested in
+/// it.
 #[tactic(auto, unfolding(crate::specs::Reading::ber_element_at))]
 pub(crate) fn ber_element(i: &[u8], levels: usize) -> ParseResult<'_, Any<'_>>
     requires { levels + 1 < 2 ^ 64 }

@@ -1,16 +1,19 @@
--- The lenient spellings of a header: the high form of a tag number may be longer than need be and stand for a number
--- below 31, a length may be longer than need be, and BER has the indefinite form (X.690, 8.1.2 and 8.1.3).
+-- The lenient spellings of a header: the high form of a tag number may be longer than need be and
+-- be of a number below 31, a length may be longer than need be, and BER has the indefinite form
+-- (X.690, 8.1.2 and 8.1.3).
 use Rattle.std.specs.Prelude.{◌≡◌, ℕ, ◌+◌, ◌^◌, ◌<◌, ◌⊎◌, Bool, IsTrue, Option, Some, None, IfSome, List, [], ◌∷◌, ◌++◌, length}
 use Rattle.asn1_core.specs.Digits.{AreDigits, continued}
 use Rattle.asn1_core.specs.Strict.{Head, lead}
 
--- the low form for numbers to 30, or the high form with any digits of the number (X.690, 8.1.2.2 to 8.1.2.4)
+-- the low form for numbers to 30, or the high form with any digits of the number (X.690, 8.1.2.2 to
+-- 8.1.2.4)
 abbrev pub SpellsIdentifier : List ℕ → ℕ → Bool → ℕ → Type 0
 SpellsIdentifier octets class constructed tag =
     ((tag < 31) × (octets ≡ lead class constructed tag ∷ []))
     ⊎ ((ds : List ℕ) × AreDigits 128 ds tag × (octets ≡ lead class constructed 31 ∷ continued ds))
 
--- the short form, or the long form with 1 to 126 octets: a first octet ff is never used (X.690, 8.1.3.4 and 8.1.3.5)
+-- the short form, or the long form with 1 to 126 octets: a first octet ff is never used
+-- (X.690, 8.1.3.4 and 8.1.3.5)
 abbrev pub SpellsLength : List ℕ → ℕ → Type 0
 SpellsLength octets n =
     ((n < 128) × (octets ≡ n ∷ []))

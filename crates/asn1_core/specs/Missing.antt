@@ -1,4 +1,4 @@
--- What `Incomplete` says: with fewer octets than it tells, the octets still begin with no header.
+-- What `Incomplete` says: with fewer octets than its number, the octets still begin with no header.
 use Rattle.std.specs.Prelude.{◌≡◌, ℕ, ◌<◌, List, ◌++◌, length}
 use Rattle.asn1_core.specs.Strict.{Head, IsHead, strict_header}
 use Rattle.asn1_core.specs.Lenient.{SpellsHeader, BerHead, IsBerHead, SpellsBerHeader}
@@ -19,7 +19,8 @@ HasHeader octets = (h : Head) × (front : List ℕ) × (rest : List ℕ) × IsHe
 abbrev pub HasBerHeader : List ℕ → Type 0
 HasBerHeader octets = (h : BerHead) × (front : List ℕ) × (rest : List ℕ) × IsBerHead h × SpellsBerHeader front h × (octets ≡ front ++ rest)
 
--- where octets are missing, their number is told, and what was wanted never begins the octets with fewer than so many more
+-- if octets are missing, their number is given, and what was wanted never begins the octets with
+-- fewer than so many more
 abbrev pub IsMissing : (List ℕ → Type 0) → List ℕ → Refusal Error → Type 0
 IsMissing Begins octets (refusals.Incomplete needed.Unknown) = ⊥
 IsMissing Begins octets (refusals.Incomplete (needed.Size n)) = (0 < n) × ((more : List ℕ) → length more < n → ¬ Begins (octets ++ more))

@@ -1,5 +1,6 @@
--- The header readers as functions on lists of octets, octet by octet, with their refusals in the order in which they
--- come. Nothing of the meaning stands here: `proofs/` shows what they accept, in the words of `Strict` and `Lenient`.
+-- The header readers as functions on lists of octets, octet by octet, with their errors in the
+-- order in which they come. The meaning isn't here: `proofs/` shows what they accept, in the words
+-- of `Strict` and `Lenient`.
 use Rattle.std.specs.Prelude.{ℕ, ◌+◌, ◌-◌, ◌*◌, ◌/◌, ◌%◌, ◌^◌, ◌==◌, ◌&&◌, ◌||◌, nat_lt, not, Bool, true, if◌then◌else◌, Option, Some, None, List, [], ◌∷◌, length, take, drop, Ok}
 use Rattle.std.specs.Int.Digits.{number_from_digits}
 use Rattle.asn1_core.specs.Strict.{Head}

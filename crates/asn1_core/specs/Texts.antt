@@ -1,4 +1,5 @@
--- What errors print: an error the name of its case, a reader's refusal what it is and then the error.
+-- What errors print: an error the name of its case, a reader's error what it is and then the error
+-- in it.
 use Rattle.std.specs.Prelude.{ℕ, List, ◌++◌, Option, Some, codes, decimal}
 use Rattle.std.specs.Fmt.{◌++?◌}
 use Rattle.asn1_core.specs.declared.class.Class.{Class}

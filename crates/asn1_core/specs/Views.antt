@@ -24,7 +24,7 @@ abbrev pub definite_size : Length → Option ℕ
 definite_size (Definite n) = Some n
 definite_size Indefinite = None
 
--- the number of content octets, 0 standing for the indefinite form
+-- the number of content octets, 0 for the indefinite form
 abbrev pub size_of : Length → ℕ
 size_of (Definite n) = n
 size_of Indefinite = 0
@@ -72,7 +72,8 @@ abbrev pub ClassOf : {E : Type 0} → ℕ → Result Class E → Type 0
 ClassOf number (Ok class) = number ≡ class_number class
 ClassOf number (Err e) = 3 < number
 
--- the forms of the identifier that every element of the tag number has: sequences and sets are constructed (X.690, 8.9.1 and 8.11.1)
+-- the forms of the identifier that every element of the tag number has: sequences and sets are
+-- constructed (X.690, 8.9.1 and 8.11.1)
 abbrev pub is_constructed_tag : ℕ → Bool
 is_constructed_tag tag = tag == 16 || tag == 17
 
@@ -80,7 +81,7 @@ is_constructed_tag tag = tag == 16 || tag == 17
 abbrev pub IsSimpleHeader : Tag → Header → Type 0
 IsSimpleHeader tag h = h ≡ record { class = Universal; constructed = is_constructed_tag tag.0; tag = tag; length = Definite 0 }
 
--- equality of headers: class, constructed bit and tag number are the same, whatever the lengths
+-- equality of headers: class, constructed bit and tag number are equal, whatever the lengths
 abbrev pub same_kind : Header → Header → Bool
 same_kind = eq_of_both (on (λ h. class_number h.class) nat_eq) (eq_of_both (on (λ h. h.constructed) beq) (on (λ h. h.tag.0) nat_eq))
 
@@ -90,6 +91,6 @@ pub record Identity : Type 0 where
   pub constructed : Bool
   pub tag : ℕ
 
--- the same of what the reader of the code holds
+-- what the code's reader of identifier octets holds (X.690, 8.1.2)
 abbrev pub identity_of : Identifier → Identity
 identity_of i = record { class = class_number i.class; constructed = i.constructed; tag = i.tag }

@@ -14,27 +14,31 @@ pub enum Class {
     Universal = 0,
     /// Tags of one application.
     Application = 1,
-    /// Tags whose meaning hangs on where they stand.
+    /// Tags whose meaning depends on the type that contains them, as `[0]` in a certificate.
     ContextSpecific = 2,
     /// Tags of one enterprise.
     Private = 3,
 }
 
-/// A number above 3 is no class.
+/// A number above 3, which is no class.
 #[derive(Clone, Copy, Debug, PartialEq, Eq)]
 pub struct BerClassFromIntError(());
 
 impl Class {
-    /// The number of the class of the standard's own types.
+    /// 0, the number of the class of the standard's own types.
     pub const UNIVERSAL: u8 = 0;
-    /// The number of the class of one application's types.
+    /// 1, the number of the class of one application's types.
     pub const APPLICATION: u8 = 1;
-    /// The number of the class whose meaning hangs on where a tag stands.
+    /// 2, the number of the class whose tags depend on the type that contains them.
     pub const CONTEXT_SPECIFIC: u8 = 2;
-    /// The number of the class of one enterprise's types.
+    /// 3, the number of the class of one enterprise's types.
     pub const PRIVATE: u8 = 3;
 
-    /// That the class is the wanted one; another is `UnexpectedClass`.
+    /// Returns `Ok(())` if the class is `class`.
+    ///
+    /// # Errors
+    ///
+    /// `UnexpectedClass` with both classes if it is another.
     pub fn assert_eq(&self, class: Class) -> Result<(), error::Error>
         ensures ok { IsOk result ↔ (self.now ≡ class) }
         ensures err { IfErr result (λ e. e ≡ UnexpectedClass (Some class) self.now) }
@@ -50,7 +54,8 @@ impl Class {
     }
 }
 
-/// The class of a number from 0 to 3 (X.690, table 1).
+/// Converts a number from 0 to 3 (X.690, table 1): bits 8 and 7 of an identifier's first octet. A
+/// greater number is `BerClassFromIntError`.
 impl TryFrom<u8> for Class {
     type Error = BerClassFromIntError;
 

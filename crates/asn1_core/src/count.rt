@@ -1,9 +1,10 @@
-//! Counting how often a header was tried.
+//! A count of header attempts, by which the cost of a reader is stated.
 
 ghost use Rattle.std.specs.Prelude.{◌≡◌, ◌+◌, ◌-◌, ◌^◌, ◌<◌, min};
 
-/// How many header attempts were made: each call of a header reader is one. It counts to 2^128 - 1, so that no input that
-/// fits memory is too long for the calls that raise it.
+/// How many header attempts were made: each call of a header reader is one, whether it succeeds or
+/// not. It counts to 2^128 - 1, so no input that fits memory is too long for it. It takes 16
+/// octets.
 #[derive(Debug, Drop)]
 pub struct HeaderCount {
     raised: u128,
@@ -12,14 +13,14 @@ pub struct HeaderCount {
 impl HeaderCount {
     ghost use Rattle.asn1_core.specs.Counts.{attempts};
 
-    /// A count of none.
+    /// Returns a count of 0.
     pub fn new() -> HeaderCount
         ensures { attempts result ≡ 0 }
     {
         HeaderCount { raised: 0 }
     }
 
-    /// The attempts so far; the greatest `u64` where there were more.
+    /// Returns the attempts so far, or `u64::MAX` if there were more.
     pub fn get(&self) -> u64
         ensures { result ≡ min (attempts self.now) (2 ^ 64 - 1) }
     {
@@ -30,7 +31,7 @@ impl HeaderCount {
         }
     }
 
-    /// One attempt more.
+    /// Adds one attempt.
     pub(crate) fn raise(&mut self)
         requires { attempts self.old + 1 < 2 ^ 128 }
         ensures { attempts self.new ≡ attempts self.old + 1 }

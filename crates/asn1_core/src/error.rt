@@ -1,4 +1,4 @@
-//! Why octets are refused.
+//! The errors of all readers.
 
 use crate::class::Class;
 use crate::tag::Tag;
@@ -7,19 +7,20 @@ use std::alloc::{AllocError, AllocFailed};
 use std::str::Utf8Error;
 use std::{error, fmt};
 
-/// How many octets are missing.
+/// How many octets are missing when an input ends early.
 #[derive(Clone, Copy, Debug, PartialEq, Eq)]
 pub enum Needed {
-    /// Some.
+    /// At least one; the number isn't known.
     Unknown,
-    /// At least so many.
+    /// At least this number of octets.
     Size(usize),
 }
 
-/// The reader that failed, where no rule of the encoding names the fault.
+/// The reader that failed, if no rule of the encoding names the fault. The names are those of the
+/// `nom` crate.
 #[derive(Clone, Copy, Debug, PartialEq, Eq)]
 pub enum ErrorKind {
-    /// No alternative fits.
+    /// No alternative matched.
     Alt,
     /// An optional part is incomplete.
     Complete,
@@ -27,94 +28,98 @@ pub enum ErrorKind {
     Eof,
     /// A reader that always fails.
     Fail,
-    /// A repetition of none or more.
+    /// A repetition of none or more: a value in it took no octet, so the repetition would not end.
     Many0,
-    /// A repetition of one or more.
+    /// A repetition of one or more found none.
     Many1,
-    /// A conversion of what was read.
+    /// What was read couldn't be converted.
     MapRes,
-    /// A tag.
+    /// A tag isn't the wanted one.
     Tag,
 }
 
-/// The rule of DER that octets of BER break (X.690, 10 and 11).
+/// The rule of DER that an element breaks though BER allows it (X.690, 10 and 11).
 #[derive(Clone, Copy, Debug, PartialEq, Eq)]
 pub enum DerConstraint {
-    /// The indefinite form (X.690, 10.1).
+    /// The indefinite form of length, `80` (X.690, 10.1).
     IndefiniteLength,
-    /// The constructed form of a string (X.690, 10.2).
+    /// A string in constructed form (X.690, 10.2).
     Constructed,
-    /// A primitive form where a constructed one is due.
+    /// A primitive element of a type that DER writes constructed.
     NotConstructed,
     /// A time without its zone (X.690, 11.7 and 11.8).
     MissingTimeZone,
     /// A time without its seconds (X.690, 11.7 and 11.8).
     MissingSeconds,
-    /// An unused bit that is 1 (X.690, 11.2.1).
+    /// An unused bit of a bit string that is 1 (X.690, 11.2.1).
     UnusedBitsNotZero,
-    /// A boolean that is neither 00 nor ff (X.690, 11.1).
+    /// A boolean whose octet is neither `00` nor `ff` (X.690, 11.1).
     InvalidBoolean,
-    /// An integer without octets (X.690, 8.3.1).
+    /// An integer without content octets (X.690, 8.3.1).
     IntegerEmpty,
-    /// An integer with nine leading bits 0 (X.690, 8.3.2).
+    /// An integer whose first nine bits are 0, as `00 05` (X.690, 8.3.2).
     IntegerLeadingZeroes,
-    /// An integer with nine leading bits 1 (X.690, 8.3.2).
+    /// An integer whose first nine bits are 1, as `ff 80` (X.690, 8.3.2).
     IntegerLeadingFF,
 }
 
-/// Why octets are refused.
+/// Why octets are rejected: the error of all readers. It takes no memory.
 #[derive(Clone, Copy, Debug, PartialEq, Eq)]
 pub enum Error {
-    /// The value is of another type than the one asked for.
+    /// The value is of another type than the one that was asked for.
     BerTypeError,
-    /// The value is none of its type.
+    /// The content is no value of its type.
     BerValueError,
-    /// The length octets, or the content's length, are not allowed here.
+    /// The length octets are not allowed here (X.690, 8.1.3), or the type has no content of this
+    /// length.
     InvalidLength,
-    /// The value is none of its type, for a reason that is told in words.
+    /// The content is no value of its type; `msg` says why, in English.
     InvalidValue {
         tag: Tag,
         msg: &'static str,
     },
-    /// The identifier octets are cut or not allowed here.
+    /// The identifier octets end early, are longer than need be, or hold a number that passes 32
+    /// bits (X.690, 8.1.2).
     InvalidTag,
     /// No reader is known for this tag number.
     UnknownTag,
-    /// Another tag number was wanted.
+    /// The element has the tag number `actual`. `expected` is the wanted one, `None` if several
+    /// would do.
     UnexpectedTag {
         expected: Option<Tag>,
         actual: Tag,
     },
-    /// Another class was wanted.
+    /// The element has the class `actual`. `expected` is the wanted one, `None` if several would
+    /// do.
     UnexpectedClass {
         expected: Option<Class>,
         actual: Class,
     },
-    /// The indefinite form stands where a definite length is wanted.
+    /// The length is in the indefinite form, and a definite one is wanted (X.690, 8.1.3.6).
     IndefiniteLengthUnexpected,
-    /// A primitive element stands where a constructed one is wanted.
+    /// The element is primitive, and a constructed one is wanted (X.690, 8.1.2.5).
     ConstructExpected,
-    /// A constructed element stands where a primitive one is wanted.
+    /// The element is constructed, and a primitive one is wanted (X.690, 8.1.2.5).
     ConstructUnexpected,
-    /// The integer does not fit its type.
+    /// The integer is too large for the Rust type.
     IntegerTooLarge,
-    /// The integer is negative, and its type has no negative ones.
+    /// The integer is negative, and the Rust type is unsigned.
     IntegerNegative,
-    /// Elements are nested too deeply.
+    /// Elements are nested more deeply than the reader's limit.
     BerMaxDepth,
-    /// The string has a character that its type lacks.
+    /// The string has a character outside its type's set (X.680, 41), or isn't UTF-8.
     StringInvalidCharset,
-    /// The text is no date and time.
+    /// The fields are no date and time of the calendar.
     InvalidDateTime,
-    /// BER allows the octets, DER does not.
+    /// BER allows the octets, DER does not; the constraint says which rule is broken.
     DerConstraintFailed(DerConstraint),
-    /// Octets are missing.
+    /// The input ends early, or octets are missing within a whole element.
     Incomplete(Needed),
-    /// The form is known and not read.
+    /// The form is known, and no reader for it exists.
     Unsupported,
-    /// A general reader failed.
+    /// A general reader failed, as a repetition.
     NomError(ErrorKind),
-    /// Memory ran out.
+    /// An allocation failed.
     OutOfMemory,
 }
 
@@ -141,21 +146,22 @@ impl fmt::Display for ErrorKind {
 impl Error {
     ghost use Rattle.std.specs.Prelude.{◌≡◌};
 
-    /// The value is none of its type; `msg` says why.
+    /// Returns `InvalidValue` for this tag number; `msg` says in English what is wrong with the
+    /// value.
     pub fn invalid_value(tag: Tag, msg: &'static str) -> Error
         ensures { result ≡ Error.InvalidValue tag msg.entry }
     {
         Error::InvalidValue { tag, msg }
     }
 
-    /// Another class was wanted; `expected` is none where several would do.
+    /// Returns `UnexpectedClass`; `expected` is the wanted class, `None` if several would do.
     pub fn unexpected_class(expected: Option<Class>, actual: Class) -> Error
         ensures { result ≡ Error.UnexpectedClass expected actual }
     {
         Error::UnexpectedClass { expected, actual }
     }
 
-    /// Another tag number was wanted; `expected` is none where several would do.
+    /// Returns `UnexpectedTag`; `expected` is the wanted tag number, `None` if several would do.
     pub fn unexpected_tag(expected: Option<Tag>, actual: Tag) -> Error
         ensures { result ≡ Error.UnexpectedTag expected actual }
     {
@@ -163,7 +169,7 @@ impl Error {
     }
 }
 
-/// An error prints the name of its case.
+/// Writes the name of the case, as `InvalidLength`, without its fields.
 impl fmt::Display for Error {
     ghost use Rattle.std.specs.Prelude.{Some};
     ghost use Rattle.asn1_core.specs.Texts.{error_text};
@@ -254,7 +260,7 @@ impl From<ErrorKind> for Error {
     }
 }
 
-/// Missing octets become an error; an error stays as it is.
+/// Missing octets become `Error::Incomplete`; an error or a failure gives the error in it.
 impl From<outcome::Err<Error>> for Error {
     ghost use Rattle.std.specs.Prelude.{◌≡◌};
     ghost use Rattle.asn1_core.specs.Conversions.{error_of};

@@ -1,4 +1,4 @@
-//! Headers of elements: identifier and length octets.
+//! Headers of elements: identifier and length octets (X.690, 8.1.2 and 8.1.3).
 
 ghost use Rattle.std.specs.Prelude.{◌≡◌, ◌+◌, ◌^◌, ◌<◌, ◌≤◌, ◌↔◌, length, not, ℕ, List, ◌++◌, IsTrue, IsOk, IfOk, IfErr, IsOkAnd, IsSome, IfSome, Some};
 ghost use Rattle.std.proofs.Common.{rules};
@@ -13,9 +13,10 @@ use crate::outcome::ParseResult;
 use crate::read;
 use crate::tag::Tag;
 
-/// The header of an element: its class, its constructed bit, its tag number and its length (X.690, 8.1.1).
+/// The header of an element: its class, its constructed bit, its tag number and its length
+/// (X.690, 8.1.1). It holds no octets, so one header may come from several spellings.
 ///
-/// Two headers are equal where class, constructed bit and tag number are; the length plays no part.
+/// Two headers are equal if class, constructed bit and tag number are; the length isn't compared.
 #[derive(Clone, Copy, Debug)]
 pub struct Header {
     class: Class,
@@ -33,7 +34,7 @@ impl Header {
     ghost use Rattle.asn1_core.specs.Reading.{header_at, ber_header_at, strict_at};
     ghost use Rattle.asn1_core.specs.Views.{IsDefinite, is_constructed_tag, head_of, ber_head_of, class_of, constructed_of, tag_of, length_of, with_class_of, with_constructed_of, with_tag_of, with_length_of};
 
-    /// A header of these parts.
+    /// Returns the header of these parts. Any parts are accepted, also those that no element has.
     pub fn new(class: Class, constructed: bool, tag: Tag, length: Length) -> Header
         ensures class { class_of result ≡ class }
         ensures constructed { constructed_of result ≡ constructed }
@@ -48,7 +49,8 @@ impl Header {
         }
     }
 
-    /// A universal header of length 0, constructed for the tag numbers of sequence and set and else primitive.
+    /// Returns a universal header of length 0: constructed for the tag numbers 16 and 17 (SEQUENCE
+    /// and SET), primitive for all others.
     pub fn new_simple(tag: Tag) -> Header
         ensures class { class_of result ≡ Class.Universal }
         ensures constructed { constructed_of result ≡ is_constructed_tag tag.0 }
@@ -59,14 +61,14 @@ impl Header {
         Header::new(Class::Universal, constructed, tag, Length::Definite(0))
     }
 
-    /// The header with another class.
+    /// Returns the header with another class.
     pub fn with_class(self, class: Class) -> Header
         ensures { result ≡ with_class_of self class }
     {
         Header { class, ..self }
     }
 
-    /// The header with another constructed bit.
+    /// Returns the header with another constructed bit.
     pub fn with_constructed(self, constructed: bool) -> Header
         ensures { result ≡ with_constructed_of self constructed }
     {
@@ -76,28 +78,34 @@ impl Header {
         }
     }
 
-    /// The header with another tag number.
+    /// Returns the header with another tag number.
     pub fn with_tag(self, tag: Tag) -> Header
         ensures { result ≡ with_tag_of self tag }
     {
         Header { tag, ..self }
     }
 
-    /// The header with another length.
+    /// Returns the header with another length.
     pub fn with_length(self, length: Length) -> Header
         ensures { result ≡ with_length_of self length }
     {
         Header { length, ..self }
     }
 
-    /// Reads a header by the rules of BER (X.690, 8.1.2 and 8.1.3) from the front of the octets.
+    /// Reads a header by the rules of BER (X.690, 8.1.2 and 8.1.3) from the front of `i`. Returns
+    /// `(rest, header)`.
     ///
-    /// A definite length may have any number of length octets from 1 to 126 and has to fit `usize`; the indefinite form is
-    /// for constructed elements. A tag number is below 2^32, and its high form may be longer than need be.
+    /// A definite length has 1 to 126 length octets in its long form, leading zeros allowed, and
+    /// fits `usize`; the indefinite form is for constructed elements. A tag number is below 2^32,
+    /// and its high form may be longer than need be. For example `30 80` is a SEQUENCE's header of
+    /// indefinite length. It takes no memory, and time linear in the header's octets.
     ///
-    /// Refusals, in their order: `Incomplete` where no octet is left; `InvalidTag` where a high tag number is cut or too
-    /// large; `Incomplete` where the length is cut; `InvalidLength` where it begins with ff or is too large;
-    /// `ConstructExpected` for the indefinite form on a primitive element.
+    /// # Errors
+    ///
+    /// The first that applies: `Incomplete` if `i` is empty; `InvalidTag` if a high tag number ends
+    /// early or passes 32 bits; `Incomplete` if the length ends early; `InvalidLength` if it begins
+    /// with `ff` or doesn't fit `usize`; `ConstructExpected` for the indefinite form on a primitive
+    /// element.
     #[inline]
     pub fn from_ber(i: &[u8]) -> ParseResult<'_, Header>
         ensures found { IfOk result (λ r. IsBerHead (ber_head_of r.1)
@@ -112,11 +120,19 @@ impl Header {
         read::ber_header(i)
     }
 
-    /// Reads a header of definite length from the front of the octets, in any of its forms: the tag number's high form and
-    /// the length may be longer than need be (X.690, 8.1.2 and 8.1.3).
+    /// Reads a header of definite length, in any of its forms, from the front of `i` (X.690, 8.1.2
+    /// and 8.1.3). Returns `(rest, header)`.
     ///
-    /// Refusals are those of `from_ber`, but for the indefinite form: it is `DerConstraintFailed(IndefiniteLength)`
-    /// (X.690, 10.1).
+    /// It is lenient: the high form of the tag number and the length may be longer than need be, as
+    /// in `30 81 03`, a SEQUENCE's header of length 3. `strict` rejects these. It takes no memory,
+    /// and time linear in the header's octets.
+    ///
+    /// # Errors
+    ///
+    /// The first that applies: `Incomplete` if `i` is empty; `InvalidTag` if a high tag number ends
+    /// early or passes 32 bits; `Incomplete` if the length ends early; `InvalidLength` if it begins
+    /// with `ff` or doesn't fit `usize`; `DerConstraintFailed(IndefiniteLength)` for the indefinite
+    /// form (X.690, 10.1).
     #[inline]
     pub fn from_der(i: &[u8]) -> ParseResult<'_, Header>
         ensures found { IfOk result (λ r. IsHead (head_of r.1)
@@ -132,11 +148,16 @@ impl Header {
         read::definite_header(i)
     }
 
-    /// Reads a header of shortest form from the front of the octets (X.690, 8.1.2.2, 8.1.2.4.2 and 10.1).
+    /// Reads a header in its one shortest form from the front of `i` (X.690, 8.1.2.2, 8.1.2.4.2 and
+    /// 10.1), as `30 03`. Returns `(rest, header)`. It takes no memory, and time linear in the
+    /// header's octets.
     ///
-    /// Refusals, in their order: those of the identifier as in `from_ber`; `InvalidTag` where its high form is longer than
-    /// need be or stands for a number below 31; those of the length as in `from_der`; `InvalidLength` where the length is
-    /// longer than need be.
+    /// # Errors
+    ///
+    /// The first that applies: `Incomplete` if `i` is empty; `InvalidTag` if a high tag number ends
+    /// early, passes 32 bits, is longer than need be or is below 31; `Incomplete` if the length
+    /// ends early; `InvalidLength` if it begins with `ff`, doesn't fit `usize` or is longer than
+    /// need be; `DerConstraintFailed(IndefiniteLength)` for the indefinite form.
     #[inline]
     pub fn strict(i: &[u8]) -> ParseResult<'_, Header>
         ensures found { IfOk result (λ r. IsHead (head_of r.1)
@@ -152,7 +173,8 @@ impl Header {
         read::strict_header(i)
     }
 
-    /// The octets of the header in shortest form (X.690, 8.1.2.2, 8.1.2.4.2 and 10.1); none for the indefinite form.
+    /// Returns the octets of the header in its shortest form (X.690, 8.1.2.2, 8.1.2.4.2 and 10.1),
+    /// at most 15; `None` for the indefinite form. It takes no memory.
     pub fn strict_octets(&self) -> Option<HeaderOctets>
         ensures definite { IsSome result ↔ IsDefinite (length_of self.now) }
         ensures octets { IfSome result (λ octets. octets ≡ strict_header (head_of self.now)) }
@@ -166,7 +188,7 @@ impl Header {
         Some(octets)
     }
 
-    /// `from_der`, and one header attempt more in the count.
+    /// Reads what `from_der` reads, with its errors, and adds one header attempt to `count`.
     #[inline]
     pub fn from_der_counted<'a>(i: &'a [u8], count: &mut HeaderCount) -> ParseResult<'a, Header>
         requires { attempts count.old + 1 < 2 ^ 128 }
@@ -185,7 +207,7 @@ impl Header {
         Header::from_der(i)
     }
 
-    /// `strict`, and one header attempt more in the count.
+    /// Reads what `strict` reads, with its errors, and adds one header attempt to `count`.
     #[inline]
     pub fn strict_counted<'a>(i: &'a [u8], count: &mut HeaderCount) -> ParseResult<'a, Header>
         requires { attempts count.old + 1 < 2 ^ 128 }
@@ -200,53 +222,54 @@ impl Header {
         ensures memory { IfErr result TakesNoMemory }
         ensures exact { Gives (λ r. (head_of r.1, r.0.now)) result (strict_at i.now) }
     {
+        let read = Header::strict(i);
         count.raise();
-        Header::strict(i)
+        read
     }
 
-    /// The class.
+    /// Returns the class.
     pub fn class(&self) -> Class
         ensures { result ≡ class_of self.now }
     {
         self.class
     }
 
-    /// The constructed bit.
+    /// Returns the constructed bit.
     pub fn constructed(&self) -> bool
         ensures { result ≡ constructed_of self.now }
     {
         self.constructed
     }
 
-    /// The tag number.
+    /// Returns the tag number.
     pub fn tag(&self) -> Tag
         ensures { result ≡ tag_of self.now }
     {
         self.tag
     }
 
-    /// The length of the content.
+    /// Returns the length of the content: a number of octets, or the indefinite form.
     pub fn length(&self) -> Length
         ensures { result ≡ length_of self.now }
     {
         self.length
     }
 
-    /// Whether the constructed bit is 0.
+    /// Returns whether the constructed bit is 0.
     pub fn is_primitive(&self) -> bool
         ensures { result ≡ not (constructed_of self.now) }
     {
         !self.constructed
     }
 
-    /// Whether the constructed bit is 1.
+    /// Returns whether the constructed bit is 1.
     pub fn is_constructed(&self) -> bool
         ensures { result ≡ constructed_of self.now }
     {
         self.constructed
     }
 
-    /// That the class is the wanted one; another is `UnexpectedClass`.
+    /// Returns `Ok(())` if the class is `class`, else `UnexpectedClass` with both classes.
     pub fn assert_class(&self, class: Class) -> Result<(), Error>
         ensures ok { IsOk result ↔ (class_of self.now ≡ class) }
         ensures err { IfErr result (λ e. e ≡ Error.UnexpectedClass (Some class) (class_of self.now)) }
@@ -254,7 +277,7 @@ impl Header {
         self.class.assert_eq(class)
     }
 
-    /// That the tag number is the wanted one; another is `UnexpectedTag`.
+    /// Returns `Ok(())` if the tag number is `tag`, else `UnexpectedTag` with both numbers.
     pub fn assert_tag(&self, tag: Tag) -> Result<(), Error>
         ensures ok { IsOk result ↔ (tag_of self.now ≡ tag) }
         ensures err { IfErr result (λ e. e ≡ Error.UnexpectedTag (Some tag) (tag_of self.now)) }
@@ -262,7 +285,7 @@ impl Header {
         self.tag.assert_eq(tag)
     }
 
-    /// That the constructed bit is 0; else `ConstructUnexpected`.
+    /// Returns `Ok(())` if the constructed bit is 0, else `ConstructUnexpected`.
     pub fn assert_primitive(&self) -> Result<(), Error>
         ensures ok { IsOk result ↔ IsTrue (not (constructed_of self.now)) }
         ensures err { IfErr result (λ e. e ≡ Error.ConstructUnexpected) }
@@ -274,7 +297,7 @@ impl Header {
         }
     }
 
-    /// That the constructed bit is 1; else `ConstructExpected`.
+    /// Returns `Ok(())` if the constructed bit is 1, else `ConstructExpected`.
     pub fn assert_constructed(&self) -> Result<(), Error>
         ensures ok { IsOk result ↔ IsTrue (constructed_of self.now) }
         ensures err { IfErr result (λ e. e ≡ Error.ConstructExpected) }
@@ -286,35 +309,35 @@ impl Header {
         }
     }
 
-    /// Whether the class is `Universal`.
+    /// Returns whether the class is `Universal`.
     pub fn is_universal(&self) -> bool
         ensures { IsTrue result ↔ (class_of self.now ≡ Class.Universal) }
     {
         self.class == Class::Universal
     }
 
-    /// Whether the class is `Application`.
+    /// Returns whether the class is `Application`.
     pub fn is_application(&self) -> bool
         ensures { IsTrue result ↔ (class_of self.now ≡ Class.Application) }
     {
         self.class == Class::Application
     }
 
-    /// Whether the class is `ContextSpecific`.
+    /// Returns whether the class is `ContextSpecific`.
     pub fn is_contextspecific(&self) -> bool
         ensures { IsTrue result ↔ (class_of self.now ≡ Class.ContextSpecific) }
     {
         self.class == Class::ContextSpecific
     }
 
-    /// Whether the class is `Private`.
+    /// Returns whether the class is `Private`.
     pub fn is_private(&self) -> bool
         ensures { IsTrue result ↔ (class_of self.now ≡ Class.Private) }
     {
         self.class == Class::Private
     }
 
-    /// That the number of content octets is told; the indefinite form is `IndefiniteLengthUnexpected`.
+    /// Returns `Ok(())` if the length is a number of octets, else `IndefiniteLengthUnexpected`.
     pub fn assert_definite(&self) -> Result<(), Error>
         ensures ok { IsOk result ↔ IsDefinite (length_of self.now) }
         ensures err { IfErr result (λ e. e ≡ Error.IndefiniteLengthUnexpected) }
@@ -323,7 +346,7 @@ impl Header {
     }
 }
 
-/// The header of `new_simple`.
+/// The universal header of a tag number with length 0, as `new_simple` makes it.
 impl From<Tag> for Header {
     ghost use Rattle.asn1_core.specs.Views.{IsSimpleHeader};
 

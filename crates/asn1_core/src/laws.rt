@@ -6,13 +6,13 @@ ghost use Rattle.asn1_core.specs.Strict.{Head, IsHead, strict_length, strict_hea
 ghost use Rattle.asn1_core.specs.Elements.{Element, IsElement, element_octets};
 ghost use Rattle.asn1_core.specs.Lenient.{SpellsHeader, BerHead, IsBerHead, SpellsBerHeader, ber_head_of_head};
 
-/// Two strict headers at the front of one list are one, and so are the rests (X.690, 10.1).
+/// Two strict headers at the front of one input are equal, and so are the rests (X.690, 10.1).
 pub fn one_header()
     ensures { (h k : Head) (xs ys : List ℕ) → IsHead h → IsHead k
         → strict_header h ++ xs ≡ strict_header k ++ ys → (h ≡ k) × (xs ≡ ys) }
 {}
 
-/// Two elements at the front of one list are one, and so are the rests.
+/// Two strict elements at the front of one input are equal, and so are the rests.
 pub fn one_element()
     ensures { (e f : Element) (xs ys : List ℕ) → IsElement e → IsElement f
         → element_octets e ++ xs ≡ element_octets f ++ ys → (e ≡ f) × (xs ≡ ys) }
@@ -24,32 +24,35 @@ pub fn fewest_digits()
         → digits_of b (number_from_digits b (d ∷ ds)) ≡ d ∷ ds }
 {}
 
-/// Octets whose first isn't 0, behind their count, are the strict length of a number from 128 on (X.690, 8.1.3.5).
+/// A count and that many octets, the first not 0, are the strict length of a number from 128 on
+/// (X.690, 8.1.3.5).
 pub fn long_length()
     ensures { (d : ℕ) (ds : List ℕ) → 0 < d → AllBelowBase 256 (d ∷ ds)
         → 128 ≤ number_from_digits 256 (d ∷ ds)
         → strict_length (number_from_digits 256 (d ∷ ds)) ≡ (128 + length (d ∷ ds)) ∷ d ∷ ds }
 {}
 
-/// The strict header is one of the lenient ones, and each number in it is an octet.
+/// A strict header is also a lenient one, and each number in it is an octet.
 pub fn strict_is_lenient()
     ensures spells { (h : Head) → IsHead h → SpellsHeader (strict_header h) h }
     ensures octets { (h : Head) → IsHead h → AllBelowBase 256 (strict_header h) }
 {}
 
-/// Two headers of definite length, in any of their forms, at the front of one list are one, and so are the rests.
+/// Two headers of definite length, in any of their forms, at the front of one input are equal, and
+/// so are the rests.
 pub fn one_lenient_header()
     ensures { (f g xs ys : List ℕ) (h k : Head) → IsHead h → IsHead k → SpellsHeader f h → SpellsHeader g k
         → f ++ xs ≡ g ++ ys → (h ≡ k) × (f ≡ g) × (xs ≡ ys) }
 {}
 
-/// Two BER headers at the front of one list are one, and so are the rests.
+/// Two BER headers at the front of one input are equal, and so are the rests.
 pub fn one_ber_header()
     ensures { (f g xs ys : List ℕ) (h k : BerHead) → IsBerHead h → IsBerHead k → SpellsBerHeader f h → SpellsBerHeader g k
         → f ++ xs ≡ g ++ ys → (h ≡ k) × (f ≡ g) × (xs ≡ ys) }
 {}
 
-/// A header of definite length is a BER header, and means the same.
+/// A header of definite length is also a BER header, of equal class, constructed bit, tag number
+/// and length.
 pub fn lenient_is_ber()
     ensures spells { (octets : List ℕ) (h : Head) → SpellsHeader octets h → SpellsBerHeader octets (ber_head_of_head h) }
     ensures range { (h : Head) → IsHead h → IsBerHead (ber_head_of_head h) }

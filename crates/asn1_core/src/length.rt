@@ -1,29 +1,29 @@
-//! The length of a content.
+//! The length of a content (X.690, 8.1.3).
 
 ghost use Rattle.std.specs.Prelude.{◌≡◌, ◌↔◌, IsTrue, IfErr, IsOk, MatchResult};
 
 use crate::error::Error;
 
-/// The length of a content in octets, or the indefinite form (X.690, 8.1.3).
+/// The length of a content: a number of octets, or the indefinite form (X.690, 8.1.3).
 #[derive(Clone, Copy, Debug, PartialEq, Eq)]
 pub enum Length {
-    /// So many content octets.
+    /// This number of content octets.
     Definite(usize),
-    /// The content ends at its end-of-contents octets, 00 00.
+    /// The indefinite form: the content ends at its end-of-contents octets, `00 00` (X.690, 8.1.5).
     Indefinite,
 }
 
 impl Length {
     ghost use Rattle.asn1_core.specs.Views.{IsDefinite};
 
-    /// Whether the content is empty for certain.
+    /// Returns whether the length is definite and 0.
     pub fn is_null(&self) -> bool
         ensures { IsTrue result ↔ (self.now ≡ Length.Definite 0) }
     {
         matches!(self, Length::Definite(0))
     }
 
-    /// The number of content octets; the indefinite form is `IndefiniteLengthUnexpected`.
+    /// Returns the number of content octets; `IndefiniteLengthUnexpected` for the indefinite form.
     pub fn definite(&self) -> Result<usize, Error>
         ensures { MatchResult result (λ n. self.now ≡ Length.Definite n)
             (λ e. (self.now ≡ Length.Indefinite) × (e ≡ Error.IndefiniteLengthUnexpected)) }
@@ -34,14 +34,14 @@ impl Length {
         }
     }
 
-    /// Whether the number of content octets is told.
+    /// Returns whether the length is a number of octets.
     pub fn is_definite(&self) -> bool
         ensures { IsTrue result ↔ IsDefinite self.now }
     {
         matches!(self, Length::Definite(_))
     }
 
-    /// That the number of content octets is told; the indefinite form is `IndefiniteLengthUnexpected`.
+    /// Returns `Ok(())` if the length is a number of octets, else `IndefiniteLengthUnexpected`.
     pub fn assert_definite(&self) -> Result<(), Error>
         ensures ok { IsOk result ↔ IsDefinite self.now }
         ensures err { IfErr result (λ e. e ≡ Error.IndefiniteLengthUnexpected) }

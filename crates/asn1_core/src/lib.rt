@@ -1,7 +1,8 @@
-//! What every ASN.1 reader of this repository stands on: classes, tag numbers, lengths and headers, read strictly (DER)
-//! or leniently (BER), and the errors and results of all readers and writers.
+//! What all ASN.1 readers of this repository depend on: classes, tag numbers, lengths and headers,
+//! read strictly (DER) or leniently (BER), and the errors and results of all readers and writers.
 //!
-//! Octets are read from the front of a slice. A reader answers the octets after what it read, and the value.
+//! Octets are read from the front of a slice. A reader returns `(rest, value)`: the octets after
+//! what it read, and the value.
 #![tactic(auto)]
 
 mod class;

@@ -1,4 +1,4 @@
-//! Want of memory.
+//! The error of an allocation that failed.
 
 ghost use Rattle.std.specs.Prelude.{Some, codes};
 
@@ -6,7 +6,7 @@ use std::alloc::{AllocError, AllocFailed};
 use std::error::Error;
 use std::fmt;
 
-/// Memory ran out.
+/// An allocation failed.
 #[derive(Clone, Copy, Debug, PartialEq, Eq)]
 pub struct OutOfMemory;
 

@@ -7,8 +7,8 @@ ghost use Rattle.asn1_core.specs.Strict.{lead, strict_identifier, strict_length}
 
 use std::marker::Model;
 
-/// The octets of a strict header: at most 15, since a tag number of 32 bits has at most 5 digits of base 128 and a
-/// length of 64 bits at most 8 digits of base 256.
+/// The octets of a strict header, kept without an allocation: at most 15, since a tag number of 32
+/// bits has at most 5 digits of base 128 and a length of 64 bits at most 8 digits of base 256.
 #[derive(Drop)]
 pub struct HeaderOctets {
     octets: [u8; 15],
@@ -24,7 +24,7 @@ impl Model for HeaderOctets {
 }
 
 impl HeaderOctets {
-    /// The octets.
+    /// Returns the octets.
     pub fn as_slice(&self) -> &[u8]
         ensures octets { result.now ≡ self.now }
         ensures few { length result.now ≤ 15 }
@@ -32,7 +32,7 @@ impl HeaderOctets {
         &self.octets[self.start..]
     }
 
-    /// No octets.
+    /// Returns an empty buffer.
     pub(crate) fn new() -> HeaderOctets
         ensures { result ≡ [] }
     {
@@ -77,7 +77,7 @@ impl HeaderOctets {
         }
     }
 
-    /// The strict length of so many content octets, behind which nothing stands.
+    /// Puts the strict length of `size` content octets into an empty buffer (X.690, 10.1).
     pub(crate) fn put_length(&mut self, size: usize)
         requires { self.old ≡ [] }
         ensures length { self.new ≡ strict_length size }
@@ -92,7 +92,8 @@ impl HeaderOctets {
         }
     }
 
-    /// The strict identifier of a class's number, a constructed bit and a tag number, in front.
+    /// Puts the strict identifier of a class's number, a constructed bit and a tag number before
+    /// the octets that are there.
     pub(crate) fn put_identifier(&mut self, class: u8, constructed: bool, tag: u32)
         requires class { class < 4 }
         requires room { length self.old ≤ 9 }

@@ -1,39 +1,39 @@
-//! What a reader answers.
+//! What readers return.
 
 use crate::error::{Error, Needed};
 use crate::memory::OutOfMemory;
 use std::alloc::{AllocError, AllocFailed};
 use std::{error, fmt};
 
-/// Why a reader did not answer a value.
+/// Why a reader returned no value.
 #[derive(Clone, Copy, Debug, PartialEq, Eq)]
 pub enum Err<E> {
-    /// Octets are missing.
+    /// The input ends early: with more octets it may be accepted.
     Incomplete(Needed),
-    /// The octets are refused; another reader may still take them.
+    /// The octets are rejected; another reader may accept them.
     Error(E),
-    /// Memory ran out: no other reader is tried.
+    /// An allocation failed: no other reader is tried.
     Failure(E),
 }
 
-/// The octets after what was read, and the value; or why there is none.
+/// The rest of the input and the value, or why there is none.
 pub type IResult<I, O, E = Error> = Result<(I, O), Err<E>>;
 
-/// The answer of a reader of octets.
+/// The result of a reader of octets: `(rest, value)`, or why there is none.
 pub type ParseResult<'a, T, E = Error> = Result<(&'a [u8], T), Err<E>>;
 
 impl<E> Err<E> {
     ghost use Rattle.std.specs.Prelude.{◌≡◌, ◌↔◌, IsTrue};
     ghost use Rattle.asn1_core.specs.Conversions.{Converts, IsIncomplete, TellsWhole};
 
-    /// Whether octets are missing.
+    /// Returns whether the input ends early.
     pub fn is_incomplete(&self) -> bool
         ensures { IsTrue result ↔ IsIncomplete self.now }
     {
         matches!(self, Err::Incomplete(_))
     }
 
-    /// The same refusal with its error converted.
+    /// Returns the refusal with its error converted by `From`; missing octets remain as they are.
     pub fn convert<F>(refusal: Err<F>) -> Err<E>
     where
         E: From<F>,
@@ -46,8 +46,9 @@ impl<E> Err<E> {
         }
     }
 
-    /// A part's refusal as that of the whole that it stands in: octets that are missing within a whole element are an error
-    /// of it (`Error::Incomplete`), since no octet that comes behind can mend it.
+    /// Returns the refusal of a part as the refusal of the whole element around it: an `Incomplete`
+    /// becomes an error (`Error::Incomplete`), since no octet after a whole element can complete
+    /// its part.
     pub fn within(refusal: Err<E>) -> Err<E>
     where
         E: From<Error>,
@@ -61,7 +62,7 @@ impl<E> Err<E> {
     }
 }
 
-/// `incomplete N` or `incomplete unknown`, `error NAME`, `failure NAME`.
+/// Writes `incomplete N`, `incomplete unknown`, `error NAME` or `failure NAME`.
 impl<E: fmt::Display> fmt::Display for Err<E> {
     ghost use Rattle.asn1_core.specs.Texts.{refusal_text};
 
@@ -79,7 +80,7 @@ impl<E: fmt::Display> fmt::Display for Err<E> {
 
 impl<E: fmt::Debug + fmt::Display + Drop> error::Error for Err<E> {}
 
-/// Want of memory is a failure, every other error a refusal.
+/// `OutOfMemory` becomes a failure, every other error an `Err::Error`.
 impl<E: From<Error>> From<Error> for Err<E> {
     ghost use Rattle.asn1_core.specs.Conversions.{RefusesFor};
 

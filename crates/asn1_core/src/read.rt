@@ -1,7 +1,7 @@
 //! Reading identifier and length octets from the front of a slice.
 //!
-//! Each reader gives what a function on lists of `specs/Reading.antt` gives, refusals included; the meaning stands at the
-//! public readers of `Header`.
+//! Each reader returns what a function on lists of `specs/Reading.antt` returns, errors included;
+//! the meaning is in the contracts of the public readers of `Header`.
 
 ghost use Rattle.std.specs.Prelude.{◌≡◌, ◌+◌, ◌*◌, ◌/◌, ◌^◌, ◌<◌, SomeIff, IfOk, IfSome, Ok};
 ghost use Rattle.std.specs.Int.Digits.{number_from_digits};
@@ -16,7 +16,7 @@ use crate::length::Length;
 use crate::outcome::{Err as Refusal, ParseResult};
 use crate::tag::Tag;
 
-/// What identifier octets say.
+/// The class, the constructed bit and the tag number of identifier octets.
 #[derive(Clone, Copy)]
 struct Identifier {
     class: Class,
@@ -162,8 +162,8 @@ fn header_of(identifier: Identifier, length: Length) -> Header
     )
 }
 
-// The header of two octets that begins the octets: a low tag number and a short length (X.690, 8.1.2.2 and 8.1.3.4). It is
-// read alike by all rules.
+// The header of two octets that begins the octets: a low tag number and a short length
+// (X.690, 8.1.2.2 and 8.1.3.4). It is read alike by all rules.
 #[inline]
 #[tactic(auto, unfolding(crate::specs::Reading::identity_at, crate::specs::Reading::length_at, crate::specs::Reading::ber_header_at, crate::specs::Reading::header_at, crate::specs::Reading::strict_at))]
 fn short_header(i: &[u8]) -> Option<(&[u8], Header)>
@@ -188,8 +188,8 @@ fn short_header(i: &[u8]) -> Option<(&[u8], Header)>
     Some((rest, header))
 }
 
-// The answer with its header put together anew, field by field. So a caller that reads short headers in line keeps the
-// fields in registers, and copies no header through memory.
+// The answer with its header put together anew, field by field. So a caller that reads short
+// headers in line keeps the fields in registers, and copies no header through memory.
 #[inline(always)]
 fn by_fields(read: ParseResult<'_, Header>) -> ParseResult<'_, Header>
     ensures { result ≡ read.entry }
@@ -212,7 +212,7 @@ fn by_fields(read: ParseResult<'_, Header>) -> ParseResult<'_, Header>
     }
 }
 
-/// A BER header.
+/// Reads a BER header.
 #[inline]
 pub(crate) fn ber_header(i: &[u8]) -> ParseResult<'_, Header>
     ensures { Gives (λ r. (ber_head_of r.1, r.0.now)) result (ber_header_at i.now) }
@@ -223,7 +223,8 @@ pub(crate) fn ber_header(i: &[u8]) -> ParseResult<'_, Header>
     }
 }
 
-// A BER header, octet by octet. It stays a function of its own, so that callers hold the form of two octets alone.
+// A BER header, octet by octet. It stays a function of its own, so that callers hold the form of
+// two octets alone.
 #[inline(never)]
 #[tactic(auto, unfolding(crate::specs::Reading::ber_header_at))]
 fn long_ber_header(i: &[u8]) -> ParseResult<'_, Header>
@@ -237,7 +238,7 @@ fn long_ber_header(i: &[u8]) -> ParseResult<'_, Header>
     Ok((rest, header_of(identifier, length)))
 }
 
-/// A header of definite length, in any of its forms.
+/// Reads a header of definite length, in any of its forms.
 #[inline]
 pub(crate) fn definite_header(i: &[u8]) -> ParseResult<'_, Header>
     ensures exact { Gives (λ r. (head_of r.1, r.0.now)) result (header_at i.now) }
@@ -266,7 +267,8 @@ fn long_definite_header(i: &[u8]) -> ParseResult<'_, Header>
     }
 }
 
-// Whether the identifier that begins the octets, for this tag number, is the shortest (X.690, 8.1.2.2 and 8.1.2.4.2).
+// Whether the identifier that begins the octets, for this tag number, is the shortest
+// (X.690, 8.1.2.2 and 8.1.2.4.2).
 fn has_short_identifier(i: &[u8], tag: u32) -> bool
     ensures { result ≡ is_short_identifier i.now tag }
 {
@@ -286,7 +288,7 @@ fn has_short_length(i: &[u8], size: usize) -> bool
     }
 }
 
-/// A header of shortest form.
+/// Reads a header in its shortest form.
 #[inline]
 pub(crate) fn strict_header(i: &[u8]) -> ParseResult<'_, Header>
     ensures exact { Gives (λ r. (head_of r.1, r.0.now)) result (strict_at i.now) }

@@ -1,4 +1,4 @@
-//! Why a value was not written.
+//! The errors of writers.
 
 use crate::error::Error;
 use crate::memory;
@@ -8,22 +8,22 @@ use std::{error, fmt};
 /// Why a value was not written.
 #[derive(Clone, Copy, Debug, PartialEq, Eq)]
 pub enum SerializeError {
-    /// The value has no encoding.
+    /// The value has no encoding in DER form; the error is what a reader would report.
     ASN1Error(Error),
-    /// The number is no class.
+    /// The number of a tag's class is above 3.
     InvalidClass { class: u8 },
     /// The length of the encoding passes `usize`.
     InvalidLength,
     /// The writer failed.
     IOError,
-    /// Memory ran out.
+    /// An allocation failed.
     OutOfMemory,
 }
 
-/// What a writer answers.
+/// The result of a writer.
 pub type SerializeResult<T> = Result<T, SerializeError>;
 
-/// The error prints the name of its case.
+/// Writes the name of the case, as `IOError`, without its fields.
 impl fmt::Display for SerializeError {
     ghost use Rattle.std.specs.Prelude.{Some};
     ghost use Rattle.asn1_core.specs.Texts.{serialize_text};
@@ -43,7 +43,7 @@ impl fmt::Display for SerializeError {
 
 impl error::Error for SerializeError {}
 
-/// Want of memory stays what it is, every other error is held.
+/// `Error::OutOfMemory` becomes `SerializeError::OutOfMemory`, every other error an `ASN1Error`.
 impl From<Error> for SerializeError {
     ghost use Rattle.std.specs.Prelude.{◌≡◌};
     ghost use Rattle.asn1_core.specs.Conversions.{serialize_of};

@@ -1,5 +1,5 @@
-//! What a device answers where it fails.
+//! The error of a device.
 
-/// A device refused a call. Why is not told.
+/// A call of a device failed. It doesn't say why.
 #[derive(Clone, Copy, Debug, PartialEq, Eq)]
 pub struct DeviceFault;

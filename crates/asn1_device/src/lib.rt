@@ -1,8 +1,8 @@
 //! Devices: what octets are read from, and what they are written to.
 //!
-//! [`Source`] and [`Sink`] are the two traits. Their contracts count what was done in whole numbers
-//! without bound, for proofs alone, and tell the octets where the device does.
-//! [`ReadSource`] and [`WriteSink`] carry std's readers and writers.
+//! [`Source`] and [`Sink`] are the two traits. Their contracts count what was done in unbounded
+//! whole numbers, for proofs alone, and say which octets were moved if the device does.
+//! [`ReadSource`] and [`WriteSink`] wrap std's readers and writers.
 #![tactic(auto)]
 
 mod fault;

@@ -1,4 +1,4 @@
-//! Where octets are written to.
+//! What octets are written to.
 ghost use Rattle.std.specs.Prelude.{◌≡◌, ℕ, List, ◌+◌, ◌≤◌, length, None, IfOk, OnOk, OnErr};
 ghost use Rattle.std.specs.declared.option.Option.{Option};
 ghost use Rattle.std.specs.Io.KnownBytes.{Appends, Keeps, WriteAppends};
@@ -8,7 +8,8 @@ use crate::fault::DeviceFault;
 use crate::tally::Tally;
 use std::io::{ErrorKind, Write};
 
-/// What octets are written to. A failure is an error, or a write that takes 0 of some octets.
+/// What octets are written to. A call fails if it returns an error, or if a write takes 0 of one or
+/// more octets.
 pub trait Sink {
     /// How many calls failed.
     ghost failures: { Self → ℕ };
@@ -16,25 +17,25 @@ pub trait Sink {
     /// How many times it was flushed.
     ghost flushes: { Self → ℕ };
 
-    /// The octets that it holds, where they are known.
+    /// The octets that were written to it, if they are known.
     ghost contents: { Self → Option (List ℕ) } = { λ _. None };
 
-    /// Writes octets from the front of `octets`, and answers their number.
+    /// Writes octets from the front of `octets`, and returns their number.
     fn write(&mut self, octets: &[u8]) -> Result<usize, DeviceFault>
         ensures bound { IfOk result (λ n. n ≤ length octets.now) }
         ensures octets { WriteAppends (contents self.old) (contents self.new) result octets.now }
         ensures failures { failures self.new ≡ failures self.old + write_faults_of octets.now result }
         ensures flushes { flushes self.new ≡ flushes self.old };
 
-    /// Hands on what the device may have kept back.
+    /// Passes on what the device may have kept in a buffer.
     fn flush(&mut self) -> Result<(), DeviceFault>
         ensures octets { Keeps (contents self.old) (contents self.new) }
         ensures failures { failures self.new ≡ failures self.old + faults_of result }
         ensures flushes { flushes self.new ≡ flushes self.old + 1 };
 }
 
-/// Writes all of `octets`, by as many writes as it takes. It fails where one of them fails, and has
-/// then written some of the octets, from the front. It does not flush.
+/// Writes all of `octets`, by as many writes as it takes, and doesn't flush. Fails if one of them
+/// fails; some octets from the front may have been written then.
 pub fn write_octets<W: Sink>(writer: &mut W, octets: &[u8]) -> Result<(), DeviceFault>
     ensures ok { OnOk result (Appends (W.contents writer.old) (W.contents writer.new) octets.now) }
     ensures err { OnErr result (AppendsFront (W.contents writer.old) (W.contents writer.new) octets.now) }
@@ -61,7 +62,7 @@ pub struct WriteSink<W> {
 }
 
 impl<W: Write> WriteSink<W> {
-    /// The sink that writes to `writer`.
+    /// Returns the sink that writes to `writer`.
     pub fn new(writer: W) -> WriteSink<W>
         ensures { ⟦<WriteSink<W> as Sink>⟧.contents result ≡ W.contents writer }
     {
@@ -72,7 +73,7 @@ impl<W: Write> WriteSink<W> {
         }
     }
 
-    /// The writer, with what was written to it.
+    /// Returns the writer, after what was written to it.
     pub fn into_inner(self) -> W
         ensures { W.contents result ≡ ⟦<WriteSink<W> as Sink>⟧.contents self }
     {

@@ -1,4 +1,4 @@
-//! Where octets are read from.
+//! What octets are read from.
 ghost use Rattle.std.specs.Prelude.{◌≡◌, ℕ, List, ◌+◌, ◌≤◌, length, max, None, IfOk};
 ghost use Rattle.std.specs.declared.option.Option.{Option};
 ghost use Rattle.std.specs.Io.KnownBytes.{ReadConsumes};
@@ -8,25 +8,25 @@ use crate::fault::DeviceFault;
 use crate::tally::Tally;
 use std::io::{ErrorKind, Read};
 
-/// What octets are read from. A failure is an error.
+/// What octets are read from. A call fails if it returns an error.
 pub trait Source {
     /// How many reads were asked for.
     ghost reads: { Self → ℕ };
 
-    /// How many of them were refused.
+    /// How many of them failed.
     ghost failures: { Self → ℕ };
 
-    /// How many of them gave no octet into some room.
+    /// How many of them put no octet into a buffer that isn't empty: the end.
     ghost ends: { Self → ℕ };
 
-    /// The most room, in octets, that one of them was given.
+    /// The length of the longest buffer that one of them was given, in octets.
     ghost widest: { Self → ℕ };
 
-    /// The octets that reads will give from here on, where they are known.
+    /// The octets that reads will give from here on, if they are known.
     ghost remaining: { Self → Option (List ℕ) } = { λ _. None };
 
-    /// Reads into the front of `buf`, and answers the number of octets. No octet into some room is
-    /// the end.
+    /// Reads into the front of `buf`, and returns the number of octets. 0 for a buffer that isn't
+    /// empty is the end.
     fn read(&mut self, buf: &mut [u8]) -> Result<usize, DeviceFault>
         ensures bound { IfOk result (λ n. n ≤ length buf.new) }
         ensures octets { ReadConsumes (remaining self.old) (remaining self.new) result buf.new }
@@ -47,7 +47,7 @@ pub struct ReadSource<R> {
 }
 
 impl<R: Read> ReadSource<R> {
-    /// The source that reads from `reader`.
+    /// Returns the source that reads from `reader`.
     pub fn new(reader: R) -> ReadSource<R>
         ensures { ⟦<ReadSource<R> as Source>⟧.remaining result ≡ R.remaining reader }
     {
@@ -60,7 +60,7 @@ impl<R: Read> ReadSource<R> {
         }
     }
 
-    /// The reader, behind what was read from it.
+    /// Returns the reader, after what was read from it.
     pub fn into_inner(self) -> R
         ensures { R.remaining result ≡ ⟦<ReadSource<R> as Source>⟧.remaining self }
     {

@@ -4,7 +4,7 @@ ghost use Rattle.std.specs.Borrow.{ftrue};
 
 use std::marker::{Model, PhantomData};
 
-/// A clause reads the number as `count`.
+/// A count for proofs: a clause reads it as `count`.
 #[derive(Drop)]
 pub struct Tally {
     of: PhantomData<u8>,
@@ -16,12 +16,14 @@ impl Model for Tally {
 }
 
 impl Tally {
+    /// Returns a count of 0.
     pub fn new() -> Tally
         ensures { result.count ≡ 0 }
     {
         Tally { of: PhantomData }
     }
 
+    /// Returns the count with one added.
     pub fn next(&self) -> Tally
         ensures { result.count ≡ self.now.count + 1 }
     {

@@ -1,4 +1,5 @@
--- That a sequence or a set that keeps its content is lawful: what is written is one element, and is read back.
+-- A sequence or a set that keeps its content has the laws: what is written is one element, and is
+-- read back.
 use Rattle.std.proofs.Common.{◌≡◌, ◌^◌, ◌<◌, ◌∙◌, refl, ap, ℕ, List, ◌++◌, Some, lit<}
 use Rattle.asn1_core.specs.Elements.{Element, IsElement}
 use Rattle.asn1_any.proofs.DerLaws.{strict_begins}
@@ -31,7 +32,7 @@ container_back tag low octets_of v rest short =
       },
     )
 
--- whatever is read back is the same element
+-- whatever is read back is an equal element
 pub container_same : {V : Type 0} (tag : ℕ) → tag < 2 ^ 32 → (octets_of : V → List ℕ) (v w : V) (rest r : List ℕ) → (IsLong (written (Some (container tag (octets_of v)))) → ⊥) →
     ReadsContent tag octets_of (written (Some (container tag (octets_of v))) ++ rest) w r → Some (container tag (octets_of w)) ≡ Some (container tag (octets_of v))
 container_same tag low octets_of v w rest r short read =

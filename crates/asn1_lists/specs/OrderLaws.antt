@@ -1,4 +1,5 @@
--- That the values of a set are put in order, that one order is left to them, and that it is lost by no reading.
+-- That the values of a set are put in order, that one order is left to them, and that it is lost by
+-- no reading.
 use Rattle.std.proofs.Common.{arith, ◌≡◌, ◌≢◌, ◌∙◌, refl, sym, ap, subst, ℕ, Bool, true, false, cond, List, [], ◌∷◌, map}
 use Rattle.std.specs.List.{sum_by}
 use Rattle.std.specs.List.Sorted.{IsPermutation}
@@ -24,7 +25,7 @@ turned xs ys after =
       | Greater ↦ λ h e. ap is_gt e
     ] after back
 
--- octets of which neither come after the others are the same
+-- two lists of octets of which neither comes after the other are equal
 pub neither : (xs ys : List ℕ) → comes_after xs ys ≡ false → comes_after ys xs ≡ false → xs ≡ ys
 neither xs ys not_left not_right =
     let back = nat_list_cmp_total.antisymm ys xs in
@@ -117,7 +118,7 @@ none_below : (xs : List ℕ) (rest : List (List ℕ)) → AfterNone xs rest → 
 none_below xs [] h = refl
 none_below xs (ys ∷ rest) h = sum_by-cons (λ z. one_if (comes_after xs z)) ys rest ∙ (let first : one_if (comes_after xs ys) ≡ 0 = ap one_if h.0 in omega (arith, first, none_below xs rest h.1))
 
--- the same total of anything that is counted of them
+-- an equal total of anything that is counted of them
 abbrev pub SameTotals : List (List ℕ) → List (List ℕ) → Type 0
 SameTotals left right = (count : List ℕ → ℕ) → sum_by count right ≡ sum_by count left
 

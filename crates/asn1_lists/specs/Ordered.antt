@@ -1,6 +1,6 @@
--- The order in which the components of a SET OF are written (X.690, 11.6): ascending, their encodings being compared octet by
--- octet from the first on. No encoding of an element is the beginning of another, so that the octets that the standard pads
--- shorter ones with never decide.
+-- The order in which the components of a SET OF are written (X.690, 11.6): ascending, their
+-- encodings being compared octet by octet from the first on. No encoding of an element is the
+-- beginning of another, so that the octets that the standard pads shorter ones with never decide.
 use Rattle.std.specs.Prelude.{◌≡◌, ℕ, Bool, false, cond, Option, List, [], ◌∷◌, map}
 use Rattle.std.specs.List.Sorted.{IsPermutation}
 use Rattle.std.specs.Cmp.Lexicographic.{slice_cmp}
@@ -18,7 +18,7 @@ abbrev pub AfterNone : List ℕ → List (List ℕ) → Type 0
 AfterNone xs [] = Unit {0}
 AfterNone xs (ys ∷ rest) = (comes_after xs ys ≡ false) × AfterNone xs rest
 
--- none comes after one behind it
+-- no list comes after one that follows it
 abbrev pub Ascending : List (List ℕ) → Type 0
 Ascending [] = Unit {0}
 Ascending (xs ∷ rest) = AfterNone xs rest × Ascending rest
@@ -45,15 +45,16 @@ set_order element vs = in_order (λ v. written (element v)) vs
 abbrev pub set_of : {V : Type 0} → (V → Option Element) → List V → Element
 set_of element vs = container_of 17 element (set_order element vs)
 
--- sets whose values are written as the same octets, in any order, are written as the same element; so are sets of the same
--- values
+-- sets whose values are written as equal octets, in any order, are written as equal elements; so
+-- are sets of equal values
 abbrev pub EqualSets : {V : Type 0} → (V → Option Element) → Type 0
 EqualSets {V} element = (vs ws : List V) → IsPermutation (encodings element vs) (encodings element ws) → set_of element vs ≡ set_of element ws
 
 abbrev pub ReorderedSets : {V : Type 0} → (V → Option Element) → Type 0
 ReorderedSets {V} element = (vs ws : List V) → IsPermutation vs ws → set_of element vs ≡ set_of element ws
 
--- what is put in order are the values, and their encodings ascend then; only one list of encodings does
+-- what is put in order are the values, and their encodings ascend then; only one list of encodings
+-- does
 abbrev pub IsInOrder : {V : Type 0} → (V → Option Element) → Type 0
 IsInOrder {V} element = (vs : List V) → IsPermutation vs (set_order element vs) × Ascending (encodings element (set_order element vs))
 

@@ -1,5 +1,5 @@
--- That a set of values is lawful where each value is: equal sets are written as equal octets, and what is written of one is
--- read back as one that is written the same.
+-- A set of values has the laws if each value has: equal sets are written as equal octets, and what
+-- is written of one is read back as one that is written as these octets.
 use Rattle.std.proofs.Common.{arith, ◌≡◌, ◌∙◌, refl, sym, ap, subst, ℕ, ◌+◌, true, false, cond, List, [], ◌∷◌, ◌++◌, length, map, Option, Some, length-append, lit<}
 use Rattle.asn1_core.specs.Strict.{strict_header}
 use Rattle.asn1_core.specs.Elements.{Element, head_of_element, IsElement, element_octets}
@@ -76,7 +76,7 @@ short_second xs ys short long = short (omega (arith, long, length-append xs ys))
 content_short : (e : Element) → (IsLong (element_octets e) → ⊥) → IsLong e.content → ⊥
 content_short e short = short_second (strict_header (head_of_element e)) e.content short
 
--- values that are read back of what was written are written the same, one by one
+-- values that are read back of what was written are written as equal octets, one by one
 same_encodings : {V : Type 0} (formed : V → Type 0) (element : V → Option Element) (reads : List ℕ → V → List ℕ → Type 0) → OneEach formed element → BackEach formed element reads →
     SameEach formed element reads → OneRest reads → (vs ws : List V) → EachIs formed vs → (IsLong (all_written element vs) → ⊥) → AllRead reads (all_written element vs) ws → encodings element ws ≡ encodings element vs
 same_encodings formed element reads one back same once [] [] each short all = refl

@@ -12,15 +12,16 @@ use Rattle.asn1_traits.specs.Lists.{AllRead}
 abbrev pub NoneTakes : {V : Type 0} → (List ℕ → V → List ℕ → Type 0) → List ℕ → Type 0
 NoneTakes {V} reads octets = (v : V) (rest : List ℕ) → reads octets v rest → length rest < length octets → ⊥
 
--- `grows`: reading a value may want memory. What one call gives: the value that begins the octets that are left, and these are left behind it; or nothing, where no
--- octet is left; or a refusal, where none begins them, and then nothing is left
+-- `grows`: reading a value may allocate. What one call gives: the value at the front of the octets
+-- that are left, and the octets after it are left then; or nothing, if no octet is left; or an
+-- error, if no value is at the front, and then nothing is left
 abbrev pub Steps : {V E : Type 0} → (Error → E → Type 0) → Type 0 → (List ℕ → V → List ℕ → Type 0) → List ℕ → Option (Result V (Refusal E)) → List ℕ → Type 0
 Steps gives grows reads octets None rest = (octets ≡ []) × (rest ≡ [])
 Steps gives grows reads octets (Some (Ok v)) rest = reads octets v rest × (length rest < length octets)
 Steps gives grows reads octets (Some (Err r)) rest = (octets ≢ []) × Refuses gives grows r (NoneTakes reads octets) × (rest ≡ [])
 
--- what the calls to the end give: the values of the octets, one after the other, to their end, or a refusal where none begins
--- those that are left; nothing comes behind a refusal
+-- what the calls to the end give: the values of the octets, one after another, to their end, or an
+-- error if none begins those that are left; nothing comes after an error
 abbrev pub Given : {V E : Type 0} → (Error → E → Type 0) → Type 0 → (List ℕ → V → List ℕ → Type 0) → List ℕ → List (Result V (Refusal E)) → Type 0
 Given gives grows reads octets [] = octets ≡ []
 Given gives grows reads octets (Ok v ∷ answers) = (rest : List ℕ) × reads octets v rest × (length rest < length octets) × Given gives grows reads rest answers

@@ -12,7 +12,8 @@ use asn1_core::{SerializeError, SerializeResult};
 use asn1_traits::ToDer;
 use std::alloc::{AllocError, Global};
 
-/// The octets that are written of each value, those that come first in front (X.690, 11.6).
+/// Returns the octets that are written of each value, in ascending order of these octets
+/// (X.690, 11.6).
 pub(crate) fn set_content<T: ToDer>(items: &[T], alloc: Global) -> SerializeResult<Vec<u8>>
     ensures ok { IfOk result (λ v. v.items ≡ all_written T.element (set_order T.element items.now)) }
     ensures err { IfErr result (Unmade (IsLong (all_written T.element items.now)) (0 < length items.now) (EachIs T.is_der items.now → ⊥)) }
@@ -51,7 +52,7 @@ fn encode_each<T: ToDer>(items: &[T], alloc: Global) -> SerializeResult<Vec<Vec<
     Ok(parts)
 }
 
-// The octets of the parts, one behind the other.
+// The octets of the parts, one after another.
 fn join(parts: &[Vec<u8>], alloc: Global) -> Result<Vec<u8>, AllocError>
     ensures ok { IfOk result (λ v. v.items ≡ flat_map vec_items parts.now) }
     ensures err { OnErr result (0 < length parts.now) }

@@ -10,12 +10,12 @@ use asn1_traits::{BerMeaning, DerMeaning, FromBer, FromDer};
 use std::alloc::Global;
 use std::marker::{Model, PhantomData};
 
-/// The values of the content octets of a sequence or a set, one after the other: read by the rules of `P`, `BerParser` or
-/// `DerParser`.
+/// An iterator over the values in the content octets of a sequence or a set, read one after another
+/// by the rules of `P`, which is `BerParser` or `DerParser`.
 ///
-/// It gives `Ok` items and then ends, or one `Err` and then ends for good. A value that takes no octet is refused
-/// (`NomError(Many0)`), and so are octets where `T` is refused: octets that are missing are an error too, since the content
-/// is whole.
+/// It gives `Ok` items and then ends, or one `Err` and then ends for good. The errors are those of
+/// `T`; `NomError(Many0)` for a value that takes no octet; missing octets are an error too, never
+/// `Incomplete`, since the content is whole.
 #[derive(Drop)]
 pub struct SequenceIterator<'a, T, P, E> {
     alloc: Global,
@@ -32,7 +32,7 @@ impl<'a, T, P, E> Model for SequenceIterator<'a, T, P, E> {
 }
 
 impl<'a, T, P, E> SequenceIterator<'a, T, P, E> {
-    /// The values of these octets.
+    /// Returns an iterator over the values in these octets.
     pub fn new(alloc: Global, content: &'a [u8]) -> SequenceIterator<'a, T, P, E>
         ensures { result ≡ content.now }
     {

@@ -1,5 +1,5 @@
-//! The containers of ASN.1: sequences and sets that keep their content, sequences and sets of values, and the iterator over
-//! the values of a content.
+//! The containers of ASN.1: sequences and sets that keep their content, sequences and sets of
+//! values, and the iterator over the values of a content.
 #![tactic(auto)]
 
 mod encoding;

@@ -13,12 +13,12 @@ use asn1_traits::{
 };
 use std::alloc::Global;
 
-/// A SEQUENCE of two values, whose types may differ; of more values by pairs in pairs, each a SEQUENCE of its own, or by a type
-/// of one's own after this one's pattern.
+/// A SEQUENCE of two values, whose types may differ (X.690, 8.9). More values are pairs of pairs,
+/// each a SEQUENCE of its own, or a type of one's own that follows this one.
 ///
-/// What is read has to end with the second value: octets behind it are `InvalidLength`. Refusals of the two values are handed
-/// on; octets that are missing within the SEQUENCE are an error, since its content is whole. Memory is wanted where one of the
-/// two types wants it.
+/// What is read has to end with the second value: octets after it are `InvalidLength`. The errors
+/// of the two values are returned; octets that are missing in the SEQUENCE are an error, since its
+/// content is whole. Reading allocates if one of the two types does.
 #[derive(Clone, Copy, Debug, PartialEq, Eq, Drop)]
 pub struct Pair<A, B> {
     pub first: A,

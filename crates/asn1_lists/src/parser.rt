@@ -1,4 +1,4 @@
-//! By which rules an iterator reads.
+//! The rules by which an iterator reads.
 
 /// Values are read by BER's rules.
 pub struct BerParser;

@@ -21,7 +21,8 @@ use asn1_traits::{
 };
 use std::alloc::Global;
 
-/// A sequence and its content octets, a window of the octets that were read. Nothing is asked of the content.
+/// A SEQUENCE and its content octets, a window of the octets that were read (X.690, 8.9). Nothing
+/// is required of the content.
 #[derive(Clone, Copy, Debug, PartialEq, Eq)]
 pub struct Sequence<'a> {
     /// The content octets.
@@ -29,28 +30,29 @@ pub struct Sequence<'a> {
 }
 
 impl<'a> Sequence<'a> {
-    /// A sequence of this content.
+    /// Returns the sequence of this content.
     pub fn new(content: &'a [u8]) -> Sequence<'a>
         ensures { result.content ≡ content.entry }
     {
         Sequence { content }
     }
 
-    /// The content octets.
+    /// Returns the content octets.
     pub fn as_ref(&self) -> &'a [u8]
         ensures { result ≡ self.now.content }
     {
         self.content
     }
 
-    /// The content octets.
+    /// Returns the content octets.
     pub fn into_content(self) -> &'a [u8]
         ensures { result ≡ self.entry.content }
     {
         self.as_ref()
     }
 
-    /// What the reader answers of the content; the octets that it leaves are the rest of the answer.
+    /// Passes the content to a reader, and returns its result, errors included; the octets that it
+    /// leaves are the rest in that result.
     pub fn and_then<T, E, F: FnOnce(&'a [u8]) -> IResult<&'a [u8], T, E>>(
         self,
         op: F,
@@ -61,7 +63,7 @@ impl<'a> Sequence<'a> {
         op(self.content)
     }
 
-    /// The same, of a sequence that is kept.
+    /// Passes the content to a reader, and returns its result, errors included; the sequence is kept.
     pub fn parse<T, E, F: FnOnce(&'a [u8]) -> IResult<&'a [u8], T, E>>(
         &self,
         f: F,
@@ -72,21 +74,22 @@ impl<'a> Sequence<'a> {
         f(self.content)
     }
 
-    /// The values of the content one after the other, by BER's rules.
+    /// Returns an iterator over the values of the content, by BER's rules.
     pub fn ber_iter<T, E>(&self, alloc: Global) -> SequenceIterator<'a, T, BerParser, E>
         ensures { result ≡ self.now.content.now }
     {
         SequenceIterator::<T, BerParser, E>::new(alloc, self.content)
     }
 
-    /// The values of the content one after the other, by DER's rules.
+    /// Returns an iterator over the values of the content, by DER's rules.
     pub fn der_iter<T, E>(&self, alloc: Global) -> SequenceIterator<'a, T, DerParser, E>
         ensures { result ≡ self.now.content.now }
     {
         SequenceIterator::<T, DerParser, E>::new(alloc, self.content)
     }
 
-    /// All values of the content, by BER's rules; refusals as of `read_items`.
+    /// Reads all values of the content, by BER's rules, into a vector. Errors are those of
+    /// `read_ber_items`.
     pub fn ber_sequence_of<E: From<Error>, T: FromBer<'a, E> + BerMeaning + Drop>(
         &self,
         alloc: Global,
@@ -96,7 +99,8 @@ impl<'a> Sequence<'a> {
         read_ber_items(alloc, self.content)
     }
 
-    /// All values of the content, by DER's rules; refusals as of `read_items`.
+    /// Reads all values of the content, by DER's rules, into a vector. Errors are those of
+    /// `read_items`.
     pub fn der_sequence_of<E: From<Error>, T: FromDer<'a, E> + DerMeaning + Drop>(
         &self,
         alloc: Global,

@@ -19,7 +19,7 @@ use std::alloc::Global;
 use std::marker::Model;
 use std::slice::Iter;
 
-/// Values of one type, written as a sequence in the order in which they stand.
+/// Values of one type, written as a SEQUENCE OF in their order (X.690, 8.10).
 #[derive(Debug, Drop)]
 pub struct SequenceOf<T> {
     items: Vec<T>,
@@ -32,7 +32,7 @@ impl<T> Model for SequenceOf<T> {
 }
 
 impl<T> SequenceOf<T> {
-    /// No values.
+    /// Returns a sequence of no values. It takes no memory.
     pub fn new(alloc: Global) -> SequenceOf<T>
         ensures { result ≡ [] }
     {
@@ -41,14 +41,14 @@ impl<T> SequenceOf<T> {
         }
     }
 
-    /// These values.
+    /// Returns the sequence of these values.
     pub fn from_vec(items: Vec<T>) -> SequenceOf<T>
         ensures { result ≡ items.items }
     {
         SequenceOf { items }
     }
 
-    /// The values.
+    /// Returns the values.
     pub fn into_vec(self) -> Vec<T>
         ensures { result.items ≡ self }
     {
@@ -56,7 +56,7 @@ impl<T> SequenceOf<T> {
         items
     }
 
-    /// Puts one more value at the end. Where memory ran out, the values stay as they were.
+    /// Adds a value at the end. The only error is out of memory; the values are then as they were.
     pub fn push(&mut self, item: T) -> Result<(), OutOfMemory>
     where
         T: Drop,
@@ -68,35 +68,35 @@ impl<T> SequenceOf<T> {
         }
     }
 
-    /// How many values there are.
+    /// Returns how many values there are.
     pub fn len(&self) -> usize
         ensures { result ≡ length self.now }
     {
         self.items.len()
     }
 
-    /// Whether there are none.
+    /// Returns whether there are none.
     pub fn is_empty(&self) -> bool
         ensures { IsTrue result ↔ (self.now ≡ []) }
     {
         self.items.is_empty()
     }
 
-    /// The values as a slice.
+    /// Returns the values as a slice.
     pub fn as_slice(&self) -> &[T]
         ensures { result.now ≡ self.now }
     {
         self.items.as_slice()
     }
 
-    /// The values as a slice.
+    /// Returns the values as a slice.
     pub fn as_ref(&self) -> &[T]
         ensures { result.now ≡ self.now }
     {
         self.as_slice()
     }
 
-    /// The values, one by one.
+    /// Returns an iterator over the values.
     pub fn iter(&self) -> Iter<'_, T>
         ensures rest { iter_rest result ≡ self.now }
         ensures runs { IterYieldsInOrder T }

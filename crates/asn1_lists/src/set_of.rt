@@ -21,9 +21,11 @@ use std::alloc::Global;
 use std::marker::Model;
 use std::slice::Iter;
 
-/// Values of one type, written as a set: in ascending order of their encodings (X.690, 11.6), whatever order they stand in.
+/// Values of one type, written as a SET OF in ascending order of their encodings (X.690, 11.6),
+/// whatever order they are in here.
 ///
-/// It is read from values in any order. Writing it takes memory, unless it is empty.
+/// It is read from values in any order. Writing it allocates, unless it is empty, and sorts the
+/// encodings.
 #[derive(Debug, Drop)]
 pub struct SetOf<T> {
     items: Vec<T>,
@@ -36,7 +38,7 @@ impl<T> Model for SetOf<T> {
 }
 
 impl<T> SetOf<T> {
-    /// No values.
+    /// Returns a set of no values. It takes no memory.
     pub fn new(alloc: Global) -> SetOf<T>
         ensures { result ≡ [] }
     {
@@ -45,14 +47,14 @@ impl<T> SetOf<T> {
         }
     }
 
-    /// These values.
+    /// Returns the set of these values.
     pub fn from_vec(items: Vec<T>) -> SetOf<T>
         ensures { result ≡ items.items }
     {
         SetOf { items }
     }
 
-    /// The values.
+    /// Returns the values, in the order in which they were put.
     pub fn into_vec(self) -> Vec<T>
         ensures { result.items ≡ self }
     {
@@ -60,7 +62,7 @@ impl<T> SetOf<T> {
         items
     }
 
-    /// Puts one more value at the end. Where memory ran out, the values stay as they were.
+    /// Adds a value at the end. The only error is out of memory; the values are then as they were.
     pub fn push(&mut self, item: T) -> Result<(), OutOfMemory>
     where
         T: Drop,
@@ -72,35 +74,35 @@ impl<T> SetOf<T> {
         }
     }
 
-    /// How many values there are.
+    /// Returns how many values there are.
     pub fn len(&self) -> usize
         ensures { result ≡ length self.now }
     {
         self.items.len()
     }
 
-    /// Whether there are none.
+    /// Returns whether there are none.
     pub fn is_empty(&self) -> bool
         ensures { IsTrue result ↔ (self.now ≡ []) }
     {
         self.items.is_empty()
     }
 
-    /// The values as a slice.
+    /// Returns the values as a slice.
     pub fn as_slice(&self) -> &[T]
         ensures { result.now ≡ self.now }
     {
         self.items.as_slice()
     }
 
-    /// The values as a slice.
+    /// Returns the values as a slice.
     pub fn as_ref(&self) -> &[T]
         ensures { result.now ≡ self.now }
     {
         self.as_slice()
     }
 
-    /// The values, one by one.
+    /// Returns an iterator over the values.
     pub fn iter(&self) -> Iter<'_, T>
         ensures rest { iter_rest result ≡ self.now }
         ensures runs { IterYieldsInOrder T }

@@ -1,7 +1,7 @@
 -- How the text is written: pieces one by one, a separator before each but the first.
 use Rattle.std.specs.Prelude.{ℕ, Bool, true, List, [], ◌∷◌, ◌++◌, if◌then◌else◌}
 
--- the separator, where something stands before
+-- the separator, if something comes before
 abbrev pub separator_text : Bool → ℕ → List ℕ
 separator_text begun separator = if begun then separator ∷ [] else []
 

@@ -1,5 +1,5 @@
--- The readers as functions on lists of octets, octet by octet. Nothing of the meaning stands here: the lemmas of
--- proofs/ show that they undo the words of `Identifier`.
+-- The readers as functions on lists of octets, octet by octet. The meaning isn't here: the lemmas
+-- of proofs/ show that they undo the words of `Identifier`.
 use Rattle.std.specs.List.{list_all}
 use Rattle.std.specs.Prelude.{◌≡◌, ℕ, ◌+◌, ◌-◌, ◌*◌, ◌%◌, ◌^◌, ◌==◌, ◌&&◌, ◌||◌, nat_lt, nat_le, not, Bool, true, false, if◌then◌else◌, Option, option_to_list, List, [], ◌∷◌, ◌++◌, length}
 
@@ -16,7 +16,8 @@ is_strict_after within (octet ∷ rest) = (within || not (octet == 128)) && is_s
 abbrev pub is_strict : List ℕ → Bool
 is_strict octets = nat_lt 0 (length octets) && is_strict_after false octets
 
--- what is left is strict and no subidentifier passes 64 bits; n is the number so far, not 0 within a subidentifier
+-- what is left is strict and no subidentifier passes 64 bits; n is the number so far, not 0 within
+-- a subidentifier
 unfoldable pub is_small_after : ℕ → List ℕ → Bool
 is_small_after n [] = n == 0
 is_small_after n (octet ∷ rest) =
@@ -29,7 +30,7 @@ numbers_after n [] = []
 numbers_after n (octet ∷ rest) =
     if nat_lt octet 128 then pushed n octet ∷ numbers_after 0 rest else numbers_after (pushed n octet) rest
 
--- the two components that a first subidentifier stands for, then the others
+-- the two components of a first subidentifier, then the others
 abbrev pub root_of : ℕ → ℕ
 root_of n = if nat_lt n 40 then 0 else (if nat_lt n 80 then 1 else 2)
 

@@ -1,4 +1,4 @@
-//! Identifiers compare, and hash, as their octets.
+//! Identifiers compare, and hash, as their content octets.
 ghost use Rattle.std.specs.Prelude.{◌≡◌, Some, refl, bytes_eq};
 ghost use Rattle.std.proofs.Common.{rules};
 ghost use Rattle.std.specs.Ordering.{nat_cmp};

@@ -8,8 +8,8 @@ use crate::content::{count_ends, read_subidentifier, small};
 use std::iter::FusedIterator;
 use std::marker::Model;
 
-/// The components of an identifier that are left, as `Oid::iter` gives them. It reads the content octets and takes no
-/// memory.
+/// An iterator over the components of an identifier, as `Oid::iter` returns it. It reads the
+/// content octets as it goes, and takes no memory.
 #[derive(Drop)]
 pub struct SubIdentifierIterator<'a> {
     first: Option<u64>,
@@ -29,7 +29,8 @@ impl<'a> Model for SubIdentifierIterator<'a> {
         × (length (components_left it.first it.second it.rest.now) < 2 ^ 64) };
 }
 
-/// The components that the octets spell: none where they are not strict, or a subidentifier passes 64 bits.
+/// Returns the components that the octets spell; `None` if they are not strict, or a subidentifier
+/// passes 64 bits.
 pub(crate) fn read_components(octets: &[u8]) -> Option<SubIdentifierIterator<'_>>
     ensures { MatchOption result (is_readable octets.now ≡ false)
         (λ left. (is_readable octets.now ≡ true) × (left ≡ components_in octets.now)) }
@@ -46,7 +47,7 @@ pub(crate) fn read_components(octets: &[u8]) -> Option<SubIdentifierIterator<'_>
     })
 }
 
-/// The first of the two components that make a subidentifier.
+/// Returns the first of the two components that share a subidentifier (X.690, 8.19.4).
 fn root(joined: u64) -> u64
     ensures { result ≡ root_of joined }
 {

@@ -10,8 +10,8 @@ use asn1_core::{Error, OutOfMemory};
 use std::alloc::Global;
 use std::marker::Model;
 
-/// An object identifier: the content octets of an element of tag 6, borrowed or of its own. Readers of that tag take
-/// any content; `is_strict` tells whether it is one that DER allows.
+/// An object identifier: the content octets of an element of tag 6 (X.690, 8.19), borrowed or
+/// owned. Readers of that tag accept any content; `is_strict` returns whether DER allows it.
 #[derive(Drop)]
 pub struct Oid<'a> {
     octets: Octets<'a>,
@@ -33,7 +33,7 @@ impl<'a> Model for Oid<'a> {
 }
 
 impl<'a> Oid<'a> {
-    /// The identifier of these content octets, which are borrowed.
+    /// Returns the identifier of these content octets, which are borrowed. Any octets are accepted.
     pub fn new(octets: &'a [u8]) -> Oid<'a>
         ensures { result ≡ octets.now }
     {
@@ -42,7 +42,7 @@ impl<'a> Oid<'a> {
         }
     }
 
-    /// The content octets.
+    /// Returns the content octets.
     pub fn as_bytes(&self) -> &[u8]
         ensures { result.now ≡ self.now }
     {
@@ -52,8 +52,8 @@ impl<'a> Oid<'a> {
         }
     }
 
-    /// The content octets for as long as those that they were borrowed of; none where the identifier holds octets of its own, as
-    /// one that `from` made and its copies do.
+    /// Returns the content octets with the lifetime of the input that they were borrowed from;
+    /// `None` if the identifier owns its octets, as one that `from` made and copies of it do.
     pub fn borrowed(&self) -> Option<&'a [u8]>
         ensures { IfSome result (λ octets. octets.now ≡ self.now) }
     {
@@ -63,15 +63,16 @@ impl<'a> Oid<'a> {
         }
     }
 
-    /// Whether the content is one that DER allows (X.690, 8.19.1 and 8.19.2).
+    /// Returns whether DER allows the content (X.690, 8.19.1 and 8.19.2). Time is linear in the
+    /// octets.
     pub fn is_strict(&self) -> bool
         ensures { IsTrue result ↔ IsOidContent self.now }
     {
         is_oid_content(self.as_bytes())
     }
 
-    /// The components, as `1`, `2` and `3` of 1.2.3: none where the content is not strict, or a subidentifier passes
-    /// 64 bits.
+    /// Returns an iterator over the components, as 1, 2 and 840 of 1.2.840; `None` if the content
+    /// is not strict, or a subidentifier passes 64 bits. It takes no memory.
     pub fn iter(&self) -> Option<SubIdentifierIterator<'_>>
         ensures found { IfSome result (λ left. Spells left self.now) }
         ensures only { (components : List ℕ) → Spells components self.now
@@ -80,10 +81,15 @@ impl<'a> Oid<'a> {
         read_spelled(self.as_bytes())
     }
 
-    /// The identifier of these components: its octets are the shortest that spell them (X.690, 8.19).
+    /// Returns the identifier of these components, in an allocation of its own: its octets are the
+    /// shortest that spell them (X.690, 8.19). The components 1, 2 and 840 have the octets `2a 86
+    /// 48`.
     ///
-    /// `BerValueError` where there are fewer than two components, the first is above 2, the second is above 39 under 0
-    /// and 1, or 40 times the first and the second together pass 64 bits; `OutOfMemory` where memory ran out.
+    /// # Errors
+    ///
+    /// `BerValueError` if there are fewer than two components, the first is above 2, the second is
+    /// above 39 after 0 or 1, or 40 times the first plus the second passes 64 bits; `OutOfMemory`
+    /// if an allocation fails.
     pub fn from(alloc: Global, components: &[u64]) -> Result<Oid<'static>, Error>
         ensures made { IfOk result (λ oid. Spells components.now oid) }
         ensures refused { IfErr result (λ e. RefusesComponents components.now e) }
@@ -94,8 +100,8 @@ impl<'a> Oid<'a> {
         })
     }
 
-    /// Whether the octets begin with those of `needle`. For identifiers that have components, this says that the
-    /// components begin with those of `needle`.
+    /// Returns whether the octets begin with those of `needle`. If both identifiers have
+    /// components, this is whether the components begin with those of `needle`.
     pub fn starts_with(&self, needle: &Oid<'_>) -> bool
         ensures octets { IsTrue result ↔ IsFront needle.now self.now }
         ensures components { (whole front : List ℕ) → Spells whole self.now → Spells front needle.now
@@ -104,7 +110,8 @@ impl<'a> Oid<'a> {
         self.as_bytes().starts_with(needle.as_bytes())
     }
 
-    /// A copy: of borrowed octets it borrows the same ones, of its own it makes others.
+    /// Returns a copy. Borrowed octets are borrowed again, without memory; owned ones are copied.
+    /// The only error is out of memory.
     pub fn clone(&self, alloc: Global) -> Result<Oid<'a>, OutOfMemory>
         ensures { IfOk result (λ copy. copy ≡ self.now) }
     {

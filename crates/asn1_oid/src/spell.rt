@@ -8,7 +8,7 @@ ghost use Rattle.asn1_oid.specs.Spelling.{high, RefusesComponents};
 use asn1_core::Error;
 use std::alloc::{AllocError, Global};
 
-/// The content octets of the components.
+/// Returns the content octets of the components (X.690, 8.19).
 pub(crate) fn spell(alloc: Global, components: &[u64]) -> Result<Vec<u8>, Error>
     ensures made { IfOk result (λ octets. Spells components.now octets.items) }
     ensures refused { IfErr result (λ e. RefusesComponents components.now e) }
@@ -23,8 +23,8 @@ pub(crate) fn spell(alloc: Global, components: &[u64]) -> Result<Vec<u8>, Error>
     Ok(octets)
 }
 
-/// The subidentifier of the first two components (X.690, 8.19.4), or none where they are no such components or pass 64
-/// bits.
+/// Returns the subidentifier of the first two components (X.690, 8.19.4); `None` if they are out of
+/// range or pass 64 bits.
 fn join(first: u64, second: u64) -> Option<u64>
     ensures { SomeIff result
         ((first ≤ 2) × (first < 2 → second < 40) × (40 * first + second < 2 ^ 64))

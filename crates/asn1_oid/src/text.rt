@@ -14,7 +14,8 @@ use std::fmt;
 impl<'a> fmt::Display for Oid<'a> {
     ghost output = { λ oid. Some (oid_text oid) };
 
-    /// The components in decimal, as `1.2.3`. Where there are none that fit 64 bits: the octets, as `2a 80 01`.
+    /// Writes the components in decimal, as `1.2.840`; if there are none that fit 64 bits, the
+    /// octets, as `2a 80 01`.
     fn fmt<W: fmt::Write>(&self, f: &mut fmt::Formatter<W>) -> fmt::Result {
         let octets = self.as_bytes();
         match read_components(octets) {
@@ -32,7 +33,7 @@ impl<'a> fmt::Debug for Oid<'a> {
     }
 }
 
-/// Numbers in decimal, with a point between two.
+/// Writes numbers in decimal, with a point between two.
 fn write_dotted<W: fmt::Write>(
     components: SubIdentifierIterator<'_>,
     f: &mut fmt::Formatter<W>,
@@ -49,7 +50,7 @@ fn write_dotted<W: fmt::Write>(
     Ok(())
 }
 
-/// Octets in hexadecimal, with a space between two.
+/// Writes octets in hexadecimal, with a space between two.
 fn write_hex<W: fmt::Write>(octets: &[u8], f: &mut fmt::Formatter<W>) -> fmt::Result
     ensures { DisplaysOnOk W.write_str_gives f.old result (Some (spaced_hex octets.now)) f.new }
 {
@@ -64,7 +65,7 @@ fn write_hex<W: fmt::Write>(octets: &[u8], f: &mut fmt::Formatter<W>) -> fmt::Re
     Ok(())
 }
 
-/// The separator, where something was written before.
+/// Writes the separator, if `begun`.
 fn separate<W: fmt::Write>(begun: bool, separator: char, f: &mut fmt::Formatter<W>) -> fmt::Result
     requires { separator < 128 }
     ensures { DisplaysOnOk W.write_str_gives f.old result (Some (separator_text begun separator)) f.new }
@@ -76,7 +77,7 @@ fn separate<W: fmt::Write>(begun: bool, separator: char, f: &mut fmt::Formatter<
     }
 }
 
-/// Two hexadecimal digits.
+/// Writes two hexadecimal digits.
 #[tactic(auto, using(std::proofs::lemmas::Fmt::hex_byte))]
 fn write_pair<W: fmt::Write>(octet: u8, f: &mut fmt::Formatter<W>) -> fmt::Result
     ensures { DisplaysOnOk W.write_str_gives f.old result (Some (hex_pair octet)) f.new }
@@ -85,7 +86,8 @@ fn write_pair<W: fmt::Write>(octet: u8, f: &mut fmt::Formatter<W>) -> fmt::Resul
 }
 
 impl<'a> Oid<'a> {
-    /// The text that `Display` writes.
+    /// Returns the text that `Display` writes: `1.2.840`, or hexadecimal octets if there are no
+    /// components that fit 64 bits. The only error is out of memory.
     pub fn to_id_string(&self, alloc: Global) -> Result<String, OutOfMemory>
         ensures components { (components : List ℕ) → Spells components self.now
             → IfOk result (λ text. string_bytes text ≡ dotted components) }

@@ -1,4 +1,4 @@
--- What a conversion of an element answers.
+-- What a conversion of an element returns.
 use Rattle.std.specs.Prelude.{◌≡◌, ℕ, ℤ, pos, List, Result}
 use Rattle.asn1_any.specs.BerElements.{BerElement}
 use Rattle.asn1_core.specs.declared.error.Error.{Error}
@@ -8,7 +8,8 @@ use Rattle.asn1_traits.specs.Integers.{IsUnsigned, IsSigned}
 use Rattle.asn1_traits.specs.Leaves.{LeafMeans}
 use Rattle.asn1_traits.specs.Reads.{ReadsOf}
 
--- a value that the element means, or an error where it means none: never a failure, since no memory is taken
+-- a value that the element means, or an error where it means none: never a failure, since no memory
+-- is taken
 abbrev pub Converts : {V : Type 0} → (BerElement → V → Type 0) → BerElement → Result V (Refusal Error) → Type 0
 Converts means e r = ReadsOf (λ given error. error ≡ given) ⊥ means e r
 

@@ -1,4 +1,4 @@
-//! The values of an element.
+//! The conversions of an element.
 
 ghost use Rattle.std.specs.Prelude.{◌≡◌, [], pos};
 ghost use Rattle.std.specs.Str.{IsUtf8};
@@ -27,101 +27,102 @@ use asn1_traits::FromAny;
 use asn1_values::{BitString, Enumerated, Integer, Null, OctetString};
 use std::alloc::Global;
 
-/// What an element means as a value of each type, by BER's rules: each call answers what `try_from_any` of its type does,
-/// the value, or `Error` where the element means none. None of them takes memory, so none answers `Failure`.
+/// What an element means as a value of each type, by BER's rules: each call returns what
+/// `try_from_any` of its type does, the value, or `Error` if the element means none. None of them
+/// allocates, so none returns `Failure`.
 pub trait AnyConversions<'a>: Sized {
-    /// The element, with the length that its header tells.
+    /// The element, with the length in its header.
     ghost element: { Self → BerElement };
 
-    /// The value of a BOOLEAN (X.690, 8.2).
+    /// Returns the value of a BOOLEAN (X.690, 8.2).
     fn as_bool(&self, alloc: Global) -> Result<bool, Err<Error>>
         ensures { ConvertsContent 1 BooleanMeans (element self.now) result };
 
-    /// The number of an INTEGER (X.690, 8.3) that `u8` holds.
+    /// Returns the number of an INTEGER (X.690, 8.3) that fits `u8`.
     fn as_u8(&self, alloc: Global) -> Result<u8, Err<Error>>
         ensures { ConvertsUnsigned 8 (element self.now) result };
 
-    /// The number of an INTEGER (X.690, 8.3) that `u16` holds.
+    /// Returns the number of an INTEGER (X.690, 8.3) that fits `u16`.
     fn as_u16(&self, alloc: Global) -> Result<u16, Err<Error>>
         ensures { ConvertsUnsigned 16 (element self.now) result };
 
-    /// The number of an INTEGER (X.690, 8.3) that `u32` holds.
+    /// Returns the number of an INTEGER (X.690, 8.3) that fits `u32`.
     fn as_u32(&self, alloc: Global) -> Result<u32, Err<Error>>
         ensures { ConvertsUnsigned 32 (element self.now) result };
 
-    /// The number of an INTEGER (X.690, 8.3) that `u64` holds.
+    /// Returns the number of an INTEGER (X.690, 8.3) that fits `u64`.
     fn as_u64(&self, alloc: Global) -> Result<u64, Err<Error>>
         ensures { ConvertsUnsigned 64 (element self.now) result };
 
-    /// The number of an INTEGER (X.690, 8.3) that `i8` holds.
+    /// Returns the number of an INTEGER (X.690, 8.3) that fits `i8`.
     fn as_i8(&self, alloc: Global) -> Result<i8, Err<Error>>
         ensures { ConvertsSigned 8 (element self.now) result };
 
-    /// The number of an INTEGER (X.690, 8.3) that `i16` holds.
+    /// Returns the number of an INTEGER (X.690, 8.3) that fits `i16`.
     fn as_i16(&self, alloc: Global) -> Result<i16, Err<Error>>
         ensures { ConvertsSigned 16 (element self.now) result };
 
-    /// The number of an INTEGER (X.690, 8.3) that `i32` holds.
+    /// Returns the number of an INTEGER (X.690, 8.3) that fits `i32`.
     fn as_i32(&self, alloc: Global) -> Result<i32, Err<Error>>
         ensures { ConvertsSigned 32 (element self.now) result };
 
-    /// The number of an INTEGER (X.690, 8.3) that `i64` holds.
+    /// Returns the number of an INTEGER (X.690, 8.3) that fits `i64`.
     fn as_i64(&self, alloc: Global) -> Result<i64, Err<Error>>
         ensures { ConvertsSigned 64 (element self.now) result };
 
-    /// The INTEGER, whose octets are held as they stand.
+    /// Returns an INTEGER of any size (X.690, 8.3), its octets borrowed.
     fn integer(self, alloc: Global) -> Result<Integer<'a>, Err<Error>>
         ensures { ConvertsContent 2 (λ content v. HoldsSome content v.content.now) (element self) result };
 
-    /// The number of an ENUMERATED (X.690, 8.4) of 32 bits.
+    /// Returns the number of an ENUMERATED (X.690, 8.4) of 32 bits.
     fn enumerated(self, alloc: Global) -> Result<Enumerated, Err<Error>>
         ensures { ConvertsContent 10 (IntegerMeans (λ v. pos v.0) (IsUnsigned 32)) (element self) result };
 
-    /// The BIT STRING (X.690, 8.6).
+    /// Returns a BIT STRING (X.690, 8.6).
     fn bitstring(self, alloc: Global) -> Result<BitString<'a>, Err<Error>>
         ensures { ConvertsContent 3 (λ content v. BitsMean content v.unused_bits v.content.now) (element self) result };
 
-    /// The OCTET STRING (X.690, 8.7).
+    /// Returns an OCTET STRING (X.690, 8.7).
     fn octetstring(self, alloc: Global) -> Result<OctetString<'a>, Err<Error>>
         ensures { ConvertsContent 4 (MeansOctets (λ v. v.content.now)) (element self) result };
 
-    /// The NULL (X.690, 8.8).
+    /// Returns a NULL (X.690, 8.8).
     fn null(self, alloc: Global) -> Result<Null, Err<Error>>
         ensures { ConvertsContent 5 (λ content _. content ≡ []) (element self) result };
 
-    /// The OBJECT IDENTIFIER (X.690, 8.19).
+    /// Returns an OBJECT IDENTIFIER (X.690, 8.19).
     fn oid(self, alloc: Global) -> Result<Oid<'a>, Err<Error>>
         ensures { ConvertsContent 6 (MeansOctets (λ v. v)) (element self) result };
 
-    /// `oid`, of a borrowed element.
+    /// Returns an OBJECT IDENTIFIER (X.690, 8.19); the element is kept.
     fn as_oid(&self, alloc: Global) -> Result<Oid<'a>, Err<Error>>
         ensures { ConvertsContent 6 (MeansOctets (λ v. v)) (element self.now) result };
 
-    /// The UTCTime (X.690, 11.8).
+    /// Returns a UTCTime (X.690, 11.8).
     fn utctime(self, alloc: Global) -> Result<UtcTime, Err<Error>>
         ensures { ConvertsContent 23 (λ content v. UtcMeans content v.0) (element self) result };
 
-    /// The GeneralizedTime (X.690, 11.7).
+    /// Returns a GeneralizedTime (X.690, 11.7).
     fn generalizedtime(self, alloc: Global) -> Result<GeneralizedTime, Err<Error>>
         ensures { ConvertsContent 24 (λ content v. GeneralizedMeans content v.0) (element self) result };
 
-    /// The SEQUENCE (X.690, 8.9), whose content is kept.
+    /// Returns a SEQUENCE (X.690, 8.9) and its content.
     fn sequence(self, alloc: Global) -> Result<Sequence<'a>, Err<Error>>
         ensures { Converts (HoldsContent 16 (λ v. v.content.now)) (element self) result };
 
-    /// The SET (X.690, 8.11), whose content is kept.
+    /// Returns a SET (X.690, 8.11) and its content.
     fn set(self, alloc: Global) -> Result<Set<'a>, Err<Error>>
         ensures { Converts (HoldsContent 17 (λ v. v.content.now)) (element self) result };
 
-    /// The UTF8String (X.690, 8.23).
+    /// Returns a UTF8String (X.690, 8.23).
     fn utf8string(self, alloc: Global) -> Result<Utf8String<'a>, Err<Error>>
         ensures { ConvertsContent 12 (MeansTextOf IsUtf8 (λ v. v.text.now)) (element self) result };
 
-    /// The PrintableString.
+    /// Returns a PrintableString (X.690, 8.23; X.680, 41.4).
     fn printablestring(self, alloc: Global) -> Result<PrintableString<'a>, Err<Error>>
         ensures { ConvertsContent 19 (MeansTextOf (IsTextOf is_printable) (λ v. v.text.now)) (element self) result };
 
-    /// The IA5String.
+    /// Returns an IA5String (X.690, 8.23).
     fn ia5string(self, alloc: Global) -> Result<Ia5String<'a>, Err<Error>>
         ensures { ConvertsContent 22 (MeansTextOf (IsTextOf is_below_80) (λ v. v.text.now)) (element self) result };
 }

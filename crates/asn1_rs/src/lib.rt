@@ -1,7 +1,7 @@
 //! Elements, values and writers of ASN.1 by its encoding rules BER and DER (X.690).
 //!
-//! The types stand in crates of their own, each with what is proved of it; this one names them all, and gives [`Any`] its
-//! conversions.
+//! The types are in crates of their own, each with what is proved of it; this one exports them all,
+//! and adds conversions of [`Any`].
 #![tactic(auto)]
 
 mod any;

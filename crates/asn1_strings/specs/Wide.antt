@@ -1,4 +1,5 @@
--- Strings whose characters take two or four octets each: the octets of characters, and what text octets are.
+-- Strings whose characters take two or four octets each: the octets of characters, and what text
+-- octets are.
 use Rattle.std.specs.Prelude.{◌≡◌, ◌⊎◌, ◌++◌, List, ℕ, true, Result, Ok, Err}
 use Rattle.std.specs.List.{flat_map}
 use Rattle.std.specs.Int.{to_be_bytes, w16, w32}
@@ -10,11 +11,13 @@ use Rattle.asn1_strings.specs.declared.wide.CharOctets.TheVariants.{Two, Four}
 use Rattle.asn1_core.specs.declared.error.Error.{Error}
 use Rattle.asn1_core.specs.declared.error.Error.TheVariants as errors
 
--- a character of a BMPString: its units of UTF-16, of two octets each, the high one first (X.690, 8.23; ISO/IEC 10646, UTF-16BE)
+-- a character of a BMPString: its units of UTF-16, of two octets each, the high one first
+-- (X.690, 8.23; ISO/IEC 10646, UTF-16BE)
 abbrev pub utf16_octets : ℕ → List ℕ
 utf16_octets c = flat_map (to_be_bytes w16) (encode_utf16 c)
 
--- a character of a UniversalString: its number in four octets, the high one first (X.690, 8.23; ISO/IEC 10646, UTF-32BE)
+-- a character of a UniversalString: its number in four octets, the high one first (X.690, 8.23;
+-- ISO/IEC 10646, UTF-32BE)
 abbrev pub utf32_octets : ℕ → List ℕ
 utf32_octets c = to_be_bytes w32 c
 

@@ -1,4 +1,4 @@
--- That the octets of characters tell the characters.
+-- The octets of characters decide the characters.
 use Rattle.std.proofs.Common.{arith, inl, inr, refl, ap, sym, ◌≡◌, ◌∙◌, ℕ, ◌+◌, ◌-◌, ◌/◌, ◌%◌, ◌^◌, ◌<◌, ◌≤◌, Bool, true, false, List, [], ◌∷◌, ◌++◌, length, length-append}
 use Rattle.std.specs.Prelude.{◌⊎◌}
 use Rattle.std.specs.List.{flat_map}
@@ -116,7 +116,7 @@ utf32_one c d r s p q e =
 pub utf32_some : (c : ℕ) → 0 < length (utf32_octets c)
 utf32_some c = omega arith
 
--- characters have the same octets only where they are the same
+-- characters have equal octets only if they are equal
 pub same_chars : (f : ℕ → List ℕ) → ((c : ℕ) → 0 < length (f c)) → ((c d : ℕ) (r s : List ℕ) → IsScalar c → IsScalar d → f c ++ r ≡ f d ++ s → (c ≡ d) × (r ≡ s)) →
     (cs ds : List ℕ) → all_scalars cs ≡ true → all_scalars ds ≡ true → flat_map f cs ≡ flat_map f ds → cs ≡ ds
 same_chars f some one [] [] p q e = refl

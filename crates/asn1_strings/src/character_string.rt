@@ -1,4 +1,4 @@
-//! Character strings whose content is borrowed as it stands.
+//! Character strings whose content is UTF-8 as it is, and is borrowed.
 
 ghost use Rattle.std.specs.Prelude.{◌≡◌, ◌↔◌, ◌^◌, ◌<◌, ℕ, Bool, true, List, IsTrue, IfOk, IfErr, refl, string_bytes};
 ghost use Rattle.std.specs.List.{list_all};
@@ -17,41 +17,41 @@ use std::alloc::{AllocError, Global};
 use std::convert::AsStr;
 use std::marker::PhantomData;
 
-/// The character set of a string type, beside its tag number.
+/// A string type whose content is UTF-8 of its character set (X.680, 41).
 pub trait TestValidCharset: Tagged {
     /// The octets are text of these characters.
     ghost is_text: { List ℕ → Type 0 };
 
-    /// The same as a test.
+    /// Whether the octets are text of these characters, as a test.
     ghost passes: { List ℕ → Bool };
 
-    /// That the octets are text of these characters; else `StringInvalidCharset`.
+    /// Returns `Ok(())` if the octets are text of these characters, else `StringInvalidCharset`.
     fn test_valid_charset(octets: &[u8]) -> Result<(), Error>
         ensures { TestsCharset is_text octets.now result };
 
-    /// The tag number is one.
+    /// The tag number fits 32 bits.
     ghost low: { Self.tag_number < 2 ^ 32 };
 
     /// The test finds text of these characters, and nothing else.
     ghost telling: { (octets : List ℕ) → IsTrue (passes octets) ↔ is_text octets };
 
-    /// Such octets are UTF-8.
+    /// Text of these characters is UTF-8.
     ghost utf8: { (octets : List ℕ) → is_text octets → IsUtf8 octets };
 }
 
-/// A character set each of whose characters is one octet, below 80 hex.
+/// A character set each of whose characters is one octet, below hex 80.
 pub trait OctetCharset: Tagged {
     /// The octet is a character of the set.
     ghost has_octet: { ℕ → Bool };
 
-    /// Whether the octet is a character of the set.
+    /// Returns whether the octet is a character of the set.
     fn has(octet: u8) -> bool
         ensures { result ≡ has_octet octet };
 
-    /// The tag number is one.
+    /// The tag number fits 32 bits.
     ghost low_tag: { Self.tag_number < 2 ^ 32 };
 
-    /// Such octets are below 80 hex.
+    /// Octets of the set are below hex 80.
     ghost ascii: { (octet : ℕ) → has_octet octet ≡ true → octet < 128 };
 }
 
@@ -81,17 +81,18 @@ fn has_all<T: OctetCharset>(octets: &[u8]) -> bool
     octets.iter().all(|octet| T::has(*octet))
 }
 
-/// A string of a type whose characters stand in the content as they stand in UTF-8. `C` is the character set.
+/// A string of a type whose content is its UTF-8 octets. `C` is the character set.
 #[derive(Drop)]
 #[derive_where(Clone, Copy, Debug, PartialEq, Eq)]
 pub struct CharacterString<'a, C> {
-    /// The text. `new` takes any; it is in DER form where the type has its characters.
+    /// The text. `new` accepts any; it is in DER form if the type has its characters.
     pub text: &'a str,
     of: PhantomData<C>,
 }
 
 impl<'a, C> CharacterString<'a, C> {
-    /// The string of this text.
+    /// Returns the string of this text. Characters that the type lacks are accepted, and aren't
+    /// written.
     pub const fn new(text: &'a str) -> CharacterString<'a, C>
         ensures { result.text.now ≡ text.now }
     {
@@ -101,14 +102,14 @@ impl<'a, C> CharacterString<'a, C> {
         }
     }
 
-    /// The text.
+    /// Returns the text.
     pub const fn as_str(&self) -> &'a str
         ensures { result.now ≡ self.now.text.now }
     {
         self.text
     }
 
-    /// The text, copied. An error where memory ran out.
+    /// Returns a copy of the text. The only error is out of memory.
     pub fn string(&self, alloc: Global) -> Result<String, AllocError>
         ensures { IfOk result (λ s. string_bytes s ≡ self.now.text.now) }
     {
@@ -133,7 +134,8 @@ impl<'a, C> AsStr for CharacterString<'a, C> {
 }
 
 impl<'a, C: TestValidCharset> CharacterString<'a, C> {
-    /// That the octets are text of the type's characters; else `StringInvalidCharset`.
+    /// Returns `Ok(())` if the octets are text of the type's characters, else
+    /// `StringInvalidCharset`.
     pub fn test_valid_charset(octets: &[u8]) -> Result<(), Error>
         ensures test { TestsCharset C.is_text octets.now result }
         ensures exact { result ≡ charset_at C.passes octets.now }

@@ -11,34 +11,34 @@ use crate::character_string::{CharacterString, OctetCharset, TestValidCharset};
 use asn1_core::{Class, Error, Tag};
 use asn1_traits::Tagged;
 
-/// Tag 12, any characters.
+/// UTF8String, tag 12: any characters.
 pub type Utf8String<'a> = CharacterString<'a, Utf8>;
 
-/// Tag 18, digits and space.
+/// NumericString, tag 18: digits and space.
 pub type NumericString<'a> = CharacterString<'a, Numeric>;
 
-/// Tag 19, letters, digits, space ' ( ) + , - . / : = ?.
+/// PrintableString, tag 19: letters, digits, space and ' ( ) + , - . / : = ?.
 pub type PrintableString<'a> = CharacterString<'a, Printable>;
 
-/// Tag 22, octets below 80 hex.
+/// IA5String, tag 22: octets below hex 80.
 pub type Ia5String<'a> = CharacterString<'a, Ia5>;
 
-/// Tag 26, octets 20 to 7e hex.
+/// VisibleString, tag 26: octets from hex 20 to 7e.
 pub type VisibleString<'a> = CharacterString<'a, Visible>;
 
-/// Tag 20, octets below 80 hex.
+/// TeletexString, tag 20: octets below hex 80.
 pub type TeletexString<'a> = CharacterString<'a, Teletex>;
 
-/// Tag 21, octets below 80 hex.
+/// VideotexString, tag 21: octets below hex 80.
 pub type VideotexString<'a> = CharacterString<'a, Videotex>;
 
-/// Tag 25, octets below 80 hex.
+/// GraphicString, tag 25: octets below hex 80.
 pub type GraphicString<'a> = CharacterString<'a, Graphic>;
 
-/// Tag 27, octets below 80 hex.
+/// GeneralString, tag 27: octets below hex 80.
 pub type GeneralString<'a> = CharacterString<'a, General>;
 
-/// Tag 7, octets below 80 hex.
+/// ObjectDescriptor, tag 7: octets below hex 80.
 pub type ObjectDescriptor<'a> = CharacterString<'a, Descriptor>;
 
 /// The characters of a UTF8String: any.
@@ -108,7 +108,7 @@ impl OctetCharset for Numeric {
     }
 }
 
-/// The characters of a PrintableString: letters, digits, space ' ( ) + , - . / : = ?.
+/// The characters of a PrintableString: letters, digits, space and ' ( ) + , - . / : = ?.
 #[derive(Clone, Copy, Debug, PartialEq, Eq, Drop)]
 pub struct Printable;
 
@@ -144,7 +144,7 @@ impl OctetCharset for Printable {
     }
 }
 
-/// The characters of an IA5String: octets below 80 hex.
+/// The characters of an IA5String: octets below hex 80.
 #[derive(Clone, Copy, Debug, PartialEq, Eq, Drop)]
 pub struct Ia5;
 
@@ -174,7 +174,7 @@ impl OctetCharset for Ia5 {
     }
 }
 
-/// The characters of a VisibleString: 20 to 7e hex.
+/// The characters of a VisibleString: octets from hex 20 to 7e.
 #[derive(Clone, Copy, Debug, PartialEq, Eq, Drop)]
 pub struct Visible;
 
@@ -204,7 +204,7 @@ impl OctetCharset for Visible {
     }
 }
 
-/// The characters of a TeletexString that are taken: octets below 80 hex.
+/// The characters of a TeletexString that are accepted: octets below hex 80.
 #[derive(Clone, Copy, Debug, PartialEq, Eq, Drop)]
 pub struct Teletex;
 
@@ -234,7 +234,7 @@ impl OctetCharset for Teletex {
     }
 }
 
-/// The characters of a VideotexString that are taken: octets below 80 hex.
+/// The characters of a VideotexString that are accepted: octets below hex 80.
 #[derive(Clone, Copy, Debug, PartialEq, Eq, Drop)]
 pub struct Videotex;
 
@@ -264,7 +264,7 @@ impl OctetCharset for Videotex {
     }
 }
 
-/// The characters of a GraphicString that are taken: octets below 80 hex.
+/// The characters of a GraphicString that are accepted: octets below hex 80.
 #[derive(Clone, Copy, Debug, PartialEq, Eq, Drop)]
 pub struct Graphic;
 
@@ -294,7 +294,7 @@ impl OctetCharset for Graphic {
     }
 }
 
-/// The characters of a GeneralString that are taken: octets below 80 hex.
+/// The characters of a GeneralString that are accepted: octets below hex 80.
 #[derive(Clone, Copy, Debug, PartialEq, Eq, Drop)]
 pub struct General;
 
@@ -324,7 +324,7 @@ impl OctetCharset for General {
     }
 }
 
-/// The characters of an ObjectDescriptor that are taken: octets below 80 hex.
+/// The characters of an ObjectDescriptor that are accepted: octets below hex 80.
 #[derive(Clone, Copy, Debug, PartialEq, Eq, Drop)]
 pub struct Descriptor;
 

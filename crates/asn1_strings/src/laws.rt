@@ -9,24 +9,26 @@ ghost use Rattle.asn1_strings.specs.Readers.{text_at};
 use crate::character_string::TestValidCharset;
 use crate::wide::WideForm;
 
-/// The functions of the test of a character set and of the reader of strings find text of the type, and nothing else.
+/// The functions of the test of a character set and of the reader of strings find text of the type,
+/// and nothing else.
 pub fn text_function<C: TestValidCharset>()
     ensures { (content text : List ℕ) → (text_at C.passes content ≡ Ok text) ↔ ((text ≡ content) × C.is_text content) }
 {}
 
-/// The octets of a text of these characters are the characters' octets, one after the other.
+/// The octets of a text of these characters are the characters' octets, one after another.
 pub fn octets_of_characters<F: WideForm>()
     ensures { (characters : List ℕ) → IsTrue (all_scalars characters)
         → wide_octets F.char_octets (encode_utf8_all characters) ≡ flat_map F.char_octets characters }
 {}
 
-/// Two texts that have the same octets are the same text.
+/// Two texts of equal octets are equal.
 pub fn one_text<F: WideForm>()
     ensures { (text other : List ℕ) → IsUtf8 text → IsUtf8 other
         → wide_octets F.char_octets text ≡ wide_octets F.char_octets other → text ≡ other }
 {}
 
-/// Worked characters: A, the first one above the surrogates, the last of two octets, U+1F600 and the last one of all.
+/// Worked characters: A, the first one above the surrogates, the last of two octets, U+1F600 and
+/// the last one of all.
 pub fn worked_characters()
     ensures letter { (utf16_octets 0x41 ≡ 0x00 ∷ 0x41 ∷ []) × (utf32_octets 0x41 ≡ 0x00 ∷ 0x00 ∷ 0x00 ∷ 0x41 ∷ []) }
     ensures private { (utf16_octets 0xe000 ≡ 0xe0 ∷ 0x00 ∷ []) × (utf32_octets 0xe000 ≡ 0x00 ∷ 0x00 ∷ 0xe0 ∷ 0x00 ∷ []) }

@@ -22,7 +22,7 @@ pub enum CharOctets {
 }
 
 impl CharOctets {
-    /// The octets.
+    /// Returns the octets.
     pub fn as_slice(&self) -> &[u8]
         ensures { result.now ≡ octets_of self.now }
     {
@@ -33,30 +33,31 @@ impl CharOctets {
     }
 }
 
-/// How a character stands in the content of a string type, beside its tag number.
+/// A string type whose characters take two or four octets each.
 pub trait WideForm: Tagged {
     /// The octets of a character.
     ghost char_octets: { ℕ → List ℕ };
 
-    /// The octets of the character.
+    /// Returns the octets of the character.
     fn octets_of_char(character: char) -> CharOctets
         ensures { octets_of result ≡ char_octets character };
 
-    /// The character that begins the octets, with the octets after it.
+    /// Reads one character from the front of `octets`. Returns it and the octets after it; `None`
+    /// if no character begins there.
     fn first_char<'a>(octets: &'a [u8]) -> Option<(char, &'a [u8])>
         ensures { MatchOption result (BeginsWithNone char_octets octets.now) (λ p. BeginsWithChar char_octets octets.now p.0 p.1.now) };
 
-    /// The tag number is one.
+    /// The tag number fits 32 bits.
     ghost low: { Self.tag_number < 2 ^ 32 };
 
-    /// No character takes no octet.
+    /// Each character takes an octet or more.
     ghost some_octet: { (c : ℕ) → 0 < length (char_octets c) };
 
     /// At most one character begins the octets.
     ghost one_char: { (c d : ℕ) (r s : List ℕ) → IsScalar c → IsScalar d → char_octets c ++ r ≡ char_octets d ++ s → (c ≡ d) × (r ≡ s) };
 }
 
-/// A string of a type whose content is its characters in the form `F`. It holds the text.
+/// A string of a type whose content is its characters in the form `F`. It owns the text, as UTF-8.
 #[derive(Drop)]
 #[derive_where(Clone, Debug, PartialEq, Eq)]
 pub struct WideString<F> {
@@ -66,7 +67,7 @@ pub struct WideString<F> {
 }
 
 impl<F> WideString<F> {
-    /// The string of this text.
+    /// Returns the string of this text.
     pub fn new(text: String) -> WideString<F>
         ensures { string_bytes result.text ≡ string_bytes text }
     {
@@ -76,21 +77,21 @@ impl<F> WideString<F> {
         }
     }
 
-    /// The text.
+    /// Returns the text.
     pub fn as_str(&self) -> &str
         ensures { result.now ≡ string_bytes self.now.text }
     {
         self.text.as_str()
     }
 
-    /// The text, handed over.
+    /// Returns the text that the string owns.
     pub fn into_string(self) -> String
         ensures { string_bytes result ≡ string_bytes self.text }
     {
         self.text
     }
 
-    /// The text, copied. An error where memory ran out.
+    /// Returns a copy of the text. The only error is out of memory.
     pub fn string(&self, alloc: Global) -> Result<String, AllocError>
         ensures { IfOk result (λ s. string_bytes s ≡ string_bytes self.now.text) }
     {
@@ -115,7 +116,7 @@ impl<F> AsStr for WideString<F> {
 }
 
 impl<F: WideForm> WideString<F> {
-    /// That the octets are those of some text; else `StringInvalidCharset`.
+    /// Returns `Ok(())` if the octets are those of some text, else `StringInvalidCharset`.
     pub fn test_valid_charset(octets: &[u8]) -> Result<(), Error>
         ensures { TestsCharset (IsWideText F.char_octets) octets.now result }
     {
@@ -130,7 +131,8 @@ impl<F: WideForm> WideString<F> {
     }
 }
 
-// The text whose octets these are. `StringInvalidCharset` where there is none; `OutOfMemory` where memory ran out.
+// The text whose octets these are. `StringInvalidCharset` where there is none; `OutOfMemory` where
+// memory ran out.
 fn read_text<F: WideForm>(alloc: Global, octets: &[u8]) -> Result<String, Error>
     ensures { ReadsWide F.char_octets string_bytes octets.now result }
 {
@@ -164,7 +166,7 @@ fn text_len<F: WideForm>(text: &str) -> SerializeResult<usize>
     Ok(total)
 }
 
-// Appends the octets of the text, and answers their number.
+// Writes the octets of the text, and returns their number.
 fn write_text<F: WideForm, S: Sink>(text: &str, writer: &mut S) -> SerializeResult<usize>
     ensures { Writes (S.contents writer.old) (S.contents writer.new) (S.failures writer.old) (S.failures writer.new)
         (IsLong (wide_octets F.char_octets text.now)) ⊥ ⊥ (wide_octets F.char_octets text.now) result }

@@ -9,13 +9,14 @@ use crate::wide::{CharOctets, WideForm, WideString};
 use asn1_core::{Class, Tag};
 use asn1_traits::Tagged;
 
-/// Tag 30, text whose characters stand as UTF-16, the high octet first.
+/// BMPString, tag 30: UTF-16, the high octet first.
 pub type BmpString = WideString<Utf16>;
 
-/// Tag 28, text whose characters stand in four octets, the high octet first.
+/// UniversalString, tag 28: four octets for a character, the high octet first.
 pub type UniversalString = WideString<Utf32>;
 
-/// The form of a BMPString: UTF-16, the high octet first; characters above ffff hex take a pair of surrogates.
+/// The form of a BMPString: UTF-16, the high octet first; characters above hex ffff take a pair of
+/// surrogates.
 #[derive(Clone, Copy, Debug, PartialEq, Eq, Drop)]
 pub struct Utf16;
 

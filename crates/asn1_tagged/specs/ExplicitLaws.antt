@@ -1,4 +1,4 @@
--- That a value behind a tag is lawful where the value is: what is written is read back.
+-- A value with an explicit tag has the laws if the value has: what is written is read back.
 use Rattle.std.proofs.Common.{arith, ◌≡◌, refl, sym, ap, subst, ℕ, ◌^◌, ◌<◌, true, List, [], ◌++◌, Option, Some, nat_lt, lt-ltb, length-append}
 use Rattle.std.proofs.lemmas.List.{append-nil}
 use Rattle.asn1_core.specs.Strict.{strict_header}
@@ -11,7 +11,7 @@ use Rattle.asn1_traits.specs.LeafLaws.{short_element, same_element}
 use Rattle.asn1_traits.specs.ListLaws.{BackEach, SameEach}
 use Rattle.asn1_tagged.specs.Tagging.{IsExplicit, ExplicitMeans, explicit_element, IsExplicitForm}
 
--- the element behind a tag of a class
+-- the element with an explicit tag of a class
 abbrev wrapped : ℕ → ℕ → Option Element → Element
 wrapped class tag o = record { class = class; constructed = true; tag = tag; content = written o }
 
@@ -33,7 +33,7 @@ inner_short class tag o short long = short (omega (arith, long, length-append (s
 wrapped_range : (class tag : ℕ) (o : Option Element) → class < 4 → tag < 2 ^ 32 → (IsLong (written (Some (wrapped class tag o))) → ⊥) → IsElement (wrapped class tag o)
 wrapped_range class tag o p q short = short_element (wrapped class tag o) p q short
 
--- read back before any rest; `put` puts another value behind the tag
+-- read back before any rest; `put` puts another value in the tag
 pub explicit_back : {V X : Type 0} (class tag : ℕ) (formed : V → Type 0) (element : V → Option Element) (reads : List ℕ → V → List ℕ → Type 0) (inner : X → V) (put : X → V → X) →
     ((x : X) (v : V) → inner (put x v) ≡ v) → BackEach formed element reads →
     (x : X) (rest : List ℕ) → IsExplicitForm class tag (formed (inner x)) → (IsLong (written (explicit_element class tag (element (inner x)))) → ⊥) →
@@ -57,7 +57,7 @@ explicit_back {V} {X} class tag formed element reads inner put put_inner back x 
     let Whole : Option Element → Type 0 = λ z. ReadsElement Means (written z ++ rest) (put x found.0) rest in
     (put x found.0, subst Whole (sym (wraps class tag o f.class_is)) whole)
 
--- whatever is read back is written the same
+-- whatever is read back is written as equal octets
 pub explicit_same : {V X : Type 0} (class tag : ℕ) (formed : V → Type 0) (element : V → Option Element) (reads : List ℕ → V → List ℕ → Type 0) (inner : X → V) → SameEach formed element reads →
     (x w : X) (rest r : List ℕ) → IsExplicitForm class tag (formed (inner x)) → (IsLong (written (explicit_element class tag (element (inner x)))) → ⊥) →
     ReadsElement (λ e y. ExplicitMeans class tag reads e (inner y)) (written (explicit_element class tag (element (inner x))) ++ rest) w r →

@@ -1,4 +1,4 @@
--- That a value under a tag in place of its own is lawful where the value is: what is written is read back.
+-- A value with an implicit tag has the laws if the value has: what is written is read back.
 use Rattle.std.proofs.Common.{arith, ◌≡◌, ◌∙◌, refl, sym, ap, subst, ℕ, ◌<◌, true, List, [], ◌++◌, Option, Some, None, nat_lt, lt-ltb}
 use Rattle.asn1_core.specs.Elements.{Element, element_octets, IsElement}
 use Rattle.asn1_any.specs.BerElements.{BerElement, definite_element}
@@ -87,7 +87,7 @@ implicit_back {V} {X} class tag own_class own formed element means inner put put
     let Whole : Option Element → Type 0 = λ z. ReadsElement Means (written z ++ rest) (put x again.0) rest in
     (put x again.0, subst Whole (sym (moved class tag own_class own (formed (inner x)) o f)) whole)
 
--- whatever is read back is written the same
+-- whatever is read back is written as equal octets
 pub implicit_same : {V X : Type 0} (class tag own_class own : ℕ) (formed : V → Type 0) (element : V → Option Element) (means : BerElement → V → Type 0) (inner : X → V) →
     OneEach formed element → SameEach formed element (ReadsElement means) →
     (x w : X) (rest r : List ℕ) → IsImplicitForm class tag own_class own (formed (inner x)) (element (inner x)) → (IsLong (written (implicit_element class tag (element (inner x)))) → ⊥) →

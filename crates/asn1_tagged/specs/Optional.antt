@@ -1,4 +1,5 @@
--- A value under a tag, or none: the tag number of the next header tells it, and its class plays no part.
+-- A value with a tag, or none: the tag number of the next header decides it, and its class isn't
+-- compared.
 use Rattle.std.specs.Prelude.{◌≡◌, ℕ, Option, Some, None, List}
 use Rattle.asn1_traits.specs.Options.{IsAbsent}
 

@@ -1,4 +1,4 @@
--- What a parser of an optional element answers: it hands header and content on to a closure.
+-- What a parser of an optional element returns: it passes header and content to a closure.
 use Rattle.std.specs.Prelude.{◌≡◌, ◌≢◌, ◌⊎◌, ◌-◌, ℕ, Option, Some, None, List, [], length, Result, Ok, Err, IsOkAnd}
 use Rattle.asn1_core.specs.Elements.{Element}
 use Rattle.asn1_core.specs.Views.{class_number, class_of, tag_of, length_of, head_of, ber_head_of}
@@ -17,7 +17,8 @@ use Rattle.asn1_any.specs.declared.read.TheConstants.{MAX_RECURSION}
 use Rattle.asn1_traits.specs.Reads.{IsNoMemory}
 use Rattle.asn1_traits.specs.Elements.{EndsWithinElement, EndsWithinBerElement}
 
--- an element of definite length with this header and this content begins the octets, and the rest comes after it
+-- an element of definite length with this header and this content begins the octets, and the rest
+-- comes after it
 pub record DerHeaded (octets : List ℕ) (header : Header) (content rest : List ℕ) : Type 0 where
   pub begins : BeginsWithElement octets (element_of (head_of header) content) rest
   pub told : length_of header ≡ Definite (length content)
@@ -41,7 +42,8 @@ pub record IsUnfit (Begins : Element → List ℕ → Type 0) (class tag : ℕ) 
   pub some : octets ≢ []
   pub only : (e : Element) (rest : List ℕ) → Begins e rest → (e.tag ≡ tag) × (e.class ≢ class)
 
--- the octets end within an element, so many octets are missing, and with fewer of them more none begins them
+-- the octets end within an element, so many octets are missing, and with fewer of them more none
+-- begins them
 pub record LacksElement (octets : List ℕ) (n : Needed) : Type 0 where
   pub ends : EndsWithinElement octets n
   pub missing : IsMissing HasElement octets (refusals.Incomplete n)
@@ -50,7 +52,7 @@ pub record LacksBerElement (octets : List ℕ) (n : Needed) : Type 0 where
   pub ends : EndsWithinBerElement octets n
   pub missing : IsMissing (HasBerElement (MAX_RECURSION - 1)) octets (refusals.Incomplete n)
 
--- a refusal, not for want of memory: it tells that octets are missing where, and only where, they are (`Lacks`)
+-- an error, not out of memory: it says that octets are missing exactly if they are (`Lacks`)
 abbrev pub IsRefusal : {E : Type 0} → (Error → E → Type 0) → (Needed → Type 0) → Refusal E → Type 0
 IsRefusal gives Lacks (refusals.Incomplete n) = Lacks n
 IsRefusal gives Lacks (refusals.Error e) = IsNoMemory gives e × ((n : Needed) → Lacks n → ⊥)
@@ -60,14 +62,15 @@ abbrev pub IsRefused : {A E : Type 0} → (Error → E → Type 0) → (Needed �
 IsRefused gives Lacks (Ok x) = ⊥
 IsRefused gives Lacks (Err r) = IsRefusal gives Lacks r
 
--- the closure's value before the octets behind the element, or its refusal; `at` are the octets of a window
+-- the closure's value before the octets after the element, or its error; `at` are the octets of a
+-- window
 abbrev pub HandsOn : {V E I : Type 0} → (I → List ℕ) → List ℕ → Result (I × V) (Refusal E) → Result (I × Option V) (Refusal E) → Type 0
 HandsOn at rest (Ok q) (Ok r) = (at r.0 ≡ rest) × (r.1 ≡ Some q.1)
 HandsOn at rest (Ok q) (Err e) = ⊥
 HandsOn at rest (Err e) (Ok r) = ⊥
 HandsOn at rest (Err e) (Err x) = x ≡ e
 
--- an element of this class and tag number was handed to the closure, and its answer is handed on
+-- an element of this class and tag number was passed to the closure, and its result is returned
 pub record Handed {V E I : Type 0} (at : I → List ℕ) (Headed : Header → List ℕ → List ℕ → Type 0) (post : Header → I → Result (I × V) (Refusal E) → Type 0) (class : Class) (tag : Tag)
     (r : Result (I × Option V) (Refusal E)) : Type 0 where
   pub header : Header
@@ -85,7 +88,7 @@ pub record Absent {V E I : Type 0} (at : I → List ℕ) (Begins : Element → L
   pub other : IsOther Begins tag.0 octets
   pub answer : IsOkAnd r (λ x. (at x.0 ≡ octets) × (x.1 ≡ None))
 
--- nothing was handed to the closure: the octets are refused
+-- nothing was passed to the closure: the octets are rejected
 pub record Refused {A E : Type 0} (gives : Error → E → Type 0) (Lacks : Needed → Type 0) (Begins : Element → List ℕ → Type 0) (class : Class) (tag : Tag) (octets : List ℕ) (r : Result A (Refusal E)) : Type 0 where
   pub unfit : IsUnfit Begins (class_number class) tag.0 octets
   pub answer : IsRefused gives Lacks r

@@ -24,7 +24,7 @@ pub record ExplicitMeans {V : Type 0} (class tag : ℕ) (reads : List ℕ → V 
 abbrev pub retagged : ℕ → ℕ → Element → Element
 retagged class tag e = record { class = class; constructed = e.constructed; tag = tag; content = e.content }
 
--- the same, its header's length as it is
+-- another class and tag number; the constructed bit, the content and the header's length stay
 abbrev pub ber_retagged : ℕ → ℕ → BerElement → BerElement
 ber_retagged class tag e = record { head = record { class = class; constructed = e.head.constructed; tag = tag; size = e.head.size }; content = e.content }
 
@@ -51,7 +51,8 @@ abbrev pub IsOf : ℕ → ℕ → Option Kind → Type 0
 IsOf class tag None = ⊥
 IsOf class tag (Some k) = (k.class ≡ class) × (k.tag ≡ tag)
 
--- the same, and the value's own element is of its type's class and tag number, and can be counted
+-- the kind is of this class and tag number; the value's own element is of its type's class and tag
+-- number, and can be counted
 pub record IsImplicitForm (class tag own_class own : ℕ) (form : Type 0) (o : Option Element) : Type 0 where
   pub class_is : class < 4
   pub tag_is : tag < 2 ^ 32

@@ -1,4 +1,4 @@
-//! Whether an element stands under a tag.
+//! Whether an element has a chosen class and tag number.
 
 ghost use Rattle.asn1_any.specs.Views.{any_of};
 ghost use Rattle.asn1_traits.specs.Reads.{Checks};
@@ -8,7 +8,8 @@ ghost use Rattle.asn1_tagged.specs.Tagging.{IsTagged, IsExplicit};
 use asn1_any::Any;
 use asn1_core::{Class, Error, SerializeError, Tag};
 
-/// An element of the class of this number and of this tag number: else `UnexpectedTag` or `UnexpectedClass`.
+/// Returns `Ok(())` for an element of this class, by its number, and this tag number; else
+/// `UnexpectedTag` or `UnexpectedClass`.
 pub(crate) fn check_tagged(any: &Any<'_>, class: u8, tag: u32) -> Result<(), Error>
     ensures { Checks (IsTagged class tag) (any_of any.now) result }
 {
@@ -22,7 +23,8 @@ pub(crate) fn check_tagged(any: &Any<'_>, class: u8, tag: u32) -> Result<(), Err
     }
 }
 
-/// Such an element, constructed: else `ConstructExpected`.
+/// Returns `Ok(())` for a constructed element of this class and tag number; else `UnexpectedTag`,
+/// `UnexpectedClass` or `ConstructExpected`.
 pub(crate) fn check_explicit(any: &Any<'_>, class: u8, tag: u32) -> Result<(), Error>
     ensures { Checks (IsExplicit class tag) (any_of any.now) result }
 {
@@ -30,7 +32,8 @@ pub(crate) fn check_explicit(any: &Any<'_>, class: u8, tag: u32) -> Result<(), E
     any.header.assert_constructed()
 }
 
-/// What is told of a value out of DER form under this tag: of a class above 3 that it is none.
+/// Returns the error for a value that has no DER form under this tag: for a class above 3, that it
+/// is none.
 pub(crate) fn refusal_under(class: u8, tag: Tag) -> SerializeError
     ensures { IsFormRefusal result }
 {

@@ -1,4 +1,5 @@
-//! Values behind a tag: an element whose content is the value's whole encoding (X.690, 8.14.2).
+//! Values with an explicit tag: an element whose content is the value's whole encoding
+//! (X.690, 8.14.2).
 
 ghost use Rattle.std.specs.Prelude.{◌≡◌};
 ghost use Rattle.asn1_any.specs.Views.{any_of};

@@ -1,4 +1,4 @@
-//! Values under a tag in place of their own (X.690, 8.14.3).
+//! Values with an implicit tag, in place of their own (X.690, 8.14.3).
 
 ghost use Rattle.std.specs.Prelude.{◌≡◌, ◌↔◌, IsTrue, option_map};
 ghost use Rattle.asn1_core.specs.Views.{class_number};

@@ -1,4 +1,4 @@
-//! Values under a tag are lawful where the values are: what is written of them is read back.
+//! Tagged values have the laws that the values have: what is written of them is read back.
 
 ghost use Rattle.std.proofs.Common.{refl};
 ghost use Rattle.asn1_tagged.specs.ExplicitLaws.{explicit_one, explicit_tag, explicit_back, explicit_same};

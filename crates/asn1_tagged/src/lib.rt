@@ -1,4 +1,5 @@
-//! Values under a tag of a chosen class and number, explicit or implicit, and those that may be absent.
+//! Values with a tag of a chosen class and number, explicit or implicit, and those that may be
+//! absent.
 #![tactic(auto)]
 
 mod check;

@@ -1,4 +1,5 @@
-//! Laws of values under a tag that may be absent: `OptTaggedExplicit`, `OptTaggedImplicit` and those of other classes.
+//! Laws of tagged values that may be absent: `OptTaggedExplicit`, `OptTaggedImplicit` and those of
+//! other classes.
 
 ghost use Rattle.std.specs.Prelude.{◌↔◌, ◌≢◌, ℕ, List, [], None};
 ghost use Rattle.asn1_traits.specs.Reads.{NoneReads};
@@ -10,9 +11,11 @@ ghost use Rattle.asn1_tagged.specs.Optional.{OptTaggedReads};
 use crate::value::{Explicit, Implicit, TaggedValue};
 use asn1_traits::{AnyMeaning, BerMeaning, DerAnyMeaning, DerMeaning, Tagged};
 
-/// What an optional value behind a tag is read from, by DER's rules: it is read as the value that isn't optional is, and is
-/// absent where no octet is left or a header tells another tag number, whatever its class. So behind a header of the wanted
-/// tag number it is never absent, and another class and a cut element are refused; a header that can't be read is refused.
+/// From which octets an optional value with an explicit tag is read, by DER's rules: if present,
+/// those of the value that isn't optional; it is absent if no octet is left or the header has
+/// another tag number, whatever its class. So after a header of the wanted tag number it is never
+/// absent: another class and an element that ends early are rejected, and so is a header that can't
+/// be read.
 pub fn opt_explicit_by_der<T: DerMeaning, E, const CLASS: u8, const TAG: u32>()
     ensures reads { (octets : List ℕ) (v : _) (rest : List ℕ) → ⟦<Option<TaggedValue<T, E, Explicit, CLASS, TAG>> as DerMeaning>⟧.der_reads octets v rest
         ↔ OptTaggedReads BeginsWithTag TAG (ReadsElement (λ e x. ExplicitMeans CLASS TAG T.der_reads e x.inner)) octets v rest }
@@ -20,7 +23,9 @@ pub fn opt_explicit_by_der<T: DerMeaning, E, const CLASS: u8, const TAG: u32>()
     ensures unread { (octets : List ℕ) → octets ≢ [] → ((n : ℕ) → BeginsWithTag octets n → ⊥) → NoneReads ⟦<Option<TaggedValue<T, E, Explicit, CLASS, TAG>> as DerMeaning>⟧.der_reads octets }
 {}
 
-/// The same by BER's rules.
+/// From which octets an optional value with an explicit tag is read, by BER's rules: if present,
+/// those of the value that isn't optional; it is absent if no octet is left or the header has
+/// another tag number, whatever its class.
 pub fn opt_explicit_by_ber<T: BerMeaning, E, const CLASS: u8, const TAG: u32>()
     ensures reads { (octets : List ℕ) (v : _) (rest : List ℕ) → ⟦<Option<TaggedValue<T, E, Explicit, CLASS, TAG>> as BerMeaning>⟧.ber_reads octets v rest
         ↔ OptTaggedReads BeginsWithBerTag TAG (ReadsBerElement (λ e x. ExplicitMeans CLASS TAG T.ber_reads e x.inner)) octets v rest }
@@ -28,8 +33,9 @@ pub fn opt_explicit_by_ber<T: BerMeaning, E, const CLASS: u8, const TAG: u32>()
     ensures unread { (octets : List ℕ) → octets ≢ [] → ((n : ℕ) → BeginsWithBerTag octets n → ⊥) → NoneReads ⟦<Option<TaggedValue<T, E, Explicit, CLASS, TAG>> as BerMeaning>⟧.ber_reads octets }
 {}
 
-/// What an optional value under a tag in place of its own is read from, by DER's rules, in the words of
-/// `opt_explicit_by_der`.
+/// From which octets an optional value with an implicit tag is read, by DER's rules: if present,
+/// those of the value that isn't optional; it is absent if no octet is left or the header has
+/// another tag number, whatever its class.
 pub fn opt_implicit_by_der<T: DerAnyMeaning + Tagged, E, const CLASS: u8, const TAG: u32>()
     ensures reads { (octets : List ℕ) (v : _) (rest : List ℕ) → ⟦<Option<TaggedValue<T, E, Implicit, CLASS, TAG>> as DerMeaning>⟧.der_reads octets v rest
         ↔ OptTaggedReads BeginsWithTag TAG (ReadsElement (λ e x. ImplicitMeans CLASS TAG T.own_class_number T.tag_number T.der_means e x.inner)) octets v rest }
@@ -37,7 +43,9 @@ pub fn opt_implicit_by_der<T: DerAnyMeaning + Tagged, E, const CLASS: u8, const 
     ensures unread { (octets : List ℕ) → octets ≢ [] → ((n : ℕ) → BeginsWithTag octets n → ⊥) → NoneReads ⟦<Option<TaggedValue<T, E, Implicit, CLASS, TAG>> as DerMeaning>⟧.der_reads octets }
 {}
 
-/// The same by BER's rules.
+/// From which octets an optional value with an implicit tag is read, by BER's rules: if present,
+/// those of the value that isn't optional; it is absent if no octet is left or the header has
+/// another tag number, whatever its class.
 pub fn opt_implicit_by_ber<T: AnyMeaning + Tagged, E, const CLASS: u8, const TAG: u32>()
     ensures reads { (octets : List ℕ) (v : _) (rest : List ℕ) → ⟦<Option<TaggedValue<T, E, Implicit, CLASS, TAG>> as BerMeaning>⟧.ber_reads octets v rest
         ↔ OptTaggedReads BeginsWithBerTag TAG (ReadsBerElement (λ e x. ImplicitMeans CLASS TAG T.own_class_number T.tag_number T.means e x.inner)) octets v rest }

@@ -1,4 +1,4 @@
-//! Parsers of optional elements: header and content are handed to a closure.
+//! Parsers of optional elements, whose header and content are passed to a closure.
 
 ghost use Rattle.std.specs.Prelude.{◌≡◌};
 ghost use Rattle.asn1_any.specs.DerElements.{BeginsWithElement};
@@ -10,8 +10,8 @@ use asn1_core::{Class, Err, Error, Header, IResult, Tag};
 
 /// A parser of an element of one class and tag number, which may be absent.
 ///
-/// It is absent where no octet is left or the next element, which has to be whole, has another tag number, whatever its
-/// class. The constructed bit isn't looked at.
+/// It is absent if no octet is left, or if the next element, which has to be whole, has another tag
+/// number, whatever its class. The constructed bit isn't checked.
 #[derive(Clone, Copy, Debug, PartialEq, Eq)]
 pub struct OptTaggedParser {
     /// The wanted class.
@@ -21,19 +21,22 @@ pub struct OptTaggedParser {
 }
 
 impl OptTaggedParser {
-    /// A parser of elements of this class and tag number.
+    /// Returns a parser of elements of this class and tag number.
     pub fn new(class: Class, tag: Tag) -> OptTaggedParser
         ensures { result ≡ record { class = class; tag = tag } }
     {
         OptTaggedParser { class, tag }
     }
 
-    /// Reads an element by BER's rules (`Any::from_ber`) and hands its header and content to `f`. The answer is that of `f`,
-    /// its value before the octets behind the element: what `f` leaves of the content is ignored. Where the element is
-    /// absent the answer is none, and all octets are left.
+    /// Reads an element by BER's rules (`Any::from_ber`) from the front of `i` and passes its
+    /// header and content to `f`. Returns `(rest, Some(value))`: the octets after the element, and
+    /// what `f` returns; what `f` leaves of the content is ignored. If the element is absent,
+    /// returns `(i, None)`.
     ///
-    /// Refusals: those of `Any::from_ber`; `UnexpectedClass` where the tag number is the wanted one and the class isn't;
-    /// those of `f`, as they are.
+    /// # Errors
+    ///
+    /// Those of `Any::from_ber`; `UnexpectedClass` if the tag number is the wanted one and the
+    /// class isn't; those of `f`, unchanged.
     pub fn parse_ber<'a, T, E: From<Error>, F: FnOnce(Header, &'a [u8]) -> IResult<&'a [u8], T, E>>(
         &self,
         bytes: &'a [u8],
@@ -62,12 +65,15 @@ impl OptTaggedParser {
         }
     }
 
-    /// Reads an element by DER's rules (`Any::from_der`) and hands its header and content to `f`. The answer is that of `f`,
-    /// its value before the octets behind the element: what `f` leaves of the content is ignored. Where the element is
-    /// absent the answer is none, and all octets are left.
+    /// Reads an element by DER's rules (`Any::from_der`) from the front of `i` and passes its
+    /// header and content to `f`. Returns `(rest, Some(value))`: the octets after the element, and
+    /// what `f` returns; what `f` leaves of the content is ignored. If the element is absent,
+    /// returns `(i, None)`.
     ///
-    /// Refusals: those of `Any::from_der`; `UnexpectedClass` where the tag number is the wanted one and the class isn't;
-    /// those of `f`, as they are.
+    /// # Errors
+    ///
+    /// Those of `Any::from_der`; `UnexpectedClass` if the tag number is the wanted one and the
+    /// class isn't; those of `f`, unchanged.
     pub fn parse_der<'a, T, E: From<Error>, F: FnOnce(Header, &'a [u8]) -> IResult<&'a [u8], T, E>>(
         &self,
         bytes: &'a [u8],
@@ -97,7 +103,7 @@ impl OptTaggedParser {
     }
 }
 
-/// A parser of elements of the context-specific class.
+/// A parser of elements of the context-specific class with this tag number.
 impl From<u32> for OptTaggedParser {
     ghost from_gives = { IsContextParser };
 

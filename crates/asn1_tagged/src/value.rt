@@ -1,4 +1,4 @@
-//! The type of a value under a tag.
+//! The type of a tagged value.
 
 ghost use Rattle.std.specs.Prelude.{◌≡◌, nat_lt, if◌then◌else◌};
 
@@ -7,16 +7,17 @@ use asn1_traits::Tagged;
 use std::convert::AsRef;
 use std::marker::PhantomData;
 
-/// The tag stands before the value's own tag (X.690, 8.14.2).
+/// The tag is written before the value's own tag, around its whole encoding (X.690, 8.14.2).
 #[derive(Clone, Copy, Debug, PartialEq, Eq)]
 pub struct Explicit;
 
-/// The tag stands in place of the value's own tag (X.690, 8.14.3).
+/// The tag is written in place of the value's own tag (X.690, 8.14.3).
 #[derive(Clone, Copy, Debug, PartialEq, Eq)]
 pub struct Implicit;
 
-/// A value under the tag of class `CLASS` and number `TAG`; `Kind` is `Explicit` or `Implicit`, and `E` is the error of its
-/// readers. A `CLASS` above 3 is no class: nothing is read or written of it.
+/// A value with the tag of class `CLASS` and number `TAG`, as `[0] EXPLICIT Version` in a
+/// certificate; `Kind` is `Explicit` or `Implicit`, and `E` is the error of its readers. A `CLASS`
+/// above 3 is no class: nothing is read or written of it.
 #[derive(Debug, Drop, PartialEq, Eq)]
 pub struct TaggedValue<T, E, Kind, const CLASS: u8, const TAG: u32> {
     pub inner: T,
@@ -24,32 +25,32 @@ pub struct TaggedValue<T, E, Kind, const CLASS: u8, const TAG: u32> {
     error: PhantomData<E>,
 }
 
-/// A value behind a context-specific tag.
+/// A value with an explicit context-specific tag.
 pub type TaggedExplicit<T, E, const TAG: u32> = TaggedValue<T, E, Explicit, 2, TAG>;
 
-/// A value under a context-specific tag.
+/// A value with an implicit context-specific tag.
 pub type TaggedImplicit<T, E, const TAG: u32> = TaggedValue<T, E, Implicit, 2, TAG>;
 
-/// A value behind a tag of one application.
+/// A value with an explicit tag of one application.
 pub type ApplicationExplicit<T, E, const TAG: u32> = TaggedValue<T, E, Explicit, 1, TAG>;
 
-/// A value under a tag of one application.
+/// A value with an implicit tag of one application.
 pub type ApplicationImplicit<T, E, const TAG: u32> = TaggedValue<T, E, Implicit, 1, TAG>;
 
-/// A value behind a tag of one enterprise.
+/// A value with an explicit tag of one enterprise.
 pub type PrivateExplicit<T, E, const TAG: u32> = TaggedValue<T, E, Explicit, 3, TAG>;
 
-/// A value under a tag of one enterprise.
+/// A value with an implicit tag of one enterprise.
 pub type PrivateImplicit<T, E, const TAG: u32> = TaggedValue<T, E, Implicit, 3, TAG>;
 
-/// A value behind a context-specific tag, or none.
+/// A value with an explicit context-specific tag, or none.
 pub type OptTaggedExplicit<T, E, const TAG: u32> = Option<TaggedExplicit<T, E, TAG>>;
 
-/// A value under a context-specific tag, or none.
+/// A value with an implicit context-specific tag, or none.
 pub type OptTaggedImplicit<T, E, const TAG: u32> = Option<TaggedImplicit<T, E, TAG>>;
 
 impl<T, E, const CLASS: u8, const TAG: u32> TaggedValue<T, E, Explicit, CLASS, TAG> {
-    /// The value behind the tag.
+    /// Returns the value with an explicit tag.
     pub fn explicit(inner: T) -> Self
         ensures { result.inner ≡ inner }
     {
@@ -62,7 +63,7 @@ impl<T, E, const CLASS: u8, const TAG: u32> TaggedValue<T, E, Explicit, CLASS, T
 }
 
 impl<T, E, const CLASS: u8, const TAG: u32> TaggedValue<T, E, Implicit, CLASS, TAG> {
-    /// The value under the tag.
+    /// Returns the value with an implicit tag.
     pub fn implicit(inner: T) -> Self
         ensures { result.inner ≡ inner }
     {
@@ -75,21 +76,21 @@ impl<T, E, const CLASS: u8, const TAG: u32> TaggedValue<T, E, Implicit, CLASS, T
 }
 
 impl<T, E, Kind, const CLASS: u8, const TAG: u32> TaggedValue<T, E, Kind, CLASS, TAG> {
-    /// The value.
+    /// Returns the value without its tag.
     pub fn into_inner(self) -> T
         ensures { result ≡ self.inner }
     {
         self.inner
     }
 
-    /// The number of the class.
+    /// Returns the number of the class.
     pub fn class(&self) -> u8
         ensures { result ≡ CLASS }
     {
         CLASS
     }
 
-    /// The tag number.
+    /// Returns the tag number.
     pub fn tag(&self) -> Tag
         ensures { result.0 ≡ TAG }
     {

@@ -1,4 +1,5 @@
--- The fields of dates and times, and the octets that write them (X.680, 46.3 and 47.3; X.690, 11.7 and 11.8).
+-- The fields of dates and times, and the octets that write them (X.680, 46.3 and 47.3; X.690, 11.7
+-- and 11.8).
 use Rattle.std.specs.Prelude.{◌≡◌, ◌⊎◌, ◌+◌, ◌/◌, ◌%◌, ◌<◌, ◌==◌, ℕ, ℤ, pos, negsuc, ◌≤ℤ◌, unsigned_abs, if◌then◌else◌, Option, Some, None, List, [], ◌∷◌, ◌++◌}
 use Rattle.std.specs.Int.{IsInRange}
 use Rattle.asn1_times.specs.declared.datetime.ASN1DateTime.{ASN1DateTime}
@@ -34,7 +35,7 @@ zone_octets zones.Undefined = []
 zone_octets zones.Z = 90 ∷ []
 zone_octets (zones.Offset h m) = sign_octet h m ∷ two_digits (unsigned_abs h) ++ two_digits (unsigned_abs m)
 
--- a time behind the digits of its year, as it is written
+-- a time after the digits of its year, as it is written
 abbrev pub time_octets : List ℕ → ASN1DateTime → List ℕ
 time_octets year t = year ++ minute_octets t ++ two_digits t.second ++ fraction_octets t.millisecond ++ zone_octets t.tz
 
@@ -46,7 +47,7 @@ SpellsSeconds s second fraction = (s ≡ two_digits second ++ fraction_octets fr
 abbrev pub SpellsZone : List ℕ → ASN1TimeZone → Type 0
 SpellsZone s z = (s ≡ zone_octets z) ⊎ ((s ≡ 45 ∷ 48 ∷ 48 ∷ 48 ∷ 48 ∷ []) × (z ≡ zones.Offset (pos 0) (pos 0)))
 
--- octets that spell a time behind the digits of its year
+-- octets that spell a time after the digits of its year
 pub record SpellsTime (year content : List ℕ) (t : ASN1DateTime) : Type 0 where
   pub seconds : List ℕ
   pub zone : List ℕ
@@ -64,7 +65,7 @@ IsZone zones.Undefined = Unit {0}
 IsZone zones.Z = Unit {0}
 IsZone (zones.Offset h m) = IsOffset h m
 
--- a zone is told, and is in range
+-- a zone is given, and is in range
 abbrev pub IsToldZone : ASN1TimeZone → Type 0
 IsToldZone zones.Undefined = ⊥
 IsToldZone zones.Z = Unit {0}

@@ -1,5 +1,5 @@
--- GeneralizedTime (X.680, 46.3; X.690, 11.7): YYYYMMDDHHMM, then SS and a fraction or none, or nothing, then a zone or none.
--- By DER the seconds are there, and the zone is Z.
+-- GeneralizedTime (X.680, 46.3; X.690, 11.7): YYYYMMDDHHMM, then SS and a fraction or none, or
+-- nothing, then a zone or none. By DER the seconds are there, and the zone is Z.
 use Rattle.std.specs.Prelude.{◌≡◌, ◌/◌, ◌<◌, ◌≤◌, ℕ, List, [], ◌∷◌, ◌++◌, length}
 use Rattle.asn1_times.specs.Fields.{two_digits, time_octets, SpellsTime, IsClock, IsFraction, IsZone}
 use Rattle.asn1_times.specs.declared.datetime.ASN1DateTime.{ASN1DateTime}

@@ -1,4 +1,4 @@
--- The moment in universal time that a date and time stands for.
+-- The moment in universal time of a date and time.
 use Rattle.std.specs.Prelude.{◌≡◌, ◌+◌, ◌*◌, ◌<◌, ℕ, zero, suc, ℤ, pos, negsuc, neg_ℤ, unsigned_abs, nat_le, if◌then◌else◌, ◌+ℤ◌, ◌-ℤ◌, ◌*ℤ◌, Option, Some, None, Result, Ok, Err}
 use Rattle.jiff.specs.Words.{IsDate, IsTime, IsYmd, IsHms, IsCivilNanos, civil_nanos}
 use Rattle.jiff_core.specs.Calendar.{days_from_civil}
@@ -9,7 +9,8 @@ use Rattle.asn1_times.specs.declared.datetime.ASN1DateTime.{ASN1DateTime}
 use Rattle.asn1_times.specs.declared.datetime.ASN1TimeZone.{ASN1TimeZone}
 use Rattle.asn1_times.specs.declared.datetime.ASN1TimeZone.TheVariants as zones
 
--- minutes that a clock is ahead of universal time; the hours have the sign, or the minutes where the hours are 0
+-- minutes that a clock is ahead of universal time; the hours have the sign, or the minutes where
+-- the hours are 0
 abbrev pub offset_minutes : ℤ → ℤ → ℤ
 offset_minutes (pos zero) m = m
 offset_minutes (pos (suc h)) m = pos (suc h * 60 + unsigned_abs m)
@@ -58,7 +59,7 @@ pub record HasSameFields (year : ℕ) (t : ASN1DateTime) (r : DateTime) : Type 0
   pub date : IsYmd (pos year) (pos t.month) (pos t.day) r.date
   pub time : IsHms (pos t.hour) (pos t.minute) (pos t.second) (pos (thousandths t.millisecond * 1_000_000)) r.time
 
--- no offset is told
+-- no offset is given
 abbrev pub HasNoOffset : ASN1TimeZone → Type 0
 HasNoOffset zones.Undefined = Unit {0}
 HasNoOffset zones.Z = Unit {0}
@@ -69,7 +70,8 @@ abbrev pub GivesMoment : ℕ → ASN1DateTime → Result DateTime Error → Type
 GivesMoment year t (Ok r) = IsMomentOf year t r
 GivesMoment year t (Err e) = (e ≡ errors.InvalidDateTime) × ((r : DateTime) → IsMomentOf year t r → ⊥)
 
--- the date and time of these nanoseconds, or that the calendar has none, or the offset isn't in range
+-- the date and time of these nanoseconds, or that the calendar has none, or the offset isn't in
+-- range
 abbrev pub GivesShifted : Type 0 → ℤ → Result DateTime Error → Type 0
 GivesShifted InRange nanos (Ok r) = InRange × (civil_nanos r ≡ nanos)
 GivesShifted InRange nanos (Err e) = (e ≡ errors.InvalidDateTime) × (InRange → IsCivilNanos nanos → ⊥)

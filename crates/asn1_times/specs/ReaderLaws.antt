@@ -1,4 +1,5 @@
--- That the functions of `Readers` find what `UtcTimes`, `GeneralizedTimes` and `Moments` say, and nothing else.
+-- That the functions of `Readers` find what `UtcTimes`, `GeneralizedTimes` and `Moments` say, and
+-- nothing else.
 use Rattle.std.proofs.Common.{◌≡◌, ◌∙◌, ◌↔◌, ◌⊎◌, sym, ap, refl, subst, inl, inr, arith, ◌<◌, ◌≤◌, ◌+◌, ◌-◌, ◌*◌, ◌&&◌, ℕ, suc, ℤ, pos, negsuc, ◌≤ℤ◌, unsigned_abs, int_le, Bool, true, false, nat_lt, nat_le, Option, Some, None, is_none, Result, Ok, Err, is_ok, List, [], ◌∷◌, ◌++◌, length, take, length-append, length-take, slice_index, Decides}
 use Rattle.std.specs.Int.{IsInRange}
 use Rattle.std.proofs.lemmas.Bool.{le-leb, leb-true, eqb-true, eq-eqb, ne_eqb, lt-leb, and_parts, false_from_ne_true}

@@ -1,5 +1,6 @@
--- Functions that answer as the readers of times do: `Reading` step by step, then tests of the fields. The meaning stands in
--- `UtcTimes`, `GeneralizedTimes` and `Moments`; laws tie each function to it.
+-- Functions that compute what the readers of times return: `Reading` step by step, then tests of
+-- the fields. The meaning is in `UtcTimes`, `GeneralizedTimes` and `Moments`; laws tie each
+-- function to it.
 use Rattle.std.specs.Prelude.{◌≡◌, ◌-◌, ℕ, ℤ, pos, negsuc, neg_ℤ, ◌-ℤ◌, ◌*ℤ◌, unsigned_abs, int_le, nat_lt, nat_le, ◌==◌, ◌&&◌, Bool, true, false, if◌then◌else◌, Option, Some, None, is_none, Result, Ok, Err, is_ok, List, length, slice_index}
 use Rattle.jiff.specs.Words.{civil_nanos, days_in_month}
 use Rattle.jiff_core.specs.declared.civil.datetime.DateTime.{DateTime}
@@ -52,7 +53,7 @@ is_utc_time t = nat_lt t.year 100 && is_clock t && is_none t.millisecond && is_t
 abbrev pub has_fields : ASN1DateTime → Bool
 has_fields t = nat_lt t.year 10000 && is_clock t && is_fraction t.millisecond && is_zone t.tz
 
--- the UTCTime of content octets, if they are one's; DER takes the same
+-- the UTCTime of content octets, if they are one's, by BER and by DER
 unfoldable pub utc_time_at : List ℕ → Option ASN1DateTime
 utc_time_at content = do
   t ← utc_at content
@@ -116,7 +117,8 @@ is_civil_nanos n = int_le first_nanos n && int_le n last_nanos
 abbrev pub civil_only : ℤ → Option ℤ
 civil_only n = if is_civil_nanos n then Some n else None
 
--- the moment in universal time of the date and time in this year, in nanoseconds since 1970 began, if the calendar has it
+-- the moment in universal time of the date and time in this year, in nanoseconds since 1970 began,
+-- if the calendar has it
 unfoldable pub moment_at : ℕ → ASN1DateTime → Option ℤ
 moment_at year t = if has_clock year t && is_clock_zone t.tz then civil_only (universal_nanos year t) else None
 

@@ -1,4 +1,5 @@
--- Times read step by step. The meaning stands in `Fields`, `UtcTimes` and `GeneralizedTimes`; laws show that these undo it.
+-- Times read step by step. The meaning is in `Fields`, `UtcTimes` and `GeneralizedTimes`; laws show
+-- that these undo it.
 use Rattle.std.specs.Prelude.{ℕ, pos, neg_ℤ, ◌+◌, ◌-◌, ◌*◌, ◌==◌, ◌&&◌, if◌then◌else◌, Option, Some, None, option_and_then, List, [], ◌∷◌}
 use Rattle.std.specs.Char.{is_ascii_digit}
 use Rattle.asn1_times.specs.declared.datetime.ASN1DateTime.{ASN1DateTime}
@@ -20,7 +21,7 @@ pair_at [] = None
 pair_at (a ∷ []) = None
 pair_at (a ∷ b ∷ rest) = if is_ascii_digit a && is_ascii_digit b then Some ((a - 48) * 10 + (b - 48), rest) else None
 
--- the number and the octets behind it, unless its last digit is 0
+-- the number and the octets after it, unless its last digit is 0
 abbrev pub ends_at : ℕ → ℕ × List ℕ → Option (ℕ × List ℕ)
 ends_at digit p = if digit == 0 then None else Some p
 
@@ -41,7 +42,7 @@ milliseconds_at i = do
 abbrev pub some_fraction : ℕ × List ℕ → Option (Option ℕ × List ℕ)
 some_fraction p = Some (Some p.0, p.1)
 
--- a fraction behind its point, or none
+-- a point and its fraction, or none
 unfoldable pub fraction_at : List ℕ → Option (Option ℕ × List ℕ)
 fraction_at [] = Some (None, [])
 fraction_at (c ∷ rest) = if c == 46 then milliseconds_at rest >>= some_fraction else Some (None, c ∷ rest)
@@ -54,7 +55,7 @@ clock_by (Some p) i = fraction_at p.1 >>= (λ f. Some (p.0, f.0, f.1))
 unfoldable pub clock_at : List ℕ → Option (ℕ × Option ℕ × List ℕ)
 clock_at i = clock_by (pair_at i) i
 
--- the offset of a clock that is so much behind universal time
+-- the offset of a clock that is late by so much
 abbrev pub behind : ℕ → ℕ → ASN1TimeZone
 behind h m = if h == 0 then zones.Offset (pos 0) (neg_ℤ (pos m)) else zones.Offset (neg_ℤ (pos h)) (pos m)
 
@@ -62,7 +63,7 @@ abbrev pub signed_at : ℕ → ℕ → ℕ → List ℕ → Option ASN1TimeZone
 signed_at sign h m [] = if sign == 43 then Some (zones.Offset (pos h) (pos m)) else (if sign == 45 then Some (behind h m) else None)
 signed_at sign h m (c ∷ rest) = None
 
--- HHMM behind a sign, to the end
+-- HHMM after a sign, to the end
 unfoldable pub offset_at : ℕ → List ℕ → Option ASN1TimeZone
 offset_at sign i = do
   hour ← pair_at i
@@ -75,7 +76,7 @@ zone_at [] = Some zones.Undefined
 zone_at (c ∷ []) = if c == 90 then Some zones.Z else None
 zone_at (c ∷ d ∷ rest) = offset_at c (d ∷ rest)
 
--- a time behind its year, to the end
+-- a time after its year, to the end
 unfoldable pub tail_at : ℕ → List ℕ → Option ASN1DateTime
 tail_at year i = do
   month ← pair_at i

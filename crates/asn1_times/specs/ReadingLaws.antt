@@ -206,7 +206,7 @@ fraction_found [] m r e =
     (subst IsFraction value tt, rest ∙ ap (λ z. fraction_octets z ++ r) value)
 fraction_found (c ∷ s) m r e = fraction_by (c == 46) c s m r refl e
 
--- what stands behind seconds: neither digits nor a point
+-- what comes after seconds: neither digits nor a point
 pub record IsEnd (r : List ℕ) : Type 0 where
   pub no_digit : digit_at r ≡ None
   pub no_pair : pair_at r ≡ None
@@ -332,7 +332,7 @@ pub zone_ends : (s : List ℕ) (z : ASN1TimeZone) → SpellsZone s z → IsEnd s
 zone_ends s z (inl is) = subst IsEnd (sym is) (written_ends z)
 zone_ends s z (inr is) = subst IsEnd (sym is.0) minus_ends
 
--- a time behind its year
+-- a time after its year
 
 pub tail_found : (year : ℕ) (i : List ℕ) (t : ASN1DateTime) → tail_at year i ≡ Some t → (t.year ≡ year) × SpellsTime [] i t
 unfolding tail_at clock_at

@@ -1,4 +1,4 @@
--- Why content octets are refused.
+-- Why content octets are rejected.
 use Rattle.std.specs.Prelude.{◌≡◌, ℕ}
 use Rattle.asn1_core.specs.declared.error.Error.{Error}
 use Rattle.asn1_core.specs.declared.error.Error.TheVariants as errors

@@ -3,20 +3,20 @@
 ghost use Rattle.std.specs.Prelude.{◌≡◌, ◌↔◌, IsTrue};
 ghost use Rattle.asn1_times.specs.Fields.{IsOffset, IsZone, IsToldZone, IsClock};
 
-/// The zone in which a time of day is told.
+/// The zone of a time of day.
 #[derive(Clone, Copy, Debug, PartialEq, Eq, PartialOrd, Ord)]
 pub enum ASN1TimeZone {
-    /// None is told.
+    /// No zone is given.
     Undefined,
-    /// Coordinated universal time.
+    /// Coordinated universal time, written `Z`.
     Z,
-    /// Hours and minutes that the clock is ahead of universal time, or behind it where negative. The hours have the sign;
-    /// where they are 0 the minutes have it.
+    /// Hours and minutes by which the clock is ahead of universal time, or, if negative, late. The
+    /// hours have the sign; if they are 0 the minutes have it.
     Offset(i8, i8),
 }
 
 impl ASN1TimeZone {
-    /// Whether it is no offset, or one in range.
+    /// Returns whether the zone is no offset, or an offset in range.
     pub(crate) fn is_in_range(&self) -> bool
         ensures { IsTrue result ↔ IsZone self.now }
     {
@@ -26,7 +26,7 @@ impl ASN1TimeZone {
         }
     }
 
-    /// Whether it is Z or an offset in range.
+    /// Returns whether the zone is `Z` or an offset in range.
     pub(crate) fn is_told(&self) -> bool
         ensures { IsTrue result ↔ IsToldZone self.now }
     {
@@ -45,25 +45,27 @@ fn is_offset(hour: i8, minute: i8) -> bool
     hour.unsigned_abs() < 24 && minute.unsigned_abs() < 60 && (minute >= 0 || hour == 0)
 }
 
-/// A date and a time of day. Nothing but the types of the fields bounds them.
+/// A date and a time of day with a zone. Only the types of the fields bound them: the readers check
+/// ranges.
 #[derive(Clone, Copy, Debug, PartialEq, Eq, PartialOrd, Ord)]
 pub struct ASN1DateTime {
-    /// The year; of a UTCTime its last two digits.
+    /// The year; in a UTCTime its last two digits.
     pub year: u32,
-    /// From 1.
+    /// The month, from 1.
     pub month: u8,
-    /// From 1.
+    /// The day of the month, from 1.
     pub day: u8,
     pub hour: u8,
     pub minute: u8,
     pub second: u8,
-    /// The fraction of the second in thousandths, where one is told.
+    /// The fraction of the second in thousandths, if one is given.
     pub millisecond: Option<u16>,
     pub tz: ASN1TimeZone,
 }
 
 impl ASN1DateTime {
-    /// The date and time of these fields. Whether the calendar has them isn't asked.
+    /// Returns the date and time of these fields. The calendar isn't asked: 31 February is
+    /// accepted.
     pub fn new(
         year: u32,
         month: u8,
@@ -88,7 +90,8 @@ impl ASN1DateTime {
         }
     }
 
-    /// Whether the fields from the month to the second are in range. Whether the month has the day isn't asked.
+    /// Returns whether the fields from the month to the second are in range. Whether the month has
+    /// the day isn't checked.
     pub(crate) fn is_clock(&self) -> bool
         ensures { IsTrue result ↔ IsClock self.now }
     {

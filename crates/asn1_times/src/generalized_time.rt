@@ -18,23 +18,28 @@ use asn1_device::Sink;
 use asn1_traits::{DerLeaf, FromLeaf, Tagged, write_all};
 use std::alloc::Global;
 
-/// A GeneralizedTime: a date and time with its whole year, to the minute, the second or the thousandth of one.
+/// A GeneralizedTime (X.680, 46): a date and time with its whole year, to the minute, the second or
+/// the thousandth of one.
 #[derive(Clone, Copy, Debug, PartialEq, Eq, PartialOrd, Ord)]
 pub struct GeneralizedTime(pub ASN1DateTime);
 
 impl GeneralizedTime {
-    /// The GeneralizedTime of these fields. They are in DER form where the year is below 10000, the month from 1 to 12, the
-    /// day from 1 to 31, the time of day from 00:00:00 to 23:59:59, the fraction none or from 1 to 999 thousandths, and the
-    /// zone is Z.
+    /// Returns the GeneralizedTime of these fields. It is in DER form if the year is below 10000,
+    /// the month from 1 to 12, the day from 1 to 31, the time of day from 00:00:00 to 23:59:59, the
+    /// fraction absent or from 1 to 999 thousandths, and the zone `Z` (X.690, 11.7).
     pub fn new(datetime: ASN1DateTime) -> GeneralizedTime
         ensures { result.0 ≡ datetime }
     {
         GeneralizedTime(datetime)
     }
 
-    /// The GeneralizedTime of content octets, by the rules of BER: YYYYMMDDHHMM, then SS and behind it none or a point and one
-    /// to three digits, the last not 0, or nothing; then Z, an offset +hhmm or -hhmm, or no zone. Each field is in range
-    /// (X.680, 46.3). Seconds that aren't told are 0. Whether the month has the day isn't asked. `InvalidValue` of other octets.
+    /// Reads a GeneralizedTime from its content octets, to their end, by the rules of BER
+    /// (X.680, 46.3), as `20250102030405Z`. The form is YYYYMMDDHHMM; then nothing, or SS, which a
+    /// point and one to three digits may follow, the last not 0; then `Z`, an offset +hhmm or
+    /// -hhmm, or nothing.
+    ///
+    /// Seconds that aren't given are 0. Each field is in range; whether the month has the day isn't
+    /// checked. It takes no memory. Other octets are `InvalidValue`.
     pub fn from_bytes(octets: &[u8]) -> Result<GeneralizedTime, Error>
         ensures value { ReadsContent ⊥ (λ content v. GeneralizedMeans content v.0) octets.now result }
         ensures refused { IfErr result (IsInvalidValue 24) }

@@ -9,22 +9,22 @@ ghost use Rattle.asn1_times.specs.declared.datetime.ASN1DateTime.{ASN1DateTime};
 ghost use Rattle.jiff.specs.Words.{civil_nanos};
 ghost use Rattle.jiff_core.specs.declared.civil.datetime.DateTime.{DateTime};
 
-/// Content octets of a UTCTime mean one time at most.
+/// Content octets of a UTCTime mean at most one time.
 pub fn one_utc_time()
     ensures { (content : List ℕ) (t u : ASN1DateTime) → UtcMeans content t → UtcMeans content u → t ≡ u }
 {}
 
-/// Two UTCTimes in DER form are not written alike.
+/// Two different UTCTimes in DER form are written as different octets.
 pub fn utc_octets_differ()
     ensures { (t u : ASN1DateTime) → IsUtcTime t → IsUtcTime u → utc_octets t ≡ utc_octets u → t ≡ u }
 {}
 
-/// Content octets of a GeneralizedTime mean one time at most, by BER too.
+/// Content octets of a GeneralizedTime mean at most one time, by BER too.
 pub fn one_generalized_time()
     ensures { (content : List ℕ) (t u : ASN1DateTime) → GeneralizedMeans content t → GeneralizedMeans content u → t ≡ u }
 {}
 
-/// What DER takes of a GeneralizedTime is what is written of it in DER form, and nothing else.
+/// DER accepts of a GeneralizedTime what is written of it in DER form, and nothing else.
 pub fn der_generalized_times()
     ensures { (content : List ℕ) (t : ASN1DateTime) → (HasSecondsAndZ content × GeneralizedMeans content t) ↔ (IsGeneralizedTime t × (content ≡ generalized_octets t)) }
 {}
@@ -34,7 +34,8 @@ pub fn utc_time_function()
     ensures { (content : List ℕ) (t : ASN1DateTime) → (utc_time_at content ≡ Some t) ↔ UtcMeans content t }
 {}
 
-/// The functions of the reader of GeneralizedTimes, by BER and by DER, find what content octets mean, and nothing else.
+/// The functions of the reader of GeneralizedTimes, by BER and by DER, find what content octets
+/// mean, and nothing else.
 pub fn generalized_time_functions()
     ensures ber { (content : List ℕ) (t : ASN1DateTime) → (generalized_time_at content ≡ Some t) ↔ GeneralizedMeans content t }
     ensures allowed { (content : List ℕ) → (der_check content ≡ Ok tt) ↔ HasSecondsAndZ content }

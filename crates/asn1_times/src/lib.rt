@@ -1,4 +1,5 @@
-//! The types of dates and times: UTCTime and GeneralizedTime (X.680, 46 and 47; X.690, 11.7 and 11.8).
+//! The types of dates and times: UTCTime and GeneralizedTime (X.680, 46 and 47; X.690, 11.7 and
+//! 11.8).
 #![tactic(auto)]
 
 mod datetime;

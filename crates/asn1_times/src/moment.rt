@@ -1,4 +1,4 @@
-//! Date-time calls: the moment in universal time, on `jiff`'s calendar.
+//! From the fields of a time to its moment in universal time, on `jiff`'s calendar.
 
 ghost use Rattle.std.specs.Prelude.{◌≡◌, ◌↔◌, ◌≤◌, ◌<◌, IsTrue, IsSome, IfSome, IfOk, pos, ◌-ℤ◌, ◌*ℤ◌, ◌*◌, ◌+◌};
 ghost use Rattle.jiff.specs.Words.{IsWithin, civil_nanos};
@@ -12,9 +12,12 @@ use asn1_core::Error;
 use jiff::civil::DateTime;
 
 impl ASN1DateTime {
-    /// The moment in universal time, on the calendar that ISO 8601 extends to the year 0: the time of day less the offset of
-    /// its zone. Where no zone is told the time of day is taken as universal time. `InvalidDateTime` where the month lacks the
-    /// day, a field is out of range, or the moment is beyond the year 9999.
+    /// Returns the moment in universal time, on the Gregorian calendar extended to the year 0
+    /// (ISO 8601): the time of day less the offset of its zone. A time of day without a zone is
+    /// taken as universal time.
+    ///
+    /// `InvalidDateTime` if the month lacks the day, a field is out of range, or the moment is
+    /// after the year 9999.
     pub fn to_datetime(&self) -> Result<DateTime, Error>
         ensures moment { GivesMoment self.now.year self.now result }
         ensures exact { GivesNanos result (moment_at self.now.year self.now) }
@@ -25,8 +28,10 @@ impl ASN1DateTime {
 }
 
 impl UtcTime {
-    /// The moment in universal time in the year of the two digits as it is held, from 0 to 99. Refusals as of
-    /// `ASN1DateTime::to_datetime`.
+    /// Returns the moment in universal time, in the year from 0 to 99 that the two digits are.
+    ///
+    /// `InvalidDateTime` if the month lacks the day, a field is out of range, or the moment is
+    /// after the year 9999.
     pub fn utc_datetime(&self) -> Result<DateTime, Error>
         ensures moment { GivesMoment self.now.0.year self.now.0 result }
         ensures exact { GivesNanos result (moment_at self.now.0.year self.now.0) }
@@ -35,8 +40,11 @@ impl UtcTime {
         moment_in(self.0.year, &self.0)
     }
 
-    /// The moment in universal time, the year being 19YY where YY is 50 or more, else 20YY (RFC 5280, 4.1.2.5.1). Refusals as
-    /// of `ASN1DateTime::to_datetime`.
+    /// Returns the moment in universal time, the year being 19YY if YY is 50 or more, else 20YY
+    /// (RFC 5280, 4.1.2.5.1).
+    ///
+    /// `InvalidDateTime` if the month lacks the day, a field is out of range, or the moment is
+    /// after the year 9999.
     pub fn utc_adjusted_datetime(&self) -> Result<DateTime, Error>
         ensures moment { GivesMoment (full_year self.now.0.year) self.now.0 result }
         ensures exact { GivesNanos result (moment_at (full_year self.now.0.year) self.now.0) }
@@ -50,7 +58,10 @@ impl UtcTime {
 }
 
 impl GeneralizedTime {
-    /// The moment in universal time. Refusals as of `ASN1DateTime::to_datetime`.
+    /// Returns the moment in universal time, as `ASN1DateTime::to_datetime` does.
+    ///
+    /// `InvalidDateTime` if the month lacks the day, a field is out of range, or the moment is
+    /// after the year 9999.
     pub fn utc_datetime(&self) -> Result<DateTime, Error>
         ensures moment { GivesMoment self.now.0.year self.now.0 result }
         ensures exact { GivesNanos result (moment_at self.now.0.year self.now.0) }

@@ -63,7 +63,7 @@ fn milliseconds_of(i: &[u8]) -> Option<(u16, &[u8])>
     }
 }
 
-// A fraction of a second behind its point, or none.
+// A point and the digits of a fraction of a second, or no fraction.
 #[tactic(auto, unfolding(crate::specs::Reading::fraction_at))]
 fn fraction_of(i: &[u8]) -> Option<(Option<u16>, &[u8])>
     ensures { option_map (λ p. (p.0, p.1.now)) result ≡ fraction_at i.now }
@@ -78,7 +78,7 @@ fn fraction_of(i: &[u8]) -> Option<(Option<u16>, &[u8])>
     Some((Some(millisecond), rest))
 }
 
-// Seconds and a fraction of one, or 0 and none where no two digits stand there.
+// Seconds and a fraction of one, or 0 and none if no two digits are there.
 #[tactic(auto, unfolding(crate::specs::Reading::clock_at))]
 fn clock_of(i: &[u8]) -> Option<(u8, Option<u16>, &[u8])>
     ensures { option_map (λ p. (p.0, p.1, p.2.now)) result ≡ clock_at i.now }
@@ -90,7 +90,7 @@ fn clock_of(i: &[u8]) -> Option<(u8, Option<u16>, &[u8])>
     Some((second, millisecond, rest))
 }
 
-// The offset of a clock that is so much behind universal time.
+// The offset of a clock that is `hour` hours and `minute` minutes late.
 fn behind(hour: u8, minute: u8) -> ASN1TimeZone
     requires hour { hour < 100 }
     requires minute { minute < 100 }
@@ -103,7 +103,7 @@ fn behind(hour: u8, minute: u8) -> ASN1TimeZone
     }
 }
 
-// HHMM behind a sign, to the end.
+// HHMM after a sign, to the end.
 #[tactic(auto, unfolding(crate::specs::Reading::offset_at))]
 fn offset_of(sign: u8, i: &[u8]) -> Option<ASN1TimeZone>
     ensures { result ≡ offset_at sign i.now }
@@ -149,7 +149,8 @@ fn two_digits(tens: u8, ones: u8) -> Option<u8>
     }
 }
 
-// A time behind the digits of its year in the one form that certificates may have, MMDDHHMMSSZ (RFC 5280, 4.1.2.5).
+// A time after the digits of its year, in the one form that certificates may have: MMDDHHMMSSZ
+// (RFC 5280, 4.1.2.5).
 #[tactic(auto, unfolding(crate::specs::Reading::pair_at, crate::specs::Reading::fraction_at, crate::specs::Reading::clock_at, crate::specs::Reading::zone_at, crate::specs::Reading::tail_at))]
 fn whole_tail_of(year: u32, i: &[u8]) -> Option<ASN1DateTime>
     ensures { IfSome result (λ t. tail_at year i.now ≡ Some t) }
@@ -169,7 +170,7 @@ fn whole_tail_of(year: u32, i: &[u8]) -> Option<ASN1DateTime>
     })
 }
 
-/// A time behind the digits of its year, to the end. The fields' ranges aren't asked.
+/// Reads a time after the digits of its year, to the end. The fields' ranges aren't checked.
 #[tactic(auto, unfolding(crate::specs::Reading::tail_at))]
 pub(crate) fn tail_of(year: u32, i: &[u8]) -> Option<ASN1DateTime>
     ensures { result ≡ tail_at year i.now }
@@ -195,7 +196,7 @@ pub(crate) fn tail_of(year: u32, i: &[u8]) -> Option<ASN1DateTime>
     })
 }
 
-/// A UTCTime's fields. Their ranges aren't asked.
+/// Reads the fields of a UTCTime. Their ranges aren't checked.
 #[tactic(auto, unfolding(crate::specs::Reading::utc_at))]
 pub(crate) fn utc_of(i: &[u8]) -> Option<ASN1DateTime>
     ensures { result ≡ utc_at i.now }
@@ -204,7 +205,7 @@ pub(crate) fn utc_of(i: &[u8]) -> Option<ASN1DateTime>
     tail_of(u32::from(year), i)
 }
 
-/// A GeneralizedTime's fields. Their ranges aren't asked.
+/// Reads the fields of a GeneralizedTime. Their ranges aren't checked.
 #[tactic(auto, unfolding(crate::specs::Reading::generalized_at))]
 pub(crate) fn generalized_of(i: &[u8]) -> Option<ASN1DateTime>
     ensures { result ≡ generalized_at i.now }

@@ -17,25 +17,31 @@ use asn1_device::Sink;
 use asn1_traits::{DerLeaf, FromLeaf, Tagged, write_all};
 use std::alloc::Global;
 
-/// A UTCTime: a date and time with the last two digits of its year, to the second or to the minute.
+/// A UTCTime (X.680, 47): a date and time with the last two digits of its year, to the second or to
+/// the minute.
 ///
-/// One with an offset is in DER form and is written with that offset, as `from_der` takes it, though X.690, 11.8.1 wants Z.
-/// For readers that hold to it, take the moment that `utc_adjusted_datetime` answers, and write its fields with
-/// `ASN1TimeZone::Z`, the year modulo 100.
+/// One with an offset is in DER form and is written with that offset, as `from_der` accepts it,
+/// though X.690, 11.8.1 requires `Z`. To write for readers that demand it, take the moment that
+/// `utc_adjusted_datetime` returns, and write its fields with `ASN1TimeZone::Z` and the year modulo
+/// 100.
 #[derive(Clone, Copy, Debug, PartialEq, Eq, PartialOrd, Ord)]
 pub struct UtcTime(pub ASN1DateTime);
 
 impl UtcTime {
-    /// The UTCTime of these fields. They are in DER form where the year is below 100, the month from 1 to 12, the day from 1
-    /// to 31, the time of day from 00:00:00 to 23:59:59, no fraction is told, and the zone is Z or an offset in range.
+    /// Returns the UTCTime of these fields. It is in DER form if the year is below 100, the month
+    /// from 1 to 12, the day from 1 to 31, the time of day from 00:00:00 to 23:59:59, there is no
+    /// fraction, and the zone is `Z` or an offset in range.
     pub fn new(datetime: ASN1DateTime) -> UtcTime
         ensures { result.0 ≡ datetime }
     {
         UtcTime(datetime)
     }
 
-    /// The UTCTime of content octets: YYMMDDHHMM, SS or none, and Z or an offset +hhmm or -hhmm, each field in range
-    /// (X.680, 47.3). Seconds that aren't told are 0. Whether the month has the day isn't asked. `InvalidValue` of other octets.
+    /// Reads a UTCTime from its content octets, to their end (X.680, 47.3), as `250102030405Z`. The
+    /// form is YYMMDDHHMM, SS or nothing, and `Z` or an offset +hhmm or -hhmm.
+    ///
+    /// Seconds that aren't given are 0. Each field is in range; whether the month has the day isn't
+    /// checked. It takes no memory. Other octets are `InvalidValue`.
     pub fn from_bytes(octets: &[u8]) -> Result<UtcTime, Error>
         ensures value { ReadsContent ⊥ (λ content v. UtcMeans content v.0) octets.now result }
         ensures refused { IfErr result (IsInvalidValue 23) }

@@ -6,7 +6,7 @@ ghost use Rattle.asn1_times.specs.Fields.{two_digits, minute_octets, thousandths
 use crate::datetime::{ASN1DateTime, ASN1TimeZone};
 use arrayvec::ArrayVec;
 
-/// At most 24 octets: a GeneralizedTime has 23 at most.
+/// A buffer of at most 24 octets; a GeneralizedTime has at most 23.
 pub(crate) type Octets = ArrayVec<u8, 24>;
 
 fn push(out: &mut Octets, octet: u8)
@@ -71,7 +71,7 @@ fn push_zone(out: &mut Octets, zone: ASN1TimeZone)
     }
 }
 
-/// Appends what stands behind the year.
+/// Appends the octets after the year.
 pub(crate) fn push_time(out: &mut Octets, time: &ASN1DateTime)
     requires { length out.old.items ≤ 4 }
     ensures { out.new.items ≡ time_octets out.old.items time.now }

@@ -1,4 +1,5 @@
--- Booleans: one content octet, 0 for false and any other for true (X.690, 8.2); in DER true is ff (X.690, 11.1).
+-- Booleans: one content octet, 0 for false and any other for true (X.690, 8.2); in DER true is ff
+-- (X.690, 11.1).
 use Rattle.std.specs.Prelude.{◌≡◌, ◌⊎◌, ◌==◌, ℕ, Bool, not, if◌then◌else◌, List, [], ◌∷◌}
 
 pub record BooleanMeans (content : List ℕ) (v : Bool) : Type 0 where

@@ -22,7 +22,7 @@ pub record ReadsBerElement {V : Type 0} (means : BerElement → V → Type 0) (o
   pub begins : BeginsWithBerElement (MAX_RECURSION - 1) octets element rest
   pub meant : means element v
 
--- the octets end within an element: the reader of elements tells that so many are missing
+-- the octets end within an element: the reader of elements says that so many are missing
 abbrev pub EndsWithinElement : List ℕ → Needed → Type 0
 EndsWithinElement octets n = der_element_at octets ≡ Err (refusals.Incomplete n)
 

@@ -5,7 +5,7 @@ use Rattle.std.proofs.lemmas.Int.Digits.{all_below_base_digits_of, first_digits_
 use Rattle.std.proofs.lemmas.Bool.{ltb-true, ltb-false}
 use Rattle.asn1_traits.specs.Integers.{turned, twos_complement, IsShortest, with_sign_bit, integer_octets, SpellsInteger, size_of, IsUnsigned, IsSigned}
 
--- the content stands for the value's number, which is one of the type
+-- the content spells the value's number, which is one of the type
 abbrev pub IntegerMeans : {V : Type 0} → (V → ℤ) → (ℤ → Type 0) → List ℕ → V → Type 0
 IntegerMeans number InRange content v = SpellsInteger content (number v) × InRange (number v)
 

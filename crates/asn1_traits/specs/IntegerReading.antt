@@ -1,5 +1,5 @@
--- What the readers of machine integers answer, as functions of a content. Nothing of the meaning stands here: a law ties
--- them to what the content means.
+-- What the readers of machine integers return, as functions of a content. The meaning isn't here: a
+-- law ties them to what the content means.
 use Rattle.std.specs.Prelude.{◌≡◌, ℕ, ◌-◌, ◌^◌, ◌==◌, ◌&&◌, nat_lt, not, Bool, true, false, ℤ, pos, negsuc, if◌then◌else◌, List, [], ◌∷◌, Option, Some, None, Result, Ok, Err}
 use Rattle.asn1_core.specs.declared.error.Error.{Error}
 use Rattle.asn1_traits.specs.Integers.{twos_complement, size_of}
@@ -21,13 +21,14 @@ abbrev pub integer_at : (ℤ → Bool) → List ℕ → Option ℤ
 integer_at fits [] = None
 integer_at fits (octet ∷ octets) = fitting fits (twos_complement (octet ∷ octets))
 
--- one octet at least, and no octet that tells nothing
+-- one octet at least, and no octet that is redundant
 abbrev pub is_shortest : List ℕ → Bool
 is_shortest [] = false
 is_shortest (octet ∷ []) = true
 is_shortest (octet ∷ next ∷ octets) = not ((octet == 0) && nat_lt next 128) && not ((octet == 255) && not (nat_lt next 128))
 
--- a reader's answer is that of the function; which error tells that there is none isn't said
+-- a reader returns what the function computes; which error it returns if there is no number isn't
+-- said
 abbrev pub GivesInteger : {V : Type 0} → (V → ℤ) → Result V Error → Option ℤ → Type 0
 GivesInteger number (Ok v) read = read ≡ Some (number v)
 GivesInteger number (Err e) read = read ≡ None

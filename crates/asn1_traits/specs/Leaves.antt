@@ -24,7 +24,8 @@ MeansOctets octets_of content v = octets_of v ≡ content
 abbrev pub MeansText : {V : Type 0} → (V → List ℕ) → List ℕ → V → Type 0
 MeansText octets_of content v = (octets_of v ≡ content) × IsUtf8 content
 
--- a value of the content, or an error: want of memory where memory may be wanted, any other where there is none
+-- a value of the content, or an error: out of memory only if reading may allocate, any other if
+-- there is no value
 abbrev pub ReadsContent : {V : Type 0} → Type 0 → (List ℕ → V → Type 0) → List ℕ → Result V Error → Type 0
 ReadsContent grows means content (Ok v) = means content v
 ReadsContent {V} grows means content (Err e) = (e ≡ errors.OutOfMemory → grows) × (e ≢ errors.OutOfMemory → (v : V) → means content v → ⊥)
@@ -34,7 +35,7 @@ pub record LeafAllows (tag : ℕ) (Allowed : List ℕ → Type 0) (e : Element) 
   pub leaf : IsLeaf tag e
   pub allowed : Allowed e.content
 
--- the content is allowed, or an error, never want of memory, tells that it isn't
+-- the content is allowed, or an error, never out of memory, says that it isn't
 abbrev pub ChecksContent : (List ℕ → Type 0) → List ℕ → Result (Unit {0}) Error → Type 0
 ChecksContent allowed content (Ok x) = allowed content
 ChecksContent allowed content (Err e) = (e ≢ errors.OutOfMemory) × (allowed content → ⊥)

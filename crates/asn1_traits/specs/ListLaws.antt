@@ -1,4 +1,4 @@
--- That values one after the other are lawful where each is: what is written of them is read back.
+-- Values one after another have the laws if each has: what is written of them is read back.
 use Rattle.std.proofs.Common.{arith, ◌≡◌, ◌≢◌, ◌∙◌, refl, sym, ap, subst, ℕ, suc, ◌+◌, ◌^◌, ◌<◌, ◌≤◌, true, List, [], ◌∷◌, ◌++◌, length, Option, Some, None, length-append, lit<}
 use Rattle.std.specs.Vec.{with_items}
 use Rattle.std.specs.Prelude.{Vec}
@@ -104,7 +104,7 @@ list_back {V} tag low formed element reads items put put_items one back x rest e
       },
     )
 
--- whatever is read back is written the same
+-- whatever is read back is written as equal octets
 pub list_same : {V X : Type 0} (tag : ℕ) → tag < 2 ^ 32 → (formed : V → Type 0) (element : V → Option Element) (reads : List ℕ → V → List ℕ → Type 0) (items : X → List V) →
     OneEach formed element → BackEach formed element reads → SameEach formed element reads → OneRest reads →
     (x w : X) (rest r : List ℕ) → EachIs formed (items x) → (IsLong (written (Some (container_of tag element (items x)))) → ⊥) →

@@ -23,7 +23,8 @@ pub record ContainerMeans {V : Type 0} (tag : ℕ) (reads : List ℕ → V → L
   pub container : IsContainer tag (element_of_ber e)
   pub items : AllRead reads e.content vs
 
--- the values of the octets, or a refusal where they aren't such values and nothing else; `items` are those of a collection
+-- the values of the octets, or an error if they aren't such values and nothing else; `items` are
+-- those of a collection
 abbrev pub ReadsAll : {V W E : Type 0} → (Error → E → Type 0) → (W → List V) → (List ℕ → V → List ℕ → Type 0) → List ℕ → Result W (Refusal E) → Type 0
 ReadsAll gives items reads octets (Ok w) = AllRead reads octets (items w)
 ReadsAll {V} gives items reads octets (Err r) = Refuses gives (Unit {0}) r ((vs : List V) → AllRead reads octets vs → ⊥)

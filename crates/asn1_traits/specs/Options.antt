@@ -1,4 +1,5 @@
--- Values that may be absent: the tag number of the next header tells it. Its class plays no part.
+-- Values that may be absent: the tag number of the next header decides it. Its class isn't
+-- compared.
 use Rattle.std.specs.Prelude.{◌≡◌, ◌≢◌, ◌⊎◌, ℕ, Option, Some, None, List, [], ◌++◌, Err}
 use Rattle.asn1_core.specs.Elements.{Element}
 use Rattle.asn1_core.specs.Strict.{Head, IsHead}
@@ -7,7 +8,7 @@ use Rattle.asn1_core.specs.declared.error.Needed.{Needed}
 use Rattle.asn1_core.specs.declared.outcome.Err.TheVariants as refusals
 use Rattle.asn1_core.specs.Lenient.{SpellsHeader, BerHead, IsBerHead, SpellsBerHeader}
 
--- a header of definite length begins the octets, and tells this tag number
+-- a header of definite length begins the octets, and has this tag number
 pub record BeginsWithTag (octets : List ℕ) (tag : ℕ) : Type 0 where
   pub head : Head
   pub front : List ℕ
@@ -17,7 +18,7 @@ pub record BeginsWithTag (octets : List ℕ) (tag : ℕ) : Type 0 where
   pub whole : octets ≡ front ++ rest
   pub tells : head.tag ≡ tag
 
--- a BER header begins the octets, and tells this tag number
+-- a BER header begins the octets, and has this tag number
 pub record BeginsWithBerTag (octets : List ℕ) (tag : ℕ) : Type 0 where
   pub head : BerHead
   pub front : List ℕ
@@ -27,23 +28,24 @@ pub record BeginsWithBerTag (octets : List ℕ) (tag : ℕ) : Type 0 where
   pub whole : octets ≡ front ++ rest
   pub tells : head.tag ≡ tag
 
--- no octet is left, or a header tells another tag number than the wanted one
+-- no octet is left, or a header has another tag number than the wanted one
 abbrev pub IsAbsent : (List ℕ → ℕ → Type 0) → ℕ → List ℕ → Type 0
 IsAbsent Begins tag octets = (octets ≡ []) ⊎ ((other : ℕ) × (other ≢ tag) × Begins octets other)
 
--- a value behind a header of the wanted tag number; or none, and the octets are left
+-- a value after a header of the wanted tag number; or none, and the octets are left
 abbrev pub OptionReads : {V : Type 0} → (List ℕ → ℕ → Type 0) → ℕ → (List ℕ → V → List ℕ → Type 0) → List ℕ → Option V → List ℕ → Type 0
 OptionReads Begins tag reads octets (Some v) rest = Begins octets tag × reads octets v rest
 OptionReads Begins tag reads octets None rest = IsAbsent Begins tag octets × (rest ≡ octets)
 
--- the octets end within a header: its reader tells that so many are missing
+-- the octets end within a header: its reader says that so many are missing
 abbrev pub EndsWithinHeader : List ℕ → Needed → Type 0
 EndsWithinHeader octets n = header_at octets ≡ Err (refusals.Incomplete n)
 
 abbrev pub EndsWithinBerHeader : List ℕ → Needed → Type 0
 EndsWithinBerHeader octets n = ber_header_at octets ≡ Err (refusals.Incomplete n)
 
--- octets that aren't empty end within a header, or within a value behind a header of the wanted tag number
+-- octets that aren't empty end within a header, or within a value after a header of the wanted tag
+-- number
 abbrev pub OptionCut : (List ℕ → Needed → Type 0) → (List ℕ → ℕ → Type 0) → ℕ → (List ℕ → Needed → Type 0) → List ℕ → Needed → Type 0
 OptionCut Ends Begins tag Cut octets n = (octets ≢ []) × (Ends octets n ⊎ (Begins octets tag × Cut octets n))
 

@@ -1,4 +1,4 @@
--- What a reader answers: a value that the octets mean, or a refusal where they mean none.
+-- What a reader returns: a value that the octets mean, or an error if they mean none.
 use Rattle.std.specs.Prelude.{◌≡◌, ◌≢◌, ◌⊎◌, ◌<◌, List, ◌++◌, length, ℕ, Result, Ok, Err}
 use Rattle.asn1_core.specs.Elements.{Element}
 use Rattle.asn1_core.specs.declared.error.Error.{Error}
@@ -9,12 +9,14 @@ use Rattle.asn1_core.specs.declared.outcome.Err.{Err as Refusal}
 use Rattle.asn1_core.specs.declared.outcome.Err.TheVariants as refusals
 use Rattle.asn1_any.specs.BerElements.{BerElement, element_of_ber}
 
--- the error isn't want of memory: another error was converted to it, or nothing converts want of memory to it
+-- the error isn't out of memory: another error was converted to it, or nothing converts out of
+-- memory to it
 abbrev pub IsNoMemory : {E : Type 0} → (Error → E → Type 0) → E → Type 0
 IsNoMemory gives e = ((x : Error) × (x ≢ errors.OutOfMemory) × gives x e) ⊎ (gives errors.OutOfMemory e → ⊥)
 
--- a refusal of what is whole, and what it says: there is no value, and no octet is missing. A failure says nothing but that
--- memory ran out, where memory may be wanted (`grows`), and nothing else says that.
+-- an error on what is whole, and what it says: there is no value, and no octet is missing. A
+-- failure says nothing but that memory ran out, if reading may allocate (`grows`), and nothing else
+-- says that.
 abbrev pub Refuses : {E : Type 0} → (Error → E → Type 0) → Type 0 → Refusal E → Type 0 → Type 0
 Refuses gives grows (refusals.Incomplete n) none = ⊥
 Refuses gives grows (refusals.Error e) none = none × IsNoMemory gives e
@@ -24,7 +26,7 @@ Refuses gives grows (refusals.Failure e) none = gives errors.OutOfMemory e × gr
 abbrev pub NoValue : {X V : Type 0} → (X → V → Type 0) → X → Type 0
 NoValue {V = V} means e = (v : V) → means e v → ⊥
 
--- a value of the element, or a refusal where it has none
+-- a value of the element, or an error if it has none
 abbrev pub ReadsOf : {X V E : Type 0} → (Error → E → Type 0) → Type 0 → (X → V → Type 0) → X → Result V (Refusal E) → Type 0
 ReadsOf gives grows means e (Ok v) = means e v
 ReadsOf gives grows means e (Err r) = Refuses gives grows r (NoValue means e)
@@ -38,19 +40,20 @@ abbrev pub Lacks : {V : Type 0} → (List ℕ → V → List ℕ → Type 0) →
 Lacks reads octets needed.Unknown = ⊥
 Lacks reads octets (needed.Size n) = (0 < n) × ((more : List ℕ) → length more < n → NoneReads reads (octets ++ more))
 
--- a refusal of octets that may go on: `Cut` says that they end within what is read, and how many are missing; then, and only
--- then, it tells that octets are missing
+-- an error on octets that may go on: `Cut` says that they end within what is read, and how many are
+-- missing; then, and only then, the error says that octets are missing
 abbrev pub RefusesAt : {V E : Type 0} → (Error → E → Type 0) → Type 0 → (List ℕ → Needed → Type 0) → (List ℕ → V → List ℕ → Type 0) → List ℕ → Refusal E → Type 0
 RefusesAt gives grows Cut reads octets (refusals.Incomplete n) = Cut octets n × Lacks reads octets n
 RefusesAt gives grows Cut reads octets (refusals.Error e) = NoneReads reads octets × IsNoMemory gives e × ((n : Needed) → Cut octets n → ⊥)
 RefusesAt gives grows Cut reads octets (refusals.Failure e) = gives errors.OutOfMemory e × grows
 
--- a value that begins the octets, with the octets after it, or a refusal where none does; `at` are the octets of a window
+-- a value that begins the octets, with the octets after it, or an error if none does; `at` are the
+-- octets of a window
 abbrev pub Reads : {V E I : Type 0} → (Error → E → Type 0) → Type 0 → (List ℕ → Needed → Type 0) → (I → List ℕ) → (List ℕ → V → List ℕ → Type 0) → List ℕ → Result (I × V) (Refusal E) → Type 0
 Reads gives grows Cut at reads octets (Ok x) = reads octets x.1 (at x.0)
 Reads gives grows Cut at reads octets (Err r) = RefusesAt gives grows Cut reads octets r
 
--- the constraints are met, or an error, never want of memory, tells that they aren't
+-- the constraints are met, or an error, never out of memory, says that they aren't
 abbrev pub Checks : (Element → Type 0) → Element → Result (Unit {0}) Error → Type 0
 Checks allows e (Ok x) = allows e
 Checks allows e (Err x) = (x ≢ errors.OutOfMemory) × (allows e → ⊥)

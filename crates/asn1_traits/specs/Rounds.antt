@@ -13,14 +13,14 @@ BackOr gives at P (Err (refusals.Incomplete n)) = ⊥
 BackOr gives at P (Err (refusals.Error e)) = ⊥
 BackOr gives at P (Err (refusals.Failure e)) = gives errors.OutOfMemory e
 
--- both present, as the same element, or both absent
+-- both present, as equal elements, or both absent
 abbrev pub SameOption : {V : Type 0} → (V → Option Element) → Option V → Option V → Type 0
 SameOption element (Some v) (Some w) = element w ≡ element v
 SameOption element (Some v) None = ⊥
 SameOption element None (Some w) = ⊥
 SameOption element None None = Unit {0}
 
--- what a rest has to be behind a value: behind an absent one it is read as absent
+-- what a rest has to be after a value: after an absent one it is read as absent
 abbrev pub RestFits : {V : Type 0} → (List ℕ → Type 0) → Option V → List ℕ → Type 0
 RestFits Absent None rest = Absent rest
 RestFits Absent (Some v) rest = Unit {0}

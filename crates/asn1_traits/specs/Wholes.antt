@@ -1,4 +1,4 @@
--- A whole number as the code holds it, and what is answered where one doesn't fit.
+-- A whole number as the code holds it, and what is returned if one doesn't fit.
 use Rattle.std.specs.Prelude.{◌≡◌, ◌≢◌, ◌⊎◌, ◌^◌, ◌≤◌, ℤ, pos, negsuc, if◌then◌else◌, List, [], Result, Ok, Err, ℕ}
 use Rattle.asn1_core.specs.declared.error.Error.{Error}
 use Rattle.asn1_core.specs.declared.error.Error.TheVariants as errors
@@ -9,7 +9,7 @@ use Rattle.asn1_traits.specs.declared.integer.Whole.{Whole}
 abbrev pub whole_of : Whole → ℤ
 whole_of w = if w.negative then negsuc w.size else pos w.size
 
--- the number that the octets stand for, or that there are none or their number takes more than 128 bits
+-- the number that the octets spell, or that there are none or their number takes more than 128 bits
 abbrev pub ReadsWhole : List ℕ → Result Whole Error → Type 0
 ReadsWhole content (Ok w) = SpellsInteger content (whole_of w)
 ReadsWhole content (Err e) = (e ≢ errors.OutOfMemory) × ((content ≡ []) ⊎ (2 ^ 128 ≤ size_of (twos_complement content)))

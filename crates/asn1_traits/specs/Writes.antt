@@ -1,4 +1,4 @@
--- What a writer appends to a device, what it answers, and why it stops.
+-- What a writer appends to a device, what it returns, and why it stops.
 use Rattle.std.specs.Prelude.{◌≡◌, ◌+◌, ◌^◌, ◌<◌, ◌≤◌, ℕ, Bool, false, Option, Some, None, List, [], ◌++◌, length, Result, Ok, Err, IfOk, IfErr}
 use Rattle.std.specs.Io.KnownBytes.{Appends}
 use Rattle.asn1_device.specs.Counts.{AppendsFront}
@@ -51,8 +51,9 @@ abbrev pub Measures : List ℕ → Result ℕ SerializeError → Type 0
 Measures octets (Ok n) = n ≡ length octets
 Measures octets (Err e) = (e ≡ writes.InvalidLength) × IsLong octets
 
--- why a writer stops, by the device's failures before and after: `long` says when `usize` can't count what is to be written,
--- `grows` when memory may be wanted, and `wrong` when the value has no encoding
+-- why a writer stops, by the device's failures before and after: `long` says when `usize` can't
+-- count what is to be written, `grows` when writing may allocate, and `wrong` when the value has no
+-- encoding
 abbrev pub Stops : ℕ → ℕ → Type 0 → Type 0 → Type 0 → SerializeError → Type 0
 Stops before after long grows wrong (writes.ASN1Error e) = wrong × (after ≡ before)
 Stops before after long grows wrong (writes.InvalidClass class) = wrong × (after ≡ before)
@@ -60,8 +61,8 @@ Stops before after long grows wrong writes.InvalidLength = long × (after ≡ be
 Stops before after long grows wrong writes.IOError = after ≡ before + 1
 Stops before after long grows wrong writes.OutOfMemory = grows × (after ≡ before)
 
--- the octets are appended to the device's contents and counted, and no call of it failed; or the writer stopped behind a
--- front of them
+-- the octets are appended to the device's contents and counted, and no call of it failed; or the
+-- writer stopped after some octets from the front
 pub record Writes (old new : Option (List ℕ)) (before after : ℕ) (long grows wrong : Type 0) (octets : List ℕ) (r : Result ℕ SerializeError) : Type 0 where
   pub ok : IfOk r (λ n. Appends old new octets × (n ≡ length octets) × (after ≡ before))
   pub err : IfErr r (λ e. AppendsFront old new octets × Stops before after long grows wrong e)

@@ -1,4 +1,4 @@
-//! `Any`, an element of any type.
+//! `Any`, an element of any type, read and written by the traits.
 
 ghost use Rattle.std.specs.Prelude.{◌≡◌, ◌↔◌, ◌^◌, ◌<◌, Some, IsTrue};
 ghost use Rattle.asn1_any.specs.Views.{any_of, ber_any_of};

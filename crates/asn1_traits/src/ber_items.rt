@@ -1,4 +1,4 @@
-//! Values one after the other, read by BER's rules.
+//! Values one after another, read by BER's rules.
 
 ghost use Rattle.asn1_traits.specs.Lists.{ReadsAll};
 
@@ -6,7 +6,14 @@ use crate::read::{BerMeaning, FromBer};
 use asn1_core::{Err, Error, ErrorKind};
 use std::alloc::Global;
 
-/// The values of the octets, read by BER's rules to their end; refusals as of `read_items`.
+/// Reads the values in `octets` to their end by BER's rules. Returns them in order, in an
+/// allocation of their own.
+///
+/// # Errors
+///
+/// `NomError(Many0)` for a value that takes no octet; the error of a value that `T` rejects; an
+/// `Incomplete` in one is an error, since the octets are whole. Out of memory is
+/// `Failure(OutOfMemory)`.
 pub fn read_ber_items<'a, E: From<Error>, T: FromBer<'a, E> + BerMeaning + Drop>(
     alloc: Global,
     octets: &'a [u8],

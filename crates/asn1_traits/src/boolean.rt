@@ -1,4 +1,4 @@
-//! `bool` (X.690, 8.2 and 11.1).
+//! `bool`, a BOOLEAN (X.690, 8.2 and 11.1).
 
 ghost use Rattle.std.specs.Prelude.{◌≡◌};
 ghost use Rattle.std.proofs.Common.{lit<};

@@ -1,4 +1,4 @@
-//! Machine integers (X.690, 8.3).
+//! Machine integers as INTEGERs (X.690, 8.3).
 
 ghost use Rattle.std.specs.Prelude.{◌≡◌, ◌-◌, if◌then◌else◌, ◌↔◌, ◌^◌, ◌<◌, ◌≤◌, Bool, ℤ, List, ℕ, Some, IsTrue, IsOk, SomeIff, length};
 ghost use Rattle.std.specs.Int.Digits.{digits_of, number_from_digits};
@@ -17,14 +17,16 @@ use asn1_core::{DerConstraint, Error, SerializeResult, Tag};
 use asn1_device::Sink;
 use std::alloc::Global;
 
-/// A whole number: `size`, or -1 less `size` where it is negative.
+/// A whole number by which all integer types are converted: `size` if it isn't negative, else -1
+/// less `size`. So each number from -2^128 to 2^128 - 1 has one form.
 #[derive(Clone, Copy, Debug, PartialEq, Eq)]
 pub struct Whole {
     pub negative: bool,
     pub size: u128,
 }
 
-/// An integer type of at most 128 bits, which is read and written as an INTEGER by way of this trait.
+/// An integer type of at most 128 bits, which is read and written as an INTEGER (X.690, 8.3). From
+/// this trait it has all readers and writers.
 pub trait DerInteger: Tagged + Sized {
     /// The value as a number.
     ghost number: { Self → ℤ };
@@ -32,19 +34,20 @@ pub trait DerInteger: Tagged + Sized {
     /// The number is one of the type.
     ghost in_range: { ℤ → Type 0 };
 
-    /// The same as a test.
+    /// Whether the number is one of the type, as a test.
     ghost fits: { ℤ → Bool };
 
-    /// The value as a whole number.
+    /// Returns the value as a whole number.
     fn to_whole(&self) -> Whole
         ensures number { whole_of result ≡ number self.now }
         ensures range { in_range (number self.now) };
 
-    /// The value of the whole number: `IntegerNegative` or `IntegerTooLarge` where the type has none.
+    /// Returns the value of a whole number: `IntegerNegative` or `IntegerTooLarge` if the type has
+    /// none.
     fn from_whole(whole: Whole) -> Result<Self, Error>
         ensures { FitsWhole number in_range (whole_of whole) result };
 
-    /// The tag number is one.
+    /// The tag number fits 32 bits.
     ghost low: { Self.tag_number < 2 ^ 32 };
 
     /// Numbers in range take at most 128 bits.
@@ -96,8 +99,9 @@ impl<'a, T: DerInteger> FromLeaf<'a> for T {
     }
 }
 
-/// That the octets are shortest two's complement (X.690, 8.3.1 and 8.3.2): else `IntegerEmpty`, `IntegerLeadingZeroes` or
-/// `IntegerLeadingFF`, each as `DerConstraintFailed`.
+/// Returns `Ok(())` if the octets are the shortest two's complement of a number (X.690, 8.3.1 and
+/// 8.3.2); else `DerConstraintFailed` with `IntegerEmpty`, `IntegerLeadingZeroes` or
+/// `IntegerLeadingFF`.
 pub fn check_shortest(octets: &[u8]) -> Result<(), Error>
     ensures checks { ChecksContent IsShortest octets.now result }
     ensures exact { IsOk result ↔ IsTrue (is_shortest octets.now) }
@@ -114,7 +118,8 @@ pub fn check_shortest(octets: &[u8]) -> Result<(), Error>
     }
 }
 
-/// The functions that readers of machine integers answer find what a content means and DER allows, and nothing else.
+/// The functions that readers of machine integers compute find what a content means and DER allows,
+/// and nothing else.
 pub fn integer_functions<T: DerInteger>()
     ensures means { (content : List ℕ) (v : T) → (integer_at T.fits content ≡ Some (T.number v)) ↔ IntegerMeans T.number T.in_range content v }
     ensures allowed { (content : List ℕ) → IsTrue (is_shortest content) ↔ IsShortest content }

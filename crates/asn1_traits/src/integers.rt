@@ -1,4 +1,4 @@
-//! The integers of 8 to 128 bits, without and with a sign, as INTEGERs.
+//! The integers of 8 to 128 bits, unsigned and signed, as INTEGERs.
 
 ghost use Rattle.std.specs.Prelude.{◌≡◌, pos};
 ghost use Rattle.std.proofs.Common.{lit<, lit≤};

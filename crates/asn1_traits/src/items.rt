@@ -1,4 +1,4 @@
-//! Values one after the other, read by DER's rules.
+//! Values one after another, read by DER's rules.
 
 ghost use Rattle.asn1_traits.specs.Lists.{ReadsAll};
 
@@ -6,8 +6,14 @@ use crate::read::{DerMeaning, FromDer};
 use asn1_core::{Err, Error, ErrorKind};
 use std::alloc::Global;
 
-/// The values of the octets, read by DER's rules to their end. A value that takes no octet is refused (`NomError(Many0)`),
-/// and so are octets where `T` is refused. Octets that are missing within them are an error, since the octets are whole.
+/// Reads the values in `octets` to their end by DER's rules. Returns them in order, in an
+/// allocation of their own.
+///
+/// # Errors
+///
+/// `NomError(Many0)` for a value that takes no octet; the error of a value that `T` rejects; an
+/// `Incomplete` in one is an error, since the octets are whole. Out of memory is
+/// `Failure(OutOfMemory)`.
 pub fn read_items<'a, E: From<Error>, T: FromDer<'a, E> + DerMeaning + Drop>(
     alloc: Global,
     octets: &'a [u8],

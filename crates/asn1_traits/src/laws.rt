@@ -1,4 +1,4 @@
-//! Laws of types that are both read and written, and the round trips that stand on them.
+//! Laws of types that are both read and written, and the round trips that follow.
 
 ghost use Rattle.std.specs.Prelude.{◌≡◌, ℕ, List, ◌++◌, Some};
 ghost use Rattle.asn1_traits.specs.Writes.{written, primitive, IsLong, IsOneElement, HasTag};
@@ -9,25 +9,26 @@ use crate::leaf::DerLeaf;
 use crate::read::{DerMeaning, Tagged};
 use crate::write::ToDer;
 
-/// A lawful element type: a value in DER form is written as one element, which is read back before any rest.
+/// An element type with laws: a value in DER form is written as one element, which is read back
+/// before any rest.
 ///
-/// The laws say nothing of an encoding that `usize` can't count.
+/// The laws are for encodings whose length fits `usize`.
 pub trait DerElement: DerMeaning + ToDer {
     /// A value in DER form is one element.
     ghost one_element: { (v : Self) → Self.is_der v → IsOneElement (Self.element v) };
 
-    /// What is written is read, and the rest is left.
+    /// What is written is read back, and the rest is left.
     ghost reads_back: { (v : Self) (rest : List ℕ) → Self.is_der v → (IsLong (written (Self.element v)) → ⊥)
         → (w : Self) × Self.der_reads (written (Self.element v) ++ rest) w rest };
 
-    /// What is read from it is the same element.
+    /// A value that is read back has an equal element.
     ghost same_back: { (v w : Self) (rest r : List ℕ) → Self.is_der v → (IsLong (written (Self.element v)) → ⊥)
         → Self.der_reads (written (Self.element v) ++ rest) w r → Self.element w ≡ Self.element v };
 }
 
-/// A lawful element type whose elements have the type's tag number.
+/// An element type with laws, whose elements have the type's tag number.
 pub trait TaggedElement: DerElement + Tagged {
-    /// A value in DER form is written under the tag number.
+    /// A value in DER form is written with the tag number.
     ghost has_tag: { (v : Self) → Self.is_der v → HasTag Self.tag_number (Self.element v) };
 }
 

@@ -1,4 +1,5 @@
-//! Primitive types: what is read is decided by the tag number and the content octets, and a leaf trait gives all the others.
+//! Primitive types: a type says what its content octets mean, and a leaf trait gives it all readers
+//! and writers.
 
 ghost use Rattle.std.specs.Prelude.{◌≡◌, ◌↔◌, ◌^◌, ◌<◌, ℕ, List, Some, IsTrue};
 ghost use Rattle.asn1_core.specs.Elements.{Element};
@@ -14,13 +15,13 @@ use asn1_core::{Err, Error, SerializeResult};
 use asn1_device::Sink;
 use std::alloc::Global;
 
-/// A lawful primitive type: its values are elements whose constructed bit is 0, told by tag number and content. It is read
-/// and written by way of this trait and `FromLeaf`.
+/// A primitive type with laws: its elements have the constructed bit 0, and tag number and content
+/// decide the value. With `FromLeaf` it has all readers and writers.
 pub trait DerLeaf: Tagged {
     /// The content means the value, by the wider rules (BER).
     ghost content_means: { List ℕ → Self → Type 0 };
 
-    /// Reading a content may want memory.
+    /// Reading a content may allocate.
     ghost content_grows: { Type 0 } = { ⊥ };
 
     /// DER allows the content.
@@ -32,37 +33,37 @@ pub trait DerLeaf: Tagged {
     /// The content that is written.
     ghost content: { Self → List ℕ };
 
-    /// That DER allows the content; else the constraint that it breaks.
+    /// Returns `Ok(())` if DER allows the content; else the constraint that it breaks.
     fn check_content(octets: &[u8]) -> Result<(), Error>
         ensures { ChecksContent content_allowed octets.now result };
 
-    /// Whether the value is in DER form.
+    /// Returns whether the value is in DER form.
     fn leaf_in_form(&self) -> bool
         ensures { IsTrue result ↔ leaf_form self.now };
 
-    /// How many octets the content has.
+    /// Returns how many octets the content has.
     fn leaf_len(&self) -> SerializeResult<usize>
         ensures { Measures (content self.now) result };
 
-    /// Appends the content, and answers its number of octets.
+    /// Writes the content, and returns its number of octets.
     fn write_leaf<S: Sink>(&self, writer: &mut S) -> SerializeResult<usize>
         ensures { Writes (S.contents writer.old) (S.contents writer.new) (S.failures writer.old) (S.failures writer.new)
             (IsLong (content self.now)) ⊥ (leaf_form self.now → ⊥) (content self.now) result };
 
-    /// The tag number is one.
+    /// The tag number fits 32 bits.
     ghost low: { Self.tag_number < 2 ^ 32 };
 
     /// What is written of a value in DER form is allowed, and means the value.
     ghost fits: { (v : Self) → leaf_form v → content_allowed (content v) × content_means (content v) v };
 
-    /// Whatever else it means is written the same.
+    /// Another value that this content means has an equal content.
     ghost same: { (v w : Self) → leaf_form v → content_means (content v) w → content w ≡ content v };
 }
 
-/// Reading a primitive type's content.
+/// A primitive type whose content is read.
 pub trait FromLeaf<'a>: DerLeaf + Sized {
-    /// The value of the content, or an error where it has none: `OutOfMemory` where memory ran out, which a type that takes
-    /// none (`content_grows`) never answers.
+    /// Returns the value of the content, or an error if it has none. `OutOfMemory` comes only from
+    /// a type that allocates (`content_grows`).
     fn from_content(alloc: Global, octets: &'a [u8]) -> Result<Self, Error>
         ensures { ReadsContent Self.content_grows Self.content_means octets.now result };
 }

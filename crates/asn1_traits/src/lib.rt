@@ -1,5 +1,5 @@
-//! The traits by which values are read from elements and written as elements, their laws, and the values of Rust's own
-//! types.
+//! The traits by which values are read from elements and written as elements, their laws, and the
+//! readers and writers of Rust's own types.
 #![tactic(auto)]
 
 mod any;

@@ -22,7 +22,8 @@ use asn1_core::{Class, Err, Error, SerializeResult, Tag};
 use asn1_device::Sink;
 use std::alloc::Global;
 
-/// A constructed element of this universal tag number: else `UnexpectedTag`, `UnexpectedClass` or `ConstructExpected`.
+/// Returns `Ok(())` for a constructed element of this universal tag number; else `UnexpectedTag`,
+/// `UnexpectedClass` or `ConstructExpected`, the first that applies.
 pub fn check_container(any: &Any<'_>, tag: Tag) -> Result<(), Error>
     ensures { Checks (IsContainer tag.0) (any_of any.now) result }
 {

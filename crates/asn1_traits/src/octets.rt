@@ -1,4 +1,4 @@
-//! The octets of a number that isn't negative, in a buffer.
+//! The octets of a number that isn't negative, in a buffer of fixed size.
 
 ghost use Rattle.std.specs.Prelude.{◌≡◌, ◌+◌, ◌≤◌, ◌++◌, length};
 ghost use Rattle.std.specs.Int.Digits.{digits_of};
@@ -6,10 +6,11 @@ ghost use Rattle.asn1_traits.specs.Integers.{with_sign_bit};
 
 use arrayvec::ArrayVec;
 
-/// At most 20 octets.
+/// A buffer of at most 20 octets.
 pub(crate) type Octets = ArrayVec<u8, 20>;
 
-/// Appends the digits of base 256, behind 00 where the first bit is 1, and 00 alone of 0.
+/// Appends the digits of base 256, with `00` before them if the first bit is 1; for 0 appends `00`
+/// alone (X.690, 8.3).
 pub(crate) fn push_positive(out: &mut Octets, number: u128)
     requires { length out.old.items + length (with_sign_bit (digits_of 256 number)) ≤ 20 }
     ensures { out.new.items ≡ out.old.items ++ with_sign_bit (digits_of 256 number) }
@@ -22,7 +23,7 @@ pub(crate) fn push_positive(out: &mut Octets, number: u128)
     out.push((number % 256) as u8);
 }
 
-/// How many octets these are.
+/// Returns how many octets `push_positive` appends.
 pub(crate) fn positive_len(number: u128) -> usize
     ensures { result ≡ length (with_sign_bit (digits_of 256 number)) }
 {

@@ -1,4 +1,5 @@
-//! `Oid`, an OBJECT IDENTIFIER (X.690, 8.19). Any content is read; `Oid::is_strict` tells whether DER allows it.
+//! `Oid`, an OBJECT IDENTIFIER (X.690, 8.19). Any content is read; `Oid::is_strict` returns whether
+//! DER allows it.
 
 ghost use Rattle.std.specs.Prelude.{◌≡◌, ◌↔◌, IsTrue, refl};
 ghost use Rattle.std.proofs.Common.{lit<};

@@ -1,4 +1,4 @@
-//! Values that may be absent.
+//! Values that may be absent: `Option` of a type with a tag.
 
 ghost use Rattle.std.specs.Prelude.{◌≡◌, ◌↔◌, IsTrue};
 ghost use Rattle.asn1_traits.specs.Options.{BeginsWithTag, BeginsWithBerTag, EndsWithinHeader, EndsWithinBerHeader, OptionReads, OptionCut, option_element, WhereSome, OnlySome};

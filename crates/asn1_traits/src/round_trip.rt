@@ -10,8 +10,11 @@ use crate::read::FromDer;
 use asn1_core::{Error, IResult};
 use std::alloc::Global;
 
-/// `from_der`, of any lawful element type. Octets that begin with what `write_der` writes of a value in DER form are read as
-/// a value of the same element, and the rest is left: only want of memory is a refusal.
+/// Reads one value from the front of `bytes` by DER's rules, as `from_der` does, for an element
+/// type with laws. Returns `(rest, value)`.
+///
+/// If `bytes` begin with what `write_der` writes of a value in DER form, the value that is read has
+/// an equal element, and the rest is left: the only error is then out of memory.
 pub fn read_back<'a, E: From<Error>, T: FromDer<'a, E> + DerElement>(
     alloc: Global,
     bytes: &'a [u8],
@@ -22,8 +25,12 @@ pub fn read_back<'a, E: From<Error>, T: FromDer<'a, E> + DerElement>(
     T::from_der(alloc, bytes)
 }
 
-/// `from_der` of an optional value. A present one is read back as `read_back` says; an absent one writes nothing, and is
-/// read back before a rest that is read as absent: no octet is left, or a header tells another tag number.
+/// Reads one value that may be absent from the front of `bytes` by DER's rules. Returns `(rest,
+/// value)`.
+///
+/// If `bytes` begin with what is written of a present value in DER form, it is read back and the
+/// rest is left. An absent one writes nothing, and is read back if no octet is left or the header
+/// at the front has another tag number. The only error is then out of memory.
 pub fn read_back_optional<'a, E: From<Error>, T: FromDer<'a, E> + TaggedElement>(
     alloc: Global,
     bytes: &'a [u8],

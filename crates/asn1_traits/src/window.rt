@@ -1,4 +1,4 @@
-//! `&[u8]`, an octet string (X.690, 8.7).
+//! `&[u8]`, an OCTET STRING (X.690, 8.7).
 
 ghost use Rattle.std.specs.Prelude.{◌≡◌, ◌↔◌, IsTrue, refl};
 ghost use Rattle.std.proofs.Common.{lit<};

@@ -1,4 +1,4 @@
-//! Writing: the trait, and what every writer stands on.
+//! The trait by which values are written, and what every writer uses.
 
 ghost use Rattle.std.specs.Prelude.{◌≡◌, ◌↔◌, ℕ, false, true, List, Option, Some, IsTrue, IsOk, IfOk, IfErr, option_map, length};
 ghost use Rattle.asn1_core.specs.Elements.{Element};
@@ -10,16 +10,18 @@ use asn1_core::{Class, Error, Header, HeaderOctets, Length, SerializeError, Seri
 use asn1_device::{Sink, WriteSink, write_octets};
 use std::alloc::Global;
 
-/// What identifier octets say: class, constructed bit and tag number (X.690, 8.1.2).
+/// The kind of an element: class, constructed bit and tag number, as its identifier octets say
+/// (X.690, 8.1.2).
 #[derive(Clone, Copy, Debug, PartialEq, Eq)]
 pub struct DerKind {
     pub class: Class,
+    /// Whether the element is constructed.
     pub constructed: bool,
     pub tag: Tag,
 }
 
 impl DerKind {
-    /// The primitive kind of a universal tag number.
+    /// Returns the primitive kind of a universal tag number.
     pub fn primitive(tag: Tag) -> DerKind
         ensures { result ≡ record { class = Class.Universal; constructed = false; tag = tag } }
     {
@@ -30,7 +32,7 @@ impl DerKind {
         }
     }
 
-    /// The constructed kind of a universal tag number.
+    /// Returns the constructed kind of a universal tag number.
     pub fn constructed(tag: Tag) -> DerKind
         ensures { result ≡ record { class = Class.Universal; constructed = true; tag = tag } }
     {
@@ -58,37 +60,40 @@ impl DerKind {
     }
 }
 
-/// A type whose values are written by the rules of DER: as one element, or as nothing where a value is absent.
+/// A type whose values are written by the rules of DER: as one element, or as nothing if a value is
+/// absent.
 ///
-/// A type gives `in_der_form`, `der_kind`, `der_content_len` and `write_der_content`; the other calls follow.
+/// A type defines `in_der_form`, `der_kind`, `der_content_len` and `write_der_content`; the other
+/// calls follow.
 pub trait ToDer {
-    /// The value is in DER form: `from_der` reads what is written of it back.
+    /// The value is in DER form: `from_der` reads back what is written of it.
     ghost is_der: { Self → Type 0 };
 
-    /// The element that is written, or nothing of an absent value.
+    /// The element that is written; none for an absent value.
     ghost element: { Self → Option Element };
 
-    /// Writing it may want memory.
+    /// Writing it may allocate.
     ghost grows: { Self → Type 0 } = { λ _. ⊥ };
 
-    /// Whether the value is in DER form.
+    /// Returns whether the value is in DER form.
     fn in_der_form(&self) -> bool
         ensures { IsTrue result ↔ is_der self.now };
 
-    /// What the element's identifier octets say; none of an absent value.
+    /// Returns the kind of the element; `None` for an absent value.
     fn der_kind(&self) -> Option<DerKind>
         ensures { option_map kind_of result ≡ option_map kind_of_element (element self.now) };
 
-    /// How many content octets the element has, 0 of an absent value. `InvalidLength` where `usize` can't count them.
+    /// Returns how many content octets the element has, 0 for an absent value. `InvalidLength` if
+    /// the number passes `usize`.
     fn der_content_len(&self) -> SerializeResult<usize>
         ensures { Measures (content_of (element self.now)) result };
 
-    /// Appends the content octets, and answers their number.
+    /// Writes the content octets, and returns their number.
     fn write_der_content<S: Sink>(&self, writer: &mut S) -> SerializeResult<usize>
         ensures { Writes (S.contents writer.old) (S.contents writer.new) (S.failures writer.old) (S.failures writer.new)
             (IsLong (content_of (element self.now))) (grows self.now) (is_der self.now → ⊥) (content_of (element self.now)) result };
 
-    /// What `write_der` answers of a value that isn't in DER form.
+    /// Returns the error of `write_der` for a value that isn't in DER form.
     fn form_refusal(&self) -> SerializeError
         ensures { IsFormRefusal result }
     {
@@ -99,7 +104,7 @@ pub trait ToDer {
         SerializeError::ASN1Error(error)
     }
 
-    /// Whether the element is constructed.
+    /// Returns whether the element is constructed.
     fn der_constructed(&self) -> bool
         ensures { result ≡ constructed_of (element self.now) }
     {
@@ -109,7 +114,8 @@ pub trait ToDer {
         }
     }
 
-    /// How many octets the element has, of a value in DER form or not. `InvalidLength` where `usize` can't count them.
+    /// Returns how many octets the element has, whether the value is in DER form or not.
+    /// `InvalidLength` if the number passes `usize`.
     fn to_der_len(&self) -> SerializeResult<usize>
         ensures { Measures (written (element self.now)) result }
     {
@@ -125,7 +131,7 @@ pub trait ToDer {
         }
     }
 
-    /// Appends the strict header, and answers its number of octets.
+    /// Writes the strict header, and returns its number of octets.
     fn write_der_header<S: Sink>(&self, writer: &mut S) -> SerializeResult<usize>
         ensures { Writes (S.contents writer.old) (S.contents writer.new) (S.failures writer.old) (S.failures writer.new)
             (IsLong (written (element self.now))) (grows self.now) (is_der self.now → ⊥) (header_of (element self.now)) result }
@@ -139,11 +145,14 @@ pub trait ToDer {
         }
     }
 
-    /// Appends the element, and answers its number of octets.
+    /// Writes the element, and returns its number of octets. It doesn't flush.
     ///
-    /// Nothing is written of a value that isn't in DER form, since `from_der` would refuse it: `ASN1Error`, or `InvalidClass`
-    /// of a class above 3. Other refusals, each behind a front of the octets: `IOError` where the writer failed;
-    /// `InvalidLength` where `usize` can't count the octets; `OutOfMemory` only from values that hold a set.
+    /// # Errors
+    ///
+    /// Nothing is written of a value that isn't in DER form, since `from_der` would reject it:
+    /// `ASN1Error`, or `InvalidClass` for a class above 3. Other errors come after some octets from
+    /// the front were written: `IOError` if the writer fails; `InvalidLength` if the number of
+    /// octets passes `usize`; `OutOfMemory` only from values that contain a set.
     fn write_der<S: Sink>(&self, writer: &mut S) -> SerializeResult<usize>
         ensures octets { Writes (S.contents writer.old) (S.contents writer.new) (S.failures writer.old) (S.failures writer.new)
             (IsLong (written (element self.now))) (grows self.now) (is_der self.now → ⊥) (written (element self.now)) result }
@@ -167,7 +176,8 @@ pub trait ToDer {
         }
     }
 
-    /// The octets that are written. Refusals as of `write_der`, but a writer's failure: `OutOfMemory` where memory ran out.
+    /// Returns the octets of the element, in an allocation of their own. Errors are those of
+    /// `write_der` without `IOError`; `OutOfMemory` if an allocation fails.
     final fn to_der_vec(&self, alloc: Global) -> SerializeResult<Vec<u8>>
     where
         Self: Sized,
@@ -193,8 +203,8 @@ fn encode<T: ToDer>(value: &T, alloc: Global) -> SerializeResult<Vec<u8>>
     }
 }
 
-/// Appends all of the octets, and answers their number. `IOError` where the writer failed, behind a front of them. It does
-/// not flush.
+/// Writes all of the octets, and returns their number. `IOError` if the writer fails; some octets
+/// from the front may have been written then. It doesn't flush.
 pub fn write_all<S: Sink>(writer: &mut S, octets: &[u8]) -> SerializeResult<usize>
     ensures octets { Writes (S.contents writer.old) (S.contents writer.new) (S.failures writer.old) (S.failures writer.new) ⊥ ⊥ ⊥ octets.now result }
     ensures flushes { S.flushes writer.new ≡ S.flushes writer.old }

@@ -1,4 +1,4 @@
-//! Values written one after the other.
+//! Values written one after another.
 
 ghost use Rattle.std.specs.Prelude.{◌≡◌, ◌↔◌, IsTrue};
 ghost use Rattle.asn1_traits.specs.Lists.{all_written, EachIs, OneIs};
@@ -8,7 +8,7 @@ use crate::write::ToDer;
 use asn1_core::{SerializeError, SerializeResult};
 use asn1_device::Sink;
 
-/// Whether each value is in DER form.
+/// Returns whether each value is in DER form.
 pub fn are_in_der_form<T: ToDer>(items: &[T]) -> bool
     ensures { IsTrue result ↔ EachIs T.is_der items.now }
 {
@@ -22,7 +22,8 @@ pub fn are_in_der_form<T: ToDer>(items: &[T]) -> bool
     true
 }
 
-/// How many octets are written of the values, one after the other. `InvalidLength` where `usize` can't count them.
+/// Returns how many octets are written of the values, one after another. `InvalidLength` if the
+/// number passes `usize`.
 pub fn items_len<T: ToDer>(items: &[T]) -> SerializeResult<usize>
     ensures { Measures (all_written T.element items.now) result }
 {
@@ -42,7 +43,8 @@ pub fn items_len<T: ToDer>(items: &[T]) -> SerializeResult<usize>
     Ok(total)
 }
 
-/// Appends what is written of the values, one after the other, and answers its number of octets; refusals as of `write_der`.
+/// Writes the values one after another, and returns the number of octets. Errors are those of
+/// `write_der`.
 pub fn write_items<T: ToDer, S: Sink>(items: &[T], writer: &mut S) -> SerializeResult<usize>
     ensures { Writes (S.contents writer.old) (S.contents writer.new) (S.failures writer.old) (S.failures writer.new)
         (IsLong (all_written T.element items.now)) (OneIs T.grows items.now) (EachIs T.is_der items.now → ⊥) (all_written T.element items.now) result }

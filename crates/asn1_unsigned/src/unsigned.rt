@@ -4,7 +4,8 @@ ghost use Rattle.std.specs.Option.{SomeIff};
 ghost use Rattle.std.specs.Int.Digits.{number_from_digits, digits_of};
 ghost use Rattle.asn1_unsigned.specs.Octets.{NoLeadingZero};
 
-/// An unsigned integer of any size, as borrowed octets, the highest first. No leading zero octet is kept: 0 has no octets.
+/// An unsigned integer of any size, as borrowed octets, the highest first, without leading zero
+/// octets: 0 has no octets. It takes no memory.
 ///
 /// Two values compare, and hash, as their numbers.
 #[derive(Clone, Copy, Debug)]
@@ -16,7 +17,8 @@ pub struct UnsignedBytes<'a> {
 impl<'a> UnsignedBytes<'a> {
     ghost use Rattle.asn1_unsigned.specs.Numbers.{number_of};
 
-    /// The number that the octets make in base 256, the highest first. Leading zero octets are left out, and no octets are 0.
+    /// Returns the number that the octets make in base 256, the highest first. Leading zero octets
+    /// are left out; no octets are 0.
     pub fn from_bytes_be(octets: &'a [u8]) -> UnsignedBytes<'a>
         ensures { number_of result ≡ number_from_digits 256 octets.now }
     {
@@ -24,7 +26,7 @@ impl<'a> UnsignedBytes<'a> {
         UnsignedBytes { octets: kept }
     }
 
-    /// The octets of the number, the highest first and not 0; of 0 there are none.
+    /// Returns the octets of the number, the highest first and not 0; for 0 there are none.
     pub fn as_bytes(&self) -> &'a [u8]
         ensures shortest { result.now ≡ digits_of 256 (number_of self.now) }
         ensures number { number_from_digits 256 result.now ≡ number_of self.now }
@@ -32,7 +34,7 @@ impl<'a> UnsignedBytes<'a> {
         self.octets
     }
 
-    /// The number, or none past 64 bits.
+    /// Returns the number, or `None` if it passes 64 bits.
     pub fn as_u64(&self) -> Option<u64>
         ensures { SomeIff result (number_of self.now < 2 ^ 64) (number_of self.now) }
     {
@@ -40,7 +42,7 @@ impl<'a> UnsignedBytes<'a> {
     }
 }
 
-// The octets behind the leading zeros.
+// Returns the octets after the leading zeros.
 fn trim(octets: &[u8]) -> &[u8]
     ensures number { number_from_digits 256 result.now ≡ number_from_digits 256 octets.now }
     ensures first { NoLeadingZero result.now }

@@ -1,11 +1,11 @@
--- Bit strings: an octet that counts the unused bits of the last one, then the octets of the bits, the highest bit of each
--- first (X.690, 8.6).
+-- Bit strings: an octet that counts the unused bits of the last one, then the octets of the bits,
+-- the highest bit of each first (X.690, 8.6).
 use Rattle.std.specs.Prelude.{◌≡◌, ◌≢◌, ℕ, ◌-◌, ◌/◌, ◌%◌, ◌^◌, ◌<◌, ◌==◌, Bool, List, [], ◌∷◌, length, slice_index, Result, Ok, Err}
 use Rattle.asn1_core.specs.declared.error.Error.{Error}
 use Rattle.asn1_core.specs.declared.error.Error.TheVariants as errors
 use Rattle.asn1_values.specs.declared.bitstring.BitString.{BitString}
 
--- bit 0 is the highest of the first octet (X.690, 8.6.2.1); behind the last octet there is none
+-- bit 0 is the highest of the first octet (X.690, 8.6.2.1); after the last octet there is none
 abbrev pub bit_at : List ℕ → ℕ → Bool
 bit_at octets bit = slice_index octets (bit / 8) / 2 ^ (7 - bit % 8) % 2 == 1
 

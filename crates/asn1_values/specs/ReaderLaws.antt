@@ -11,7 +11,7 @@ use Rattle.asn1_values.specs.Contents.{HoldsSome}
 use Rattle.asn1_values.specs.Numbers.{IsNegative}
 use Rattle.asn1_values.specs.Readers.{◌>>=◌, bits_at, zero_unused, check_bits, some_octets, number_at, not_negative, natural_at, unsigned_in, signed_in, unsigned_at, signed_at}
 
--- both steps of a reader that answers a value
+-- both steps of a reader that returns a value
 two : {A B : Type 0} (r : Result A Error) (f : A → Result B Error) (y : B) → (r >>= f) ≡ Ok y → (x : A) × (r ≡ Ok x) × (f x ≡ Ok y)
 two (Ok x) f y e = (x, refl, e)
 two (Err x) f y e = cc
@@ -166,7 +166,7 @@ signed_only bits content z p small =
 pub signed_is : (bits : ℕ) (content : List ℕ) (z : ℤ) → (signed_at bits content ≡ Ok z) ↔ (SpellsInteger content z × IsSigned bits z)
 signed_is bits content z = (signed_found bits content z, λ p. signed_only bits content z p.0 p.1)
 
--- refusals
+-- errors
 
 pub natural_empty : natural_at [] ≡ Err errors.InvalidLength
 unfolding natural_at number_at some_octets

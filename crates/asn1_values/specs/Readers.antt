@@ -1,5 +1,5 @@
--- Functions that answer as the readers of values do. The meaning stands in `Bits`, `Contents` and in the integers of
--- `asn1_traits`; laws tie each function to it.
+-- Functions that compute what the readers of values return. The meaning is in `Bits`, `Contents`
+-- and in the integers of `asn1_traits`; laws tie each function to it.
 use Rattle.std.specs.Prelude.{◌≡◌, ℕ, ℤ, pos, negsuc, ◌-◌, ◌%◌, ◌^◌, nat_lt, ◌==◌, if◌then◌else◌, List, [], ◌∷◌, length, slice_index, Result, Ok, Err}
 use Rattle.asn1_core.specs.declared.error.Error.{Error}
 use Rattle.asn1_core.specs.declared.error.Error.TheVariants as errors
@@ -11,7 +11,7 @@ abbrev pub ◌>>=◌ : {A B : Type 0} → Result A Error → (A → Result B Err
 Ok a >>= f = f a
 Err e >>= f = Err e
 
--- what the reader answers is what the function does, its values seen so
+-- what the reader returns is what the function computes, its values seen by a view
 abbrev pub Gives : {V W : Type 0} → (V → W) → Result V Error → Result W Error → Type 0
 Gives view (Ok v) read = read ≡ Ok (view v)
 Gives view (Err e) read = read ≡ Err e

@@ -13,19 +13,22 @@ use asn1_device::Sink;
 use asn1_traits::{DerLeaf, FromLeaf, Tagged, write_all};
 use std::alloc::Global;
 
-/// A bit string, borrowed: bit 0 is the highest bit of the first octet.
+/// A BIT STRING, borrowed (X.690, 8.6): bit 0 is the highest bit of the first octet.
 ///
-/// Two are equal where their numbers of unused bits and their octets are, unused bits included.
+/// Two are equal if their numbers of unused bits and their octets are, unused bits included.
 #[derive(Clone, Copy, Debug, PartialEq, Eq)]
 pub struct BitString<'a> {
-    /// How many of the last octet's lowest bits are not part of the string: 0 to 7 in one that was read.
+    /// How many of the last octet's lowest bits are not part of the string: 0 to 7 in one that was
+    /// read.
     pub unused_bits: u8,
     /// The octets that hold the bits.
     pub content: &'a [u8],
 }
 
 impl<'a> BitString<'a> {
-    /// The string of the bits in these octets, but for so many of the last octet's lowest ones.
+    /// Returns the string of the bits in `content`, without the lowest `unused_bits` of its last
+    /// octet. It is in DER form if these are 0 to 7 bits that are 0, and none of an empty content
+    /// (X.690, 11.2).
     pub fn new(unused_bits: u8, content: &'a [u8]) -> BitString<'a>
         ensures unused { result.unused_bits ≡ unused_bits }
         ensures octets { result.content ≡ content.entry }
@@ -36,7 +39,8 @@ impl<'a> BitString<'a> {
         }
     }
 
-    /// Whether the bit is set. Unused bits are told as they stand, and behind the last octet none is set.
+    /// Returns whether bit `bit` is 1, counted from 0. Unused bits are returned as they are; after
+    /// the last octet every bit is 0.
     pub fn is_set(&self, bit: usize) -> bool
         ensures { result ≡ bit_at self.now.content.now bit }
     {
@@ -46,14 +50,14 @@ impl<'a> BitString<'a> {
         }
     }
 
-    /// How many bits there are: eight in each octet, less the unused ones.
+    /// Returns how many bits there are: eight in each octet, less the unused ones.
     pub fn bit_len(&self) -> u128
         ensures { result ≡ 8 * length self.now.content.now - self.now.unused_bits }
     {
         (8 * self.content.len() as u128).saturating_sub(u128::from(self.unused_bits))
     }
 
-    /// The octets that hold the bits.
+    /// Returns the octets that hold the bits.
     pub fn as_ref(&self) -> &'a [u8]
         ensures { result ≡ self.now.content }
     {
@@ -147,8 +151,8 @@ impl<'b> FromLeaf<'b> for BitString<'b> {
     }
 }
 
-// The bits of a content (X.690, 8.6.2): `InvalidLength` where there is no octet, or none behind unused bits, and
-// `BerValueError` where more than 7 are unused.
+// The bits of a content (X.690, 8.6.2): `InvalidLength` if there is no octet, or unused bits and no
+// octet after their number; `BerValueError` if more than 7 are unused.
 fn read_bits(octets: &[u8]) -> Result<BitString<'_>, Error>
     ensures read { ReadsBits octets.now result }
     ensures exact { Gives (λ v. (v.unused_bits, v.content.now)) result (bits_at octets.now) }

@@ -10,9 +10,10 @@ use asn1_device::Sink;
 use asn1_traits::{DerLeaf, FromLeaf, Tagged, write_all};
 use std::alloc::Global;
 
-/// A boolean as its content octet: 0 is false, any other octet true. DER allows 00 and ff.
+/// A BOOLEAN as its content octet: 0 is false, any other octet true (X.690, 8.2). DER allows `00`
+/// and `ff` (X.690, 11.1).
 ///
-/// Two are equal where their octets are.
+/// Two are equal if their octets are.
 #[derive(Clone, Copy, Debug, PartialEq, Eq)]
 pub struct Boolean {
     /// The content octet.
@@ -20,20 +21,21 @@ pub struct Boolean {
 }
 
 impl Boolean {
-    /// False, as DER has it.
+    /// False, `00`.
     pub const FALSE: Boolean = Boolean { value: 0 };
 
-    /// True, as DER has it.
+    /// True as DER writes it, `ff`.
     pub const TRUE: Boolean = Boolean { value: 0xff };
 
-    /// The boolean of this content octet. Another one than 0 and 255 comes from BER alone and isn't written; `bool()` of it is.
+    /// Returns the boolean of this content octet. An octet other than 0 and 255 comes from BER
+    /// alone and isn't written; `bool()` of it is written.
     pub fn new(value: u8) -> Boolean
         ensures { result.value ≡ value }
     {
         Boolean { value }
     }
 
-    /// Whether the octet is not 0.
+    /// Returns whether the octet is not 0.
     pub fn bool(&self) -> bool
         ensures { result ≡ not (self.now.value == 0) }
     {

@@ -12,12 +12,12 @@ ghost use Rattle.asn1_values.specs.Readers.{Gives, enumerated_of};
 use asn1_core::{Class, Error, Tag};
 use asn1_traits::{DerInteger, Tagged, Whole};
 
-/// An enumerated value: its number, which is read and written as that of an INTEGER.
+/// An ENUMERATED: its number, which is read and written as the content of an INTEGER (X.690, 8.4).
 #[derive(Clone, Copy, Debug, PartialEq, Eq)]
 pub struct Enumerated(pub u32);
 
 impl Enumerated {
-    /// The value of this number.
+    /// Returns the value of this number.
     pub fn new(value: u32) -> Enumerated
         ensures { result.0 ≡ value }
     {

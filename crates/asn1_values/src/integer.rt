@@ -21,31 +21,33 @@ use asn1_traits::{DerInteger, DerLeaf, FromLeaf, Tagged, check_shortest, write_a
 use asn1_unsigned::UnsignedBytes;
 use std::alloc::Global;
 
-/// An integer of any size, as its content octets: two's complement, the highest octet first, borrowed.
+/// An INTEGER of any size, as its content octets: two's complement, the highest octet first,
+/// borrowed (X.690, 8.3). 128 in DER form has the octets `00 80`.
 ///
-/// Two are equal where their octets are. The octets of a number in DER form are its only ones; others may be padded.
+/// Two are equal if their octets are. A number has one spelling in DER form; in BER it may have
+/// more, with leading octets `00` or `ff`.
 #[derive(Clone, Copy, Debug, PartialEq, Eq)]
 pub struct Integer<'a> {
-    /// The octets.
+    /// The content octets, the highest first.
     pub content: &'a [u8],
 }
 
 impl<'a> Integer<'a> {
-    /// The integer of these octets.
+    /// Returns the integer of these content octets. Any octets are accepted.
     pub fn new(content: &'a [u8]) -> Integer<'a>
         ensures { result.content ≡ content.entry }
     {
         Integer { content }
     }
 
-    /// The octets.
+    /// Returns the content octets.
     pub fn as_ref(&self) -> &'a [u8]
         ensures { result ≡ self.now.content }
     {
         self.content
     }
 
-    /// The element of the integer.
+    /// Returns the element of the integer.
     pub fn any(&self) -> Any<'a>
         ensures element { any_of result ≡ record { class = 0; constructed = false; tag = 2; content = self.now.content.now } }
         ensures length { length_of result.header ≡ lengths.Definite (length self.now.content.now) }
@@ -54,15 +56,15 @@ impl<'a> Integer<'a> {
         Any::from_tag_and_data(Tag::Integer, self.content)
     }
 
-    /// Whether the number is negative. No octets are 0.
+    /// Returns whether the number is negative. No octets are 0.
     pub fn is_negative(&self) -> bool
         ensures { IsTrue result ↔ IsNegative (twos_complement self.now.content.now) }
     {
         is_negative(self.content)
     }
 
-    /// The number without a sign, of any size. `InvalidLength` where there is no octet, `IntegerNegative` where the number
-    /// is negative.
+    /// Returns the number without a sign, of any size, as borrowed octets. `InvalidLength` if there
+    /// is no octet, `IntegerNegative` if the number is negative.
     pub fn as_unsigned(&self) -> Result<UnsignedBytes<'a>, Error>
         ensures number { IfOk result (λ v. SpellsInteger self.now.content.now (pos (number_of v))) }
         ensures refused { IfErr result (λ e. RefusesNatural self.now.content.now e) }
@@ -77,8 +79,8 @@ impl<'a> Integer<'a> {
         Ok(UnsignedBytes::from_bytes_be(self.content))
     }
 
-    /// The number as `u8`. `InvalidLength` where there is no octet, `IntegerNegative` where the number is negative,
-    /// `IntegerTooLarge` where it passes 8 bits.
+    /// Returns the number as `u8`. `InvalidLength` if there is no octet, `IntegerNegative` if the
+    /// number is negative, `IntegerTooLarge` if it passes 8 bits.
     pub fn as_u8(&self) -> Result<u8, Error>
         ensures number { IfOk result (λ n. SpellsInteger self.now.content.now (pos n)) }
         ensures refused { IfErr result (λ e. RefusesUnsigned 8 self.now.content.now e) }
@@ -94,8 +96,8 @@ impl<'a> Integer<'a> {
         }
     }
 
-    /// The number as `u16`. `InvalidLength` where there is no octet, `IntegerNegative` where the number is negative,
-    /// `IntegerTooLarge` where it passes 16 bits.
+    /// Returns the number as `u16`. `InvalidLength` if there is no octet, `IntegerNegative` if the
+    /// number is negative, `IntegerTooLarge` if it passes 16 bits.
     pub fn as_u16(&self) -> Result<u16, Error>
         ensures number { IfOk result (λ n. SpellsInteger self.now.content.now (pos n)) }
         ensures refused { IfErr result (λ e. RefusesUnsigned 16 self.now.content.now e) }
@@ -111,8 +113,8 @@ impl<'a> Integer<'a> {
         }
     }
 
-    /// The number as `u32`. `InvalidLength` where there is no octet, `IntegerNegative` where the number is negative,
-    /// `IntegerTooLarge` where it passes 32 bits.
+    /// Returns the number as `u32`. `InvalidLength` if there is no octet, `IntegerNegative` if the
+    /// number is negative, `IntegerTooLarge` if it passes 32 bits.
     pub fn as_u32(&self) -> Result<u32, Error>
         ensures number { IfOk result (λ n. SpellsInteger self.now.content.now (pos n)) }
         ensures refused { IfErr result (λ e. RefusesUnsigned 32 self.now.content.now e) }
@@ -128,8 +130,8 @@ impl<'a> Integer<'a> {
         }
     }
 
-    /// The number as `u64`. `InvalidLength` where there is no octet, `IntegerNegative` where the number is negative,
-    /// `IntegerTooLarge` where it passes 64 bits.
+    /// Returns the number as `u64`. `InvalidLength` if there is no octet, `IntegerNegative` if the
+    /// number is negative, `IntegerTooLarge` if it passes 64 bits.
     pub fn as_u64(&self) -> Result<u64, Error>
         ensures number { IfOk result (λ n. SpellsInteger self.now.content.now (pos n)) }
         ensures refused { IfErr result (λ e. RefusesUnsigned 64 self.now.content.now e) }
@@ -145,8 +147,8 @@ impl<'a> Integer<'a> {
         }
     }
 
-    /// The number as `u128`. `InvalidLength` where there is no octet, `IntegerNegative` where the number is negative,
-    /// `IntegerTooLarge` where it passes 128 bits.
+    /// Returns the number as `u128`. `InvalidLength` if there is no octet, `IntegerNegative` if the
+    /// number is negative, `IntegerTooLarge` if it passes 128 bits.
     pub fn as_u128(&self) -> Result<u128, Error>
         ensures number { IfOk result (λ n. SpellsInteger self.now.content.now (pos n)) }
         ensures refused { IfErr result (λ e. RefusesUnsigned 128 self.now.content.now e) }
@@ -155,7 +157,8 @@ impl<'a> Integer<'a> {
         read_unsigned(self.content)
     }
 
-    /// The number as `i8`. `InvalidLength` where there is no octet, `IntegerTooLarge` where the number passes 8 bits.
+    /// Returns the number as `i8`. `InvalidLength` if there is no octet, `IntegerTooLarge` if the
+    /// number passes 8 bits.
     pub fn as_i8(&self) -> Result<i8, Error>
         ensures number { IfOk result (λ z. SpellsInteger self.now.content.now z) }
         ensures refused { IfErr result (λ e. RefusesSigned 8 self.now.content.now e) }
@@ -171,7 +174,8 @@ impl<'a> Integer<'a> {
         }
     }
 
-    /// The number as `i16`. `InvalidLength` where there is no octet, `IntegerTooLarge` where the number passes 16 bits.
+    /// Returns the number as `i16`. `InvalidLength` if there is no octet, `IntegerTooLarge` if the
+    /// number passes 16 bits.
     pub fn as_i16(&self) -> Result<i16, Error>
         ensures number { IfOk result (λ z. SpellsInteger self.now.content.now z) }
         ensures refused { IfErr result (λ e. RefusesSigned 16 self.now.content.now e) }
@@ -187,7 +191,8 @@ impl<'a> Integer<'a> {
         }
     }
 
-    /// The number as `i32`. `InvalidLength` where there is no octet, `IntegerTooLarge` where the number passes 32 bits.
+    /// Returns the number as `i32`. `InvalidLength` if there is no octet, `IntegerTooLarge` if the
+    /// number passes 32 bits.
     pub fn as_i32(&self) -> Result<i32, Error>
         ensures number { IfOk result (λ z. SpellsInteger self.now.content.now z) }
         ensures refused { IfErr result (λ e. RefusesSigned 32 self.now.content.now e) }
@@ -203,7 +208,8 @@ impl<'a> Integer<'a> {
         }
     }
 
-    /// The number as `i64`. `InvalidLength` where there is no octet, `IntegerTooLarge` where the number passes 64 bits.
+    /// Returns the number as `i64`. `InvalidLength` if there is no octet, `IntegerTooLarge` if the
+    /// number passes 64 bits.
     pub fn as_i64(&self) -> Result<i64, Error>
         ensures number { IfOk result (λ z. SpellsInteger self.now.content.now z) }
         ensures refused { IfErr result (λ e. RefusesSigned 64 self.now.content.now e) }
@@ -219,7 +225,8 @@ impl<'a> Integer<'a> {
         }
     }
 
-    /// The number as `i128`. `InvalidLength` where there is no octet, `IntegerTooLarge` where the number passes 128 bits.
+    /// Returns the number as `i128`. `InvalidLength` if there is no octet, `IntegerTooLarge` if the
+    /// number passes 128 bits.
     pub fn as_i128(&self) -> Result<i128, Error>
         ensures number { IfOk result (λ z. SpellsInteger self.now.content.now z) }
         ensures refused { IfErr result (λ e. RefusesSigned 128 self.now.content.now e) }

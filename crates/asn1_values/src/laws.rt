@@ -12,7 +12,7 @@ pub fn octet_means_bool()
     ensures { (octet : ℕ) → BooleanMeans (octet ∷ []) (not (octet == 0)) }
 {}
 
-/// The octets that DER allows of a number are its only ones: those that are written of it.
+/// The octets that DER allows for a number are its only ones: those that are written of it.
 pub fn one_spelling()
     ensures spelled { (content : List ℕ) → AllBelowBase 256 content → IsShortest content
         → content ≡ integer_octets (twos_complement content) }
@@ -20,13 +20,15 @@ pub fn one_spelling()
         → twos_complement left ≡ twos_complement right → left ≡ right }
 {}
 
-/// The functions of the reader of bit strings and of its check by DER find what a content means, and nothing else.
+/// The functions of the reader of bit strings and of its check by DER find what a content means,
+/// and nothing else.
 pub fn bit_functions()
     ensures ber { (content : List ℕ) (unused : ℕ) (octets : List ℕ) → (bits_at content ≡ Ok (unused, octets)) ↔ BitsMean content unused octets }
     ensures der { (content : List ℕ) → (check_bits content ≡ Ok tt) ↔ IsStrictBitContent content }
 {}
 
-/// The functions of the reader of integers and of the conversions find what a content means, and nothing else.
+/// The functions of the reader of integers and of the conversions find what a content means, and
+/// nothing else.
 pub fn integer_functions()
     ensures held { (content held : List ℕ) → (some_octets content ≡ Ok held) ↔ HoldsSome content held }
     ensures whole { (content : List ℕ) (z : ℤ) → (number_at content ≡ Ok z) ↔ SpellsInteger content z }

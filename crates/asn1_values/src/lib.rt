@@ -1,5 +1,5 @@
-//! The primitive values of ASN.1 that have types of their own: booleans, integers, enumerated values, null, bit strings and
-//! octet strings.
+//! The primitive values of ASN.1 that have types of their own: booleans, integers, enumerated
+//! values, null, bit strings and octet strings.
 #![tactic(auto)]
 
 mod bitstring;

@@ -8,12 +8,12 @@ use asn1_device::Sink;
 use asn1_traits::{DerLeaf, FromLeaf, Tagged, write_all};
 use std::alloc::Global;
 
-/// A NULL: it has no content octets.
+/// A NULL: it has no content octets (X.690, 8.8).
 #[derive(Clone, Copy, Debug, Default, PartialEq, Eq)]
 pub struct Null;
 
 impl Null {
-    /// The one NULL.
+    /// Returns the one NULL.
     pub fn new() -> Null
         ensures { result ≡ record {} }
     {

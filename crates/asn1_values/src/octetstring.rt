@@ -10,7 +10,7 @@ use asn1_device::Sink;
 use asn1_traits::{DerLeaf, FromLeaf, Tagged, write_all};
 use std::alloc::Global;
 
-/// An octet string, borrowed.
+/// An OCTET STRING, borrowed (X.690, 8.7).
 #[derive(Clone, Copy, Debug, PartialEq, Eq)]
 pub struct OctetString<'a> {
     /// The octets.
@@ -18,14 +18,14 @@ pub struct OctetString<'a> {
 }
 
 impl<'a> OctetString<'a> {
-    /// The string of these octets.
+    /// Returns the string of these octets.
     pub fn new(content: &'a [u8]) -> OctetString<'a>
         ensures { result.content ≡ content.entry }
     {
         OctetString { content }
     }
 
-    /// The octets.
+    /// Returns the octets.
     pub fn as_ref(&self) -> &'a [u8]
         ensures { result ≡ self.now.content }
     {

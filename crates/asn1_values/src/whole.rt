@@ -11,7 +11,7 @@ ghost use Rattle.asn1_values.specs.Readers.{Gives, unsigned_at, signed_at};
 use asn1_core::Error;
 use asn1_traits::Whole;
 
-/// Whether the first bit is 1.
+/// Returns whether the first bit is 1.
 pub(crate) fn is_negative(octets: &[u8]) -> bool
     ensures { result ≡ first_bit octets.now }
 {
@@ -21,8 +21,8 @@ pub(crate) fn is_negative(octets: &[u8]) -> bool
     }
 }
 
-/// The number, without a sign: `InvalidLength` of no octet, `IntegerNegative` of a negative one, `IntegerTooLarge` past 128
-/// bits.
+/// Returns the number, without a sign: `InvalidLength` for no octet, `IntegerNegative` for a
+/// negative number, `IntegerTooLarge` past 128 bits.
 pub(crate) fn read_unsigned(octets: &[u8]) -> Result<u128, Error>
     ensures number { IfOk result (λ n. SpellsInteger octets.now (pos n)) }
     ensures refused { IfErr result (λ e. RefusesUnsigned 128 octets.now e) }
@@ -40,7 +40,8 @@ pub(crate) fn read_unsigned(octets: &[u8]) -> Result<u128, Error>
     }
 }
 
-/// The number, with its sign: `InvalidLength` of no octet, `IntegerTooLarge` past 128 bits.
+/// Returns the number, with its sign: `InvalidLength` for no octet, `IntegerTooLarge` past 128
+/// bits.
 pub(crate) fn read_whole(octets: &[u8]) -> Result<Whole, Error>
     ensures number { IfOk result (λ w. SpellsInteger octets.now (whole_of w)) }
     ensures refused { IfErr result (λ e. RefusesSigned 129 octets.now e) }

@@ -1,4 +1,4 @@
--- The lengths that the headers of a BER object tell: those that were read.
+-- The lengths in the headers of a BER object: those that were read.
 use Rattle.std.specs.Prelude.{◌≡◌, ℕ, List, Option, Some, None, Ok, Err}
 use Rattle.asn1_core.specs.Answers.{Answer}
 use Rattle.asn1_core.specs.Lenient.{BerHead}
@@ -26,10 +26,10 @@ read_form (Err e) = Indefinite
 abbrev pub ber_length : Head → List ℕ → Length
 ber_length h s = read_form (ber_header_at s)
 
--- each header in the object, raw elements' too, tells the length that was read
+-- each header in the object, raw elements' too, has the length that was read
 abbrev pub TellsAsRead : BerObject → Type 0
 TellsAsRead o = lengths_told o ≡ lengths_read ber_length (view o)
 
--- a content tells such lengths, its element's header telling this one
+-- a content has such lengths, its element's header having this one
 abbrev pub HoldsAsRead : Length → BerObjectContent → Content → Type 0
 HoldsAsRead length c d = lengths_within c ≡ lengths_held ber_length length d

@@ -1,4 +1,5 @@
--- BER objects of at most k levels and their trees (X.690, 8.1). A tree keeps in each node the octets that it is read from.
+-- BER objects of at most k levels and their trees (X.690, 8.1). A tree keeps in each node the
+-- octets that it is read from.
 use Rattle.std.specs.Prelude.{◌≡◌, ◌⊎◌, ℕ, ◌-◌, ◌<◌, ◌≤◌, false, Option, Some, None, IfSome, List, ◌++◌, length}
 use Rattle.asn1_core.specs.Strict.{Head}
 use Rattle.asn1_core.specs.Elements.{Element}
@@ -8,7 +9,7 @@ use Rattle.der_tree.specs.Table.{IsConstructed}
 use Rattle.der_tree.specs.Tree.{Tree, node, Content, leaf, sequence, set, Trees, none, more, end_of_content, octets, all_octets}
 use Rattle.ber_tree.specs.Table.{HoldsBer}
 
--- what a node keeps of a header: the indefinite form tells no number
+-- what a node keeps of a header: 0 for the indefinite form
 abbrev pub told : Option ℕ → ℕ
 told (Some n) = n
 told None = 0
@@ -16,12 +17,14 @@ told None = 0
 abbrev pub head_in : BerHead → Head
 head_in h = record { class = h.class; constructed = h.constructed; tag = h.tag; size = told h.size }
 
--- the octets behind a header: as many as a definite length says, or a content and end-of-contents octets
+-- the octets after a header: as many as a definite length says, or a content and end-of-contents
+-- octets
 abbrev pub Ends : Option ℕ → List ℕ → List ℕ → Type 0
 Ends (Some n) content body = (n ≡ length content) × (body ≡ content)
 Ends None content body = body ≡ content ++ end_of_contents
 
--- the octets are a header in any form of BER, its definite length at most 4,294,967,295, and what that header counts
+-- the octets are a header in any form of BER, its definite length at most 4,294,967,295, and what
+-- that header counts
 pub record IsBerCut (s : List ℕ) (e : BerElement) : Type 0 where
   pub header : List ℕ
   pub body : List ℕ
@@ -31,7 +34,8 @@ pub record IsBerCut (s : List ℕ) (e : BerElement) : Type 0 where
   pub ends : Ends e.head.size e.content body
   pub octets : s ≡ header ++ body
 
--- where an indefinite content ends that isn't read into objects: it is elements of at most so many levels
+-- where an indefinite content ends that isn't read into objects: it is elements of at most so many
+-- levels
 abbrev pub IsDelimited : ℕ → Option ℕ → List ℕ → Type 0
 IsDelimited k (Some n) s = Unit {0}
 IsDelimited k None s = AreAll (IsWithin k) s

@@ -1,4 +1,5 @@
--- What may stand in the content of a BER element: what DER's table allows, and wider forms of some types (X.690, 8).
+-- What the content of a BER element may be: what DER's table allows, and wider forms of some types
+-- (X.690, 8).
 use Rattle.std.specs.Prelude.{◌≡◌, ◌≢◌, ◌⊎◌, ℕ, ◌^◌, ◌<◌, ◌==◌, nat_lt, not, Bool, false, IsTrue, List, [], ◌∷◌}
 use Rattle.std.specs.Int.Digits.{number_from_digits}
 use Rattle.asn1_core.specs.Elements.{Element}
@@ -7,26 +8,29 @@ use Rattle.der_tree.specs.Tree.{Leaf, end_of_content, boolean, bit_string, null,
 use Rattle.der_tree.specs.Shape.{Holds}
 use Rattle.ber_tree.specs.Time.{IsBerUtcTime, IsBerGeneralizedTime}
 
--- at least one octet, the number not negative and below 2^64, in any number of octets (X.690, 8.3 and 8.4)
+-- at least one octet, the number not negative and below 2^64, in any number of octets (X.690, 8.3
+-- and 8.4)
 pub record IsWideEnumerated (s : List ℕ) : Type 0 where
   pub octet : s ≢ []
   pub sign : is_negative s ≡ false
   pub size : number_from_digits 256 s < 2 ^ 64
 
--- how many bits are unused, 0 to 7, and 0 where no octet follows; then bits of any value (X.690, 8.6.2)
+-- how many bits are unused, 0 to 7, and 0 where no octet follows; then bits of any value
+-- (X.690, 8.6.2)
 abbrev pub is_wide_bit_string : List ℕ → Bool
 is_wide_bit_string [] = false
 is_wide_bit_string (unused ∷ []) = unused == 0
 is_wide_bit_string (unused ∷ b ∷ s) = nat_lt unused 8
 
--- the octets that stand for themselves: integers of one octet at least (X.690, 8.3.1), and times
+-- octets that are kept as they are: integers of one octet at least (X.690, 8.3.1), and times
 abbrev pub AllowsWider : Kind → List ℕ → Type 0
 AllowsWider integer s = s ≢ []
 AllowsWider utc_time s = IsBerUtcTime s
 AllowsWider generalized_time s = IsBerGeneralizedTime s
 AllowsWider _ s = ⊥
 
--- the wider forms, with the value that the content holds; a boolean is false where its one octet is 0 (X.690, 8.2)
+-- the wider forms, with the value that the content holds; a boolean is false where its one octet is
+-- 0 (X.690, 8.2)
 abbrev pub HoldsWider : Element → Leaf → Type 0
 HoldsWider e (boolean b) = IsPrimitive e 1 × ((a : ℕ) × (e.content ≡ a ∷ []) × (b ≡ not (a == 0)))
 HoldsWider e (bit_string unused s) = IsPrimitive e 3 × (e.content ≡ unused ∷ s) × IsTrue (is_wide_bit_string e.content)

@@ -40,7 +40,7 @@ abbrev pub second_octets : Option Second → List ℕ
 second_octets None = []
 second_octets (Some s) = two_digits s.number ++ fraction_octets s.fraction
 
--- Z, or how far the clock is ahead of that time or behind it
+-- Z, or by how much the clock is ahead of that time or late
 pub data Zone : Type 0 where
   utc : Zone
   ahead : ℕ → ℕ → Zone

@@ -1,4 +1,4 @@
-//! What an element without parts holds.
+//! The values of elements without parts.
 
 ghost use Rattle.std.specs.Prelude.{◌≡◌, ◌≢◌, ◌↔◌, ◌∷◌, false, IsTrue, IfOk, IfErr, IfSome, MatchOption};
 ghost use Rattle.std.specs.Int.Digits.{number_from_digits};
@@ -13,7 +13,8 @@ use asn1_any::Any;
 use asn1_core::{Class, Error, Header};
 use der_tree::{BerObjectContent, leaf_under};
 
-/// The content under a header that has no parts: by the wider forms of BER, or else by the table.
+/// Returns the content under a header that has no parts: by the wider forms of BER, or else by the
+/// table.
 pub(crate) fn leaf_of<'a>(header: Header, content: &'a [u8]) -> Result<BerObjectContent<'a>, Error>
     ensures found { IfOk result (λ c. HoldsBerLeaf (element_under header content.now) (content_view c)) }
     ensures none { IfErr result (λ e. (e ≢ Error.OutOfMemory)
@@ -40,7 +41,7 @@ fn is_universal(header: Header) -> bool
     }
 }
 
-/// The forms that BER allows beside those of DER.
+/// Returns the content in a form that BER allows beside those of DER, or `None`.
 fn wider_of<'a>(header: Header, content: &'a [u8]) -> Option<BerObjectContent<'a>>
     requires { class_number header.class ≡ 0 }
     ensures wider { MatchOption result ((c : Content) → HoldsWiderLeaf (element_under header content.now) c → ⊥)
@@ -85,7 +86,8 @@ fn wider_of<'a>(header: Header, content: &'a [u8]) -> Option<BerObjectContent<'a
     }
 }
 
-/// The unused count and the octets of the bits, whatever the unused bits are (X.690, 8.6.2).
+/// Returns the number of unused bits and the octets of the bits, whatever the unused bits are
+/// (X.690, 8.6.2).
 fn wide_bits_of<'a>(content: &'a [u8]) -> Option<(u8, &'a [u8])>
     ensures { MatchOption result (is_wide_bit_string content.now ≡ false)
         (λ p. (content.now ≡ p.0 ∷ p.1.now) × IsTrue (is_wide_bit_string content.now)) }
@@ -101,7 +103,8 @@ fn wide_bits_of<'a>(content: &'a [u8]) -> Option<(u8, &'a [u8])>
     }
 }
 
-/// The number of an enumerated value in any number of octets, where it is not negative and below 2^64.
+/// Returns the number of an enumerated value in any number of octets, if it is not negative and
+/// below 2^64.
 fn wide_enumerated_of(content: &[u8]) -> Option<u64>
     ensures { MatchOption result (IsWideEnumerated content.now → ⊥)
         (λ n. (n ≡ number_from_digits 256 content.now) × IsWideEnumerated content.now) }

@@ -1,4 +1,5 @@
-//! Object trees read by the rules of BER: what a BER object of at most k levels is, its tree, and the reader.
+//! Object trees read by the rules of BER: what a BER object of at most k levels is, its tree, and
+//! the reader.
 #![tactic(auto)]
 
 mod laws;

@@ -21,8 +21,9 @@ use der_tree::{
 };
 use std::alloc::Global;
 
-/// Reads one BER object of at most `MAX_RECURSION` levels from the front of the octets (X.690, 8), as
-/// `parse_ber_recursive` does.
+/// Reads one BER object of at most `MAX_RECURSION` levels from the front of `i` (X.690, 8), as `30
+/// 03 02 01 05`. Returns `(rest, object)`. It is `parse_ber_recursive` with these levels: its cost
+/// and its errors are described there.
 pub fn parse_ber<'a>(alloc: Global, i: &'a [u8]) -> BerResult<'a>
     ensures found { IfOk result (λ p. IsBerTree 50 (view p.1) × (i.now ≡ octets (view p.1) ++ p.0.now)) }
     ensures none { IfErr result (λ e. Refuses e (BeginsWithBerTree 50 i.now → ⊥)) }
@@ -35,14 +36,20 @@ pub fn parse_ber<'a>(alloc: Global, i: &'a [u8]) -> BerResult<'a>
     parse_ber_recursive(alloc, i, MAX_RECURSION)
 }
 
-/// Reads one BER object of at most so many levels from the front of the octets (X.690, 8): a header in any form, of at most
-/// `MAX_OBJECT_SIZE` content octets where it tells a length, and a content by the table. Each element takes one level,
-/// those within a raw element of the indefinite form too. Answers the octets after the object, and its tree, whose windows
-/// lie in `i`. Octets 00 00 by themselves are read as `EndOfContent`. It recurses as `parse_der_recursive` does, which tells
-/// how many levels a stack holds.
+/// Reads one BER object of at most `levels` levels from the front of `i` (X.690, 8). Returns
+/// `(rest, object)`, a tree whose windows lie in `i`.
 ///
-/// Refusals, in their order: those of `Any::from_ber_recursive`, an element of too many levels or one that the octets cut
-/// among them; and where the element is whole `Failure` of `OutOfMemory`, or an error: it is no object of so many levels.
+/// Headers have any form; a definite length is at most `MAX_OBJECT_SIZE`; the content is read by
+/// the table of universal types. Each element takes one level, also those in a raw element of the
+/// indefinite form. Octets `00 00` by themselves are read as `EndOfContent`. It recurses once for
+/// each level, as `parse_der_recursive` does, whose comment says how many levels a stack allows.
+/// Memory is linear in the number of elements.
+///
+/// # Errors
+///
+/// The first that applies: those of `Any::from_ber_recursive`, which include an element that is
+/// nested too deeply and one that ends early; for a whole element `Failure(OutOfMemory)`, or an
+/// error if it is no object of so many levels.
 pub fn parse_ber_recursive<'a>(alloc: Global, i: &'a [u8], levels: usize) -> BerResult<'a>
     ensures found { IfOk result (λ p. IsBerTree levels (view p.1) × (i.now ≡ octets (view p.1) ++ p.0.now)) }
     ensures none { IfErr result (λ e. Refuses e (BeginsWithBerTree levels i.now → ⊥)) }
@@ -61,7 +68,7 @@ pub fn parse_ber_recursive<'a>(alloc: Global, i: &'a [u8], levels: usize) -> Ber
     object_of(alloc, i, levels)
 }
 
-/// End-of-contents octets at the front (X.690, 8.1.5).
+/// Reads end-of-contents octets (X.690, 8.1.5).
 fn end_of_content(i: &[u8]) -> Option<(&[u8], BerObject<'_>)>
     ensures end { MatchOption result ((r : List ℕ) → i.now ≡ octets end_tree ++ r → ⊥)
         (λ p. (view p.1 ≡ end_tree) × (i.now ≡ octets end_tree ++ p.0.now)) }
@@ -85,7 +92,7 @@ fn end_of_content(i: &[u8]) -> Option<(&[u8], BerObject<'_>)>
     }
 }
 
-/// An object of at most so many levels at the front.
+/// Reads an object of at most `levels` levels.
 #[cycle(reading)]
 fn object_of<'a>(alloc: Global, i: &'a [u8], levels: usize) -> BerResult<'a>
     ensures found { IfOk result (λ p. IsBerObject levels (view p.1) × (i.now ≡ octets (view p.1) ++ p.0.now)) }
@@ -112,7 +119,7 @@ fn is_small(header: Header) -> bool
     }
 }
 
-/// Reads the content under a header, its parts being of at most that many levels.
+/// Reads the content under a header, whose parts have at most that many levels.
 #[cycle(reading)]
 fn content_of<'a>(
     alloc: Global,

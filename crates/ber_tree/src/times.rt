@@ -5,15 +5,15 @@ ghost use Rattle.der_tree.specs.TimeReading.{pair_at};
 ghost use Rattle.ber_tree.specs.Time.{IsBerUtcTime, IsBerGeneralizedTime};
 ghost use Rattle.ber_tree.specs.TimeReading.{ranged_at, clock_at, begins_with_digit, second_at, digits_at, fraction_at, exact_second_at, offset_at, is_over, is_zone, is_local, utc_at, generalized_at, ends};
 
-/// Whether the octets are a UTCTime of BER: YYMMDDHHMM, SS or none, and Z or an offset.
+/// Returns whether the octets are a UTCTime of BER: YYMMDDHHMM, SS or none, and `Z` or an offset.
 pub(crate) fn is_ber_utc_time(content: &[u8]) -> bool
     ensures { IsTrue result ↔ IsBerUtcTime content.now }
 {
     is_utc(content)
 }
 
-/// Whether the octets are a GeneralizedTime of BER: YYYYMMDDHHMM, SS and a fraction of up to three digits or none, and Z,
-/// an offset or nothing.
+/// Returns whether the octets are a GeneralizedTime of BER: YYYYMMDDHHMM; SS, with a fraction of up
+/// to three digits or none, or nothing; and `Z`, an offset or nothing.
 pub(crate) fn is_ber_generalized_time(content: &[u8]) -> bool
     ensures { IsTrue result ↔ IsBerGeneralizedTime content.now }
 {
@@ -38,7 +38,7 @@ fn is_generalized(i: &[u8]) -> bool
     }
 }
 
-/// Two digits at the front, as a number.
+/// Reads two digits as a number.
 #[tactic(auto, unfolding(der_tree::specs::TimeReading::pair_at))]
 fn pair_of(i: &[u8]) -> Option<(u8, &[u8])>
     ensures value { option_map (λ p. (p.0, p.1.now)) result ≡ pair_at i.now }
@@ -54,7 +54,7 @@ fn pair_of(i: &[u8]) -> Option<(u8, &[u8])>
     }
 }
 
-/// What comes behind two digits of a number in this range.
+/// Skips two digits of a number in this range; returns the octets after them.
 #[tactic(auto, unfolding(crate::specs::TimeReading::ranged_at))]
 fn ranged_of(least: u8, most: u8, i: &[u8]) -> Option<&[u8]>
     ensures { option_map (λ r. r.now) result ≡ ranged_at least most i.now }
@@ -97,7 +97,8 @@ fn second_of(i: &[u8]) -> Option<&[u8]>
     }
 }
 
-/// What comes behind at most so many digits; the last, which may be the one before them, isn't 0.
+/// Skips at most `n` digits; returns the octets after them. The last digit, which may be `last`,
+/// isn't 0.
 #[tactic(auto, unfolding(crate::specs::TimeReading::digits_at))]
 fn digits_of(n: usize, last: u8, i: &[u8]) -> Option<&[u8]>
     ensures { option_map (λ r. r.now) result ≡ digits_at n last i.now }

@@ -10,7 +10,7 @@ abbrev pub StopsAs : ℕ → List ℕ → Bool → Type 0
 StopsAs limit rest true = IsCutShort limit rest
 StopsAs limit rest false = MeetsNoItem limit rest
 
--- the octets from `from` to `at` are items, whose ends were put behind the ends that were there
+-- the octets from `from` to `at` are items, whose ends were added after the ends that were there
 pub record Walks (limit : ℕ) (octets : List ℕ) (from : ℕ) (ends ends' : List ℕ) (at : ℕ) : Type 0 where
   pub added : List ℕ
   pub joined : ends' ≡ ends ++ added

@@ -1,4 +1,4 @@
--- What stands at the front of some octets: an item, the beginning of one, or neither.
+-- The front of some octets: an item, the beginning of one, or neither.
 use Rattle.std.specs.Prelude.{◌≡◌, ℕ, ◌<◌, ◌≤◌, Option, Some, None, length, take, List, ◌++◌}
 use Rattle.std.specs.Int.Digits.{digits_of}
 use Rattle.cert_framing.specs.declared.front.Front.{Front}
@@ -14,7 +14,8 @@ StandsAtFront limit octets (Whole n) = (0 < n) × (n ≤ length octets) × IsIte
 StandsAtFront limit octets Part = IsCutShort limit octets
 StandsAtFront limit octets Nothing = MeetsNoItem limit octets
 
--- n is written in the long form, in so many octets of which these are the first (X.690, 8.1.3.5 and 10.1)
+-- n is written in the long form, in so many octets of which these are the first (X.690, 8.1.3.5 and
+-- 10.1)
 pub record IsLongLength (known : List ℕ) (count n : ℕ) : Type 0 where
   pub more : List ℕ
   pub large : 128 ≤ n

@@ -1,4 +1,4 @@
-//! A stream that is handed in by pieces.
+//! A stream that arrives in pieces.
 ghost use Rattle.std.specs.Prelude.{◌≡◌, ℕ, ◌≤◌, ◌↔◌, true, false, List, [], ◌++◌, length, IsErr, IfOk, IfErr, OnOk, OnErr, IsErrOf};
 ghost use Rattle.cert_framing.specs.Framing.{IsFraming};
 ghost use Rattle.cert_framing.specs.Held.{StandsFor};
@@ -11,10 +11,10 @@ use std::alloc::{AllocError, Global};
 use std::marker::Model;
 use thiserror::Error;
 
-/// Why a bundle refused a call.
+/// Why a bundle rejected a call.
 #[derive(Clone, Copy, Debug, PartialEq, Eq, Hash, Error)]
 pub enum BundleError {
-    /// There was no memory for a piece, which is lost.
+    /// An allocation for a piece failed, and the piece is lost.
     #[error("OutOfMemory")]
     OutOfMemory,
     /// An earlier piece was lost.
@@ -27,16 +27,17 @@ pub enum BundleError {
 enum State {
     /// It takes octets.
     Reading,
-    /// It met octets that neither are nor begin an item: what follows is taken and not kept.
+    /// It met octets that neither are nor begin an item: what follows is accepted and not kept.
     Faulted,
     /// It lost a piece.
     Failed,
 }
 
-/// Takes a stream of octets piece by piece, and cuts items off it as they are complete.
+/// Cuts items off a stream of octets that arrives piece by piece, as soon as they are complete.
 ///
-/// An item is a SEQUENCE whose header is in its one shortest form (X.690, 8.9.1 and 10.1) and has at most so many content
-/// octets as the limit says. Each octet is copied once. Octets behind a fault are taken and not kept.
+/// An item is a SEQUENCE whose header is in its one shortest form (X.690, 8.9.1 and 10.1) and has
+/// at most `limit` content octets. Each octet is copied once. Octets after a fault are accepted and
+/// not kept.
 #[derive(Debug, Drop)]
 pub struct Bundle {
     limit: u32,
@@ -62,7 +63,8 @@ impl Model for Bundle {
 }
 
 impl Bundle {
-    /// A bundle of no octets yet, whose items have at most `limit` content octets. It takes no memory.
+    /// Returns a bundle of no octets, whose items have at most `limit` content octets. It takes no
+    /// memory.
     pub fn new(alloc: Global, limit: u32) -> Bundle
         ensures limit { result.limit ≡ limit }
         ensures empty { StandsFor result [] }
@@ -76,8 +78,13 @@ impl Bundle {
         }
     }
 
-    /// Takes the next octets of the stream, any number of them. `OutOfMemory` comes where memory for them was refused, and
-    /// from then on the bundle answers `Failed`.
+    /// Takes the next octets of the stream, any number of them. Time and memory are linear in the
+    /// octets that were fed.
+    ///
+    /// # Errors
+    ///
+    /// `OutOfMemory` if an allocation fails: the piece is lost, and each later call returns
+    /// `Failed`.
     pub fn feed(&mut self, piece: &[u8]) -> Result<(), BundleError>
         ensures ok { OnOk result
             ((stream : List ℕ) → StandsFor self.old stream → StandsFor self.new (stream ++ piece.now)) }
@@ -93,7 +100,7 @@ impl Bundle {
         }
     }
 
-    /// `feed` of a bundle that met no fault and lost no piece.
+    /// Takes the next octets of a bundle that met no fault and lost no piece.
     fn extend(&mut self, piece: &[u8]) -> Result<(), BundleError>
         requires reads { self.old.has_fault ≡ false }
         requires sound { self.old.has_failed ≡ false }
@@ -129,7 +136,8 @@ impl Bundle {
         }
     }
 
-    /// The items of the stream, and how it ends. It takes no memory. `Failed` where an earlier `feed` answered `OutOfMemory`.
+    /// Returns the items of the stream, and how it ends. It takes no memory. `Failed` if an earlier
+    /// `feed` returned `OutOfMemory`.
     pub fn finish(self) -> Result<Items, BundleError>
         ensures framing { IfOk result (λ items.
             (stream : List ℕ) → StandsFor self stream → IsFraming self.limit stream items.items items.end) }
@@ -159,8 +167,8 @@ impl Bundle {
     }
 }
 
-/// Puts the ends of the items that begin at `from` behind `ends`. It answers where the last of them ends, and whether what is left
-/// begins an item.
+/// Adds to `ends` where the items end that begin at `from`. Returns where the last of them ends,
+/// and whether the octets after it begin an item.
 fn advance(
     limit: u32,
     octets: &[u8],

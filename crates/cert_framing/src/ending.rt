@@ -1,12 +1,13 @@
 //! How a stream ends after its last item.
 
-/// How a stream ends behind its items. Positions count octets from 0.
+/// How a stream ends after its last item. Positions count octets of the stream from 0.
 #[derive(Clone, Copy, Debug, PartialEq, Eq, Hash)]
 pub enum End {
-    /// Nothing is left behind the last item.
+    /// Nothing is left after the last item.
     Clean,
-    /// What begins at this position is the beginning of an item: the stream was cut off.
+    /// The octets from this position on begin an item and end before it does: the stream was cut
+    /// off.
     Cut(usize),
-    /// What begins at this position neither is nor begins an item.
+    /// The octets from this position on neither are nor begin an item.
     Fault(usize),
 }

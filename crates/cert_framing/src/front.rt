@@ -1,25 +1,26 @@
-//! What stands at the front of some octets: a whole item, the beginning of one, or neither.
+//! The front of an input: a whole item, the beginning of one, or neither.
 ghost use Rattle.std.specs.Prelude.{◌≡◌, ℕ, ◌+◌, ◌*◌, ◌^◌, ◌<◌, ◌≤◌, ◌∷◌, length};
 ghost use Rattle.std.specs.Int.Digits.{number_from_digits};
 ghost use Rattle.cert_framing.specs.Fronts.{StandsAtFront, IsLeastLength};
 
 use asn1_core::fewest_digits;
 
-/// The identifier octet of a SEQUENCE: universal class, constructed, tag number 16 (X.690, 8.1.2 and 8.9.1).
+/// The identifier octet of a SEQUENCE: universal class, constructed, tag number 16 (X.690, 8.1.2
+/// and 8.9.1).
 const SEQUENCE: u8 = 0x30;
 
-/// What some octets begin with.
+/// What an input begins with.
 #[derive(Clone, Copy, Debug, PartialEq, Eq)]
 pub(crate) enum Front {
-    /// An item of so many octets.
+    /// An item of this number of octets.
     Whole(usize),
-    /// A proper prefix of an item.
+    /// Octets that are a proper prefix of an item, and nothing after them.
     Part,
     /// Nothing that is an item or could become one.
     Nothing,
 }
 
-/// What the octets begin with, where an item has at most `limit` content octets.
+/// Returns what the octets begin with, if an item has at most `limit` content octets.
 pub(crate) fn front_of(limit: u32, octets: &[u8]) -> Front
     ensures { StandsAtFront limit octets.now result }
 {
@@ -37,7 +38,8 @@ pub(crate) fn front_of(limit: u32, octets: &[u8]) -> Front
     }
 }
 
-/// The front of a sequence whose length is `size`, in the short form, and is followed by `rest`.
+/// Returns the front of a sequence whose length is `size`, in the short form, and is followed by
+/// `rest`.
 fn short_front(limit: u32, size: u8, rest: &[u8]) -> Front
     requires { size < 128 }
     ensures { StandsAtFront limit (48 ∷ size ∷ rest.now) result }
@@ -53,7 +55,8 @@ fn short_front(limit: u32, size: u8, rest: &[u8]) -> Front
     }
 }
 
-/// The front of a sequence whose length is in the long form, in `count` octets, the first of `rest`.
+/// Returns the front of a sequence whose length is in the long form, in `count` octets, the first
+/// of `rest`.
 fn long_front(limit: u32, count: usize, rest: &[u8]) -> Front
     requires { count < 128 }
     ensures { StandsAtFront limit (48 ∷ (128 + count) ∷ rest.now) result }
@@ -76,7 +79,8 @@ fn long_front(limit: u32, count: usize, rest: &[u8]) -> Front
     }
 }
 
-/// The least length that takes `count` octets in the long form and begins with the `known` ones. None where no length does.
+/// Returns the least length that takes `count` octets in the long form and begins with the `known`
+/// ones; `None` if there is no such length.
 fn least_length(count: usize, known: &[u8]) -> Option<u64>
     requires some { 0 < count }
     requires few { count ≤ 4 }
@@ -100,7 +104,7 @@ fn least_length(count: usize, known: &[u8]) -> Option<u64>
     }
 }
 
-/// The number that at most four octets write, the highest first.
+/// Returns the number that at most four octets write, the highest first.
 fn number_of(octets: &[u8]) -> u64
     requires { length octets.now ≤ 4 }
     ensures value { result ≡ number_from_digits 256 octets.now }
@@ -117,7 +121,7 @@ fn number_of(octets: &[u8]) -> u64
     }
 }
 
-/// The number with so many octets of zeros behind it.
+/// Returns the number with `places` octets of zeros after it.
 fn raised(number: u64, places: usize) -> u64
     requires low { number < 2 ^ 32 }
     requires few { places < 4 }

@@ -42,7 +42,7 @@ impl Items {
         }
     }
 
-    /// How many items there are.
+    /// Returns how many items there are.
     pub fn len(&self) -> usize
         ensures len { result ≡ length self.now.items }
         // so that a caller can add their sizes up to offsets
@@ -51,14 +51,14 @@ impl Items {
         self.ends.len()
     }
 
-    /// Whether there is none.
+    /// Returns whether there is none.
     pub fn is_empty(&self) -> bool
         ensures { IsTrue result ↔ (self.now.items ≡ []) }
     {
         self.ends.is_empty()
     }
 
-    /// The octets of item `k`, which counts from 0.
+    /// Returns the octets of item `k`, counted from 0: a window of those in memory.
     pub fn get(&self, k: usize) -> &[u8]
         requires { k < length self.now.items }
         ensures { slice_get self.now.items k ≡ Some result.now }
@@ -67,7 +67,7 @@ impl Items {
         &self.octets[start..self.ends[k]]
     }
 
-    /// How the stream ends behind them.
+    /// Returns how the stream ends after the last item.
     pub fn end(&self) -> End
         ensures { result ≡ self.now.end }
     {
@@ -75,7 +75,7 @@ impl Items {
     }
 }
 
-/// Where part `k` begins of the parts that end at `ends`.
+/// Returns where part `k` begins, of the parts that end at `ends`.
 fn start_of(ends: &[usize], k: usize) -> usize
     requires { k < length ends.now }
     ensures { result ≡ start_at 0 ends.now k }

@@ -1,5 +1,5 @@
-//! Cuts a stream of octets, handed in by pieces of any size, into DER items: certificates and revocation lists as they
-//! stand in a file one behind the other.
+//! Cuts a stream of octets, which arrives in pieces of any size, into DER items: certificates and
+//! revocation lists in a file one after another.
 #![tactic(auto)]
 
 mod bundle;

@@ -24,7 +24,8 @@ at_row row v = slice_index_or row v No
 abbrev pub row_of : List (List Reach) → ℕ → List Reach
 row_of rows k = slice_index_or rows k []
 
--- what is left of an issuer's reach for one that it issued: one less, unless that one is self-issued
+-- what is left of an issuer's reach for one that it issued: one less, unless that one is
+-- self-issued
 abbrev pub passed_by : Graph → ℕ → Reach → Reach
 passed_by g v r = cond (g.self_issued v) r (less_one r)
 
@@ -35,7 +36,8 @@ HasAnchoredAt g row v = (a : ℕ) → g.Fit v → g.AnchorEdge v a → IsAtMost 
 abbrev pub HasAnchored : Graph → List Reach → Type 0
 HasAnchored g row = (v : ℕ) → HasAnchoredAt g row v
 
--- where a fit position has a link to a fit one, the next row holds what the link lets through at least
+-- where a fit position has a link to a fit one, the next row holds what the link lets through at
+-- least
 abbrev pub IsSuccessor : Graph → List Reach → List Reach → Type 0
 IsSuccessor g r s =
     (v w : ℕ) → g.Fit v → g.Fit w → g.Edge v w → IsAtMost (lesser (g.limit v) (passed_by g v (at_row r w))) (at_row s v)
@@ -55,9 +57,11 @@ pub record IsAdequatePath (g : Graph) (target : ℕ) (ps : List ℕ) (anchor : �
   pub least_anchor : EndsIn (λ v. (b : ℕ) → b < anchor → g.AnchorEdge v b → ⊥) ps
   -- the target alone is no path
   pub not_alone : 2 ≤ length ps → (b : ℕ) → g.AnchorEdge target b → ⊥
-  -- with one issuer fewer there is no path: the last row but one holds nothing at the target's issuers
+  -- with one issuer fewer there is no path: the last row but one holds nothing at the target's
+  -- issuers
   pub not_shorter : (k w : ℕ) → k + 3 ≡ length ps → g.Fit w → g.Edge target w → at_row (row_of rows k) w ≡ No
-  -- nowhere would a smaller position do: the row for what is left of the path does not take the count at it
+  -- nowhere would a smaller position do: the row for what is left of the path does not take the
+  -- count at it
   pub not_smaller : (front back : List ℕ) (v p w : ℕ) → ps ≡ front ++ v ∷ p ∷ back → w < p → g.Fit w → g.Edge v w → Takes (at_row (row_of rows (length back)) w) (counted g (issuers_of (front ++ v ∷ []))) → ⊥
 
 -- A row that shows that there is no path.

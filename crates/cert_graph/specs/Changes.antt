@@ -1,4 +1,4 @@
--- Rows told by where each differs from the one before it.
+-- Rows given by where each differs from the one before it.
 use Rattle.std.specs.Prelude.{ℕ, List, [], ◌∷◌, ◌++◌, slice_index_or, slice_set}
 use Rattle.cert_graph.specs.declared.reach.Reach.{Reach}
 use Rattle.cert_graph.specs.declared.changes.Change.{Change}

@@ -10,7 +10,7 @@ use Rattle.cert_graph.specs.Graph.{Graph}
 abbrev pub IsAt : {X : Type 0} → List X → ℕ → (X → Type 0) → Type 0
 IsAt xs v P = (v < length xs) × HoldsAt P xs v
 
--- a group that an entry stands in
+-- a group that an entry is in
 abbrev pub BelongsTo : List Entry → ℕ → ℕ → Type 0
 BelongsTo entries w k = IsAt entries w (λ e. Contains e.groups.items k)
 

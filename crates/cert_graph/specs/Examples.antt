@@ -9,7 +9,8 @@ use Rattle.cert_graph.specs.Tables.{IsTable}
 use Rattle.cert_graph.specs.Changes.{rows_by}
 use Rattle.cert_graph.specs.Inventory.{StandsAtLast}
 
--- an issuer under the anchor, with path length 0; a certificate under it; one under nobody; an item that is no certificate
+-- an issuer under the anchor, with path length 0; a certificate under it; one under nobody; an item
+-- that is no certificate
 abbrev pub four_items : Graph
 four_items = record {
   items = 4;

@@ -7,7 +7,7 @@ use Rattle.cert_graph.specs.Reach.{Takes}
 pub record Graph : Type 1 where
   pub items : ℕ
   pub IsCertificate : ℕ → Type 0
-  -- it may stand in a path at the moment (RFC 5280, 6.1.3)
+  -- it may be in a path at the moment (RFC 5280, 6.1.3)
   pub Usable : ℕ → Type 0
   -- it may issue certificates at the moment (RFC 5280, 6.1.4)
   pub Fit : ℕ → Type 0
@@ -32,11 +32,13 @@ AreNeighbours R ps = (front back : List ℕ) (v w : ℕ) → ps ≡ front ++ v �
 abbrev pub EndsIn : (ℕ → Type 0) → List ℕ → Type 0
 EndsIn P ps = (front : List ℕ) (v : ℕ) → ps ≡ front ++ v ∷ [] → P v
 
--- each limit takes the count before the first, with what stands between that is not self-issued (RFC 5280, 6.1.4, l and m)
+-- each limit takes the count before the first, with what is between that is not self-issued
+-- (RFC 5280, 6.1.4, l and m)
 abbrev pub KeepsLimits : Graph → ℕ → List ℕ → Type 0
 KeepsLimits g c ps = (front back : List ℕ) (v : ℕ) → ps ≡ front ++ v ∷ back → Takes (g.limit v) (c + counted g front)
 
--- A valid path from a target to an anchor, its positions and the anchor (RFC 5280, 6.1). The target is not counted.
+-- A valid path from a target to an anchor, its positions and the anchor (RFC 5280, 6.1). The target
+-- is not counted.
 pub record IsValidPath (g : Graph) (target : ℕ) (ps : List ℕ) (anchor : ℕ) : Type 0 where
   pub issuers : List ℕ
   pub starts : ps ≡ target ∷ issuers
@@ -54,7 +56,8 @@ pub record IsChain (g : Graph) (c : ℕ) (qs : List ℕ) (anchor : ℕ) : Type 0
   pub anchored : EndsIn (λ v. g.AnchorEdge v anchor) qs
   pub limits : KeepsLimits g c qs
 
--- an issuer leads to an anchor over at most a number of certificates, itself among them, where it is met at a count
+-- an issuer leads to an anchor over at most a number of certificates, itself among them, where it
+-- is met at a count
 abbrev pub IsReached : Graph → ℕ → ℕ → ℕ → Type 0
 IsReached g number v c =
     (rest : List ℕ) × (a : ℕ) × (length (v ∷ rest) ≤ number) × IsChain g c (v ∷ rest) a
@@ -65,7 +68,8 @@ IsBefore ps qs =
     (front : List ℕ) × (p : ℕ) × (q : ℕ) × (prest : List ℕ) × (qrest : List ℕ)
     × (ps ≡ front ++ p ∷ prest) × (qs ≡ front ++ q ∷ qrest) × (p < q)
 
--- one path comes before another: fewer certificates, then smaller positions, then the smaller anchor
+-- one path comes before another: fewer certificates, then smaller positions, then the smaller
+-- anchor
 abbrev pub ComesBefore : List ℕ → ℕ → List ℕ → ℕ → Type 0
 ComesBefore ps a qs b =
     (length ps < length qs) ⊎ ((length ps ≡ length qs) × IsBefore ps qs) ⊎ ((ps ≡ qs) × (a < b))

@@ -36,7 +36,8 @@ unfoldable pub HoldsPassed : Nodes → List Reach → Reach → ℕ → Type 0
 HoldsPassed nodes row reach v =
     (graph_of nodes).Fit v → IsAtMost (lesser ((graph_of nodes).limit v) (passed_by (graph_of nodes) v reach)) (at_row row v)
 
--- each fit certificate that is linked to a group holds at least what each fit member lets through to it
+-- each fit certificate that is linked to a group holds at least what each fit member lets through
+-- to it
 unfoldable pub HoldsAllPassed : Nodes → List Reach → List Reach → Group → Type 0
 HoldsAllPassed nodes row next g =
     (w : ℕ) → Contains g.members.items w → (graph_of nodes).Fit w → All (HoldsPassed nodes next (at_row row w)) g.issued.items

@@ -17,7 +17,8 @@ IsTrueVerdict g target (FirstPath ps a) = IsFirstPath g target ps.items a
 IsTrueVerdict g target Pathless = g.IsCertificate target × HasNoPath g target
 IsTrueVerdict g target NoCertificate = g.IsCertificate target → ⊥
 
--- a verdict is adequate by its part of some rows: a path of n certificates by the first n - 1, no path by the last alone
+-- a verdict is adequate by its part of some rows: a path of n certificates by the first n - 1, no
+-- path by the last alone
 abbrev pub IsAdequateVerdict : Graph → List (List Reach) → ℕ → Verdict → Type 0
 IsAdequateVerdict g rows target (FirstPath ps a) = IsAdequatePath g target ps.items a (take (length ps.items - 1) rows)
 IsAdequateVerdict g rows target Pathless = IsAdequateNone g target (drop (length rows - 1) rows)

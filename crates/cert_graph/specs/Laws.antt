@@ -11,11 +11,12 @@ UsableIsCertificate g = (v : ℕ) → g.Usable v → g.IsCertificate v
 abbrev pub FitIsUsable : Graph → Type 0
 FitIsUsable g = (v : ℕ) → g.Fit v → g.Usable v
 
--- no position stands twice in a list
+-- no position is twice in a list
 abbrev pub NamesNoneTwice : List ℕ → Type 0
 NamesNoneTwice ps = (front between back : List ℕ) (v : ℕ) → ps ≡ front ++ v ∷ (between ++ v ∷ back) → ⊥
 
--- Positions of one graph go to positions of another that may do all that they may. Of links to certificates, those to fit ones alone matter.
+-- Positions of one graph go to positions of another that may do all that they may. Of links to
+-- certificates, those to fit ones alone matter.
 pub record Carries (f : ℕ → ℕ) (g h : Graph) : Type 0 where
   pub usable : (v : ℕ) → g.Usable v → h.Usable (f v)
   pub fit : (v : ℕ) → g.Fit v → h.Fit (f v)
@@ -24,7 +25,7 @@ pub record Carries (f : ℕ → ℕ) (g h : Graph) : Type 0 where
   pub edge : (v w : ℕ) → g.Fit w → g.Edge v w → h.Edge (f v) (f w)
   pub anchored : (v a : ℕ) → g.AnchorEdge v a → h.AnchorEdge (f v) a
 
--- Two graphs say the same of each position, and have the same links to fit certificates and to anchors.
+-- Two graphs agree on each position, and have equal links to fit certificates and to anchors.
 pub record Agrees (g h : Graph) : Type 0 where
   pub items : g.items ≡ h.items
   pub certificate : (v : ℕ) → g.IsCertificate v ↔ h.IsCertificate v

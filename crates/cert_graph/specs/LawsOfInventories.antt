@@ -16,11 +16,12 @@ use Rattle.std.specs.List.{HoldsAt}
 abbrev pub LawAdequateInventoryIsTrue : Type 0
 LawAdequateInventoryIsTrue = (nodes : Nodes) (inventory : Inventory) → IsAdequateInventory (graph_of nodes) inventory → IsTrueInventory (graph_of nodes) inventory
 
--- nodes that say the same of each position have the same adequate inventories
+-- nodes that agree on each position have equal adequate inventories
 abbrev pub LawAgreeingInventories : Type 0
 LawAgreeingInventories = (nodes other : Nodes) → Agrees (graph_of nodes) (graph_of other) → (inventory : Inventory) → IsAdequateInventory (graph_of nodes) inventory ↔ IsAdequateInventory (graph_of other) inventory
 
--- two verdicts name the same path and anchor, or both that there is none, or both that the item is no certificate
+-- two verdicts name one path and anchor, or both that there is none, or both that the item is no
+-- certificate
 abbrev pub AreOneVerdict : Verdict → Verdict → Type 0
 AreOneVerdict (FirstPath ps a) (FirstPath qs b) = (ps.items ≡ qs.items) × (a ≡ b)
 AreOneVerdict (FirstPath ps a) Pathless = ⊥
@@ -32,12 +33,12 @@ AreOneVerdict NoCertificate (FirstPath qs b) = ⊥
 AreOneVerdict NoCertificate Pathless = ⊥
 AreOneVerdict NoCertificate NoCertificate = Unit {0}
 
--- two inventories have as many verdicts, and at each position one and the same
+-- two inventories have as many verdicts, and agree at each position
 pub record SayTheSameOfAll (inventory other : Inventory) : Type 0 where
   pub count : length inventory.verdicts.items ≡ length other.verdicts.items
   pub each : OfEach (λ target verdict. HoldsAt (AreOneVerdict verdict) other.verdicts.items target) inventory.verdicts.items
 
--- two true inventories of the same nodes say the same
+-- two true inventories of equal nodes agree
 abbrev pub LawOneTrueInventory : Type 0
 LawOneTrueInventory = (nodes : Nodes) (inventory other : Inventory) → IsTrueInventory (graph_of nodes) inventory → IsTrueInventory (graph_of nodes) other → SayTheSameOfAll inventory other
 

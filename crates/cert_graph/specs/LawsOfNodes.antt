@@ -12,7 +12,7 @@ use Rattle.cert_graph.specs.Nodes.{Links, LinksToAnchor, graph_of}
 abbrev pub LawAdequateIsTrue : Type 0
 LawAdequateIsTrue = (nodes : Nodes) (target : ℕ) (answer : Answer) → IsAdequate (graph_of nodes) target answer → IsTrueAnswer (graph_of nodes) target answer
 
--- two answers say the same, whatever their tables hold
+-- two answers agree, whatever their tables hold
 abbrev pub SayTheSame : Answer → Answer → Type 0
 SayTheSame (Path ps a table) (Path qs b other) = (ps.items ≡ qs.items) × (a ≡ b)
 SayTheSame (Path ps a table) (NoPath other) = ⊥
@@ -57,7 +57,7 @@ abbrev pub LawReorderedNodes : Type 0
 LawReorderedNodes = (f back : ℕ → ℕ) (nodes other : Nodes) → Carries f (graph_of nodes) (graph_of other) → Carries back (graph_of other) (graph_of nodes)
     → (target : ℕ) → back (f target) ≡ target → LeadsAsWell nodes other target (f target) × LeadsAsWell other nodes (f target) target
 
--- nodes that say the same of each position have the same adequate answers, and the same true ones
+-- nodes that agree on each position have equal adequate answers, and equal true ones
 abbrev pub LawAgreeingNodes : Type 0
 LawAgreeingNodes = (nodes other : Nodes) → Agrees (graph_of nodes) (graph_of other)
     → (target : ℕ) (answer : Answer) → (IsAdequate (graph_of nodes) target answer ↔ IsAdequate (graph_of other) target answer) × (IsTrueAnswer (graph_of nodes) target answer ↔ IsTrueAnswer (graph_of other) target answer)

@@ -6,7 +6,7 @@ use Rattle.std.specs.List.Sorted.{IsStrictlyIncreasing}
 abbrev pub HasLast : List ℕ → ℕ → Type 0
 HasLast xs v = (0 < length xs) × (slice_index xs (length xs - 1) ≡ v)
 
--- a position is put at the end of one of the lists, unless it stands there or there is no such list
+-- a position is added at the end of one of the lists, unless it is there or there is no such list
 unfoldable pub IsPut : List (List ℕ) → List (List ℕ) → ℕ → ℕ → Type 0
 IsPut old new k v =
     ((new ≡ old) × (k < length old → HasLast (slice_index_or old k []) v))

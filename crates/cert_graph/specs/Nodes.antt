@@ -1,4 +1,4 @@
--- The graph that nodes and their groups stand for.
+-- The graph of nodes and their groups.
 use Rattle.std.specs.Prelude.{◌≡◌, ℕ, ◌<◌, true, false, length, map, Any, Contains, slice_index_or}
 use Rattle.std.specs.List.{HoldsAt}
 use Rattle.cert_graph.specs.declared.reach.Reach.TheVariants.{No}

@@ -3,7 +3,7 @@ use Rattle.std.specs.Prelude.{ℕ, zero, suc, ◌≤◌, min, Option, Some, None
 use Rattle.cert_graph.specs.declared.reach.Reach.{Reach}
 use Rattle.cert_graph.specs.declared.reach.Reach.TheVariants.{No, UpTo, Any}
 
--- a reach takes a count: a certificate that reaches so far may stand above so many
+-- a reach takes a count: a certificate that reaches so far may be above so many
 abbrev pub Takes : Reach → ℕ → Type 0
 Takes No c = ⊥
 Takes (UpTo n) c = c ≤ n

@@ -14,14 +14,16 @@ use Rattle.cert_graph.specs.Least.{IsOpen}
 abbrev pub OpenIn : Graph → List Reach → List ℕ → ℕ → ℕ → Type 0
 OpenIn g row members count w = Contains members w × IsOpen g row count w
 
--- Open members, ascending, of which one is at or before each open member and takes the same count. Each takes what those before it take.
+-- Open members, ascending, of which one is at or before each open member and takes the same count.
+-- Each takes what those before it take.
 pub record AreStairs (g : Graph) (row : List Reach) (members : List ℕ) (stairs : List Stair) : Type 0 where
   pub ascend : (j k : ℕ) (d : Stair) → j < k → k < length stairs → (slice_index_or stairs j d).position < (slice_index_or stairs k d).position
   pub opened : (k count : ℕ) (d : Stair) → k < length stairs → Takes (slice_index_or stairs k d).reach count → OpenIn g row members count (slice_index_or stairs k d).position
   pub covers : (w count : ℕ) → OpenIn g row members count w → (k : ℕ) × IsAt stairs k (λ s. (s.position ≤ w) × Takes s.reach count)
   pub rise : (j k count : ℕ) (d : Stair) → j < k → k < length stairs → Takes (slice_index_or stairs j d).reach count → Takes (slice_index_or stairs k d).reach count
 
--- Flights that begin one above the other. The last that begins at or before a row has the row's stairs.
+-- Flights that begin one above the other. The last that begins at or before a row has the row's
+-- stairs.
 pub record AreFlights (g : Graph) (rows : List (List Reach)) (members : List ℕ) (flights : List Flight) : Type 0 where
   pub ascend : (i j : ℕ) (d : Flight) → i < j → j < length flights → (slice_index_or flights i d).row < (slice_index_or flights j d).row
   pub covers : (k : ℕ) → k < length rows → (i : ℕ) × IsAt flights i (λ f. (f.row ≤ k) × AreStairs g (row_of rows k) members f.stairs.items) × ((j : ℕ) (d : Flight) → i < j → j < length flights → k < (slice_index_or flights j d).row)

@@ -1,4 +1,4 @@
--- Paths told from one certificate to the next, as the code walks them.
+-- Paths given from one certificate to the next, as the code walks them.
 use Rattle.std.specs.Prelude.{ℕ, ◌+◌, ◌<◌, not, cond, List, [], ◌∷◌, length}
 use Rattle.cert_graph.specs.declared.reach.Reach.{Reach}
 use Rattle.cert_graph.specs.Reach.{Takes}
@@ -32,7 +32,8 @@ MayFollow g v c w = g.Edge v w × g.Fit w × Takes (g.limit w) c
 abbrev pub MayTake : Graph → List Reach → ℕ → ℕ → ℕ → Type 0
 MayTake g row v c w = g.Fit w × g.Edge v w × Takes (at_row row w) c
 
--- no position before the one taken might have been taken, at each place; what is left of the path tells the row
+-- no position before the one taken might have been taken, at each place; what is left of the path
+-- gives the row
 abbrev pub Lowest : Graph → List (List Reach) → ℕ → ℕ → List ℕ → Type 0
 Lowest g rows v c [] = Unit {0}
 Lowest g rows v c (w ∷ ps) = ((u : ℕ) → u < w → MayTake g (row_of rows (length ps)) v c u → ⊥) × Lowest g rows w (c + one_of g w) ps

@@ -6,26 +6,27 @@ ghost use Rattle.cert_graph.specs.Adequate.{at_row, row_of, rows_of};
 use crate::changes::reach_by;
 use crate::{Change, Reach, reach_at};
 
-/// Rows of reaches, each with one entry per item, by its position. The first row is for one issuer, each further
-/// one for one issuer more.
+/// Rows of reaches, each with one entry per item, by its position. The first row is for one issuer,
+/// each further one for one issuer more.
 #[derive(Debug, Drop)]
 pub enum Table {
     /// One row.
     Row(Vec<Reach>),
 
-    /// Rows of so many entries, each as its changes against the row before it, the first against a row of `No`.
+    /// Rows of `width` entries, each as its changes from the row before it, the first from a row of
+    /// `No`.
     Rows {
         width: usize,
         steps: Vec<Vec<Change>>,
     },
 }
 
-/// What is said of a target, with the table that shows it.
+/// What is answered on a target, with the table that shows it.
 #[derive(Debug, Drop)]
 pub enum Answer {
-    /// The first valid path: the target's position, then its issuers' positions up to the last, whose own issuer is
-    /// the anchor, told by its position among the anchors. All positions count from 0. The table has one row fewer
-    /// than there are certificates.
+    /// The first valid path: the target's position, then its issuers' positions up to the last,
+    /// whose own issuer is the anchor at position `anchor` among the anchors. All positions count
+    /// from 0. The table has one row fewer than there are certificates.
     Path {
         positions: Vec<usize>,
         anchor: usize,
@@ -42,7 +43,7 @@ pub enum Answer {
 }
 
 impl Table {
-    /// What the first row holds at a position; `No` past its end, and where there is no row.
+    /// Returns what the first row holds at a position; `No` past its end, and if there is no row.
     pub fn first_reach(&self, position: usize) -> Reach
         ensures { result ≡ at_row (row_of (rows_of self.now) 0) position }
     {

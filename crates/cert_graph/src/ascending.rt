@@ -3,7 +3,8 @@
 ghost use Rattle.std.specs.Prelude.{◌↔◌, IsTrue, Contains};
 ghost use Rattle.std.specs.List.Sorted.{IsStrictlyIncreasing};
 
-/// Whether a number stands in a list in strictly ascending order. Halves what is left of the list at each step.
+/// Returns whether a number is in a list in strictly ascending order. Halves what is left of the
+/// list at each step.
 pub(crate) fn has(ascending: &[usize], number: usize) -> bool
     requires { IsStrictlyIncreasing ascending.now }
     ensures { IsTrue result ↔ Contains ascending.now number }

@@ -1,4 +1,4 @@
-//! Places with equal texts.
+//! Places with equal octets in one part.
 
 ghost use Rattle.std.specs.Prelude.{◌≡◌, ◌<◌, ℕ, length, IfOk, OnOk};
 ghost use Rattle.std.specs.List.Sorted.{IsStrictlyIncreasing};
@@ -9,7 +9,7 @@ use crate::places::{Part, Place, text_at};
 use std::alloc::{AllocError, Global};
 use std::collections::BTreeMap;
 
-/// Places that show one text, in ascending order.
+/// Places whose part has these octets, in ascending order.
 #[derive(Drop)]
 pub struct Bucket<'a> {
     pub text: &'a [u8],
@@ -26,8 +26,9 @@ fn push_to(buckets: &mut Vec<Bucket<'_>>, number: usize, place: usize) -> Result
     Ok(())
 }
 
-/// The chosen places by the text of a part: a bucket for each text, and places without one are in none. Takes as many
-/// comparisons of texts as a sorted map of them.
+/// Returns a bucket for each value that the chosen places have in a part, with the places that have
+/// it in ascending order; places without the part are in none. Takes as many comparisons of octets
+/// as a sorted map of them. The only error is out of memory.
 pub fn alike<'a>(
     alloc: Global,
     all: &[Place<'a>],

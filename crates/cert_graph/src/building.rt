@@ -49,8 +49,10 @@ fn joined(
 }
 
 impl Nodes {
-    /// The nodes of entries and anchors, where there are so many groups: an entry names the groups that it stands in
-    /// and those that it is linked to, and an anchor its group, by numbers from 0, and a number that is none of a group's leads nowhere. An anchor without a group is none.
+    /// Returns the nodes of entries and anchors, with `groups` groups. An entry names the groups
+    /// that it is in and those that it is linked to, and an anchor its group, by numbers from 0; a
+    /// number that no group has is ignored. An anchor without a group is in none. The only error is
+    /// out of memory.
     pub fn new(
         alloc: Global,
         entries: &[Entry],

@@ -1,4 +1,4 @@
-//! Rows kept as changes: a row holds its reaches, and the next one only where it differs.
+//! Rows kept as changes: a row is kept by the entries in which it differs from the row before it.
 
 ghost use Rattle.std.specs.Prelude.{◌≡◌, ◌↔◌, [], ◌∷◌, length, map, replicate, All, IfOk, IsTrue};
 ghost use Rattle.cert_graph.specs.declared.reach.Reach.TheVariants.{No};
@@ -33,7 +33,8 @@ pub(crate) fn make(row: &mut [Reach], changes: &[Change])
     }
 }
 
-/// Rows of a length, by the changes of each: the first over a row of nothing, each further one over the one before.
+/// Returns the rows that come of some changes, each of `width` entries: the first from a row of
+/// `No`, each further one from the one before.
 pub fn rows_of(
     alloc: Global,
     count: usize,
@@ -50,7 +51,7 @@ pub fn rows_of(
     Ok(rows)
 }
 
-/// The last of the rows that come of some changes, a row of nothing where there is none.
+/// Returns the last of the rows that come of some changes; a row of `No` if there is none.
 pub(crate) fn last_row(
     alloc: Global,
     count: usize,
@@ -65,7 +66,7 @@ pub(crate) fn last_row(
     Ok(row)
 }
 
-/// The changes of each row once more.
+/// Returns a copy of the changes of each row.
 pub(crate) fn copied(alloc: Global, steps: &[Vec<Change>]) -> Result<Vec<Vec<Change>>, AllocError>
     ensures { IfOk result (λ copy. map (λ s. s.items) copy.items ≡ map (λ s. s.items) steps.now) }
 {
@@ -76,7 +77,7 @@ pub(crate) fn copied(alloc: Global, steps: &[Vec<Change>]) -> Result<Vec<Vec<Cha
     Ok(copy)
 }
 
-/// Whether two reaches are one.
+/// Returns whether two reaches are equal.
 fn is_same(first: Reach, second: Reach) -> bool
     ensures { IsTrue result ↔ first ≡ second }
 {
@@ -116,7 +117,8 @@ pub(crate) fn steps_of(alloc: Global, row: &[Reach]) -> Result<Vec<Vec<Change>>,
     Ok(steps)
 }
 
-/// Rows of a width as the changes of each: the first against a row of nothing, each further one against the one before.
+/// Returns rows of a width as the changes of each: the first from a row of `No`, each further one
+/// from the one before.
 ///
 /// The only error is out of memory. Goes over all entries once.
 pub fn steps_of_rows(

@@ -105,11 +105,12 @@ fn is_adequate_none(
     }
 }
 
-/// Whether an answer on a target, told by its position, is adequate: whether its table shows by inequalities that it
-/// is true. A position that is no item's, an anchor that is none, rows of a wrong length or number: `Ok(false)`.
+/// Returns whether an answer on the target at a position is adequate: whether its table shows by
+/// inequalities that it is true. A position past the items, an anchor that doesn't exist, or rows
+/// of a wrong length or number give `Ok(false)`.
 ///
-/// The only error is out of memory. Holds two rows at a time, whatever the number of rows, and goes over what changes
-/// from row to row.
+/// The only error is out of memory. Holds two rows at a time, whatever the number of rows, and goes
+/// over what changes from row to row.
 pub fn check_nodes(
     alloc: Global,
     nodes: &Nodes,

@@ -14,8 +14,8 @@ use crate::standing::is_standing_table;
 use crate::{Inventory, Lookup, Nodes, Verdict, lookup_of};
 use std::alloc::{AllocError, Global};
 
-/// Whether a path is adequate by rows that are a table already, one fewer than it has certificates. The rows are those
-/// of the look-up.
+/// Whether a path is adequate by rows that are a table already, one fewer than it has certificates.
+/// The rows are those of the look-up.
 pub(crate) fn is_shown_path(
     nodes: &Nodes,
     lookup: &Lookup,
@@ -40,7 +40,7 @@ pub(crate) fn is_shown_path(
     is_lowest(nodes, lookup, target, &positions[1..])
 }
 
-/// Whether that there is no path is adequate by so many rows of which the last stands, or by none.
+/// Whether "no path" is adequate by so many rows of which the last is its own successor, or by none.
 fn is_shown_none(nodes: &Nodes, lookup: &Lookup, target: usize, count: usize) -> bool
     requires { IsIndex nodes.now lookup.now }
     ensures { (rows : List (List Reach)) → IsLookup nodes.now rows lookup.now → IsTable (graph_of nodes.now) rows → StandsAtLast (graph_of nodes.now) rows → length rows ≡ count → IsTrue result ↔ IsAdequateVerdict (graph_of nodes.now) rows target Pathless }
@@ -54,7 +54,8 @@ fn is_shown_none(nodes: &Nodes, lookup: &Lookup, target: usize, count: usize) ->
     is_closed(nodes, lookup, count - 1, target)
 }
 
-/// Whether a verdict is adequate by its part of so many rows that are a table whose last row stands.
+/// Whether a verdict is adequate by its part of so many rows that are a table whose last row is its
+/// own successor.
 fn is_shown(nodes: &Nodes, lookup: &Lookup, count: usize, target: usize, verdict: &Verdict) -> bool
     requires { IsIndex nodes.now lookup.now }
     ensures { (rows : List (List Reach)) → IsLookup nodes.now rows lookup.now → IsTable (graph_of nodes.now) rows → StandsAtLast (graph_of nodes.now) rows → length rows ≡ count → IsTrue result ↔ IsAdequateVerdict (graph_of nodes.now) rows target verdict.now }
@@ -74,7 +75,8 @@ fn is_shown(nodes: &Nodes, lookup: &Lookup, count: usize, target: usize, verdict
     }
 }
 
-/// Whether each of some verdicts is adequate by so many rows that are a table whose last row stands.
+/// Whether each of some verdicts is adequate by so many rows that are a table whose last row is its
+/// own successor.
 fn are_shown(nodes: &Nodes, lookup: &Lookup, count: usize, verdicts: &[Verdict]) -> bool
     requires { IsIndex nodes.now lookup.now }
     ensures { (rows : List (List Reach)) → IsLookup nodes.now rows lookup.now → IsTable (graph_of nodes.now) rows → StandsAtLast (graph_of nodes.now) rows → length rows ≡ count → IsTrue result ↔ OfEach (IsAdequateVerdict (graph_of nodes.now) rows) verdicts.now }
@@ -87,8 +89,9 @@ fn are_shown(nodes: &Nodes, lookup: &Lookup, count: usize, verdicts: &[Verdict])
     true
 }
 
-/// Whether an inventory is adequate: whether its one table shows by inequalities that each verdict is true. One verdict
-/// too many or too few, positions and anchors that are none, rows that don't follow each other: `Ok(false)`.
+/// Returns whether an inventory is adequate: whether its one table shows by inequalities that each
+/// verdict is true. One verdict too many or too few, positions past the items, anchors that don't
+/// exist, or rows that don't follow each other give `Ok(false)`.
 ///
 /// The only error is out of memory. Holds two rows at a time, whatever the number of rows.
 pub fn check_all_nodes(

@@ -1,4 +1,4 @@
-//! The three lists of a group, gathered from the entries: members, anchors, and what was issued.
+//! The three lists of a group, collected from the entries: members, anchors, and what was issued.
 
 ghost use Rattle.std.specs.Prelude.{length, map, IfOk};
 ghost use Rattle.cert_graph.specs.Lists.{AreFilled};
@@ -8,7 +8,7 @@ use crate::Entry;
 use crate::lists::{empty_lists, put};
 use std::alloc::{AllocError, Global};
 
-/// The entries of each group, by position.
+/// Returns the entries of each group, by position. The only error is out of memory.
 pub fn members_of(
     alloc: Global,
     entries: &[Entry],
@@ -25,7 +25,7 @@ pub fn members_of(
     Ok(lists)
 }
 
-/// The anchors of each group, by position.
+/// Returns the anchors of each group, by position. The only error is out of memory.
 pub fn anchors_of(
     alloc: Global,
     anchors: &[Option<usize>],
@@ -42,7 +42,7 @@ pub fn anchors_of(
     Ok(lists)
 }
 
-/// The entries that are linked to each group, by position.
+/// Returns the entries that are linked to each group, by position. The only error is out of memory.
 pub fn issued_of(
     alloc: Global,
     entries: &[Entry],

@@ -67,8 +67,10 @@ fn link_ids(
     Ok(())
 }
 
-/// Links from places to holders: of so many items the first places are as what was issued, the next as issuers, and behind
-/// these stand anchors. A link to an issuer asks that key identifiers are equal where both places show one.
+/// Adds to `groups` the links from each of the places `linked` to each of `holders`. `all` has
+/// three lists one after another: the items as what was issued, `items` in number, the items as
+/// issuers, and `anchors` anchors. A link to an issuer requires equal key identifiers if both
+/// places have one. The only error is out of memory.
 pub fn link_places(
     alloc: Global,
     groups: &mut Vec<Group>,

@@ -5,8 +5,8 @@ use crate::Change;
 /// What an inventory says of one item as a target.
 #[derive(Debug, Drop)]
 pub enum Verdict {
-    /// The first valid path: the item's position, then its issuers' positions, and the position of the anchor among
-    /// the anchors. All positions count from 0.
+    /// The first valid path: the item's position, then its issuers' positions, and the position of
+    /// the anchor among the anchors. All positions count from 0.
     FirstPath {
         positions: Vec<usize>,
         anchor: usize,
@@ -22,10 +22,11 @@ pub enum Verdict {
 /// A verdict on each item of a bundle as a target, with one table of rows for all of them.
 #[derive(Debug, Drop)]
 pub struct Inventory {
-    /// The rows of the table, each as its changes against the row before it, the first against a row of `No`. The
-    /// first row is for one issuer, each further one for one issuer more, the last for any number.
+    /// The rows of the table, each as its changes from the row before it, the first from a row of
+    /// `No`. The first row is for one issuer, each further one for one issuer more, the last for
+    /// any number.
     pub steps: Vec<Vec<Change>>,
 
-    /// One for each item, by its position.
+    /// One verdict for each item, by its position.
     pub verdicts: Vec<Verdict>,
 }

@@ -8,8 +8,8 @@ use crate::lists::{empty_lists, put};
 use crate::{Change, Nodes};
 use std::alloc::{AllocError, Global};
 
-/// For each item the groups that issued it, by their positions among the groups, ascending: the way from an item to its
-/// issuers.
+/// Returns for each item the groups that issued it, by their positions among the groups, ascending:
+/// the way from an item to its issuers.
 ///
 /// The only error is out of memory. Goes once over all items and the links of all groups.
 pub fn groups_of(alloc: Global, nodes: &Nodes) -> Result<Vec<Vec<usize>>, AllocError>
@@ -24,7 +24,8 @@ pub fn groups_of(alloc: Global, nodes: &Nodes) -> Result<Vec<Vec<usize>>, AllocE
     Ok(lists)
 }
 
-/// For each item the groups of which it is a member, by their positions among the groups, ascending.
+/// For each item the groups of which it is a member, by their positions among the groups,
+/// ascending.
 ///
 /// The only error is out of memory. Goes once over all items and the members of all groups.
 pub(crate) fn memberships_of(alloc: Global, nodes: &Nodes) -> Result<Vec<Vec<usize>>, AllocError>
@@ -49,8 +50,8 @@ pub(crate) fn places_at(places: &[Vec<usize>], position: usize) -> &[usize]
     }
 }
 
-/// Whether the groups of which some changes are of a member have more members and links than there are items. Then all
-/// groups may as well be gone over.
+/// Whether the groups of which some changes are of a member have more members and links than there
+/// are items. Then all groups may as well be gone over.
 pub(crate) fn is_wide(nodes: &Nodes, places: &[Vec<usize>], step: &[Change]) -> bool {
     let mut work = 0usize;
     for change in step {

@@ -1,4 +1,4 @@
-//! What is judged of the item at a position, and `false` or `No` for a position past the last.
+//! What is judged of the item at a position; `false` or `No` past the last.
 
 ghost use Rattle.std.specs.Prelude.{◌≡◌, ◌↔◌, length, IsTrue, List};
 ghost use Rattle.cert_graph.specs.Adequate.{at_row};
@@ -7,7 +7,7 @@ ghost use Rattle.cert_graph.specs.Nodes.{graph_of};
 use crate::{Nodes, Reach};
 
 impl Nodes {
-    /// Whether the item at a position is a certificate; `false` past the last.
+    /// Returns whether the item at a position is a certificate; `false` past the last.
     pub fn is_certificate(&self, position: usize) -> bool
         ensures { IsTrue result ↔ (graph_of self.now).IsCertificate position }
     {
@@ -17,7 +17,7 @@ impl Nodes {
         }
     }
 
-    /// Whether the item at a position may stand in a path; `false` past the last.
+    /// Returns whether the item at a position may be in a path; `false` past the last.
     pub fn is_usable(&self, position: usize) -> bool
         ensures { IsTrue result ↔ (graph_of self.now).Usable position }
     {
@@ -27,7 +27,7 @@ impl Nodes {
         }
     }
 
-    /// Whether the item at a position may issue certificates; `false` past the last.
+    /// Returns whether the item at a position may issue certificates; `false` past the last.
     pub fn is_fit(&self, position: usize) -> bool
         ensures { IsTrue result ↔ (graph_of self.now).Fit position }
     {
@@ -37,7 +37,7 @@ impl Nodes {
         }
     }
 
-    /// Whether the item at a position is self-issued; `false` past the last.
+    /// Returns whether the item at a position is self-issued; `false` past the last.
     pub fn is_self_issued(&self, position: usize) -> bool
         ensures { result ≡ (graph_of self.now).self_issued position }
     {
@@ -47,7 +47,8 @@ impl Nodes {
         }
     }
 
-    /// What the path length constraint at a position lets through; `No` past the last.
+    /// Returns the reach that the path length constraint of the item at a position allows; `No`
+    /// past the last.
     pub fn limit(&self, position: usize) -> Reach
         ensures { result ≡ (graph_of self.now).limit position }
     {
@@ -58,7 +59,7 @@ impl Nodes {
     }
 }
 
-/// What a row holds at a position; `No` past its end.
+/// Returns what a row holds at a position; `No` past its end.
 pub fn reach_at(row: &[Reach], position: usize) -> Reach
     ensures { result ≡ at_row row.now position }
 {

@@ -47,7 +47,8 @@ pub(crate) fn first_anchor(group: &Group) -> Option<usize>
     group.anchors.first().copied()
 }
 
-/// The least position that may follow another in a path by what a row says, where a count is met.
+/// Returns the least position that may follow another in a path by what a row holds at a count;
+/// `None` if there is none.
 pub fn least_next(nodes: &Nodes, row: &[Reach], position: usize, count: usize) -> Option<usize>
     ensures { IsLeastOption (MayTake (graph_of nodes.now) row.now position count) result }
 {
@@ -60,7 +61,7 @@ pub fn least_next(nodes: &Nodes, row: &[Reach], position: usize, count: usize) -
     least
 }
 
-/// The least anchor that the item at a position is linked to.
+/// Returns the least anchor that the item at a position is linked to; `None` if there is none.
 pub fn least_anchor(nodes: &Nodes, position: usize) -> Option<usize>
     ensures { IsLeastOption ((graph_of nodes.now).AnchorEdge position) result }
 {

@@ -1,8 +1,9 @@
-//! Certificates as a graph: valid certification paths, their order, and answers that show their own truth.
+//! Certificates as a graph: valid certification paths, their order, and answers that show their own
+//! truth.
 //!
-//! `check_nodes` decides whether an answer is adequate, by inequalities alone.
-//! `check_all_nodes` does so for an inventory: a verdict on each item, with one table of rows for all of them.
-//! `laws` has the theorems on graphs as functions: an adequate answer is true, and what follows for paths.
+//! `check_nodes` decides whether an answer is adequate, by inequalities alone. `check_all_nodes`
+//! does so for an inventory: a verdict on each item, with one table of rows for all of them. `laws`
+//! has the theorems on graphs as functions: an adequate answer is true, and what follows for paths.
 #![tactic(auto)]
 
 mod answer;

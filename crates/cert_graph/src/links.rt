@@ -1,4 +1,4 @@
-//! Links by position: who issued whom, read off the groups' lists by binary search.
+//! Links by position: who issued whom, by binary search in the groups' lists.
 
 ghost use Rattle.std.specs.Prelude.{ℕ, ◌↔◌, ◌<◌, IsTrue, Contains};
 ghost use Rattle.cert_graph.specs.Nodes.{HasLink, HasAnchorLink, graph_of};
@@ -8,7 +8,7 @@ use crate::ascending::has;
 use crate::{Group, Nodes};
 
 impl Group {
-    /// Whether a certificate is linked to the group.
+    /// Returns whether a certificate is linked to the group.
     pub fn has_issued(&self, certificate: usize) -> bool
         ensures { IsTrue result ↔ Contains self.now.issued.items certificate }
     {
@@ -67,7 +67,7 @@ impl Group {
 }
 
 impl Nodes {
-    /// Whether a certificate is linked to another, both by position.
+    /// Returns whether a certificate is linked to another, both by position.
     pub fn links(&self, certificate: usize, issuer: usize) -> bool
         ensures { IsTrue result ↔ (graph_of self.now).Edge certificate issuer }
     {
@@ -76,7 +76,7 @@ impl Nodes {
             .any(|group| group.has_link(certificate, issuer))
     }
 
-    /// Whether a certificate is linked to an anchor, both by position.
+    /// Returns whether a certificate is linked to an anchor, both by position.
     pub fn links_to_anchor(&self, certificate: usize, anchor: usize) -> bool
         ensures { IsTrue result ↔ (graph_of self.now).AnchorEdge certificate anchor }
     {
@@ -85,7 +85,7 @@ impl Nodes {
             .any(|group| group.has_anchor_link(certificate, anchor))
     }
 
-    /// Whether a certificate is linked to some anchor.
+    /// Returns whether a certificate is linked to some anchor.
     pub fn has_anchor(&self, certificate: usize) -> bool
         ensures { IsTrue result ↔ ((anchor : ℕ) × (graph_of self.now).AnchorEdge certificate anchor) }
     {
@@ -94,7 +94,7 @@ impl Nodes {
             .any(|group| group.has_some_anchor(certificate))
     }
 
-    /// Whether a certificate is linked to some anchor below a position.
+    /// Returns whether a certificate is linked to some anchor below a position.
     pub fn has_anchor_below(&self, certificate: usize, bound: usize) -> bool
         ensures { IsTrue result ↔ ((anchor : ℕ) × (anchor < bound) × (graph_of self.now).AnchorEdge certificate anchor) }
     {

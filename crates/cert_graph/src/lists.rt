@@ -14,7 +14,8 @@ fn ends_in(list: &[usize], position: usize) -> bool
     }
 }
 
-/// Puts a position at the end of one of the lists, unless it stands there. Where there is no such list nothing is put.
+/// Adds a position at the end of list `place`, unless it is in that list. If there is no such list,
+/// nothing is added. The only error is out of memory.
 pub fn put(lists: &mut Vec<Vec<usize>>, place: usize, position: usize) -> Result<(), AllocError>
     ensures { OnOk result (IsPut (map (λ l. l.items) lists.old.items) (map (λ l. l.items) lists.new.items) place position) }
 {
@@ -29,7 +30,7 @@ pub fn put(lists: &mut Vec<Vec<usize>>, place: usize, position: usize) -> Result
     Ok(())
 }
 
-/// So many lists, each empty.
+/// Returns `number` empty lists. The only error is out of memory.
 pub fn empty_lists(alloc: Global, number: usize) -> Result<Vec<Vec<usize>>, AllocError>
     ensures count { IfOk result (λ lists. length lists.items ≡ number) }
     ensures empty { IfOk result (λ lists. All (λ l. l.items ≡ []) lists.items) }

@@ -31,7 +31,8 @@ pub struct Lookup {
     flights: Vec<Vec<Flight>>,
 }
 
-/// What a walk looks up over the rows that come of some changes, the first against a row of `No`.
+/// Returns what a walk looks up over the rows that come of some changes, the first from a row of
+/// `No`.
 ///
 /// The only error is out of memory. Goes over the members of all groups once for each row.
 pub fn lookup_of(alloc: Global, nodes: &Nodes, steps: &[Vec<Change>]) -> Result<Lookup, AllocError>
@@ -43,7 +44,7 @@ pub fn lookup_of(alloc: Global, nodes: &Nodes, steps: &[Vec<Change>]) -> Result<
 }
 
 impl Lookup {
-    /// The groups that issued an item; none where no item stands at the position.
+    /// Returns the groups that issued an item; none past the last.
     fn issuing(&self, position: usize) -> &[usize]
         ensures { result.now ≡ slice_index_or (map (λ l. l.items) self.now.groups.items) position [] }
     {
@@ -63,8 +64,8 @@ impl Lookup {
         }
     }
 
-    /// The least position that may follow another in a path by what a row, given by its number from 0, says where a
-    /// count is met.
+    /// Returns the least position that may follow another in a path by what row `row`, counted from
+    /// 0, holds at a count.
     pub fn least_next(&self, row: usize, position: usize, count: usize) -> Option<usize>
         ensures { (nodes : Nodes) (rows : List (List Reach)) → IsLookup nodes rows self.now → row < length rows → IsLeastOption (MayTake (graph_of nodes) (row_of rows row) position count) result }
     {
@@ -75,7 +76,7 @@ impl Lookup {
         least
     }
 
-    /// The least anchor that the item at a position is linked to.
+    /// Returns the least anchor that the item at a position is linked to.
     pub fn least_anchor(&self, nodes: &Nodes, position: usize) -> Option<usize>
         requires { IsIndex nodes.now self.now }
         ensures { IsLeastOption ((graph_of nodes.now).AnchorEdge position) result }
@@ -135,8 +136,8 @@ impl Lookup {
         }
     }
 
-    /// Whether some fit position below a bound is linked from a certificate and takes a count by a row, given by its
-    /// number from 0.
+    /// Whether some fit position below a bound is linked from a certificate and takes a count by a
+    /// row, given by its number from 0.
     pub(crate) fn may_take_below(
         &self,
         row: usize,

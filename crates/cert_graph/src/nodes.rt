@@ -3,13 +3,14 @@
 ghost use Rattle.std.specs.Prelude.{◌<◌, length, IsTrue, All};
 ghost use Rattle.std.specs.List.Sorted.{IsStrictlyIncreasing};
 
-/// What is judged of one item. For an item that is no certificate each field is `false` and there is no limit.
+/// What is judged of one item. For an item that is no certificate each field is `false` and there
+/// is no limit.
 #[derive(Clone, Copy, Debug)]
 pub struct Node {
     /// The item is a certificate.
     pub certificate: bool,
 
-    /// It may stand in a path at the moment (RFC 5280, 6.1.3).
+    /// It may be in a path at the moment (RFC 5280, 6.1.3).
     pub usable: bool,
 
     /// It may issue certificates at the moment (RFC 5280, 6.1.4).
@@ -26,12 +27,14 @@ pub struct Node {
     ghost fit_is_usable: { IsTrue fit → IsTrue usable },
 }
 
-/// All that have one name and key, and all that are linked to that name and key: a certificate is linked to each
-/// group whose name is its issuer and whose key vouches for it. Where a link asks for a key identifier too, those of
-/// the name and key that have it are a group of their own, so a certificate may stand in several groups.
+/// All certificates and anchors of one name and key, and all certificates that are linked to that
+/// name and key: a certificate is linked to each group whose name is its issuer and whose key
+/// vouches for it. If a link requires a key identifier too, the certificates of the name and key
+/// that have it are a group of their own, so a certificate may be in several groups.
 ///
-/// A link leads from each of `issued` to each of `members` and `anchors`. The three lists are kept in place of these
-/// pairs, in strictly ascending order, so n equal self-issued certificates cost n places twice, and never n times n.
+/// A link leads from each of `issued` to each of `members` and `anchors`. The three lists are kept
+/// in place of these pairs, in strictly ascending order, so n equal self-issued certificates cost n
+/// places twice, and never n times n.
 #[derive(Drop)]
 pub struct Group {
     /// Positions of the certificates whose subject and key are the group's.

@@ -9,11 +9,12 @@ use crate::changes::{copied, last_row};
 use crate::{Answer, Inventory, Nodes, Table, Verdict};
 use std::alloc::{AllocError, Global};
 
-/// What an inventory says of one item, as an answer with a table of its own that `check_nodes` accepts. A path gets as
-/// many of the inventory's rows as it has issuers, an item without a path the last row. A position past the items gets
-/// `NoTarget`.
+/// Returns what an inventory says of one item, as an answer with a table of its own that
+/// `check_nodes` accepts. A path gets as many of the inventory's rows as it has issuers, an item
+/// without a path the last row. A position past the items gets `NoTarget`.
 ///
-/// The only error is out of memory. Copies the path and the changes of its rows, or makes the last row.
+/// The only error is out of memory. Copies the path and the changes of its rows, or makes the last
+/// row.
 pub fn answer_of(
     alloc: Global,
     nodes: &Nodes,

@@ -1,9 +1,9 @@
-//! Places: what an item shows to be linked by, its name, its key and its key identifier.
+//! Places: the octets by which an item is linked, its name, its key and its key identifier.
 
 ghost use Rattle.std.specs.Prelude.{◌≡◌, option_map};
 ghost use Rattle.cert_graph.specs.Places.{part_of, text_at};
 
-/// The texts that a place shows, each where there is one.
+/// The octets of a place's parts, each `None` if there is none.
 #[derive(Clone, Copy, Debug)]
 pub struct Place<'a> {
     pub name: Option<&'a [u8]>,
@@ -11,7 +11,7 @@ pub struct Place<'a> {
     pub id: Option<&'a [u8]>,
 }
 
-/// One of a place's texts.
+/// One of a place's parts.
 #[derive(Clone, Copy, Debug)]
 pub enum Part {
     Name,

@@ -1,11 +1,11 @@
-//! Reaches: at which counts of certificates below it an issuer leads to an anchor (RFC 5280,
-//! 4.2.1.9).
+//! Reaches: at which counts of certificates below it an issuer leads to an anchor
+//! (RFC 5280, 4.2.1.9).
 
 ghost use Rattle.std.specs.Prelude.{◌≡◌, ℕ, ◌⊎◌, ◌↔◌, cond, IsTrue};
 ghost use Rattle.cert_graph.specs.Reach.{Takes, IsAtMost, lesser, less_one, reach_of};
 
-/// How far an issuer leads to an anchor: at which counts of certificates below it (those that are not
-/// self-issued and stand between it and the target) it may stand in a path.
+/// How far an issuer leads to an anchor: at which counts of certificates below it it may be in a
+/// path. The count is of those between it and the target that are not self-issued.
 ///
 /// `No`: at none. `UpTo(n)`: at each count up to n. `Any`: at each count. In this order.
 #[derive(Clone, Copy, PartialEq, Eq, PartialOrd, Ord, Debug)]
@@ -16,7 +16,8 @@ pub enum Reach {
 }
 
 impl Reach {
-    /// The reach that a path length constraint lets through: with none, any count (RFC 5280, 4.2.1.9).
+    /// Returns the reach that a path length constraint allows: without one, any count
+    /// (RFC 5280, 4.2.1.9).
     pub fn of_limit(limit: Option<u32>) -> Reach
         ensures { result ≡ reach_of limit }
     {
@@ -26,7 +27,7 @@ impl Reach {
         }
     }
 
-    /// Whether it takes a count.
+    /// Returns whether the reach takes a count.
     pub fn takes(self, count: usize) -> bool
         ensures { IsTrue result ↔ Takes self count }
     {
@@ -37,7 +38,7 @@ impl Reach {
         }
     }
 
-    /// Whether it is no further than another.
+    /// Returns whether it is no further than another.
     pub fn is_at_most(self, other: Reach) -> bool
         ensures { IsTrue result ↔ IsAtMost self other }
     {
@@ -55,7 +56,7 @@ impl Reach {
         }
     }
 
-    /// The lower of two.
+    /// Returns the lesser of two reaches.
     pub fn lesser(self, other: Reach) -> Reach
         ensures { result ≡ lesser self other }
     {
@@ -70,15 +71,15 @@ impl Reach {
         }
     }
 
-    /// The further of two.
+    /// Returns the greater of two reaches.
     pub fn greater(self, other: Reach) -> Reach
         ensures { (c : ℕ) → Takes result c ↔ (Takes self c ⊎ Takes other c) }
     {
         if self.is_at_most(other) { other } else { self }
     }
 
-    /// What is left of an issuer's reach for a certificate that it issued: all of it where that certificate is
-    /// self-issued, else one less (RFC 5280, 6.1.4, l).
+    /// Returns what is left of an issuer's reach for a certificate that it issued: all of it if
+    /// that certificate is self-issued, else one less (RFC 5280, 6.1.4, l).
     pub fn passed_by(self, self_issued: bool) -> Reach
         ensures { result ≡ cond self_issued self (less_one self) }
     {

@@ -1,4 +1,4 @@
-//! Inequalities of a row: against path length constraints, and against the row before it.
+//! Inequalities of a row: with path length constraints, and with the row before it.
 
 ghost use Rattle.std.specs.Prelude.{ℕ, ◌↔◌, IsTrue, All, Any};
 ghost use Rattle.cert_graph.specs.Reach.{Takes};
@@ -29,7 +29,7 @@ fn holds_limits(nodes: &Nodes, row: &[Reach], group: &Group) -> bool
         .all(|position| holds_limit(nodes, row, *position))
 }
 
-/// Whether a row holds at least its limit at each fit position that is linked to an anchor.
+/// Returns whether a row holds at least its limit at each fit position that is linked to an anchor.
 #[tactic(auto, unfolding(crate::specs::Groups::HoldsEachLimit))]
 pub fn holds_each_limit(nodes: &Nodes, row: &[Reach]) -> bool
     ensures { IsTrue result ↔ HoldsEachLimit nodes.now row.now }
@@ -40,7 +40,7 @@ pub fn holds_each_limit(nodes: &Nodes, row: &[Reach]) -> bool
         .all(|group| holds_limits(nodes, row, group))
 }
 
-/// The furthest that a row reaches at a fit one of some positions.
+/// Returns the furthest that a row reaches at a fit one of some positions.
 pub fn best_of(nodes: &Nodes, row: &[Reach], positions: &[usize]) -> Reach
     ensures { (c : ℕ) → Takes result c ↔ IsOffered nodes.now row.now positions.now c }
 {
@@ -80,8 +80,8 @@ pub(crate) fn holds_all_passed(nodes: &Nodes, row: &[Reach], next: &[Reach], gro
     hold_passed(nodes, next, best, &group.issued)
 }
 
-/// Whether a row holds, at each fit position, at least what each link to a fit position lets through of what another
-/// row holds there.
+/// Returns whether a row holds, at each fit position, at least what each link to a fit position
+/// passes on of what another row holds there.
 #[tactic(auto, unfolding(crate::specs::Groups::FollowsRow))]
 pub fn follows_row(nodes: &Nodes, row: &[Reach], next: &[Reach]) -> bool
     ensures { IsTrue result ↔ FollowsRow nodes.now row.now next.now }
@@ -122,7 +122,8 @@ fn has_open_below(
     group.members.iter().any(|position| is_open_below(nodes, row, count, bound, *position))
 }
 
-/// Whether some fit position below a bound is linked from a certificate and takes a count by a row.
+/// Returns whether some fit position below a bound is linked from a certificate and takes a count
+/// by a row.
 pub fn may_take_below(
     nodes: &Nodes,
     row: &[Reach],

@@ -106,8 +106,8 @@ pub(crate) fn is_shortest(nodes: &Nodes, lookup: &Lookup, target: usize, count: 
     lookup.is_shut(count - 2, target)
 }
 
-/// Whether a target is unusable, or neither an anchor nor an issuer that a row reaches follows it. The row is given by
-/// its number from 0.
+/// Whether a target is unusable, or neither an anchor nor an issuer that a row reaches follows it.
+/// The row is given by its number from 0.
 pub(crate) fn is_closed(nodes: &Nodes, lookup: &Lookup, row: usize, target: usize) -> bool
     requires { IsIndex nodes.now lookup.now }
     ensures { (rows : List (List Reach)) → IsLookup nodes.now rows lookup.now → row < length rows → IsTrue result ↔ IsClosed (graph_of nodes.now) (row_of rows row) target }

@@ -8,7 +8,8 @@ ghost use Rattle.cert_graph.specs.declared.places.Part.TheVariants.{Id};
 use crate::places::{Part, Place, text_at};
 use std::alloc::{AllocError, Global};
 
-/// The chosen places from a first one on, so many at most, as they count from that first.
+/// Returns the chosen places from `first` to below `first + count`, each less `first`, ascending.
+/// The only error is out of memory.
 pub fn between(
     alloc: Global,
     chosen: &[usize],

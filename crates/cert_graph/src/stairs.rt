@@ -60,8 +60,8 @@ fn stairs_of(
     Ok(stairs)
 }
 
-/// The least member that takes a count: that of the first stair that does. Halves the stairs, since each takes what
-/// those before it take.
+/// The least member that takes a count: that of the first stair that does. Halves the stairs, since
+/// each takes what those before it take.
 fn first_stair(stairs: &[Stair], count: usize) -> Option<usize>
     ensures { (nodes : Nodes) (row : List Reach) (members : List ℕ) → AreStairs (graph_of nodes) row members stairs.now → IsLeastOption (OpenIn (graph_of nodes) row members count) result }
 {
@@ -82,7 +82,8 @@ fn first_stair(stairs: &[Stair], count: usize) -> Option<usize>
     }
 }
 
-/// The least member of a group that is open in a row at a count. Halves the flights, and then the stairs of one.
+/// The least member of a group that is open in a row at a count. Halves the flights, and then the
+/// stairs of one.
 pub(crate) fn least_in(flights: &[Flight], row: usize, count: usize) -> Option<usize>
     ensures { (nodes : Nodes) (rows : List (List Reach)) (members : List ℕ) → AreFlights (graph_of nodes) rows members flights.now → row < length rows → IsLeastOption (OpenIn (graph_of nodes) (row_of rows row) members count) result }
 {
@@ -152,8 +153,8 @@ fn begins_in(flights: &[Flight], number: usize) -> bool
     last.row == number
 }
 
-/// Goes on with a group's flights by one row: a further flight, unless the last has the row's stairs. A second time it
-/// changes nothing, or notes the same again.
+/// Goes on with a group's flights by one row: adds a flight, unless the last has the row's stairs.
+/// A second time it changes nothing, or notes equal stairs again.
 fn climb(
     alloc: Global,
     nodes: &Nodes,

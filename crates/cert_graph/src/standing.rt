@@ -75,8 +75,9 @@ fn rises(row: &[Reach], changes: &[Change]) -> bool
     changes.iter().all(|change| is_rise(row, change))
 }
 
-/// Whether the row of a step, by its number from 0, follows the one before it and holds its limits, where that one
-/// holds them and follows the one before it. If no entry falls, only the groups matter of which a member rose last.
+/// Whether the row of a step, by its number from 0, follows the one before it and holds its limits,
+/// where that one holds them and follows the one before it. If no entry falls, only the groups
+/// matter of which a member rose last.
 fn goes_on(
     nodes: &Nodes,
     places: &[Vec<usize>],
@@ -104,10 +105,12 @@ fn goes_on(
     follows_some(nodes, places, before, row, last)
 }
 
-/// The last of the rows that come of some changes, the first against a row of `No`, if they are a table.
+/// The last of the rows that come of some changes, the first against a row of `No`, if they are a
+/// table.
 ///
-/// The only error is out of memory. Holds two rows at a time. Goes over all groups and their lists once, and again for
-/// each row that falls somewhere; else over those groups of which a member rose.
+/// The only error is out of memory. Holds two rows at a time. Goes over all groups and their lists
+/// once, and again for each row that falls somewhere; else over those groups of which a member
+/// rose.
 fn last_of_table(
     alloc: Global,
     nodes: &Nodes,
@@ -144,8 +147,8 @@ pub(crate) fn is_table(
     }
 }
 
-/// Whether the rows that come of some changes, the first against a row of `No`, are a table of which the last row, if
-/// there is one, is its own successor.
+/// Whether the rows that come of some changes, the first against a row of `No`, are a table of
+/// which the last row, if there is one, is its own successor.
 pub(crate) fn is_standing_table(
     alloc: Global,
     nodes: &Nodes,

@@ -13,7 +13,8 @@ fn is_shut(nodes: &Nodes, row: &[Reach], certificate: usize) -> bool
     !may_take_below(nodes, row, certificate, 0, nodes.items.len())
 }
 
-/// Whether a target is unusable, or neither an anchor nor an issuer that a row reaches follows it.
+/// Returns whether a target is unusable, or is linked to no anchor and to no issuer that a row
+/// reaches.
 pub fn is_closed(nodes: &Nodes, row: &[Reach], target: usize) -> bool
     ensures { IsTrue result ↔ IsClosed (graph_of nodes.now) row.now target }
 {

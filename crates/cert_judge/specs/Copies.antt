@@ -10,7 +10,7 @@ use Rattle.cert_judge.specs.declared.judged.JudgedItem.{JudgedItem}
 use Rattle.cert_judge.specs.declared.judged.JudgedItem.TheVariants.{Certificate as certificate_judged, List as list_judged, Other as other_judged}
 use Rattle.cert_judge.specs.Standing.{octets_in, WithCertificate, WithList, IsIssuedAt}
 
--- lists of the same octets and serial numbers, both in force or both not
+-- lists of equal octets and serial numbers, both in force or both not
 pub record IsSameList (l m : JudgedList) : Type 0 where
   pub octets : l.octets.now ≡ m.octets.now
   pub in_force : l.in_force ≡ m.in_force
@@ -32,7 +32,8 @@ AreAlikeAt js u v = IsAt js u (λ i. IsAt js v (λ j. AreAlike i j))
 abbrev pub IsIn : List (List ℕ) → ℕ → ℕ → Type 0
 IsIn lists k v = IsAt lists k (λ l. Contains l v)
 
--- Places of issued items, brought together: each list has its first place, and only places of items that are alike that one.
+-- Places of issued items, brought together: each list has its first place, and only places of items
+-- that are alike that one.
 pub record AreCopies (js : List JudgedItem) (issued firsts : List ℕ) (lists : List (List ℕ)) : Type 0 where
   pub count : length lists ≡ length firsts
   pub ascend : (d : ℕ) → d < length lists → IsStrictlyIncreasing (slice_index_or lists d [])
@@ -49,7 +50,8 @@ octets_at js places = map (λ v. octets_in (slice_index_or js v other_judged)) p
 abbrev pub places_at : List ℕ → List ℕ → List ℕ
 places_at firsts numbers = map (λ d. slice_index_or firsts d 0) numbers
 
--- For each key, the numbers of the places whose certificates it vouches for and which the lists at these places leave valid.
+-- For each key, the numbers of the places whose certificates it vouches for and which the lists at
+-- these places leave valid.
 pub record AreIssuedRows (V : List ℕ → List ℕ → Type 0) (demand : Bool) (js : List JudgedItem) (firsts : List ℕ) (keys : List (Bor (List ℕ))) (rows : List (List ℕ)) : Type 0 where
   pub count : length rows ≡ length keys
   pub each : (k d : ℕ) (key : Bor (List ℕ)) → k < length keys → IsIn rows k d ↔ ((d < length firsts) × IsIssuedAt V demand js firsts (slice_index_or keys k key).now (slice_index_or firsts d 0))
@@ -65,7 +67,8 @@ IsLinkBy R all n v w = R v (n + w) × (w < n) × AgreeOnId all v (n + w)
 abbrev pub IsAnchorBy : (ℕ → ℕ → Type 0) → ℕ → ℕ → ℕ → ℕ → Type 0
 IsAnchorBy R n m v a = R v (n + n + a) × (a < m)
 
--- the lists of the one kind ascend and have places of n items, those of the other ascend and have places after these
+-- the lists of the one kind ascend and have places of n items, those of the other ascend and have
+-- places after these
 pub record AreLinkable (n : ℕ) (copies holders : List (List ℕ)) : Type 0 where
   pub copies_ascend : (d : ℕ) → d < length copies → IsStrictlyIncreasing (slice_index_or copies d [])
   pub copies_within : (d v : ℕ) → IsIn copies d v → v < n

@@ -26,7 +26,7 @@ extended_by extensions = record plain { version = 2; extensions = extensions }
 abbrev pub extension : Identifier → Bool → List ℕ → Extension
 extension identifier critical value = record { identifier = identifier; critical = critical; value = value }
 
--- basic constraints that say nothing, and the same with the default written out
+-- basic constraints that say nothing, and with the default written out
 abbrev pub unconstrained : List ℕ
 unconstrained = 0x30 ∷ 0x00 ∷ []
 
@@ -37,7 +37,7 @@ default_written = 0x30 ∷ 0x03 ∷ 0x01 ∷ 0x01 ∷ 0x00 ∷ []
 abbrev pub extended_key_usage : Identifier
 extended_key_usage = 0x55 ∷ 0x1d ∷ 0x25 ∷ []
 
--- an authority with path length 0, and the same with a key usage
+-- an authority with path length 0, and one with a key usage too
 abbrev pub path_length_zero : Extension
 path_length_zero = extension basic_constraints true (0x30 ∷ 0x06 ∷ 0x01 ∷ 0x01 ∷ 0xff ∷ 0x02 ∷ 0x01 ∷ 0x00 ∷ [])
 
@@ -100,7 +100,7 @@ vouching_by pairs = record { moment = in_june; demand_lists = false; Vouches = �
 abbrev pub self_issued_b : ℕ → Certificate
 self_issued_b octet = authority 0x62 0x62 (key_of octet) unlimited
 
--- of b under c under d, where d's certificate lets no further authority stand below it
+-- of b under c under d, where d's certificate allows no further authority below it
 abbrev pub limited_above : List Certificate
 limited_above = issued_by_b ∷ authority 0x62 0x63 key unlimited ∷ authority 0x63 0x64 key (limited_to 0) ∷ []
 
@@ -115,7 +115,8 @@ abbrev pub one_rollover_rules : JudgingContext
 one_rollover_rules =
     vouching_by (vouches_for (key_of 1) issued_by_b ∷ vouches_for (key_of 2) (self_issued_b 1) ∷ vouches_for key (b_from_c 2 (limited_to 0)) ∷ [])
 
--- of b, which changed its key twice, beside b under e under c: c's certificate lets one authority stand below it
+-- of b, which changed its key twice, beside b under e under c: c's certificate allows one authority
+-- below it
 abbrev pub b_from_e : Certificate
 b_from_e = authority 0x62 0x65 (key_of 2) unlimited
 
@@ -144,7 +145,7 @@ equal_issuers = issued_by_b ∷ authority_b ∷ authority_b ∷ []
 abbrev pub numbered : ℕ → Certificate → Item
 numbered octet c = record { octets = octet ∷ []; class = certificate c }
 
--- of b and b's own, told apart by an octet, and the same two in the other order
+-- of b and b's own, which differ in an octet, and these two in the other order
 abbrev pub told_apart : List Item
 told_apart = numbered 1 issued_by_b ∷ numbered 2 authority_b ∷ []
 

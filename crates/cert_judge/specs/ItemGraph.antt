@@ -1,4 +1,4 @@
--- The graph that classed items stand for.
+-- The graph of classed items.
 use Rattle.std.specs.Prelude.{◌≡◌, ℕ, Bool, false, List, length, map, slice_index_or, nat_eq}
 use Rattle.std.specs.Cmp.Lexicographic.{pointwise}
 use Rattle.cert_graph.specs.declared.reach.Reach.{Reach}
@@ -17,7 +17,8 @@ use Rattle.cert_judge.specs.Revoking.{Item, JudgingContext, IsSatisfied}
 abbrev pub IsCertificateWith : (Certificate → Type 0) → Item → Type 0
 IsCertificateWith P x = (c : Certificate) × (x.class ≡ certificate c) × P c
 
--- A certificate was issued under a name and key: its issuer is the name, the key vouches for it, and it is satisfied.
+-- A certificate was issued under a name and key: its issuer is the name, the key vouches for it,
+-- and it is satisfied.
 pub record IsIssuedUnder (r : JudgingContext) (items : List Item) (x : Item) (c : Certificate) (name key : List ℕ) : Type 0 where
   pub issuer : name_octets c.issuer ≡ name
   pub vouched : r.Vouches key x.octets
@@ -31,11 +32,11 @@ KeyIdsAgree c d = (a s : List ℕ) → IsAuthorityKeyId c a → IsSubjectKeyId d
 abbrev pub IsLink : JudgingContext → List Item → Item → Item → Type 0
 IsLink r items x y = IsCertificateWith (λ c. IsCertificateWith (λ d. IsIssuedUnder r items x c (name_octets d.subject) (key_octets d.key) × KeyIdsAgree c d) y) x
 
--- the same to an anchor, of which the subject and the key count and nothing else (RFC 5280, 6.1.1, d)
+-- a link to an anchor, of which the subject and the key count and nothing else (RFC 5280, 6.1.1, d)
 abbrev pub IsAnchorLink : JudgingContext → List Item → Item → Item → Type 0
 IsAnchorLink r items x a = IsCertificateWith (λ c. IsCertificateWith (λ d. IsIssuedUnder r items x c (name_octets d.subject) (key_octets d.key)) a) x
 
--- subject and issuer are the same octets (RFC 5280, 6.1)
+-- subject and issuer are equal octets (RFC 5280, 6.1)
 abbrev pub self_issued_of : Class → Bool
 self_issued_of (certificate c) = pointwise nat_eq (name_octets c.subject) (name_octets c.issuer)
 self_issued_of (list l) = false
@@ -47,7 +48,7 @@ limit_of (certificate c) = path_limit c
 limit_of (list l) = No
 limit_of other = No
 
--- The graph that classed items and anchors stand for.
+-- The graph of classed items and anchors.
 abbrev pub graph_of_items : JudgingContext → List Item → List Item → Graph
 graph_of_items r items anchor_items = record {
   items = length items;

@@ -1,4 +1,5 @@
--- What may stand in a path at a moment, and what may issue (RFC 5280, 6.1.3 and 6.1.4, as far as this profile goes).
+-- What may be in a path at a moment, and what may issue (RFC 5280, 6.1.3 and 6.1.4, as far as this
+-- profile goes).
 use Rattle.std.specs.Prelude.{◌≡◌, true, List, ℕ, All, ◌⊎◌, Option, option_map}
 use Rattle.cert_model.specs.Fields.{Identifier, CivilTime, Bits, Extension, Certificate}
 use Rattle.cert_judge.specs.Moments.{IsBetween}
@@ -17,11 +18,13 @@ HasUsage value = (b : Bits) × IsKeyUsage value b
 abbrev pub IsJudgedHere : Identifier → Type 0
 IsJudgedHere identifier = (identifier ≡ basic_constraints) ⊎ (identifier ≡ key_usage)
 
--- a critical extension is one that is judged here, or one that the caller processes (RFC 5280, 6.1.4, o)
+-- a critical extension is one that is judged here, or one that the caller processes
+-- (RFC 5280, 6.1.4, o)
 unfoldable pub IsProcessed : (Identifier → Type 0) → Extension → Type 0
 IsProcessed P e = e.critical ≡ true → (IsJudgedHere e.identifier ⊎ P e.identifier)
 
--- Extensions that let a certificate stand in a path, where the caller processes those of some identifiers.
+-- Extensions with which a certificate may be in a path, where the caller processes those of some
+-- identifiers.
 pub record AreUsable (P : Identifier → Type 0) (es : List Extension) : Type 0 where
   -- RFC 5280, 4.2
   pub distinct : AreDistinct es
@@ -32,7 +35,7 @@ pub record AreUsable (P : Identifier → Type 0) (es : List Extension) : Type 0 
   -- RFC 5280, 4.2.1.3
   pub usage : EachUnder key_usage HasUsage es
 
--- A certificate may stand in a path.
+-- A certificate may be in a path.
 pub record IsUsable (P : Identifier → Type 0) (moment : CivilTime) (c : Certificate) : Type 0 where
   -- RFC 5280, 6.1.3, a 2
   pub valid : IsBetween c.not_before moment c.not_after
@@ -46,7 +49,7 @@ IsAuthority value = (b : BasicConstraints) × IsBasicConstraints value b × (b.c
 abbrev pub HasPathLen : Option ℕ → List ℕ → Type 0
 HasPathLen n value = (b : BasicConstraints) × IsBasicConstraints value b × (b.ca ≡ true) × (option_map value_of b.path_len ≡ n)
 
--- the same of an extension
+-- an extension whose value says that the subject may issue certificates (RFC 5280, 4.2.1.9)
 unfoldable pub IsAuthorityExtension : Extension → Type 0
 IsAuthorityExtension e = (e.identifier ≡ basic_constraints) × IsAuthority e.value
 
@@ -63,7 +66,7 @@ pub record MayIssue (es : List Extension) : Type 0 where
   pub authority : SomeUnder basic_constraints IsAuthority es
   -- RFC 5280, 6.1.4, n
   pub signer : EachUnder key_usage IsSigner es
-  -- name and policy constraints are not processed, so none may stand
+  -- name and policy constraints are not processed, so none may be there
   pub no_name_constraints : IsWithout name_constraints es
   pub no_policy_constraints : IsWithout policy_constraints es
 

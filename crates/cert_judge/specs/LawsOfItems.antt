@@ -13,8 +13,8 @@ use Rattle.cert_judge.specs.ItemGraph.{IsCertificateWith, graph_of_items}
 abbrev pub rules_from : CivilTime → Bool → (List ℕ → List ℕ → Bool) → JudgingContext
 rules_from moment demand vouches = record { moment = moment; demand_lists = demand; Vouches = λ key item. IsTrue (vouches key item); Processes = nothing }
 
--- the second rules vouch for each certificate among the items that the first vouch for, and for the same lists among them, and
--- process each extension of the certificates that the first process
+-- the second rules vouch for each certificate among the items that the first vouch for, and for
+-- equal lists among them, and process each extension of the certificates that the first process
 pub record VouchesForMore (r s : JudgingContext) (items : List Item) : Type 0 where
   pub moment : r.moment ≡ s.moment
   pub demand : r.demand_lists ≡ s.demand_lists
@@ -22,12 +22,13 @@ pub record VouchesForMore (r s : JudgingContext) (items : List Item) : Type 0 wh
   pub lists : (x : Item) (l : RevocationList) (key : List ℕ) → Contains items x → x.class ≡ list l → r.Vouches key x.octets ↔ s.Vouches key x.octets
   pub processed : (x : Item) (c : Certificate) (identifier : List ℕ) → Contains items x → x.class ≡ certificate c → r.Processes x.octets identifier → s.Processes x.octets identifier
 
--- Each certificate goes to a place where it stands among other items, and the lists among both are the same.
+-- Each certificate goes to a place where it is among other items, and the lists among both are
+-- equal.
 pub record Keeps (f : ℕ → ℕ) (items others : List Item) : Type 0 where
   pub certificates : (v : ℕ) (x : Item) (c : Certificate) → IsAt items v (λ y. y ≡ x) → x.class ≡ certificate c → IsAt others (f v) (λ y. y ≡ x)
   pub lists : (x : Item) (l : RevocationList) → x.class ≡ list l → Contains items x ↔ Contains others x
 
--- wherever there is a path, there is one of the same length elsewhere
+-- wherever there is a path, there is one of equal length elsewhere
 abbrev pub HasPathsOf : (ℕ → ℕ) → JudgingContext → JudgingContext → List Item → List Item → List Item → Type 0
 HasPathsOf f r s items others anchors =
     (target : ℕ) (ps : List ℕ) (a : ℕ) → IsValidPath (graph_of_items r items anchors) target ps a

@@ -12,7 +12,8 @@ abbrev pub first_value : Identifier → List Extension → List ℕ
 first_value identifier [] = []
 first_value identifier (e ∷ es) = if pointwise nat_eq e.identifier identifier then e.value else first_value identifier es
 
--- The constraint of a fit issuer: its number stands behind 30 L 01 01 ff 02 k, and without one the value ends behind ff (RFC 5280, 4.2.1.9).
+-- The constraint of a fit issuer: its number comes after 30 L 01 01 ff 02 k, and without one the
+-- value ends after ff (RFC 5280, 4.2.1.9).
 abbrev pub path_limit : Certificate → Reach
 path_limit c =
     let value = first_value basic_constraints c.extensions in

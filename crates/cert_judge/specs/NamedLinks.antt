@@ -13,7 +13,7 @@ use Rattle.cert_judge.specs.Standing.{WithCertificate, IsUsedAt, IsUsedAgainstAt
 abbrev pub IsUnder : List JudgedItem → List Place → List ℕ → ℕ → Type 0
 IsUnder js all name p = (p < length js) × Shows Name all p name
 
--- A certificate of this serial number stands under a name and key.
+-- A certificate of this serial number is left valid under a name and key.
 pub record StandsUnder (V : List ℕ → List ℕ → Type 0) (demand : Bool) (js : List JudgedItem) (all : List Place) (name key serial : List ℕ) : Type 0 where
   pub kept : (p : ℕ) → IsUnder js all name p → IsUsedAgainstAt V js key serial p → ⊥
   pub listed : demand ≡ true → (p : ℕ) × IsUnder js all name p × IsUsedAt V js key p

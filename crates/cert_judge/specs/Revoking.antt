@@ -1,4 +1,5 @@
--- Revocation lists: which are used, and whom they revoke (RFC 5280, 5 and 6.3, as far as this profile goes).
+-- Revocation lists: which are used, and whom they revoke (RFC 5280, 5 and 6.3, as far as this
+-- profile goes).
 use Rattle.std.specs.Prelude.{◌≡◌, ℕ, Bool, true, false, List, All, Any, Contains, Some}
 use Rattle.cert_model.specs.Fields.{Number, CivilTime, Extension, Entry, RevocationList}
 use Rattle.cert_model.specs.Octets.{name_octets}
@@ -14,7 +15,7 @@ pub record Item : Type 0 where
 abbrev pub AreUncritical : List Extension → Type 0
 AreUncritical es = All (λ e. e.critical ≡ false) es
 
--- A list is current: its next update is told, and not past.
+-- A list is current: it has a next update, which is not past.
 pub record IsCurrent (moment : CivilTime) (l : RevocationList) : Type 0 where
   pub next : CivilTime
   pub told : l.next_update ≡ Some next
@@ -25,8 +26,8 @@ pub record IsPlain (l : RevocationList) : Type 0 where
   pub extensions : AreUncritical l.extensions
   pub entries : All (λ (n : Entry). AreUncritical n.extensions) l.entries
 
--- What is judged by: a moment, whether lists are demanded, for which key and item the keys vouch, and which extensions of an item
--- the caller processes.
+-- What is judged by: a moment, whether lists are demanded, for which key and item the keys vouch,
+-- and which extensions of an item the caller processes.
 pub record JudgingContext : Type 1 where
   pub moment : CivilTime
   pub demand_lists : Bool
@@ -50,7 +51,7 @@ abbrev pub IsRevoked : JudgingContext → List Item → List ℕ → List ℕ �
 IsRevoked r items name key serial =
     (x : Item) × (l : RevocationList) × Contains items x × IsUsedList r name key x l × Any (λ (n : Entry). n.serial ≡ serial) l.entries
 
--- A certificate of this serial number stands under a name and key.
+-- A certificate of this serial number is left valid under a name and key.
 pub record IsSatisfied (r : JudgingContext) (items : List Item) (name key : List ℕ) (serial : Number) : Type 0 where
   pub kept : IsRevoked r items name key serial → ⊥
   pub listed : r.demand_lists ≡ true → HasUsedList r items name key

@@ -1,4 +1,4 @@
--- Which items a key vouches for, told by their places.
+-- Which items a key vouches for, by their places.
 use Rattle.std.specs.Borrow.{Bor}
 use Rattle.std.specs.Prelude.{◌≡◌, ◌↔◌, ◌<◌, ℕ, List, length, slice_index_or, Contains, Vec}
 use Rattle.std.specs.declared.alloc.Global.{Global}

@@ -1,4 +1,5 @@
--- What the code judges of places: which lists are used there, and who stands by them.
+-- What the code judges of places: which lists are used there, and which certificates they leave
+-- valid.
 use Rattle.std.specs.Borrow.{Bor}
 use Rattle.std.specs.Prelude.{◌≡◌, ℕ, Bool, true, IsTrue, List, [], Any}
 use Rattle.std.specs.Ordering.{on, nat_cmp}
@@ -35,16 +36,16 @@ IsUsedAt V js key p = IsAt js p (WithList (IsUsedBy V key))
 abbrev pub IsUsedAgainstAt : (List ℕ → List ℕ → Type 0) → List JudgedItem → List ℕ → List ℕ → ℕ → Type 0
 IsUsedAgainstAt V js key serial p = IsAt js p (WithList (λ l. IsUsedBy V key l × HasSerial serial l))
 
--- A certificate of this serial number stands by the lists at some places.
+-- A certificate of this serial number is left valid by the lists at some places.
 pub record StandsBy (V : List ℕ → List ℕ → Type 0) (demand : Bool) (js : List JudgedItem) (places key serial : List ℕ) : Type 0 where
   pub kept : Any (IsUsedAgainstAt V js key serial) places → ⊥
   pub listed : demand ≡ true → Any (IsUsedAt V js key) places
 
--- a key vouches for the certificate at a place, and it stands
+-- a key vouches for the certificate at a place, and it is left valid
 abbrev pub IsIssuedAt : (List ℕ → List ℕ → Type 0) → Bool → List JudgedItem → List ℕ → List ℕ → ℕ → Type 0
 IsIssuedAt V demand js places key v = IsAt js v (WithCertificate (λ c. V key c.octets.now × StandsBy V demand js places key c.serial.now))
 
--- the same beside a set of serial numbers
+-- a key vouches for the certificate at a place, whose serial number is not in a set
 abbrev pub IsIssuedBeside : (List ℕ → List ℕ → Type 0) → BTreeSet (Bor (List ℕ)) → List JudgedItem → List ℕ → ℕ → Type 0
 IsIssuedBeside V revoked js key v =
     IsAt js v (WithCertificate (λ c. V key c.octets.now × (IsTrue (sorted.contains (on (λ (b : Bor (List ℕ)). b.now) (slice_cmp nat_cmp)) revoked c.serial) → ⊥)))

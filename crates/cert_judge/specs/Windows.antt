@@ -1,10 +1,11 @@
--- Where the names and the key stand among the parts of a certificate, and the issuer among those of a list.
+-- Where the names and the key are among the parts of a certificate, and the issuer among those of a
+-- list.
 use Rattle.std.specs.Prelude.{ℕ, if◌then◌else◌, nat_lt, Option, Some, None, List, [], ◌∷◌, ◌++◌}
 use Rattle.std.specs.List.{concat}
 use Rattle.cert_model.specs.Fields.{Certificate, RevocationList}
 use Rattle.cert_model.specs.Octets.{explicit_octets, number_octets, algorithm_octets, name_octets, validity_octets, time_octets, key_octets, optional_octets, implicit_bits_octets, tagged_extensions_octets, entries_octets}
 
--- the parts of a TBSCertificate that always stand, in their order
+-- the parts of a TBSCertificate that are always there, in their order
 abbrev pub fixed_parts : Certificate → List (List ℕ)
 fixed_parts c =
     number_octets c.serial ∷ algorithm_octets c.signature ∷ name_octets c.issuer ∷ validity_octets c.not_before c.not_after ∷ name_octets c.subject ∷ key_octets c.key ∷ []
@@ -24,7 +25,7 @@ tbs_content c = concat (parts_of c) ++ optional_parts c
 abbrev pub list_front : RevocationList → List (List ℕ)
 list_front l = algorithm_octets l.signature ∷ name_octets l.issuer ∷ []
 
--- a version stands before them, where there is one
+-- a version comes before them, if there is one
 abbrev pub behind_version : Option ℕ → List (List ℕ) → List (List ℕ)
 behind_version None parts = parts
 behind_version (Some version) parts = number_octets (version ∷ []) ∷ parts

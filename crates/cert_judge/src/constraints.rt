@@ -1,5 +1,5 @@
-//! basicConstraints (RFC 5280, 4.2.1.9): a value in its one spelling, a default never written (X.690,
-//! 11.5), `TRUE` as 255 (11.1), and a path length that has 32 bits.
+//! basicConstraints (RFC 5280, 4.2.1.9): a value in its one spelling, a default never written
+//! (X.690, 11.5), `TRUE` as 255 (11.1), and a path length that has 32 bits.
 
 ghost use Rattle.std.specs.Prelude.{◌≡◌, ◌≢◌, ◌↔◌, ℕ, List, [], ◌∷◌, ◌++◌, Option, option_map, slice_index, Bool, IsTrue, IfSome, IsSomeAnd, SomeIff};
 ghost use Rattle.cert_model.specs.Fields.{Number};
@@ -46,7 +46,7 @@ fn is_ff(content: &[u8]) -> bool
     }
 }
 
-/// A boolean that is false where it is not written, and the octets behind it.
+/// Returns a boolean that is false if it is not written, and the octets after it.
 fn flag_of(octets: &[u8]) -> (bool, &[u8])
     ensures found { octets.now ≡ flag_octets result.0 ++ result.1.now }
     ensures only { (flag : Bool) (rest : List ℕ) → octets.now ≡ flag_octets flag ++ rest → slice_index rest 0 ≢ 1

@@ -19,7 +19,7 @@ pub(crate) struct Copies {
     pub(crate) lists: Vec<Vec<usize>>,
 }
 
-/// Whether an item is a certificate with the same octets and serial number.
+/// Returns whether an item is a certificate with equal octets and an equal serial number.
 fn is_same_certificate(one: &JudgedCertificate<'_>, other: &JudgedItem<'_>) -> bool
     ensures { IsTrue result → WithCertificate (λ c. (one.now.octets.now ≡ c.octets.now) × (one.now.serial.now ≡ c.serial.now)) other.now }
 {
@@ -37,8 +37,8 @@ fn are_same(one: &[&[u8]], other: &[&[u8]]) -> bool
     one == other
 }
 
-/// Whether an item is a list with the same octets and serial numbers, and they are both in force or
-/// both not.
+/// Returns whether an item is a list with equal octets and serial numbers, and they are both in
+/// force or both not.
 fn is_same_list(one: &JudgedList<'_>, other: &JudgedItem<'_>) -> bool
     ensures { IsTrue result → WithList (IsSameList one.now) other.now }
 {
@@ -83,8 +83,8 @@ fn is_copy(items: &[JudgedItem<'_>], firsts: &[usize], number: usize, place: usi
     are_alike(one, other)
 }
 
-/// Equal items at some places, brought together. Takes as many comparisons of octets as a sorted map
-/// of them, and one with the first copy for each place.
+/// Equal items at some places, brought together. Takes as many comparisons of octets as a sorted
+/// map of them, and one with the first copy for each place.
 pub(crate) fn copies_of(
     alloc: Global,
     items: &[JudgedItem<'_>],

@@ -1,7 +1,7 @@
 //! Items as they were read: the class with its fields, and the octets by which items are linked.
 //!
-//! The types say by their ghost fields that the windows are those of the fields, so whoever holds one
-//! need not look again.
+//! The types say by their ghost fields that the windows are those of the fields, so whoever holds
+//! one need not look again.
 
 ghost use Rattle.std.specs.Prelude.{◌≡◌, option_map};
 ghost use Rattle.cert_model.specs.Octets.{name_octets, key_octets, certificate_octets, list_octets};
@@ -11,8 +11,8 @@ ghost use Rattle.cert_judge.specs.Named.{NamesKeyId, HasKeyId};
 use crate::windows::{list_issuer_of, windows_of};
 use cert_model::fields::{CertFields, ListFields};
 
-/// An item that is a certificate (RFC 5280, 4.1), with the octets of its names and its key, which lie in
-/// it, and its key identifiers.
+/// An item that is a certificate (RFC 5280, 4.1), with the octets of its names and its key, which
+/// lie in it, and its key identifiers.
 ///
 /// `issuer` and `subject` are whole Name elements, `key` is a whole SubjectPublicKeyInfo, the key
 /// identifiers are content octets, each `None` if the certificate names none (4.2.1.1 and 4.2.1.2).
@@ -33,8 +33,8 @@ pub struct CertificateItem<'a> {
 }
 
 impl<'a> CertificateItem<'a> {
-    /// The item that these fields write, with the key identifiers that it names. It takes no memory, and
-    /// a step for each element before the key.
+    /// The item that these fields write, with the key identifiers that it names. It takes no
+    /// memory, and a step for each element before the key.
     pub fn new(
         octets: &'a [u8],
         fields: CertFields<'a>,

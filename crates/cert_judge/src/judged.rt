@@ -249,8 +249,8 @@ fn judged_list<'a>(
 /// Judges an item by itself at a moment in UTC (RFC 5280, 6.1.3, 6.1.4 and 6.3). Which further
 /// extensions are processed is not asked here: `nodes_by` asks who vouches.
 ///
-/// The only error is out of memory. It costs a sorted set of a certificate's extensions, or a step for
-/// each entry of a list.
+/// The only error is out of memory. It costs a sorted set of a certificate's extensions, or a step
+/// for each entry of a list.
 pub fn judge_item<'a>(
     alloc: Global,
     item: &ReadItem<'a>,

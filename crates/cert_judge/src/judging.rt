@@ -1,5 +1,5 @@
-//! Which certificates may be in a path, and which may issue others (RFC 5280, 6.1.3 and 6.1.4): judged
-//! from the fields of each by itself.
+//! Which certificates may be in a path, and which may issue others (RFC 5280, 6.1.3 and 6.1.4):
+//! judged from the fields of each by itself.
 
 ghost use Rattle.std.specs.Prelude.{◌≡◌, ◌≢◌, ◌↔◌, ℕ, List, map, option_map, All, true, IsTrue, IfSome, IsNone, IfOk, length};
 ghost use Rattle.cert_model.specs.View.{ext_view, time_view, certificate_view};
@@ -61,8 +61,8 @@ fn is_processed_here(extension: &ExtField<'_>) -> bool
     is_judged_here(extension.identifier)
 }
 
-/// The identifiers of the critical extensions that aren't judged here: whether they are processed is
-/// the caller's.
+/// The identifiers of the critical extensions that aren't judged here: whether they are processed
+/// is the caller's.
 pub(crate) fn further_of<'a>(
     alloc: Global,
     extensions: &[ExtField<'a>],
@@ -176,7 +176,8 @@ pub fn authority_of(extensions: &[ExtField<'_>]) -> Option<Option<u32>>
     None
 }
 
-/// Whether extensions let a certificate stand in a path, if the further critical ones are processed.
+/// Whether extensions let a certificate be in a path, if the further critical ones are
+/// processed.
 fn are_usable(alloc: Global, extensions: &[ExtField<'_>]) -> Result<bool, AllocError>
     ensures { IfOk result (λ yes. IsTrue yes ↔ AreUsable any_identifier (map ext_view extensions.now)) }
 {
@@ -189,7 +190,7 @@ fn are_usable(alloc: Global, extensions: &[ExtField<'_>]) -> Result<bool, AllocE
     are_distinct(alloc, extensions)
 }
 
-/// Whether a certificate may stand in a path at a moment, if its further critical extensions are
+/// Whether a certificate may be in a path at a moment, if its further critical extensions are
 /// processed.
 pub(crate) fn is_usable(
     alloc: Global,
@@ -205,9 +206,10 @@ pub(crate) fn is_usable(
     Ok(usable)
 }
 
-/// Whether extensions let a usable certificate issue others (RFC 5280, 6.1.4, k and n), and its path
-/// length constraint: `None` if they don't, `Some(None)` if they bound nothing. Extensions that restrict
-/// names or policies don't let it, since nothing here processes them. Some steps for each extension.
+/// Whether extensions let a usable certificate issue others (RFC 5280, 6.1.4, k and n), and its
+/// path length constraint: `None` if they don't, `Some(None)` if they bound nothing. Extensions
+/// that restrict names or policies don't let it, since nothing here processes them. Some steps for
+/// each extension.
 pub fn issuing_of(extensions: &[ExtField<'_>]) -> Option<Option<u32>>
     ensures found { IfSome result (λ n. MayIssue (map ext_view extensions.now) × SomeUnder basic_constraints (HasPathLen n) (map ext_view extensions.now)) }
     ensures only { IsNone result → MayIssue (map ext_view extensions.now) → ⊥ }
@@ -238,8 +240,8 @@ pub struct Judged {
     ghost fit_is_usable: { IsTrue fit → IsTrue usable },
 }
 
-/// Judges a certificate by itself at a moment in UTC (RFC 5280, 6.1.3, a 2, and 6.1.4, k to o). The only
-/// error is out of memory, for a sorted set of its extensions.
+/// Judges a certificate by itself at a moment in UTC (RFC 5280, 6.1.3, a 2, and 6.1.4, k to o). The
+/// only error is out of memory, for a sorted set of its extensions.
 pub fn judge_certificate(
     alloc: Global,
     fields: &CertFields<'_>,

@@ -40,26 +40,27 @@ pub fn adequate_is_true_by<V: Vouch>(_vouch: &V)
         → let g = graph_of_items (rules_at moment demand (V.vouches_for _vouch.now)) items anchors in IsAdequate g target answer → IsTrueAnswer g target answer }
 {}
 
-/// No two true answers on a target say different things.
+/// Two true answers on a target agree.
 pub fn one_true_answer_by<V: Vouch>(_vouch: &V)
     ensures { (moment : CivilTime) (demand : Bool) (items anchors : List Item) (target : ℕ) (answer another : Answer)
         → let g = graph_of_items (rules_at moment demand (V.vouches_for _vouch.now)) items anchors in IsTrueAnswer g target answer → IsTrueAnswer g target another → SayTheSame answer another }
 {}
 
-/// Who vouches for more certificates, and for the same lists, and processes more, never loses a path.
+/// A value that vouches for more certificates, and for equal lists, and processes more, never loses
+/// a path.
 pub fn vouching_for_more_by<V: Vouch, W: Vouch>(_vouch: &V, _more: &W)
     ensures { (moment : CivilTime) (demand : Bool) (items anchors : List Item)
         → let r = rules_at moment demand (V.vouches_for _vouch.now) in let s = rules_at moment demand (W.vouches_for _more.now) in
         VouchesForMore r s items → HasPathsOf (λ v. v) r s items items anchors }
 {}
 
-/// A further certificate behind the last item never loses a path.
+/// A further certificate after the last item never loses a path.
 pub fn further_certificate_by<V: Vouch>(_vouch: &V)
     ensures { (moment : CivilTime) (demand : Bool) (items anchors : List Item) (x : Item) (c : Certificate)
         → x.class ≡ certificate c → let r = rules_at moment demand (V.vouches_for _vouch.now) in HasPathsOf (λ v. v) r r items (items ++ x ∷ []) anchors }
 {}
 
-/// Items that keep each certificate, at a place of its own or another's, and the same lists keep
+/// Items that keep each certificate, at a place of its own or another's, and keep the lists, keep
 /// the paths.
 pub fn other_places_by<V: Vouch>(_vouch: &V)
     ensures { (moment : CivilTime) (demand : Bool) (items others anchors : List Item) (f : ℕ → ℕ)

@@ -1,8 +1,9 @@
-//! Judges classed items: who may stand in a path and who may issue, which revocation lists are used,
-//! who is linked to whom (RFC 5280, 5 and 6, as far as this profile goes).
+//! Judges classed items: which may be in a path and which may issue, which revocation lists are
+//! used, which are linked to which (RFC 5280, 5 and 6, as far as this profile goes).
 //!
-//! `reading` reads items by a reader that a caller names, `judged` judges each by itself, `building`
-//! makes the graph of all of them. Who vouches is asked through `Vouch`, and by `building` alone.
+//! `reading` reads items by a reader that a caller names, `judged` judges each by itself,
+//! `building` makes the graph of all of them. Which key vouches for which item is asked through
+//! `Vouch`, and by `building` alone.
 #![tactic(auto)]
 
 mod building;

@@ -1,4 +1,5 @@
-//! Moments in order: civil times in UTC, compared field by field from the year down (RFC 5280, 4.1.2.5).
+//! Moments in order: civil times in UTC, compared field by field from the year down
+//! (RFC 5280, 4.1.2.5).
 
 ghost use Rattle.std.specs.Prelude.{◌≡◌, ◌↔◌, IsTrue, ℕ};
 ghost use Rattle.cert_model.specs.View.{time_view};
@@ -26,8 +27,8 @@ fn is_at_most(first: &[u32], second: &[u32]) -> bool
     first.cmp(second).is_le()
 }
 
-/// Whether the first moment is not later than the second. Both are civil times in UTC; nanoseconds
-/// count.
+/// Returns whether the first moment is not later than the second. Both are civil times in UTC;
+/// nanoseconds count.
 pub fn is_not_after(first: &DateTime, second: &DateTime) -> bool
     ensures { IsTrue result ↔ IsNotAfter (time_view first.now) (time_view second.now) }
 {

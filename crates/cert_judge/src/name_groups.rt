@@ -91,8 +91,8 @@ fn issued_by_each<V: Vouch>(
     Ok(rows)
 }
 
-/// The groups of one name, whose places these are: for each key under it, what that key vouches for.
-/// Equal items are brought together first.
+/// The groups of one name, whose places these are: for each key under it, what that key vouches
+/// for. Equal items are brought together first.
 fn link_name<V: Vouch>(
     alloc: Global,
     groups: &mut Vec<Group>,

@@ -1,4 +1,5 @@
-//! What a caller decides beside who vouches: the moment, and whether revocation lists are demanded.
+//! What a caller decides beside what is vouched for: the moment, and whether revocation lists are
+//! demanded.
 
 ghost use Rattle.std.specs.Prelude.{◌≡◌};
 
@@ -6,8 +7,9 @@ use jiff::civil::DateTime;
 
 /// By what is judged: the moment, and whether lists are demanded.
 ///
-/// If lists are demanded, a certificate is good only if some list is used under its issuer's name and
-/// key, and none of those has its serial number (RFC 5280, 6.3). If not, it is good unless one has it.
+/// If lists are demanded, a certificate is good only if some list is used under its issuer's name
+/// and key, and none of those has its serial number (RFC 5280, 6.3). If not, it is good unless one
+/// has it.
 #[derive(Clone, Copy, Debug)]
 pub struct Policy {
     moment: DateTime,

@@ -67,7 +67,7 @@ pub trait ReadsItem {
 }
 
 /// Reads items, and returns them in their order, each with its class and fields: what reasons are
-/// about, and what `certcheck::check_read` checks an answer on.
+/// given on, and what `certcheck::check_read` checks an answer on.
 ///
 /// The only error is out of memory. It costs `R::read_item` on each item once, and keeps the fields
 /// of all of them; `judged_items` keeps less.

@@ -14,8 +14,8 @@ use crate::moments::is_between;
 use cert_model::fields::{EntryFields, ExtField, ListFields};
 use jiff::civil::DateTime;
 
-/// Whether no extension is critical: of those of a list or of an entry, none is judged here (RFC 5280,
-/// 5.2 and 5.3). A step for each.
+/// Whether no extension is critical: of those of a list or of an entry, none is judged here
+/// (RFC 5280, 5.2 and 5.3). A step for each.
 pub fn are_uncritical(extensions: &[ExtField<'_>]) -> bool
     ensures { IsTrue result ↔ AreUncritical (map ext_view extensions.now) }
 {
@@ -105,9 +105,10 @@ fn is_used<V: Vouch>(
     vouch.vouches(key, list.octets)
 }
 
-/// Whether an item is a list that is used under a name and key (RFC 5280, 6.3.3): it has that issuer,
-/// is in force at the moment, and the key vouches for it. `name` is a whole Name element, `key` a whole
-/// SubjectPublicKeyInfo. The voucher is asked only of a list of this issuer that is in force.
+/// Whether an item is a list that is used under a name and key (RFC 5280, 6.3.3): it has that
+/// issuer, is in force at the moment, and the key vouches for it. `name` is a whole Name element,
+/// `key` a whole SubjectPublicKeyInfo. The voucher is asked only of a list of this issuer that is
+/// in force.
 pub fn is_used_item<V: Vouch>(
     item: &ReadItem<'_>,
     vouch: &V,

@@ -213,9 +213,9 @@ fn link_copies(
     Ok(())
 }
 
-/// Links copies to holders, where a row for each key has the numbers of the copies that are linked to
-/// its holders. A number with c copies and a key with h holders take c or h places, whichever are
-/// fewer, beside one list of all copies and one of all holders.
+/// Links copies to holders, where a row for each key has the numbers of the copies that are linked
+/// to its holders. A number with c copies and a key with h holders take c or h places, whichever
+/// are fewer, beside one list of all copies and one of all holders.
 pub(crate) fn link_sides(
     alloc: Global,
     groups: &mut Vec<Group>,

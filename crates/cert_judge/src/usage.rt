@@ -1,5 +1,5 @@
-//! keyUsage (RFC 5280, 4.2.1.3): a named bit list without trailing zero bits (X.690, 11.2.2), of which
-//! keyCertSign is asked.
+//! keyUsage (RFC 5280, 4.2.1.3): a named bit list without trailing zero bits (X.690, 11.2.2), of
+//! which keyCertSign is asked.
 
 ghost use Rattle.std.specs.Prelude.{◌≡◌, ◌↔◌, ◌<◌, ◌≤◌, ◌+◌, ◌*◌, ℕ, List, [], ◌∷◌, ◌++◌, length, IsTrue, IfSome, IsSomeAnd};
 ghost use Rattle.cert_model.specs.Fields.{Bits};

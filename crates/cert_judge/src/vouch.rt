@@ -1,4 +1,4 @@
-//! Who vouches: the one question to the world outside, which key signed which item. Nothing here
+//! What is vouched for: the one question to the caller, which key signed which item. Nothing here
 //! verifies a signature.
 
 ghost use Rattle.std.specs.Prelude.{◌↔◌, IsTrue, IfOk};
@@ -8,7 +8,7 @@ ghost use Rattle.cert_judge.specs.Vouching.{Vouching};
 
 use std::alloc::{AllocError, Global};
 
-/// Who says that a key signed an item, and which extensions the caller processes itself.
+/// Says which key signed which item, and which extensions the caller processes itself.
 pub trait Vouch {
     /// What the value vouches for, and what it processes. Fixed relations of the value.
     ghost vouches_for: { Self → Vouching };

@@ -1,7 +1,7 @@
 //! Where the names and the key of a certificate, and the issuer of a list, lie in their items.
 //!
-//! Fields say what a name is, and not which octets of the item it lies in. Links go by these octets, so
-//! they are looked up here, element by element from the front (RFC 5280, 4.1 and 5.1).
+//! Fields say what a name is, and not which octets of the item it lies in. Links go by these
+//! octets, so they are looked up here, element by element from the front (RFC 5280, 4.1 and 5.1).
 
 ghost use Rattle.std.specs.Prelude.{◌≡◌, ◌<◌, ◌++◌, ℕ, List, [], length, slice_index_or, nat_lt, if◌then◌else◌, IsSomeAnd};
 ghost use Rattle.std.specs.List.{concat, AllByRecursion};
@@ -43,8 +43,8 @@ fn tbs_of(item: &[u8]) -> Option<&[u8]>
     whole(Class::Universal, true, Tag::Sequence.0, tbs)
 }
 
-/// The names and the key of a certificate, as they lie in its item: whole elements, headers included
-/// (Name, Name and SubjectPublicKeyInfo: RFC 5280, 4.1.2.4, 4.1.2.6 and 4.1.2.7).
+/// The names and the key of a certificate, as they lie in its item: whole elements, headers
+/// included (Name, Name and SubjectPublicKeyInfo: RFC 5280, 4.1.2.4, 4.1.2.6 and 4.1.2.7).
 #[derive(Clone, Copy, Debug)]
 pub struct Windows<'a> {
     pub issuer: &'a [u8],
@@ -52,15 +52,16 @@ pub struct Windows<'a> {
     pub key: &'a [u8],
 }
 
-// How many parts stand before the serial number.
+// How many parts are before the serial number.
 fn first_of(version: u8) -> usize
     ensures { result ≡ (if nat_lt 0 version then 1 else 0) }
 {
     if version > 0 { 1 } else { 0 }
 }
 
-/// The windows of an item that the fields of a certificate write (RFC 5280, 4.1). `Some` whenever they
-/// do; of other octets nothing is said. It takes no memory, and a step for each element before the key.
+/// The windows of an item that the fields of a certificate write (RFC 5280, 4.1). `Some` whenever
+/// they do; of other octets nothing is said. It takes no memory, and a step for each element before
+/// the key.
 pub fn windows_of<'a>(item: &'a [u8], fields: &CertFields<'_>) -> Option<Windows<'a>>
     ensures { item.now ≡ certificate_octets (certificate_view fields.now) → IsSomeAnd result (λ w. (w.issuer.now ≡ name_octets (certificate_view fields.now).issuer)
         × (w.subject.now ≡ name_octets (certificate_view fields.now).subject) × (w.key.now ≡ key_octets (certificate_view fields.now).key)) }
@@ -87,8 +88,9 @@ fn issuer_place(version: Option<u8>) -> usize
     }
 }
 
-/// The issuer in an item that the fields of a list write (RFC 5280, 5.1.2.3): the whole Name element.
-/// `Some` whenever they do; of other octets nothing is said. It takes no memory, and at most three steps.
+/// The issuer in an item that the fields of a list write (RFC 5280, 5.1.2.3): the whole Name
+/// element. `Some` whenever they do; of other octets nothing is said. It takes no memory, and at
+/// most three steps.
 pub fn list_issuer_of<'a>(item: &'a [u8], fields: &ListFields<'_>) -> Option<&'a [u8]>
     ensures { item.now ≡ list_octets (list_view fields.now) → IsSomeAnd result (λ w. w.now ≡ name_octets (list_view fields.now).issuer) }
 {

@@ -1,4 +1,5 @@
--- From the parts of a certificate or list, as they stand in a tree, to its fields. These functions retrace the code.
+-- From the parts of a certificate or list, as they are in a tree, to its fields. These functions
+-- retrace the code.
 use Rattle.std.specs.Prelude.{◌≡◌, ◌≢◌, ℕ, ◌==◌, ◌&&◌, ◌||◌, nat_lt, Bool, true, false, if◌then◌else◌, List, [], ◌∷◌, Option, Some, None}
 use Rattle.asn1_core.specs.Elements.{Element}
 use Rattle.der_tree.specs.Table.{is_bit_string}

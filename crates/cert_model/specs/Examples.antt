@@ -47,7 +47,8 @@ plain = record {
   signature_value = no_bits;
 }
 
--- the same of version 3, with one extension: basic constraints, not critical, an empty sequence
+-- a certificate of version 3 with empty names and one extension: basic constraints, not critical,
+-- an empty sequence
 abbrev pub constrained : Certificate
 constrained =
     record plain { version = 2; extensions = record { identifier = basic_constraints; critical = false; value = 0x30 ∷ 0x00 ∷ [] } ∷ [] }

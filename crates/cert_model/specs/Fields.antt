@@ -1,4 +1,5 @@
--- The fields of certificates and revocation lists (RFC 5280, 4.1 and 5.1), without where their octets lie in memory.
+-- The fields of certificates and revocation lists (RFC 5280, 4.1 and 5.1), without where their
+-- octets lie in memory.
 use Rattle.std.specs.Prelude.{ℕ, ℤ, List, Bool, Option}
 use Rattle.asn1_core.specs.Elements.{Element}
 

@@ -1,4 +1,5 @@
--- The one spelling of fields: from values to octets, in the words of RFC 5280, 4.1 and 5.1, by the rules of DER (X.690, 8, 10 and 11).
+-- The one spelling of fields: from values to octets, in the words of RFC 5280, 4.1 and 5.1, by the
+-- rules of DER (X.690, 8, 10 and 11).
 use Rattle.std.specs.Prelude.{ℕ, ◌/◌, ◌%◌, unsigned_abs, Bool, true, false, if◌then◌else◌, List, [], ◌∷◌, ◌++◌, Option, Some, None, nat_lt}
 use Rattle.std.specs.List.{flat_map, concat}
 use Rattle.asn1_core.specs.Elements.{element_octets}
@@ -55,7 +56,8 @@ implicit_bits_octets tag b = element_octets (record { class = 2; constructed = f
 abbrev pub moment_in : CivilTime → Moment
 moment_in t = record { year = unsigned_abs t.year; month = t.month; day = t.day; hour = t.hour; minute = t.minute; second = t.second }
 
--- UTCTime (YYMMDDHHMMSSZ) for the years to 2049, GeneralizedTime (YYYYMMDDHHMMSSZ) from 2050 on (RFC 5280, 4.1.2.5; X.690, 11.7 and 11.8)
+-- UTCTime (YYMMDDHHMMSSZ) for the years to 2049, GeneralizedTime (YYYYMMDDHHMMSSZ) from 2050 on
+-- (RFC 5280, 4.1.2.5; X.690, 11.7 and 11.8)
 abbrev pub time_octets : CivilTime → List ℕ
 time_octets t =
     let m = moment_in t in
@@ -63,7 +65,8 @@ time_octets t =
     then primitive_octets 23 (two_digits (m.year % 100) ++ after_year m ++ 90 ∷ [])
     else primitive_octets 24 (two_digits (m.year / 100) ++ two_digits (m.year % 100) ++ after_year m ++ 90 ∷ [])
 
--- AlgorithmIdentifier ::= SEQUENCE { algorithm OBJECT IDENTIFIER, parameters ANY DEFINED BY algorithm OPTIONAL } (RFC 5280, 4.1.1.2)
+-- AlgorithmIdentifier ::= SEQUENCE { algorithm OBJECT IDENTIFIER, parameters ANY DEFINED BY
+-- algorithm OPTIONAL } (RFC 5280, 4.1.1.2)
 unfoldable pub algorithm_octets : Algorithm → List ℕ
 algorithm_octets a = sequence_octets (identifier_octets a.identifier ++ optional_octets element_octets a.parameters)
 
@@ -79,7 +82,8 @@ relative_name_octets attributes = set_octets (flat_map attribute_octets attribut
 unfoldable pub name_octets : Name → List ℕ
 name_octets sets = sequence_octets (flat_map relative_name_octets sets)
 
--- SubjectPublicKeyInfo ::= SEQUENCE { algorithm AlgorithmIdentifier, subjectPublicKey BIT STRING } (RFC 5280, 4.1)
+-- SubjectPublicKeyInfo ::= SEQUENCE { algorithm AlgorithmIdentifier, subjectPublicKey BIT STRING }
+-- (RFC 5280, 4.1)
 unfoldable pub key_octets : Key → List ℕ
 key_octets k = sequence_octets (algorithm_octets k.algorithm ++ bit_field_octets k.key)
 
@@ -87,7 +91,8 @@ key_octets k = sequence_octets (algorithm_octets k.algorithm ++ bit_field_octets
 abbrev pub flag_octets : Bool → List ℕ
 flag_octets flag = if flag then primitive_octets 1 (255 ∷ []) else []
 
--- Extension ::= SEQUENCE { extnID OBJECT IDENTIFIER, critical BOOLEAN DEFAULT FALSE, extnValue OCTET STRING } (RFC 5280, 4.1)
+-- Extension ::= SEQUENCE { extnID OBJECT IDENTIFIER, critical BOOLEAN DEFAULT FALSE, extnValue
+-- OCTET STRING } (RFC 5280, 4.1)
 unfoldable pub extension_octets : Extension → List ℕ
 extension_octets e = sequence_octets (concat (identifier_octets e.identifier ∷ flag_octets e.critical ∷ primitive_octets 4 e.value ∷ []))
 
@@ -119,12 +124,14 @@ tbs_certificate_octets c =
     ∷ optional_octets (implicit_bits_octets 1) c.issuer_id ∷ optional_octets (implicit_bits_octets 2) c.subject_id
     ∷ tagged_extensions_octets 3 c.extensions ∷ []))
 
--- Certificate ::= SEQUENCE { tbsCertificate, signatureAlgorithm AlgorithmIdentifier, signatureValue BIT STRING } (RFC 5280, 4.1)
+-- Certificate ::= SEQUENCE { tbsCertificate, signatureAlgorithm AlgorithmIdentifier, signatureValue
+-- BIT STRING } (RFC 5280, 4.1)
 unfoldable pub certificate_octets : Certificate → List ℕ
 certificate_octets c =
     sequence_octets (concat (tbs_certificate_octets c ∷ algorithm_octets c.algorithm ∷ bit_field_octets c.signature_value ∷ []))
 
--- SEQUENCE { userCertificate CertificateSerialNumber, revocationDate Time, crlEntryExtensions Extensions OPTIONAL } (RFC 5280, 5.1)
+-- SEQUENCE { userCertificate CertificateSerialNumber, revocationDate Time, crlEntryExtensions
+-- Extensions OPTIONAL } (RFC 5280, 5.1)
 unfoldable pub entry_octets : Entry → List ℕ
 entry_octets e = sequence_octets (concat (number_octets e.serial ∷ time_octets e.date ∷ several_octets extensions_octets e.extensions ∷ []))
 
@@ -141,7 +148,8 @@ tbs_cert_list_octets l =
     ∷ name_octets l.issuer ∷ time_octets l.this_update ∷ optional_octets time_octets l.next_update
     ∷ entries_octets l.entries ∷ tagged_extensions_octets 0 l.extensions ∷ []))
 
--- CertificateList ::= SEQUENCE { tbsCertList, signatureAlgorithm AlgorithmIdentifier, signatureValue BIT STRING } (RFC 5280, 5.1)
+-- CertificateList ::= SEQUENCE { tbsCertList, signatureAlgorithm AlgorithmIdentifier,
+-- signatureValue BIT STRING } (RFC 5280, 5.1)
 unfoldable pub list_octets : RevocationList → List ℕ
 list_octets l =
     sequence_octets (concat (tbs_cert_list_octets l ∷ algorithm_octets l.algorithm ∷ bit_field_octets l.signature_value ∷ []))

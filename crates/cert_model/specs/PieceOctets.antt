@@ -1,4 +1,5 @@
--- What the parts of a certificate or list, as they stand in a tree, are written as, and which parts are.
+-- What the parts of a certificate or list, as they are in a tree, are written as, and which parts
+-- are.
 use Rattle.std.specs.Prelude.{◌≡◌, ℕ, ◌≤◌, length, List, [], ◌∷◌}
 use Rattle.std.specs.List.{concat, AllByRecursion}
 use Rattle.asn1_core.specs.Elements.{Element, element_octets}

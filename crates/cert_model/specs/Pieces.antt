@@ -1,5 +1,6 @@
--- Certificates and lists as their parts stand in a tree. These functions retrace the code. What has a context-specific tag is left as
--- an element here: a tree holds the octets of such an element, and not what they stand for.
+-- Certificates and lists as their parts are in a tree. These functions retrace the code. What has a
+-- context-specific tag is left as an element here: a tree holds the octets of such an element, and
+-- not what they mean.
 use Rattle.std.specs.Prelude.{ℕ, ◌==◌, nat_lt, if◌then◌else◌, List, [], ◌∷◌, length, Option, Some, None}
 use Rattle.asn1_core.specs.Elements.{Element}
 use Rattle.der_tree.specs.Table.{integer}

@@ -1,4 +1,5 @@
--- What is read of a tree. These functions retrace the code; `found` and `only` of proofs/ tie them to the octets.
+-- What is read of a tree. These functions retrace the code; `found` and `only` of proofs/ tie them
+-- to the octets.
 use Rattle.std.specs.Prelude.{ℕ, ◌==◌, ◌&&◌, nat_lt, Bool, true, false, if◌then◌else◌, List, [], ◌∷◌, length, Option, Some, None, option_and_then}
 use Rattle.asn1_core.specs.Elements.{Element}
 use Rattle.der_tree.specs.Table.{integer, octet_string, is_negative}

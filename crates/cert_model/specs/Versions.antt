@@ -1,4 +1,5 @@
--- The rules of versions alone (RFC 5280, 4.1.2.1, 4.1.2.8, 4.1.2.9, 5.1.2.1 and 5.1.2.7), for the contracts of private functions.
+-- The rules of versions alone (RFC 5280, 4.1.2.1, 4.1.2.8, 4.1.2.9, 5.1.2.1 and 5.1.2.7), for the
+-- contracts of private functions.
 use Rattle.std.specs.Prelude.{◌≡◌, ◌≢◌, ◌<◌, ◌≤◌, [], Some, None}
 use Rattle.cert_model.specs.Fields.{Certificate, RevocationList}
 use Rattle.cert_model.specs.Range.{IfThere}

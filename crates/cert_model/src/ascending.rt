@@ -1,4 +1,5 @@
-//! The order in which the attributes of a relative distinguished name are written (X.690, 11.6), without memory.
+//! The order in which the attributes of a relative distinguished name are written (X.690, 11.6),
+//! without memory.
 
 ghost use Rattle.std.specs.Prelude.{◌≡◌, ◌&&◌, ◌+◌, ◌<◌, ◌≤◌, ℕ, List, [], ◌∷◌, ◌++◌, length, drop, map};
 ghost use Rattle.std.specs.Int.Digits.{digits_of};
@@ -16,8 +17,8 @@ use asn1_core::{Class, Header, HeaderOctets, Length, Tag};
 use std::cmp::Ordering;
 use std::marker::Model;
 
-/// How many octets a sequence's header has at most: a length of 128 bits has at most 16 digits of base
-/// 256, and follows its number of digits and the identifier octet (X.690, 8.1).
+/// How many octets a sequence's header has at most: a length of 128 bits has at most 16 digits of
+/// base 256, and follows its number of digits and the identifier octet (X.690, 8.1).
 const MOST_OCTETS: usize = 18;
 
 /// The identifier octet of a SEQUENCE (X.690, 8.9).
@@ -82,7 +83,7 @@ impl SequenceOctets {
         }
     }
 
-    // The strict length of so many content octets, behind which nothing stands.
+    // Puts the strict length of `size` content octets, at the end of the array.
     fn put_length(&mut self, size: u128)
         requires { self.old ≡ [] }
         ensures length { self.new ≡ strict_length size }
@@ -125,7 +126,7 @@ struct Headers {
     value: HeaderOctets,
 }
 
-// How many octets an identifier and a value have, each behind its header.
+// How many octets an identifier and a value have, with their headers.
 fn size_of(name: &HeaderOctets, identifier: &[u8], value: &HeaderOctets, content: &[u8]) -> u128
     ensures { result ≡ length ((name.now ++ identifier.now) ++ (value.now ++ content.now)) }
 {

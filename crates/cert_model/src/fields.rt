@@ -1,7 +1,7 @@
 //! The fields of certificates and revocation lists, as they lie in an item.
 //!
-//! All octets are borrowed. Times are civil UTC. Which fields have a spelling is said by `AreCertificateFields` and
-//! `AreListFields` of `specs/Range.antt`.
+//! All octets are borrowed. Times are civil UTC. Which fields have a spelling is said by
+//! `AreCertificateFields` and `AreListFields` of `specs/Range.antt`.
 
 use asn1_core::{Class, Tag};
 use jiff::civil::DateTime;
@@ -16,7 +16,8 @@ pub struct AnyField<'a> {
     pub content: &'a [u8],
 }
 
-/// AlgorithmIdentifier (RFC 5280, 4.1.1.2): the content octets of the identifier, and the parameters where they stand.
+/// AlgorithmIdentifier (RFC 5280, 4.1.1.2): the content octets of the identifier, and the
+/// parameters if there are any.
 #[derive(Clone, Copy, Debug, PartialEq, Eq)]
 pub struct AlgField<'a> {
     pub identifier: &'a [u8],
@@ -30,7 +31,8 @@ pub struct AttrField<'a> {
     pub value: AnyField<'a>,
 }
 
-/// Name (RFC 5280, 4.1.2.4): its relative distinguished names, each in the order in which it is written.
+/// Name (RFC 5280, 4.1.2.4): its relative distinguished names, each in the order in which it is
+/// written.
 #[derive(Debug, PartialEq, Eq, Drop)]
 pub struct NameFields<'a> {
     pub sets: Vec<Vec<AttrField<'a>>>,
@@ -51,7 +53,8 @@ pub struct KeyField<'a> {
     pub key: BitField<'a>,
 }
 
-/// Extension (RFC 5280, 4.2): the content octets of the identifier, and of the OCTET STRING that holds the value.
+/// Extension (RFC 5280, 4.2): the content octets of the identifier, and of the OCTET STRING that
+/// holds the value.
 #[derive(Clone, Copy, Debug, PartialEq, Eq)]
 pub struct ExtField<'a> {
     pub identifier: &'a [u8],
@@ -59,8 +62,9 @@ pub struct ExtField<'a> {
     pub value: &'a [u8],
 }
 
-/// Certificate with its TBSCertificate (RFC 5280, 4.1). `version` counts from 0, as it is written; `serial` is the content
-/// octets of the INTEGER; `algorithm` and `signature_value` stand behind the first part.
+/// Certificate with its TBSCertificate (RFC 5280, 4.1). `version` counts from 0, as it is written;
+/// `serial` is the content octets of the INTEGER; `algorithm` and `signature_value` come after the
+/// TBSCertificate.
 #[derive(Debug, PartialEq, Eq, Drop)]
 pub struct CertFields<'a> {
     pub version: u8,

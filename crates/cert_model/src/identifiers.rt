@@ -21,7 +21,8 @@ pub const AUTHORITY_KEY_IDENTIFIER: u8 = 35;
 /// policyConstraints (RFC 5280, 4.2.1.11).
 pub const POLICY_CONSTRAINTS: u8 = 36;
 
-/// Whether the content octets of an identifier are those of 2.5.29.n, for an n below 128 (X.690, 8.19).
+/// Whether the content octets of an identifier are those of 2.5.29.n, for an n below 128
+/// (X.690, 8.19).
 pub fn is_ce(identifier: &[u8], n: u8) -> bool
     ensures { IsTrue result ↔ (identifier.now ≡ under_ce n) }
 {

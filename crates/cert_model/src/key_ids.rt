@@ -28,7 +28,8 @@ fn first_under<'a>(extensions: &[ExtField<'a>], n: u8) -> Option<&'a [u8]>
     None
 }
 
-/// The content of the first element of the one sequence that the octets are, where it is [0] and has no parts.
+/// The content of the first element of the one sequence that the octets are, where it is [0] and
+/// has no parts.
 fn key_id_of(value: &[u8]) -> Option<&[u8]>
     ensures found { IfSome result (λ id. BeginsWithKeyId value.now id.now) }
     ensures only { (id : List ℕ) → BeginsWithKeyId value.now id → IsSomeAnd result (λ r. r.now ≡ id) }
@@ -56,8 +57,8 @@ impl<'a> CertFields<'a> {
         key_id_of(value)
     }
 
-    /// The key identifier of the certificate's own key (RFC 5280, 4.2.1.2): the content of the OCTET
-    /// STRING that the first subjectKeyIdentifier value is.
+    /// The key identifier of the certificate's own key (RFC 5280, 4.2.1.2): the content of the
+    /// OCTET STRING that the first subjectKeyIdentifier value is.
     ///
     /// `None` if there is no such extension, or its value isn't one primitive OCTET STRING in its
     /// strict spelling. It takes no memory, and a step for each extension.

@@ -1,4 +1,5 @@
-//! What certificates and revocation lists are, by one spelling (RFC 5280, 4.1 and 5.1; X.690, 10 and 11).
+//! What certificates and revocation lists are, by one spelling (RFC 5280, 4.1 and 5.1; X.690, 10
+//! and 11).
 //!
 //! The definitions go from fields to octets: `specs/Octets.antt` says what fields write,
 //! `specs/Range.antt` which fields may be written, `specs/Class.antt` what octets are. Of octets

@@ -1,5 +1,5 @@
-//! Single elements in their strict spelling (X.690, 8.1 and 10.1), read without memory. Each costs the
-//! reading of one header: contents are windows, and nobody looks into them.
+//! Single elements in their strict spelling (X.690, 8.1 and 10.1), read without memory. Each costs
+//! the reading of one header: contents are windows that aren't looked into.
 
 ghost use Rattle.std.specs.Prelude.{◌≡◌, ◌↔◌, ℕ, List, ◌++◌, IsTrue, IfSome, IsSomeAnd};
 ghost use Rattle.asn1_core.specs.Elements.{element_octets};
@@ -23,8 +23,9 @@ fn size_of(header: &Header) -> usize
     }
 }
 
-/// The content of the element at the front, if it has this identifier in its strict spelling (X.690,
-/// 8.1 and 10.1), and the octets behind it. `None` also if the octets end before the content does.
+/// Returns the content of the element at the front, if it has this identifier in its strict
+/// spelling (X.690, 8.1 and 10.1), and the octets after it. `None` also if the octets end before
+/// the content does.
 pub fn part<'a>(
     class: Class,
     constructed: bool,
@@ -48,8 +49,8 @@ pub fn part<'a>(
     Some((&after[..size], &after[size..]))
 }
 
-/// The content of the one element that the octets are, if it has this identifier in its strict spelling.
-/// `None` also if octets follow it.
+/// Returns the content of the one element that the octets are, if it has this identifier in its
+/// strict spelling. `None` also if octets follow it.
 pub fn whole<'a>(class: Class, constructed: bool, tag: u32, octets: &'a [u8]) -> Option<&'a [u8]>
     ensures found { IfSome result (λ r. octets.now ≡ element_octets (element_of class constructed tag r.now)) }
     ensures only { (content : List ℕ) → octets.now ≡ element_octets (element_of class constructed tag content)
@@ -59,8 +60,9 @@ pub fn whole<'a>(class: Class, constructed: bool, tag: u32, octets: &'a [u8]) ->
     if rest.is_empty() { Some(content) } else { None }
 }
 
-/// The element at the front, whatever it is, header included, and the octets behind it. `Some` whenever
-/// an element in its strict spelling begins the octets; of other octets nothing is said.
+/// Returns the element at the front, whatever it is, header included, and the octets after it.
+/// `Some` whenever an element in its strict spelling begins the octets; of other octets nothing is
+/// said.
 pub fn first_part(octets: &[u8]) -> Option<(&[u8], &[u8])>
     ensures { (part rest : List ℕ) → IsPart part → octets.now ≡ part ++ rest → IsSomeAnd result (λ r. (r.0.now ≡ part) × (r.1.now ≡ rest)) }
 {

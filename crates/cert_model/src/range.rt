@@ -1,4 +1,5 @@
-//! Whether fields have a spelling (RFC 5280, 4.1 and 5.1; X.690, 8, 10 and 11). Nothing here takes memory.
+//! Whether fields have a spelling (RFC 5280, 4.1 and 5.1; X.690, 8, 10 and 11). Nothing here takes
+//! memory.
 
 ghost use Rattle.std.specs.Prelude.{◌≡◌, ◌≢◌, ◌↔◌, ◌<◌, [], IsTrue, map, option_map, Some};
 ghost use Rattle.std.specs.List.{AllByRecursion};
@@ -21,7 +22,8 @@ const FIRST_YEAR: i16 = 1950;
 /// The bit of a first content octet by which an INTEGER is negative (X.690, 8.3.3).
 const SIGN: u8 = 0x80;
 
-/// Whether the octets are a number in the fewest octets that is not negative (RFC 5280, 4.1.2.2; X.690, 8.3.2).
+/// Whether the octets are a number in the fewest octets that is not negative (RFC 5280, 4.1.2.2;
+/// X.690, 8.3.2).
 fn is_number(content: &[u8]) -> bool
     ensures { IsTrue result ↔ IsNumber content.now }
 {
@@ -48,7 +50,8 @@ fn is_negative_integer(content: &[u8]) -> bool
     }
 }
 
-/// Whether 0 to 7 bits are unused, all of them 0, and none where no octet follows (X.690, 8.6.2 and 11.2.1).
+/// Whether 0 to 7 bits are unused, all of them 0, and none where no octet follows (X.690, 8.6.2 and
+/// 11.2.1).
 fn are_bits(bits: &BitField<'_>) -> bool
     ensures { IsTrue result ↔ AreBits (bit_view bits.now) }
 {
@@ -74,7 +77,8 @@ fn are_bits_if_there(bits: &Option<BitField<'_>>) -> bool
     }
 }
 
-/// Whether the time is from 1950 to 9999, in whole seconds (RFC 5280, 4.1.2.5). Its type says that it is real.
+/// Whether the time is from 1950 to 9999, in whole seconds (RFC 5280, 4.1.2.5). Its type says that
+/// it is real.
 fn is_time(time: &DateTime) -> bool
     ensures { IsTrue result ↔ IsTimeField (time_view time.now) }
 {
@@ -90,7 +94,8 @@ fn is_time_if_there(time: &Option<DateTime>) -> bool
     }
 }
 
-/// Whether the tag number has 32 bits (X.690, 8.1.2), which its type says. There is no other class than the four.
+/// Whether the tag number has 32 bits (X.690, 8.1.2), which its type says. There is no other class
+/// than the four.
 fn is_any(field: &AnyField<'_>) -> bool
     ensures { IsTrue result ↔ IsAny (any_view field.now) }
 {
@@ -172,7 +177,7 @@ fn may_extend(extensions: &[ExtField<'_>], version: Option<u8>) -> bool
 }
 
 impl EntryFields<'_> {
-    /// Whether the entry may stand in a list of this version, as it is written (RFC 5280, 5.1.2.6).
+    /// Whether the entry may be in a list of this version, as it is written (RFC 5280, 5.1.2.6).
     fn in_range(&self, version: Option<u8>) -> bool
         ensures { IsTrue result ↔ IsEntry version (entry_view self.now) }
     {
@@ -201,8 +206,8 @@ fn is_signed(algorithm: &AlgField<'_>, value: &BitField<'_>) -> bool
 }
 
 impl CertFields<'_> {
-    /// Whether the fields have a spelling (RFC 5280, 4.1.2): whether some strict certificate has them. It
-    /// takes no memory, and a step for each octet of identifiers and names.
+    /// Whether the fields have a spelling (RFC 5280, 4.1.2): whether some strict certificate has
+    /// them. It takes no memory, and a step for each octet of identifiers and names.
     pub fn in_range(&self) -> bool
         ensures { IsTrue result ↔ AreCertificateFields (certificate_view self.now) }
     {
@@ -212,7 +217,8 @@ impl CertFields<'_> {
             && is_signed(&self.algorithm, &self.signature_value)
     }
 
-    /// Whether the version has the optional fields that are there (RFC 5280, 4.1.2.1, 4.1.2.8 and 4.1.2.9).
+    /// Whether the version has the optional fields that are there (RFC 5280, 4.1.2.1, 4.1.2.8 and
+    /// 4.1.2.9).
     fn has_version(&self) -> bool
         ensures { IsTrue result ↔ HasVersion (certificate_view self.now) }
     {
@@ -249,8 +255,8 @@ impl CertFields<'_> {
 }
 
 impl ListFields<'_> {
-    /// Whether the fields have a spelling (RFC 5280, 5.1.2): whether some strict list has them. It takes
-    /// no memory, and a step for each octet of identifiers and names.
+    /// Whether the fields have a spelling (RFC 5280, 5.1.2): whether some strict list has them. It
+    /// takes no memory, and a step for each octet of identifiers and names.
     pub fn in_range(&self) -> bool
         ensures { IsTrue result ↔ AreListFields (list_view self.now) }
     {
@@ -260,7 +266,8 @@ impl ListFields<'_> {
             && is_signed(&self.algorithm, &self.signature_value)
     }
 
-    /// Whether the version is 2, written 1, or none that has no extensions (RFC 5280, 5.1.2.1 and 5.1.2.7).
+    /// Whether the version is 2, written 1, or none that has no extensions (RFC 5280, 5.1.2.1 and
+    /// 5.1.2.7).
     fn has_version(&self) -> bool
         ensures { IsTrue result ↔ HasListVersion (list_view self.now) }
     {

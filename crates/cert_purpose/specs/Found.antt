@@ -1,4 +1,4 @@
--- What stands under an identifier.
+-- The extensions of an identifier.
 use Rattle.std.specs.Prelude.{◌≡◌, List, ◌∷◌, ◌++◌}
 use Rattle.cert_model.specs.Fields.{Identifier, Extension}
 use Rattle.cert_model.specs.Extended.{IsWithout}

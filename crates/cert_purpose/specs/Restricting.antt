@@ -14,7 +14,8 @@ use Rattle.cert_judge.specs.ItemGraph.{graph_of_items}
 abbrev pub restricted_by : (List ℕ → Type 0) → (List ℕ → List ℕ → Type 0) → Vouching → Vouching
 restricted_by P R v = record { Vouches = λ key item. v.Vouches key item × P item; Processes = λ item identifier. v.Processes item identifier ⊎ R item identifier }
 
--- two rules vouch for the same certificates and the same lists among the items, and process the same extensions of the certificates
+-- two rules vouch alike for certificates and lists among the items, and process equal extensions of
+-- the certificates
 pub record VouchAlike (r s : JudgingContext) (items : List Item) : Type 0 where
   pub moment : r.moment ≡ s.moment
   pub demand : r.demand_lists ≡ s.demand_lists
@@ -27,7 +28,8 @@ abbrev pub HaveSameTrueAnswers : JudgingContext → JudgingContext → List Item
 HaveSameTrueAnswers r s items =
     (anchors : List Item) (target : ℕ) (answer : Answer) → IsTrueAnswer (graph_of_items r items anchors) target answer ↔ IsTrueAnswer (graph_of_items s items anchors) target answer
 
--- Of the certificates among the items exactly those are permitted of which Q says so, and each list is.
+-- Of the certificates among the items exactly those are permitted of which Q says so, and each list
+-- is.
 pub record PermitsThose (P : List ℕ → Type 0) (Q : Item → Certificate → Type 0) (items : List Item) : Type 0 where
   pub certificates : (x : Item) (c : Certificate) → Contains items x → x.class ≡ certificate c → P x.octets ↔ Q x c
   pub lists : (x : Item) (l : RevocationList) → Contains items x → x.class ≡ list l → P x.octets

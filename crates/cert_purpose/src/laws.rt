@@ -20,23 +20,23 @@ pub fn examples_of_purposes()
     ensures two { Allows server_auth (usage for_servers ∷ usage for_servers ∷ []) → ⊥ }
 {}
 
-/// Two tests that vouch alike for the certificates and lists among the items have the same true
+/// Two tests that vouch alike for the certificates and lists among the items have equal true
 /// answers. They process no extension. `example_of_alikes` meets the premise.
 pub fn same_true_answers()
     ensures { (moment : CivilTime) (demand : Bool) (vouches others : List ℕ → List ℕ → Bool) (items : List Item)
         → VouchAlike (rules_from moment demand vouches) (rules_from moment demand others) items → HaveSameTrueAnswers (rules_from moment demand vouches) (rules_from moment demand others) items }
 {}
 
-/// Of vouching alike: two certificates, and two tests of which the second vouches for an item beside
-/// them too.
+/// Of vouching alike: two certificates, and two tests of which the second vouches for an item
+/// beside them too.
 pub fn example_of_alikes()
     ensures premise { VouchAlike (rules_from in_june false (vouching_for_both 1 2)) (rules_from in_june false vouching_beyond) told_apart }
     ensures before { (key : List ℕ) → IsTrue (vouching_for_both 1 2 key (9 ∷ [])) → ⊥ }
     ensures beyond { (key : List ℕ) → IsTrue (vouching_beyond key (9 ∷ [])) }
 {}
 
-/// Of restricting: a path stays where its certificates are permitted, and goes where its issuer
-/// isn't.
+/// A worked case of restricting: a path is kept if its certificates are permitted, and lost if its
+/// issuer isn't.
 pub fn example_of_restricting()
     ensures stays { IsValidPath (graph_of_items (rules_at in_june false (restricted_by (λ item. item ≡ 9 ∷ [] → ⊥) nothing (vouching_alone (λ key item. IsTrue (vouching_for_both 1 2 key item))))) told_apart (certificate_item (anchor_named 0x63) ∷ [])) 0 (0 ∷ 1 ∷ []) 0 }
     ensures goes { IsValidPath (graph_of_items (rules_at in_june false (restricted_by (λ item. item ≡ 2 ∷ [] → ⊥) nothing (vouching_alone (λ key item. IsTrue (vouching_for_both 1 2 key item))))) told_apart (certificate_item (anchor_named 0x63) ∷ [])) 0 (0 ∷ 1 ∷ []) 0 → ⊥ }

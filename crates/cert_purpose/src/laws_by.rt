@@ -13,15 +13,15 @@ ghost use Rattle.cert_purpose.specs.Restricting.{restricted_by, VouchAlike, Have
 use crate::permit::Permit;
 use cert_judge::Vouch;
 
-/// Two that vouch for the same certificates and lists among the items, and process the same extensions
-/// of the certificates, have the same true answers.
-/// `laws::example_of_alikes` meets the premise.
+/// Two values that vouch alike for the certificates and lists among the items, and process equal
+/// extensions of the certificates, have equal true answers. `laws::example_of_alikes` meets the
+/// premise.
 pub fn same_true_answers_by<V: Vouch, W: Vouch>(_vouch: &V, _other: &W)
     ensures { (moment : CivilTime) (demand : Bool) (items : List Item)
         → let r = rules_at moment demand (V.vouches_for _vouch.now) in let s = rules_at moment demand (W.vouches_for _other.now) in VouchAlike r s items → HaveSameTrueAnswers r s items }
 {}
 
-/// Where every list is permitted, the valid paths of the restricted relation are those of the whole
+/// If every list is permitted, the valid paths of the restricted relation are those of the whole
 /// one all of whose certificates are permitted. Both process what the permit does.
 pub fn restricted_paths_by<V: Vouch, P: Permit>(_vouch: &V, _permit: &P)
     ensures { (moment : CivilTime) (demand : Bool) (items : List Item)
@@ -30,7 +30,7 @@ pub fn restricted_paths_by<V: Vouch, P: Permit>(_vouch: &V, _permit: &P)
         (rules_at moment demand (restricted_by (P.permits _permit.now) (P.processes _permit.now) (V.vouches_for _vouch.now))) (λ x c. P.permits _permit.now x.octets) items }
 {}
 
-/// Where the certificates that allow a purpose and the lists are permitted, the valid paths of the
+/// If the certificates that allow a purpose and the lists are permitted, the valid paths of the
 /// restricted relation are those of the whole one all of whose certificates allow the purpose. Both
 /// process what the permit does.
 pub fn purpose_paths_by<V: Vouch, P: Permit>(_vouch: &V, _permit: &P)

@@ -18,7 +18,7 @@ fn is_any(identifier: &[u8]) -> bool
     }
 }
 
-/// Whether a purpose that stands in a value is the one that is asked for, or that of any.
+/// Whether a purpose in a value is the one that is asked for, or that of any.
 fn is_wanted(one: &[u8], purpose: &[u8]) -> bool
     ensures { IsTrue result ↔ ((one.now ≡ purpose.now) ⊎ (one.now ≡ any_purpose)) }
 {
@@ -56,8 +56,9 @@ fn are_written(content: &[u8], purpose: &[u8]) -> bool
     found
 }
 
-/// Whether a value of extKeyUsage is for a purpose, given by the content octets of its identifier: a
-/// sequence of purposes among which it stands, or that of any.
+/// Returns whether a value of extKeyUsage (RFC 5280, 4.2.1.12) is for a purpose, given by the
+/// content octets of its identifier: a sequence of purposes, one of which is this or
+/// anyExtendedKeyUsage. It takes no memory, and time linear in the value.
 pub fn is_for(value: &[u8], purpose: &[u8]) -> bool
     ensures { IsTrue result ↔ IsFor purpose.now value.now }
 {

@@ -1,4 +1,4 @@
--- JudgingContext that say the same of each question.
+-- Contexts of judging that agree on each question.
 use Rattle.std.specs.Prelude.{◌≡◌, ◌↔◌, ℕ, List, ◌++◌, Some, Contains, slice_get}
 use Rattle.cert_graph.specs.declared.answer.Answer.{Answer}
 use Rattle.cert_graph.specs.Graph.{Graph, IsValidPath}
@@ -10,8 +10,8 @@ use Rattle.cert_judge.specs.ItemGraph.{graph_of_items}
 use Rattle.cert_questions.specs.Shown.{key_at}
 use Rattle.cert_questions.specs.Questions.{IsQuestion}
 
--- the moment and the demand are the same, of each question both say that the key vouches for the item, or neither, and of each
--- certificate both process the same extensions
+-- the moment and the demand are equal, of each question both say that the key vouches for the item,
+-- or neither, and of each certificate both process equal extensions
 pub record AgreeOnQuestions (r s : JudgingContext) (items anchors : List Item) : Type 0 where
   pub moment : r.moment ≡ s.moment
   pub demand : r.demand_lists ≡ s.demand_lists
@@ -19,7 +19,7 @@ pub record AgreeOnQuestions (r s : JudgingContext) (items anchors : List Item) :
       → r.Vouches key x.octets ↔ s.Vouches key x.octets
   pub processed : (x : Item) (c : Certificate) (identifier : List ℕ) → Contains items x → x.class ≡ certificate c → r.Processes x.octets identifier ↔ s.Processes x.octets identifier
 
--- two graphs have the same valid paths, the same true answers and the same adequate ones
+-- two graphs have equal valid paths, equal true answers and equal adequate ones
 pub record SayTheSameOfAll (g h : Graph) : Type 0 where
   pub paths : (target : ℕ) (ps : List ℕ) (a : ℕ) → IsValidPath g target ps a ↔ IsValidPath h target ps a
   pub holds : (target : ℕ) (answer : Answer) → IsTrueAnswer g target answer ↔ IsTrueAnswer h target answer

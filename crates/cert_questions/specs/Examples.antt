@@ -3,7 +3,8 @@ use Rattle.std.specs.Prelude.{ℕ, List, [], ◌∷◌, Bool, ◌||◌}
 use Rattle.cert_judge.specs.Revoking.{Item}
 use Rattle.cert_judge.specs.Examples.{anchor_named, certificate_item, vouching_for, vouching_for_both}
 
--- the anchor c, and a test that vouches for one item more than another, whose octet no item of the case has
+-- the anchor c, and a test that vouches for one item more than another, whose octet no item of the
+-- case has
 abbrev pub anchor_c : List Item
 anchor_c = certificate_item (anchor_named 0x63) ∷ []
 

@@ -26,7 +26,7 @@ pub record AreFirstsUnder (all : List Place) (name : List ℕ) (firsts : List �
   pub ascends : IsStrictlyIncreasing firsts
   pub exact : (v : ℕ) → Contains firsts v ↔ IsFirstUnder all name v
 
--- the order of texts behind references
+-- the order of texts that are referred to
 abbrev pub by_octets : Bor (List ℕ) → Bor (List ℕ) → Ordering
 by_octets = on (λ (b : Bor (List ℕ)). b.now) (slice_cmp nat_cmp)
 

@@ -24,7 +24,7 @@ pub record AreShown (items : List Item) (all : List Shown) : Type 0 where
 abbrev pub places_of : List Shown → List Place
 places_of all = map (λ s. s.holder) all
 
--- the key holder at a place, behind so many items an anchor
+-- the key holder at a place, after so many items an anchor
 abbrev pub holder_at : ℕ → ℕ → KeyHolder
 holder_at items h = if nat_lt h items then item_holder h else anchor_holder (h - items)
 

@@ -21,7 +21,7 @@ key_of (certificate c) = Some (key_octets c.key)
 key_of (list l) = None
 key_of other = None
 
--- the same at a place among items, none past the last
+-- what the class of an item shows; nothing if there is no item
 abbrev pub at_item : (Class → Option (List ℕ)) → Option Item → Option (List ℕ)
 at_item f None = None
 at_item f (Some x) = f x.class

@@ -1,4 +1,5 @@
--- What `certpath questions` prints. Each line ends in LF (10), and a space is 32. This page is to be believed.
+-- What `certpath questions` prints. Each line ends in LF (10), and a space is 32. This page is to
+-- be believed.
 use Rattle.std.specs.Prelude.{ℕ, List, [], ◌∷◌, ◌++◌, codes}
 use Rattle.std.specs.Fmt.{decimal}
 use Rattle.cert_questions.specs.declared.question.KeyHolder.{KeyHolder}

@@ -59,10 +59,10 @@ fn push_questions(
     Ok(())
 }
 
-/// All questions of items and anchors: for each certificate and list among the items, each key that
-/// a certificate among the items or the anchors has under the name of its issuer. A key's first
-/// holder stands for it. They come in the order of the items, and for each item its holders among
-/// the items come first.
+/// Returns all questions of items and anchors: for each certificate and list among the items, each
+/// key that a certificate among the items or the anchors has under the name of its issuer. Equal
+/// keys are asked once, by the first holder. They come in the order of the items, and for each item
+/// its holders among the items come first.
 ///
 /// The only error is out of memory. Each item is read once, by trees. It takes as many comparisons
 /// of names and keys as look-ups in sorted maps of them, and a step for each question. Of n items

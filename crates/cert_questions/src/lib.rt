@@ -1,4 +1,5 @@
-//! The questions that a checker of signatures has to answer before a path is judged: which keys may have signed which items.
+//! The questions that a checker of signatures has to answer before a path is judged: which keys may
+//! have signed which items.
 #![tactic(auto)]
 
 mod asking;

@@ -1,5 +1,5 @@
-//! What items show of names and keys: whose name an item was issued under, and which name and key a
-//! certificate has (RFC 5280, 4.1.2.4, 4.1.2.6 and 4.1.2.7). Of each item no more is kept.
+//! What items show of names and keys: the name under which an item was issued, and the name and key
+//! of a certificate (RFC 5280, 4.1.2.4, 4.1.2.6 and 4.1.2.7). Of each item no more is kept.
 
 ghost use Rattle.std.specs.Prelude.{◌≡◌, ℕ, List, IfOk};
 ghost use Rattle.cert_model.specs.Class.{IsClassOf};

@@ -18,12 +18,13 @@ pub record AreAllRows (g : Graph) (rows : List (List Reach)) : Type 0 where
   pub ends : last + 1 ≡ length rows
   pub fixed : IsFixed g (row_of rows last)
 
--- A table whose rows hold exactly how far each issuer leads: over as many certificates as a row's number, in the last row over any number.
+-- A table whose rows hold exactly how far each issuer leads: over as many certificates as a row's
+-- number, in the last row over any number.
 pub record HasExactTable (g : Graph) (rows : List (List Reach)) : Type 0 where
   pub each : (k : ℕ) → k < length rows → HoldsExactly g (k + 1) (row_of rows k) × HoldsNoElsewhere g (row_of rows k)
   pub last : (k : ℕ) → k + 1 ≡ length rows → HoldsAll g (row_of rows k)
 
--- no position stands twice in a path, so it has no more certificates than there are items
+-- no position is twice in a path, so it has no more certificates than there are items
 abbrev pub IsShortVerdict : Graph → Verdict → Type 0
 IsShortVerdict g (FirstPath ps a) = NamesNoneTwice ps.items × (length ps.items ≤ g.items)
 IsShortVerdict g Pathless = Unit {0}

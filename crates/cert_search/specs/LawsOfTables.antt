@@ -6,7 +6,7 @@ use Rattle.cert_graph.specs.Laws.{Agrees}
 use Rattle.cert_graph.specs.Nodes.{graph_of}
 use Rattle.cert_search.specs.Exact.{HasExactRows, IsShort}
 
--- nodes that say the same of each position have the same answers with exact rows, and the same short ones
+-- nodes that agree on each position have equal answers with exact rows, and equal short ones
 abbrev pub LawAgreeingTables : Type 0
 LawAgreeingTables = (nodes other : Nodes) → Agrees (graph_of nodes) (graph_of other)
     → (answer : Answer) → (HasExactRows (graph_of nodes) answer ↔ HasExactRows (graph_of other) answer) × (IsShort (graph_of nodes) answer ↔ IsShort (graph_of other) answer)

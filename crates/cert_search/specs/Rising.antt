@@ -14,7 +14,7 @@ use Rattle.cert_search.specs.declared.rising.Rising.{Rising}
 use Rattle.cert_graph.specs.Changes.{changed}
 use Rattle.cert_search.specs.Rows.{AreOffers, IsRaisedBy, GroupOffers}
 
--- a group stands at a place
+-- a group is at a place
 abbrev pub IsGroup : Nodes → ℕ → Group → Type 0
 IsGroup nodes k group = (k < length nodes.groups.items) × (group ≡ slice_index_or nodes.groups.items k group)
 
@@ -63,7 +63,7 @@ AreHanded nodes handed offers =
 abbrev pub AreBests : Nodes → List Reach → List Reach → Type 0
 AreBests nodes row bests = (k : ℕ) (group : Group) → IsGroup nodes k group → (c : ℕ) → Takes (at_row bests k) c ↔ GroupOffers nodes row group c
 
--- A row with what it offers. Where no offer rose last the next row is the same.
+-- A row with what it offers. If no offer rose last the next row is equal to it.
 pub record IsRising (nodes : Nodes) (search : Rising) : Type 0 where
   pub whole : length search.row.items ≡ length nodes.items.items
   pub offers_whole : length search.offers.items ≡ length nodes.items.items

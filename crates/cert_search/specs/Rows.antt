@@ -10,7 +10,8 @@ use Rattle.cert_graph.specs.Steps.{one_of}
 use Rattle.cert_graph.specs.Groups.{IsOffered}
 use Rattle.cert_search.specs.Exact.{HoldsExactly}
 
--- a certificate may go on where a count is met: to an anchor, or to an issuer that a row reaches with it
+-- a certificate may go on where a count is met: to an anchor, or to an issuer that a row reaches
+-- with it
 abbrev pub GoesOn : Graph → List Reach → ℕ → ℕ → Type 0
 GoesOn g row v c = ((a : ℕ) × g.AnchorEdge v a) ⊎ ((w : ℕ) × g.Fit w × g.Edge v w × Takes (at_row row w) c)
 
@@ -22,7 +23,8 @@ AreOffers g row offers = (v c : ℕ) → Takes (at_row offers v) c ↔ GoesOn g 
 abbrev pub IsRaisedBy : Graph → List Reach → List Reach → Type 0
 IsRaisedBy g offers row = (v c : ℕ) → Takes (at_row row v) c ↔ (g.Fit v × Takes (g.limit v) c × Takes (at_row offers v) (c + one_of g v))
 
--- what a group offers to all that it issued: its anchors, or what a row reaches with at its fit members
+-- what a group offers to all that it issued: its anchors, or what a row reaches with at its fit
+-- members
 abbrev pub GroupOffers : Nodes → List Reach → Group → ℕ → Type 0
 GroupOffers nodes row group c = (0 < length group.anchors.items) ⊎ IsOffered nodes row group.members.items c
 

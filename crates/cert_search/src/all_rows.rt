@@ -11,7 +11,8 @@ use crate::rising::{begin, has_risen, rise};
 use cert_graph::{Change, Nodes};
 use std::alloc::{AllocError, Global};
 
-/// Rows raised from none, up to the first that is its own successor, each as its changes against the row before it.
+/// Returns the rows raised from none, up to the first that is its own successor, each as its
+/// changes from the row before it.
 pub(crate) fn all_rows(alloc: Global, nodes: &Nodes) -> Result<Vec<Vec<Change>>, AllocError>
     ensures { IfOk result (λ steps. AreAllRows (graph_of nodes.now) (rows_by (replicate (length nodes.now.items.items) No) (map (λ s. s.items) steps.items))) }
 {

@@ -11,9 +11,11 @@ use crate::walk::first_path;
 use cert_graph::{Answer, Nodes, Table, least_anchor};
 use std::alloc::{AllocError, Global};
 
-/// The first valid path from a target, told by its position from 0, or that there is none, with the table that shows it.
+/// Finds the first valid path from the target at a position, from 0, or that there is none, with
+/// the table that shows it.
 ///
-/// The only refusal is want of memory.
+/// The only error is out of memory. The first round goes over all groups, each further one over
+/// what changed in the last.
 pub fn find_nodes(alloc: Global, nodes: &Nodes, target: usize) -> Result<Answer, AllocError>
     ensures adequate { IfOk result (IsAdequate (graph_of nodes.now) target) }
     ensures holds { IfOk result (IsTrueAnswer (graph_of nodes.now) target) }
@@ -36,7 +38,7 @@ pub fn find_nodes(alloc: Global, nodes: &Nodes, target: usize) -> Result<Answer,
     }
 }
 
-/// The path of the target alone.
+/// Returns the path of the target alone.
 fn alone(alloc: Global, target: usize, anchor: usize) -> Result<Answer, AllocError>
     ensures { IfOk result (IsAlone target anchor) }
 {

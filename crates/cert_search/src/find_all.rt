@@ -10,7 +10,8 @@ use crate::verdicts::verdict_of;
 use cert_graph::{Inventory, Nodes, lookup_of};
 use std::alloc::{AllocError, Global};
 
-/// The first valid path from each item, or that there is none, with one table that shows it for all of them.
+/// Finds the first valid path from each item, or that there is none, with one table that shows it
+/// for all of them.
 ///
 /// The rows are raised once, however many items there are. The only error is out of memory.
 pub fn find_all_nodes(alloc: Global, nodes: &Nodes) -> Result<Inventory, AllocError>

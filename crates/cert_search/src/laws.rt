@@ -2,7 +2,8 @@
 
 ghost use Rattle.cert_search.specs.LawsOfTables.{LawAgreeingTables};
 
-/// Nodes that say the same of each position have the same answers with exact rows, and the same with short paths.
+/// Nodes that agree on each position have equal answers with exact rows, and equal ones with short
+/// paths.
 pub fn law_agreeing_tables()
     ensures { LawAgreeingTables }
 {}

@@ -7,8 +7,9 @@ use cert_graph::{Group, Nodes};
 use smallvec::SmallVec;
 use std::alloc::{AllocError, Global};
 
-/// The groups that one item is a member of, told by their places. Two lie inline: a certificate stands in the group of
-/// its name and key, and in that of its key identifier. More lie in an allocation.
+/// The groups that one item is a member of, by their positions among the groups. Two are kept
+/// inline: a certificate is in the group of its name and key, and in that of its key identifier.
+/// More are in an allocation.
 pub(crate) type Places = SmallVec<usize, 2>;
 
 /// Whether a group has an anchor.
@@ -18,7 +19,7 @@ pub(crate) fn has_anchor(group: &Group) -> bool
     !group.anchors.is_empty()
 }
 
-/// The groups that have an anchor, told by their places.
+/// Returns the groups that have an anchor, by their positions among the groups.
 pub(crate) fn anchored_of(alloc: Global, nodes: &Nodes) -> Result<Vec<usize>, AllocError>
     ensures { IfOk result (λ anchored. AreAnchored nodes.now anchored.items) }
 {
@@ -56,7 +57,8 @@ fn empty_places(alloc: Global, number: usize) -> Result<Vec<Places>, AllocError>
     Ok(places)
 }
 
-/// The groups that each fit item is a member of, told by their places, and none at the other items.
+/// Returns the groups that each fit item is a member of, by their positions among the groups, and
+/// none for the other items.
 fn places_of(alloc: Global, nodes: &Nodes) -> Result<Vec<Places>, AllocError>
     ensures { IfOk result (λ places. ArePlaces nodes.now (map (λ l. l.items) places.items)) }
 {

@@ -30,7 +30,7 @@ pub(crate) struct Rising {
     /// What each group has offered to all that it issued.
     pub handed: Vec<Reach>,
 
-    /// The positions whose offer rose last. Elsewhere the next row is as this one.
+    /// The positions whose offer rose last. At all others the next row is equal to this one.
     pub risen: Vec<usize>,
 }
 
@@ -54,7 +54,8 @@ fn raise_to(
     Ok(())
 }
 
-/// Makes a row the next one, and tells where it changed. It is looked at alone where an offer rose.
+/// Makes a row the next one, and returns where it changed. It is looked at only where an offer
+/// rose.
 fn raise_row(
     alloc: Global,
     nodes: &Nodes,
@@ -83,7 +84,8 @@ fn raise_row(
     Ok(changes)
 }
 
-/// Raises what each group may offer by the changes of its members, and tells the groups where it rose.
+/// Raises what each group may offer by the changes of its members, and returns the groups where it
+/// rose.
 fn raise_bests(
     alloc: Global,
     places: &[Places],
@@ -103,7 +105,8 @@ fn raise_bests(
     Ok(groups)
 }
 
-/// Raises what each group may offer to what it offers by a row, and tells the groups where it rose.
+/// Raises what each group may offer to what it offers by a row, and returns the groups where it
+/// rose.
 fn raise_all_bests(
     alloc: Global,
     nodes: &Nodes,
@@ -127,8 +130,8 @@ fn raise_all_bests(
     Ok(groups)
 }
 
-/// Raises what each group may offer to what it offers by the next row, and tells the groups where it rose. Where no
-/// places are noted it looks at all members of all groups.
+/// Raises what each group may offer to what it offers by the next row, and returns the groups where
+/// it rose. If no places are noted it looks at all members of all groups.
 fn next_bests(
     alloc: Global,
     nodes: &Nodes,
@@ -150,8 +153,8 @@ fn next_bests(
     }
 }
 
-/// Hands on what some groups may offer to all that they issued, and tells the positions whose offer rose. A group
-/// that stands there twice hands on once.
+/// Passes on what some groups may offer to all that they issued, and returns the positions whose
+/// offer rose. A group that is listed twice passes on once.
 fn hand_on(
     alloc: Global,
     nodes: &Nodes,
@@ -210,8 +213,8 @@ pub(crate) fn begin(alloc: Global, nodes: &Nodes) -> Result<Rising, AllocError>
     })
 }
 
-/// One round: the row becomes the next one, by the changes that are returned. It needs no places, but without them it
-/// goes over all groups.
+/// One round: the row becomes the next one, by the changes that are returned. It needs no places,
+/// but without them it goes over all groups.
 pub(crate) fn rise(
     alloc: Global,
     nodes: &Nodes,

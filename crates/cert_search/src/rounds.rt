@@ -14,8 +14,8 @@ use std::alloc::{AllocError, Global};
 /// What the raising of rows comes to.
 #[derive(Drop)]
 pub(crate) enum Found {
-    /// Rows, each as its changes against the row before it, the first against a row of `No`. The last is the first that
-    /// gives the target a path.
+    /// Rows, each as its changes against the row before it, the first against a row of `No`. The
+    /// last is the first that gives the target a path.
     Opening(Vec<Vec<Change>>),
 
     /// A row that is its own successor, and gives the target no path.
@@ -31,8 +31,8 @@ fn opens(usable: bool, offers: &[Reach], target: usize) -> bool
 
 /// Rows raised from none, up to the first that gives the target a path or is its own successor.
 ///
-/// One row is kept, and of each one where it differs from the one before it. The groups of each item are noted only
-/// where a second round follows.
+/// One row is kept, and of each one where it differs from the one before it. The groups of each
+/// item are noted only where a second round follows.
 pub(crate) fn rows_to(alloc: Global, nodes: &Nodes, target: usize) -> Result<Found, AllocError>
     ensures { IfOk result (IsFound (graph_of nodes.now) target) }
 {

@@ -14,8 +14,8 @@ ghost use Rattle.cert_search.specs.Rows.{IsRun, Opens};
 use cert_graph::{Answer, Change, Lookup, Nodes, Table, Verdict, lookup_of};
 use std::alloc::{AllocError, Global};
 
-/// The walk down the rows of some changes, of which the last is the first that reaches an issuer of the target. It
-/// takes the least position at each step, and then the least anchor.
+/// The walk down the rows of some changes, of which the last is the first that reaches an issuer of
+/// the target. It takes the least position at each step, and then the least anchor.
 pub(crate) fn walk(
     alloc: Global,
     nodes: &Nodes,

@@ -29,7 +29,8 @@ tag_of Uri = 6
 tag_of IpAddress = 7
 tag_of RegisteredId = 8
 
--- The tags are IMPLICIT: a SEQUENCE keeps its parts. A Name is a CHOICE itself, so [4] holds it as its part (X.680, 31.2.7).
+-- The tags are IMPLICIT: a SEQUENCE keeps its parts. A Name is a CHOICE itself, so [4] holds it as
+-- its part (X.680, 31.2.7).
 abbrev pub has_parts : Choice → Bool
 has_parts OtherName = true
 has_parts X400Address = true
@@ -37,9 +38,10 @@ has_parts DirectoryName = true
 has_parts EdiPartyName = true
 has_parts _ = false
 
--- What is looked into: the characters of an IA5String are ASCII (X.690, 8.23), and an identifier is in its one spelling. An OCTET
--- STRING is any octets: an address of another length than 4 or 16 is no host's. What has parts isn't looked into: it names no host,
--- and takes memory or recursion to read.
+-- What is looked into: the characters of an IA5String are ASCII (X.690, 8.23), and an identifier is
+-- in its one spelling. An OCTET STRING is any octets: an address of another length than 4 or 16 is
+-- no host's. What has parts isn't looked into: it names no host, and takes memory or recursion to
+-- read.
 abbrev pub HasContentOf : Choice → List ℕ → Type 0
 HasContentOf Rfc822Name = IsAscii
 HasContentOf DnsName = IsAscii

@@ -10,7 +10,7 @@ use Rattle.cert_purpose.specs.Purposes.{extended_key_usage}
 use Rattle.cert_serving.specs.Serving.{subject_alt_name}
 use Rattle.cert_serving.specs.Demanding.{Demanded, IsPermitted}
 
--- octets stand in a set
+-- octets are in a set
 abbrev pub IsIn : BTreeSet (Bor (List ℕ)) → List ℕ → Type 0
 IsIn set octets = IsTrue (sorted.contains_by (λ k. slice_cmp nat_cmp octets k.now) set)
 

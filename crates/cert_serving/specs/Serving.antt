@@ -13,7 +13,8 @@ use Rattle.cert_serving.specs.GeneralNames.{GeneralName, IsGeneralName, general_
 abbrev pub subject_alt_name : Identifier
 subject_alt_name = under_ce 17
 
--- A dNSName that matches the host's name, or an iPAddress of the host's octets: never the one for the other.
+-- A dNSName that matches the host's name, or an iPAddress of the host's octets: never the one for
+-- the other.
 abbrev pub IsNameOf : Asked → GeneralName → Type 0
 IsNameOf (name host) g = (g.choice ≡ DnsName) × Matches g.content host
 IsNameOf (address octets) g = (g.choice ≡ IpAddress) × (g.content ≡ octets)
@@ -25,8 +26,9 @@ HasNameOf host gs = (g : GeneralName) × Contains gs g × IsNameOf host g
 abbrev pub Names : Asked → List ℕ → Type 0
 Names host value = (gs : List GeneralName) × AreGeneralNames value gs × HasNameOf host gs
 
--- The extensions of a certificate that serves a host: exactly one subjectAltName, with a name of the host. Nothing else of the
--- certificate is asked, so never the common name of its subject (RFC 9525, 6.4.4).
+-- The extensions of a certificate that serves a host: exactly one subjectAltName, with a name of
+-- the host. Nothing else of the certificate is asked, so never the common name of its subject
+-- (RFC 9525, 6.4.4).
 abbrev pub Serves : Asked → List Extension → Type 0
 Serves host es = (value : List ℕ) × IsOneUnder subject_alt_name es value × Names host value
 

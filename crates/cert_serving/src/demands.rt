@@ -11,8 +11,8 @@ use cert_model::fields::ExtField;
 use cert_purpose::allows;
 use host_names::Host;
 
-/// What is demanded of the certificates of a path, apart from its being valid. Where neither a
-/// purpose nor a host is given, every item is permitted.
+/// What is demanded of the certificates of a path, apart from its being valid. If neither a purpose
+/// nor a host is given, every item is permitted.
 #[derive(Clone, Copy, Debug)]
 pub struct Demands<'a> {
     /// A purpose that each certificate of the path has to allow (RFC 5280, 4.2.1.12): the content

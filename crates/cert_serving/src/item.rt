@@ -47,8 +47,9 @@ fn extensions_of<'a>(
     }
 }
 
-/// Whether an item is a certificate that allows a purpose (RFC 5280, 4.2.1.12), given by the content
-/// octets of its identifier. Takes time and memory linear in the item.
+/// Returns whether an item is a certificate that allows a purpose (RFC 5280, 4.2.1.12), given by
+/// the content octets of its identifier. Takes time and memory linear in the item. The only error
+/// is out of memory.
 pub fn item_allows(alloc: Global, octets: &[u8], purpose: &[u8]) -> Result<Answer, OutOfMemory>
     ensures { IfOk result (IsAnswer octets.now (Allows purpose.now)) }
 {
@@ -58,8 +59,8 @@ pub fn item_allows(alloc: Global, octets: &[u8], purpose: &[u8]) -> Result<Answe
     }
 }
 
-/// Whether an item is a certificate that serves a host (RFC 9525, 6). Takes time and memory linear in
-/// the item.
+/// Returns whether an item is a certificate that serves a host (RFC 9525, 6). Takes time and memory
+/// linear in the item. The only error is out of memory.
 pub fn item_serves(alloc: Global, octets: &[u8], host: &Host<'_>) -> Result<Answer, OutOfMemory>
     ensures { IfOk result (IsAnswer octets.now (Serves (host_view host.now))) }
 {
@@ -69,8 +70,8 @@ pub fn item_serves(alloc: Global, octets: &[u8], host: &Host<'_>) -> Result<Answ
     }
 }
 
-/// Whether an item is no certificate, or one that meets the demands. It is read only where something
-/// may be demanded of it.
+/// Whether an item is no certificate, or one that meets the demands. It is read only where
+/// something may be demanded of it.
 pub(crate) fn is_permitted(
     alloc: Global,
     octets: &[u8],

@@ -41,9 +41,9 @@ pub fn examples_of_hosts()
     ensures two { (host : Asked) → ¬ Serves host (alternative star_value ∷ alternative star_value ∷ []) }
 {}
 
-/// Of what is processed: a critical extKeyUsage is usable where a purpose is demanded, and not where a
-/// host alone is; a critical subjectAltName is usable where a host is demanded, in the target and not
-/// in an issuer, and not where a purpose alone is.
+/// Of what is processed: a critical extKeyUsage is usable where a purpose is demanded, and not
+/// where a host alone is; a critical subjectAltName is usable where a host is demanded, in the
+/// target and not in an issuer, and not where a purpose alone is.
 pub fn examples_of_processing()
     ensures purpose { IsUsable (IsProcessedFor of_purpose (2 ∷ [])) in_june (critical extended_key_usage for_servers) }
     ensures no_purpose { ¬ IsUsable (IsProcessedFor of_host (1 ∷ [])) in_june (critical extended_key_usage for_servers) }
@@ -61,8 +61,8 @@ pub fn permits_those(_permits: &Permits<'_>)
 {}
 
 /// With what `Permits::new` makes, the valid paths of the restricted relation from the target are
-/// those of the whole one all of whose certificates allow the purpose, from a target that serves the
-/// host. Both process what the demands look at.
+/// those of the whole one all of whose certificates allow the purpose, from a target that serves
+/// the host. Both process what the demands look at.
 pub fn serving_paths_by<V: Vouch>(_vouch: &V, _permits: &Permits<'_>)
     ensures { (moment : CivilTime) (demand : Bool) (d : Demanded) (octets : List (List ℕ)) (items anchors : List Item) (target : ℕ) (ps : List ℕ) (a : ℕ)
         → PermitsOf d octets (are_permitted _permits.now) → ProcessesFor d (are_processed _permits.now) → AreClassed octets items → IsAt items target (λ x. x.octets ≡ d.target)

@@ -1,4 +1,4 @@
-//! Which certificates serve a host, and which items of a question may stand in a path for a purpose
+//! Which certificates serve a host, and which items of a question may be in a path for a purpose
 //! and a host (RFC 9525, 6; RFC 5280, 4.2.1.6 and 4.2.1.12).
 #![tactic(auto)]
 

@@ -104,8 +104,8 @@ fn front_tag(octets: &[u8]) -> Option<u32>
     Some(header.tag().0)
 }
 
-/// The name that begins the octets, and the octets after it. `None` where no name of the nine
-/// choices begins them.
+/// Reads one name from the front of `octets`. Returns it and the octets after it; `None` if no name
+/// of the nine choices begins them. It takes no memory.
 pub fn next_name(octets: &[u8]) -> Option<(GeneralName<'_>, &[u8])>
     ensures found { IfSome result (λ r. IsGeneralName (general_name_view r.0) × (octets.now ≡ general_name_octets (general_name_view r.0) ++ r.1.now)) }
     ensures only { (g : spelled.GeneralName) (rest : List ℕ) → IsGeneralName g → octets.now ≡ general_name_octets g ++ rest → IsSomeAnd result (λ r. (general_name_view r.0 ≡ g) × (r.1.now ≡ rest)) }

@@ -1,4 +1,4 @@
-//! Which items of a question may stand in a path.
+//! Which items of a question may be in a path.
 
 ghost use Rattle.std.specs.Prelude.{◌≡◌, ◌↔◌, ℕ, List, IsTrue, IsSome, IsNone, IfSome, IsSomeAnd, IfOk};
 ghost use Rattle.std.specs.BTreeSet as sorted;
@@ -19,10 +19,11 @@ use std::collections::BTreeSet;
 /// Which items of a question meet demands: those that are no certificate, and the certificates that
 /// allow the purpose and, where they are the target, serve the host. What is so looked at is
 /// processed: extKeyUsage in each item, where a purpose is demanded, and subjectAltName in the
-/// target, where a host is. So these may be critical there, as RFC 3161, 2.3, wants of time stamping.
+/// target, where a host is. So these may be critical there, as RFC 3161, 2.3, wants of time
+/// stamping.
 ///
-/// What an item is permitted is worked out once, by `new`; `is_permitted` looks it up by its octets,
-/// in as many comparisons as a look-up in a sorted set of the refused items.
+/// What an item is permitted is worked out once, by `new`; `is_permitted` looks it up by its
+/// octets, in as many comparisons as a look-up in a sorted set of the refused items.
 #[derive(Drop)]
 pub struct Permits<'a> {
     refused: BTreeSet<&'a [u8]>,
@@ -71,9 +72,10 @@ fn host_target<'a>(demands: &Demands<'a>) -> Option<&'a [u8]>
 }
 
 impl<'a> Permits<'a> {
-    /// Works out which items meet the demands. Each is read at most once, and only where something is
-    /// demanded of it: with a host alone, the items whose octets are the target's. Time and memory are
-    /// linear in the items that are read, apart from the look-ups in the set of those refused.
+    /// Works out which items meet the demands. Each is read at most once, and only where something
+    /// is demanded of it: with a host alone, the items whose octets are the target's. Time and
+    /// memory are linear in the items that are read, apart from the look-ups in the set of those
+    /// refused.
     pub fn new(
         alloc: Global,
         items: &'a Items,

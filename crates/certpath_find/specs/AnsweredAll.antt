@@ -10,7 +10,8 @@ use Rattle.cert_model.specs.Fields.{Certificate}
 use Rattle.cert_model.specs.Class.{IsCertificateItem}
 use Rattle.cert_search.specs.Inventory.{HasExactTable, IsShortVerdict}
 
--- an inventory that a search found: adequate, so true; its rows hold exactly how far each issuer leads, and its paths are short
+-- an inventory that a search found: adequate, so true; its rows hold exactly how far each issuer
+-- leads, and its paths are short
 pub record IsFoundOfAll (g : Graph) (inventory : Inventory) : Type 0 where
   pub adequate : IsAdequateInventory g inventory
   pub holds : IsTrueInventory g inventory

@@ -1,4 +1,4 @@
--- Contents of elements, told by the first octet (X.690, 8.1).
+-- Contents of elements, recognized by the first octet (X.690, 8.1).
 use Rattle.std.specs.Prelude.{◌≡◌, ℕ, List, ◌∷◌}
 use Rattle.asn1_core.specs.Elements.{Element}
 use Rattle.asn1_any.specs.DerElements.{BeginsWithElement}

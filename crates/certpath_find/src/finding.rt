@@ -18,10 +18,10 @@ use cert_judge::{JudgedItem, Policy, Vouch, nodes_by};
 use cert_search::find_nodes;
 use std::alloc::{AllocError, Global};
 
-/// Finds the first of the shortest valid paths from a target, a position among the items, to an anchor
-/// (RFC 5280, 6.1 and 6.3), or that there is none, with the table that shows it; `NoTarget` if the target
-/// is out of range or no certificate. Anchors are numbered by position; those that are no certificates
-/// are skipped.
+/// Finds the first of the shortest valid paths from a target, a position among the items, to an
+/// anchor (RFC 5280, 6.1 and 6.3), or that there is none, with the table that shows it; `NoTarget`
+/// if the target is out of range or no certificate. Anchors are numbered by position; those that
+/// are no certificates are skipped.
 ///
 /// The only error is out of memory. It costs reading each item and anchor once, what `nodes_by` of
 /// `cert_judge` says, and the search over the nodes.
@@ -36,7 +36,7 @@ pub fn find<'a, V: Vouch>(
     ensures adequate { IfOk result (λ answer. HoldsOfItems (rules_by policy.now.moment policy.now.demand_lists (V.vouches_for vouch.now)) items.now.items anchors.now.items (λ g. IsAdequate g target answer)) }
     ensures holds { IfOk result (λ answer. HoldsOfItems (rules_by policy.now.moment policy.now.demand_lists (V.vouches_for vouch.now)) items.now.items anchors.now.items (λ g. IsTrueAnswer g target answer)) }
     ensures exact { IfOk result (λ answer. HoldsOfItems (rules_by policy.now.moment policy.now.demand_lists (V.vouches_for vouch.now)) items.now.items anchors.now.items (λ g. HasExactRows g answer)) }
-    // no position stands twice in a path, so its table has fewer rows than there are items
+    // no position is twice in a path, so its table has fewer rows than there are items
     ensures short { IfOk result (λ answer. HoldsOfItems (rules_by policy.now.moment policy.now.demand_lists (V.vouches_for vouch.now)) items.now.items anchors.now.items (λ g. IsShort g answer)) }
     // octets that spell a certificate otherwise are never in a path
     ensures spelled { IfOk result (NamesCertificates items.now.items) }
@@ -55,8 +55,9 @@ pub fn find<'a, V: Vouch>(
     Ok(answer)
 }
 
-/// `find` over items and anchors that are judged, whatever they were judged from and at whatever
-/// moment, as `judged_items` judges them. The only error is out of memory.
+/// Finds the first of the shortest valid paths over items and anchors that were judged before, from
+/// whatever octets and at whatever moment, as `judged_items` judges them; it returns what `find`
+/// does. The only error is out of memory.
 pub fn find_judged<'a, V: Vouch>(
     alloc: Global,
     items: &[JudgedItem<'a>],

@@ -19,9 +19,9 @@ use cert_judge::{JudgedItem, Policy, Vouch, nodes_by};
 use cert_search::find_all_nodes;
 use std::alloc::{AllocError, Global};
 
-/// Finds for each item as a target, by its position: the first of the shortest valid paths to an anchor
-/// (RFC 5280, 6.1 and 6.3), or that there is none, or that the item is no certificate, with one table
-/// that shows it for all of them. It says of each item what `find` says.
+/// Finds for each item as a target, by its position: the first of the shortest valid paths to an
+/// anchor (RFC 5280, 6.1 and 6.3), or that there is none, or that the item is no certificate, with
+/// one table that shows it for all of them. It says of each item what `find` says.
 ///
 /// The only error is out of memory. It costs reading each item and anchor once, what `nodes_by` of
 /// `cert_judge` says, and the search over the nodes, whose rows are raised once, however many items
@@ -36,7 +36,7 @@ pub fn find_all<'a, V: Vouch>(
     ensures adequate { IfOk result (λ inventory. HoldsOfItems (rules_by policy.now.moment policy.now.demand_lists (V.vouches_for vouch.now)) items.now.items anchors.now.items (λ g. IsAdequateInventory g inventory)) }
     ensures holds { IfOk result (λ inventory. HoldsOfItems (rules_by policy.now.moment policy.now.demand_lists (V.vouches_for vouch.now)) items.now.items anchors.now.items (λ g. IsTrueInventory g inventory)) }
     ensures exact { IfOk result (λ inventory. HoldsOfItems (rules_by policy.now.moment policy.now.demand_lists (V.vouches_for vouch.now)) items.now.items anchors.now.items (λ g. HasExactTable g (shared_rows g inventory))) }
-    // no position stands twice in a path, so none has more certificates than there are items
+    // no position is twice in a path, so none has more certificates than there are items
     ensures short { IfOk result (λ inventory. HoldsOfItems (rules_by policy.now.moment policy.now.demand_lists (V.vouches_for vouch.now)) items.now.items anchors.now.items (λ g. All (IsShortVerdict g) inventory.verdicts.items)) }
     // octets that spell a certificate otherwise are never in a path
     ensures spelled { IfOk result (λ inventory. All (VerdictNamesCertificates items.now.items) inventory.verdicts.items) }
@@ -48,8 +48,9 @@ pub fn find_all<'a, V: Vouch>(
     Ok(inventory)
 }
 
-/// `find_all` over items and anchors that are judged, whatever they were judged from and at whatever
-/// moment, as `judged_items` judges them. The only error is out of memory.
+/// Finds the first of the shortest valid paths from each item, over items and anchors that were
+/// judged before, from whatever octets and at whatever moment, as `judged_items` judges them; it
+/// returns what `find_all` does. The only error is out of memory.
 pub fn find_all_judged<'a, V: Vouch>(
     alloc: Global,
     items: &[JudgedItem<'a>],

@@ -1,4 +1,5 @@
-//! Key identifiers (RFC 5280, 4.2.1.1 and 4.2.1.2): the elements of values that are DER objects, told by their first octets.
+//! Key identifiers (RFC 5280, 4.2.1.1 and 4.2.1.2): the elements of values that are DER objects,
+//! recognized by their first octets.
 
 ghost use Rattle.std.specs.Prelude.{◌≡◌, ◌≤◌, ℕ, List, All, length, map, IfSome, IsSomeAnd};
 ghost use Rattle.cert_model.specs.Extended.{under_ce};
@@ -25,7 +26,7 @@ const OCTET_STRING: u8 = 0x04;
 /// The identifier octet of keyIdentifier, a primitive \[0\] (RFC 5280, 4.2.1.1).
 const KEY_IDENTIFIER: u8 = 0x80;
 
-/// The value of the first extension whose identifier is 2.5.29.n.
+/// Returns the value of the first extension whose identifier is 2.5.29.n.
 fn first_value<'a>(extensions: &[ExtField<'a>], n: u8) -> Option<&'a [u8]>
     ensures found { IfSome result (λ value. IsFirstUnder (under_ce n) (map ext_view extensions.now) value.now) }
     ensures only { (value : List ℕ) → IsFirstUnder (under_ce n) (map ext_view extensions.now) value → IsSomeAnd result (λ r. r.now ≡ value) }
@@ -38,7 +39,7 @@ fn first_value<'a>(extensions: &[ExtField<'a>], n: u8) -> Option<&'a [u8]>
     None
 }
 
-/// The content of the element that begins the octets, where its first octet is this.
+/// Returns the content of the element at the front of the octets, if its first octet is `first`.
 fn content_under<'a>(first: u8, octets: &'a [u8]) -> Option<&'a [u8]>
     ensures found { IfSome result (λ content. HasContent first octets.now content.now) }
     ensures only { (content : List ℕ) → HasContent first octets.now content → IsSomeAnd result (λ r. r.now ≡ content) }
@@ -52,7 +53,8 @@ fn content_under<'a>(first: u8, octets: &'a [u8]) -> Option<&'a [u8]>
     Some(element.content)
 }
 
-/// The content of the OCTET STRING that begins the octets, where its first octet is that of a universal one without parts.
+/// Returns the content of the OCTET STRING at the front of the octets, if its first octet is that
+/// of a primitive universal one.
 fn octets_at<'a>(alloc: Global, octets: &'a [u8]) -> Option<&'a [u8]>
     ensures found { IfSome result (λ content. HasContent 4 octets.now content.now) }
     ensures only { (content : List ℕ) → length octets.now ≤ 4_294_967_295 → octets.now ≡ primitive_octets 4 content → IsSomeAnd result (λ r. r.now ≡ content) }
@@ -66,8 +68,9 @@ fn octets_at<'a>(alloc: Global, octets: &'a [u8]) -> Option<&'a [u8]>
     Some(id.0)
 }
 
-/// The key identifier that a certificate names for its issuer (RFC 5280, 4.2.1.1): the content of the first element of the first
-/// authorityKeyIdentifier value, where that value is a DER object and the element is a [0] without parts.
+/// Returns the key identifier that a certificate names for its issuer (RFC 5280, 4.2.1.1): the
+/// content of the first element of the first authorityKeyIdentifier value, if that value is a DER
+/// object and the element is a primitive `[0]`.
 pub(crate) fn named_key_id<'a>(fields: &CertFields<'a>) -> Option<&'a [u8]>
     ensures found { IfSome result (λ id. IsAuthorityKeyId (certificate_view fields.now) id.now) }
     ensures only { (id : List ℕ) → IsAuthorityKeyId (certificate_view fields.now) id → IsSomeAnd result (λ s. s.now ≡ id) }
@@ -84,8 +87,8 @@ pub(crate) fn named_key_id<'a>(fields: &CertFields<'a>) -> Option<&'a [u8]>
     content_under(KEY_IDENTIFIER, parts)
 }
 
-/// The key identifier of a certificate's own key (RFC 5280, 4.2.1.2): the content of the OCTET STRING that the first
-/// subjectKeyIdentifier value is.
+/// Returns the key identifier of a certificate's own key (RFC 5280, 4.2.1.2): the content of the
+/// OCTET STRING that the first subjectKeyIdentifier value is.
 pub(crate) fn own_key_id<'a>(alloc: Global, fields: &CertFields<'a>) -> Option<&'a [u8]>
     requires small { All (λ (e : Extension). length e.value ≤ 4_294_967_295) (certificate_view fields.now).extensions }
     ensures found { IfSome result (λ id. IsSubjectKeyId (certificate_view fields.now) id.now) }

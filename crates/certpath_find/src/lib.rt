@@ -1,8 +1,9 @@
-//! Finds the first of the shortest valid certification paths over items, with a table that shows it.
+//! Finds the first of the shortest valid certification paths over items, with a table that shows
+//! it.
 //!
-//! Items are read by `TypedReader`, and not as `certcheck::check` reads them, which judges the answers:
-//! the search and the check share no code that reads an item, and this crate stands on nothing of
-//! `certcheck`.
+//! Items are read by `TypedReader`, and not as `certcheck::check` reads them, which judges the
+//! answers: the search and the check share no code that reads an item, and this crate uses
+//! nothing of `certcheck`.
 #![tactic(auto)]
 
 mod finding;

@@ -18,8 +18,8 @@ use certpath_typed::read_typed;
 use jiff::civil::DateTime;
 use std::alloc::Global;
 
-/// Reads items by `certpath_typed::read_typed`: the reader of `find` and `find_all`. The check of an
-/// answer reads by another one, and shares no code with this that reads an item.
+/// Reads items by `certpath_typed::read_typed`: the reader of `find` and `find_all`. The check of
+/// an answer reads by another one, and shares no code with this that reads an item.
 ///
 /// It costs time and memory linear in the item.
 pub struct TypedReader;
@@ -45,8 +45,8 @@ impl ReadsItem for TypedReader {
 }
 
 /// Reads items by `TypedReader` and judges each by itself at a moment, as
-/// `cert_judge::judged_items::<TypedReader>` does: for `find_judged` and `find_all_judged`. The only
-/// error is out of memory.
+/// `cert_judge::judged_items::<TypedReader>` does: for `find_judged` and `find_all_judged`. The
+/// only error is out of memory.
 pub fn judged_items<'a>(
     alloc: Global,
     items: &'a Items,

@@ -13,8 +13,8 @@ pub data Source : Type 0 where
   nothing : Source
   other : Source
 
--- the octet 30, and a length in a long form or the indefinite one (X.690, 8.1.3.5 and 8.1.3.6). No text in ASCII or UTF-8 begins so:
--- after the character 0 an octet below 128 or above 193 would be.
+-- the octet 30, and a length in a long form or the indefinite one (X.690, 8.1.3.5 and 8.1.3.6). No
+-- text in ASCII or UTF-8 begins so: after the character 0 an octet below 128 or above 193 would be.
 abbrev pub begins_long : List ℕ → Bool
 begins_long [] = false
 begins_long (first ∷ []) = false
@@ -48,7 +48,8 @@ abbrev pub is_none : List ℕ → Bool
 is_none [] = true
 is_none (octet ∷ octets) = false
 
--- what a file of these octets is. What begins as certificates in DER do is no text, whatever is in it.
+-- what a file of these octets is. What begins as certificates in DER do is no text, whatever is in
+-- it.
 abbrev pub source_of : List ℕ → Source
 source_of octets =
     if begins_long octets then der
@@ -68,7 +69,8 @@ without_mark octets = if begins_with mark octets then drop 3 octets else octets
 
 -- what the label of a block says that it holds
 pub data Label : Type 0 where
-  -- one certificate or one revocation list (RFC 7468, 5 and 6), by the names that OpenSSL has written too
+  -- one certificate or one revocation list (RFC 7468, 5 and 6), by the names that OpenSSL has
+  -- written too
   one_item : Label
   -- a certificate, and what OpenSSL's trust settings say of it after that
   trusted : Label

@@ -7,8 +7,8 @@ use crate::blocks::step;
 /// A block of a text (RFC 7468, 2). Label and body are windows of the text.
 #[derive(Clone, Copy)]
 pub struct Block<'a> {
-    /// What its first line calls it: at most 64 octets of printable ASCII, or none. A label that isn't known may hold
-    /// anything, a key too: don't print it.
+    /// What its first line calls it: at most 64 octets of printable ASCII, or none. A label that
+    /// isn't known may hold anything, a key too: don't print it.
     pub label: &'a [u8],
     /// The number of its first line, from 1.
     pub line: usize,
@@ -25,11 +25,13 @@ pub enum Entry<'a> {
     Block(Block<'a>),
     /// The number of an END line, where no block of its label is open.
     StrayEnd(usize),
-    /// The number of a line in which `-----BEGIN` or `-----END` is, and which neither begins nor ends a block.
+    /// The number of a line in which `-----BEGIN` or `-----END` is, and which neither begins nor
+    /// ends a block.
     BadBoundary(usize),
 }
 
-/// The entries of a text that are still to be read. It takes as much memory as four references, however long the text is.
+/// The entries of a text that are still to be read. It takes as much memory as four references,
+/// however long the text is.
 #[derive(Clone, Copy)]
 pub struct Cursor<'a> {
     pub(crate) rest: &'a [u8],
@@ -44,7 +46,8 @@ impl<'a> Cursor<'a> {
     ghost use Rattle.certpath_pem.specs.Blocks.{entries_of, entries_from};
     ghost use Rattle.certpath_pem.specs.Views.{entry_view, entries_left};
 
-    /// The entries of the lines of a rest, the first of which has this number, where a block of this label is open.
+    /// The entries of the lines of a rest, the first of which has this number, where a block of
+    /// this label is open.
     pub(crate) fn at(rest: &'a [u8], number: usize, opened: Option<&'a [u8]>) -> Cursor<'a>
         requires { number + length rest.now < 2 ^ 64 }
         ensures rest { result.rest.now ≡ rest.now }

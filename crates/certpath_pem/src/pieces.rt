@@ -1,4 +1,5 @@
-//! Base64 that is decoded piece by piece, so that a long block takes no more memory than its octets.
+//! Base64 that is decoded piece by piece, so that a long block takes no more memory than its
+//! octets.
 
 ghost use Rattle.std.specs.Prelude.{◌≡◌, ◌≢◌, ◌++◌, ◌+◌, ◌-◌, ◌≤◌, ℕ, List, [], IfOk, OnOk, IfSome, IfNone, filter, length, take};
 ghost use Rattle.base64.specs.Engines.{standard};

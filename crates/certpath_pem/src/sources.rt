@@ -73,7 +73,8 @@ fn is_utf16(octets: &[u8]) -> bool
     has_wide_mark(octets) || holds_wide_words(octets)
 }
 
-/// What a file of these octets is. A file that begins as certificates in DER do is `Der`, whatever is in it.
+/// What a file of these octets is. A file that begins as certificates in DER do is `Der`, whatever
+/// is in it.
 pub fn source_of(octets: &[u8]) -> Source
     ensures { source_view result ≡ source_of octets.now }
 {

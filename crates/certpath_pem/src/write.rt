@@ -10,7 +10,8 @@ use std::alloc::{AllocError, Global};
 /// How many octets of base64 a line has, but for the last one (RFC 7468, 2).
 const LINE_WIDTH: usize = 64;
 
-/// Writes one octet in a line that has room for so many more, or in a new one. Returns the room that is left.
+/// Writes one octet in a line that has room for so many more, or in a new one. Returns the room
+/// that is left.
 fn push_octet(text: &mut Vec<u8>, room: usize, octet: u8) -> Result<usize, AllocError>
     ensures { IfOk result (λ left. (rest : List ℕ) → text.new.items ++ wrapped_from left rest ≡ text.old.items ++ wrapped_from room (octet ∷ rest)) }
 {
@@ -45,8 +46,9 @@ fn push_boundary(text: &mut Vec<u8>, words: &[u8], label: &[u8]) -> Result<(), A
     Ok(())
 }
 
-/// Octets as one block of PEM: a BEGIN line, base64 in lines of 64, an END line, each ended by an LF (RFC 7468, 2 and
-/// 3). `is_label` says whether octets may be a label.
+/// Returns octets as one block of PEM: a BEGIN line, base64 in lines of 64, an END line, each ended
+/// by an LF (RFC 7468, 2 and 3). `is_label` says whether octets may be a label. The only error is
+/// out of memory.
 pub fn write_pem(alloc: Global, label: &[u8], octets: &[u8]) -> Result<Vec<u8>, AllocError>
     requires { is_label label.now ≡ true }
     ensures { IfOk result (λ text. text.items ≡ pem_of label.now octets.now) }

@@ -1,4 +1,4 @@
-//! Certificates, as what they are written of (RFC 5280, 4.1).
+//! Certificates as parts that are written (RFC 5280, 4.1).
 ghost use Rattle.std.specs.Prelude.{◌≡◌};
 ghost use Rattle.cert_model.specs.Octets.{version_octets, validity_octets, tbs_certificate_octets, certificate_octets};
 ghost use Rattle.cert_model.specs.View.{time_view, certificate_view};
@@ -26,7 +26,7 @@ type Signed<'a> = Element<
     Both<Version, Both<Plain<'a>, Both<Algorithm<'a>, Both<Name<'a>, Holder<'a>>>>>,
 >;
 
-// What stands behind the issuer: validity, subject and key, and what may be absent.
+// The fields after the issuer: validity, subject and key, and what may be absent.
 type Held<'a> = Both<Validity, Both<Name<'a>, Both<Key<'a>, Additions<'a>>>>;
 
 // Unique identifiers and extensions.
@@ -35,7 +35,7 @@ type Added<'a> = Both<
     Both<Option<Bits<'a>>, Both<Option<Element<Extensions<'a>>>, Nothing>>,
 >;
 
-/// TBSCertificate of these fields.
+/// The TBSCertificate of these fields.
 #[derive(Clone, Copy)]
 pub(crate) struct FirstPart<'a>(&'a CertFields<'a>);
 
@@ -58,7 +58,7 @@ impl<'a> Encode for FirstPart<'a> {
     }
 }
 
-// What stands behind the issuer.
+// The fields after the issuer.
 #[derive(Clone, Copy)]
 struct Holder<'a>(&'a CertFields<'a>);
 
@@ -81,7 +81,7 @@ impl<'a> Encode for Holder<'a> {
     }
 }
 
-// What stands behind the subject's key.
+// The fields after the subject's key.
 #[derive(Clone, Copy)]
 struct Additions<'a>(&'a CertFields<'a>);
 
@@ -104,7 +104,7 @@ impl<'a> Encode for Additions<'a> {
     }
 }
 
-/// Certificate.
+/// A Certificate.
 pub(crate) type Certificate<'a> = Element<
     Both<FirstPart<'a>, Both<Algorithm<'a>, Both<Bits<'a>, Nothing>>>,
 >;
@@ -155,7 +155,7 @@ fn signed<'a>(fields: &'a CertFields<'a>) -> Signed<'a>
     sequence(Both(version(fields.version), serial))
 }
 
-/// A certificate of these fields.
+/// Returns the certificate of these fields.
 pub(crate) fn certificate<'a>(fields: &'a CertFields<'a>) -> Certificate<'a>
     ensures { ⟦<Certificate<'a> as Encode>⟧.octets result ≡ certificate_octets (certificate_view fields.now) }
 {

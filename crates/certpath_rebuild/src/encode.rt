@@ -1,4 +1,5 @@
-//! What parts octets are made of. Each part tells how many octets it has, writes them, and finds them at the end of others.
+//! The parts of an encoding. Each part returns how many octets it has, writes them, and finds them
+//! at the end of others.
 ghost use Rattle.std.specs.Prelude.{◌≡◌, ◌≢◌, ◌<◌, ◌^◌, ℕ, List, [], ◌∷◌, ◌++◌, length, MatchOption};
 ghost use Rattle.std.specs.List.{flat_map};
 ghost use Rattle.asn1_core.specs.Strict.{strict_header};
@@ -10,29 +11,30 @@ ghost use Rattle.certpath_rebuild.specs.Puts.{Sized, Puts};
 use asn1_core::{Class, Header, HeaderOctets, Length, Tag};
 use asn1_device::{DeviceFault, Sink, write_octets};
 
-/// What octets are written of.
+/// A part of an encoding.
 pub(crate) trait Encode {
     /// The octets.
     ghost octets: { Self → List ℕ };
 
-    /// How many octets there are; none where `usize` can't count them.
+    /// Returns how many octets there are; `None` if the number passes `usize`.
     fn size(&self) -> Option<usize>
         ensures { Sized (octets self.now) result };
 
-    /// Writes the octets. Where a write fails a front of them was written.
+    /// Writes the octets. If a write fails, some octets from the front were written.
     fn put<S: Sink>(&self, writer: &mut S) -> Result<(), DeviceFault>
         requires { length (octets self.now) < 2 ^ 64 }
         ensures octets { Puts (S.contents writer.old) (S.contents writer.new) (S.failures writer.old) (S.failures writer.new) (octets self.now) result }
         ensures flushes { S.flushes writer.new ≡ S.flushes writer.old };
 
-    /// What stands before the octets where `whole` ends with them; none where it doesn't. Each part is met once, the last one
-    /// first, and none is counted ahead: what was taken tells the length of a content.
+    /// Returns what is before the octets, if `whole` ends with them; else `None`. Each part is met
+    /// once, the last one first, and none is counted in advance: the octets that were found say how
+    /// long a content is.
     fn before<'w>(&self, whole: &'w [u8]) -> Option<&'w [u8]>
         ensures { MatchOption result ((front : List ℕ) → whole.now ≢ front ++ octets self.now)
             (λ front. whole.now ≡ front.now ++ octets self.now) };
 }
 
-// What stands before the octets where `whole` ends with them.
+// What is before the octets if `whole` ends with them.
 fn before_octets<'w>(octets: &[u8], whole: &'w [u8]) -> Option<&'w [u8]>
     ensures { MatchOption result ((front : List ℕ) → whole.now ≢ front ++ octets.now)
         (λ front. whole.now ≡ front.now ++ octets.now) }
@@ -60,7 +62,7 @@ impl<'a> Encode for Octets<'a> {
     }
 }
 
-/// So many octets.
+/// An array of octets.
 impl<const N: usize> Encode for [u8; N] {
     ghost octets = { λ a. a };
 
@@ -100,7 +102,7 @@ impl Encode for Octet {
     }
 }
 
-/// Nothing.
+/// No octets.
 #[derive(Clone, Copy)]
 pub(crate) struct Nothing;
 
@@ -120,7 +122,7 @@ impl Encode for Nothing {
     }
 }
 
-/// One part behind the other.
+/// One part after another.
 #[derive(Drop)]
 pub(crate) struct Both<A, B>(pub A, pub B);
 
@@ -174,12 +176,13 @@ impl<A: Encode> Encode for Option<A> {
 #[derive(Drop)]
 pub(crate) struct Element<C> {
     pub class: Class,
+    /// Whether the element is constructed.
     pub constructed: bool,
     pub tag: Tag,
     pub content: C,
 }
 
-/// A primitive element of the universal class.
+/// Returns a primitive element of the universal class.
 pub(crate) fn primitive<C: Encode>(tag: Tag, content: C) -> Element<C>
     ensures { ⟦<Element<C> as Encode>⟧.octets result ≡ primitive_octets tag.0 (C.octets content) }
 {
@@ -191,7 +194,7 @@ pub(crate) fn primitive<C: Encode>(tag: Tag, content: C) -> Element<C>
     }
 }
 
-/// A SEQUENCE (X.690, 8.9).
+/// Returns a SEQUENCE (X.690, 8.9).
 pub(crate) fn sequence<C: Encode>(content: C) -> Element<C>
     ensures { ⟦<Element<C> as Encode>⟧.octets result ≡ sequence_octets (C.octets content) }
 {
@@ -203,7 +206,7 @@ pub(crate) fn sequence<C: Encode>(content: C) -> Element<C>
     }
 }
 
-/// A SET OF (X.690, 8.11).
+/// Returns a SET OF (X.690, 8.11).
 pub(crate) fn set<C: Encode>(content: C) -> Element<C>
     ensures { ⟦<Element<C> as Encode>⟧.octets result ≡ set_octets (C.octets content) }
 {
@@ -215,7 +218,7 @@ pub(crate) fn set<C: Encode>(content: C) -> Element<C>
     }
 }
 
-/// `[n] EXPLICIT` (X.690, 8.14).
+/// Returns `[n] EXPLICIT` (X.690, 8.14).
 pub(crate) fn explicit<C: Encode>(tag: u32, content: C) -> Element<C>
     ensures { ⟦<Element<C> as Encode>⟧.octets result ≡ explicit_octets tag (C.octets content) }
 {
@@ -244,8 +247,8 @@ impl<C> Element<C> {
         }
     }
 
-    // What stands before the strict header of so many content octets where `whole` ends with it. A header of two octets is
-    // compared without a buffer (X.690, 8.1.2.2 and 8.1.3.4).
+    // What is before the strict header of so many content octets if `whole` ends with it. A
+    // header of two octets is compared without a buffer (X.690, 8.1.2.2 and 8.1.3.4).
     fn before_header<'w>(&self, size: usize, whole: &'w [u8]) -> Option<&'w [u8]>
         ensures { let header = strict_header (record { class = class_number self.now.class; constructed = self.now.constructed; tag = self.now.tag.0; size = size }) in
             MatchOption result ((front : List ℕ) → whole.now ≢ front ++ header) (λ front. whole.now ≡ front.now ++ header) }
@@ -284,7 +287,7 @@ impl<C: Encode> Encode for Element<C> {
     }
 }
 
-/// Parts one behind the other.
+/// Parts of one type, one after another.
 #[derive(Clone, Copy)]
 pub(crate) struct Each<'a, A>(pub &'a [A]);
 

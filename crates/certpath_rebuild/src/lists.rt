@@ -1,4 +1,4 @@
-//! Revocation lists, as what they are written of (RFC 5280, 5.1).
+//! Revocation lists as parts that are written (RFC 5280, 5.1).
 ghost use Rattle.std.specs.Prelude.{◌≡◌, map, option_map, ◌∷◌, []};
 ghost use Rattle.cert_model.specs.Octets.{optional_octets, number_octets, time_octets, entry_octets, entries_octets, tbs_cert_list_octets, list_octets};
 ghost use Rattle.cert_model.specs.View.{time_view, entry_view, list_view};
@@ -27,7 +27,7 @@ type Entries<'a> = Option<Element<Each<'a, EntryFields<'a>>>>;
 // TBSCertList.
 type Signed<'a> = Element<Both<Version, Both<Algorithm<'a>, Both<Name<'a>, Contents<'a>>>>>;
 
-// What stands behind the issuer: updates, entries and extensions.
+// The fields after the issuer: updates, entries and extensions.
 type Listed<'a> = Both<
     Time,
     Both<Option<Time>, Both<Entries<'a>, Both<Option<Element<Extensions<'a>>>, Nothing>>>,
@@ -56,7 +56,7 @@ impl<'a> Encode for FirstPart<'a> {
     }
 }
 
-// What stands behind the issuer.
+// The fields after the issuer.
 #[derive(Clone, Copy)]
 struct Contents<'a>(&'a ListFields<'a>);
 
@@ -79,7 +79,7 @@ impl<'a> Encode for Contents<'a> {
     }
 }
 
-/// CertificateList.
+/// A CertificateList.
 pub(crate) type List<'a> = Element<
     Both<FirstPart<'a>, Both<Algorithm<'a>, Both<Bits<'a>, Nothing>>>,
 >;
@@ -164,7 +164,7 @@ fn signed<'a>(fields: &'a ListFields<'a>) -> Signed<'a>
     ))
 }
 
-/// A list of these fields.
+/// Returns the list of these fields.
 pub(crate) fn list<'a>(fields: &'a ListFields<'a>) -> List<'a>
     ensures { ⟦<List<'a> as Encode>⟧.octets result ≡ list_octets (list_view fields.now) }
 {

@@ -1,4 +1,4 @@
-//! The parts of certificates and lists, as what they are written of (RFC 5280, 4.1).
+//! The parts of certificates and lists, as they are written (RFC 5280, 4.1).
 ghost use Rattle.std.specs.Prelude.{◌≡◌, map, option_map, if◌then◌else◌};
 ghost use Rattle.asn1_core.specs.Elements.{element_octets};
 ghost use Rattle.cert_model.specs.Octets.{primitive_octets, bit_field_octets, implicit_bits_octets, optional_octets, algorithm_octets, attribute_octets, relative_name_octets, name_octets, key_octets, extension_octets, extensions_octets, several_octets, tagged_extensions_octets, flag_octets};

@@ -11,11 +11,14 @@ use asn1_core::{SerializeError, SerializeResult};
 use asn1_device::Sink;
 use cert_model::fields::{CertFields, ListFields};
 
-/// Appends the octets that these fields write (RFC 5280, 4.1, by the rules of DER), and answers their number. Of fields in
-/// range (`CertFields::in_range`) they are a certificate. No memory is taken, and nothing is flushed.
+/// Writes the octets of these fields (RFC 5280, 4.1, by the rules of DER), and returns their
+/// number. If the fields are in range (`CertFields::in_range`), the octets are a certificate. It
+/// takes no memory and doesn't flush.
 ///
-/// Refusals: `InvalidLength` where `usize` can't count the octets, before anything is written; `IOError` where the writer
-/// failed, behind a front of the octets.
+/// # Errors
+///
+/// `InvalidLength` if the number of octets passes `usize`, before anything is written; `IOError` if
+/// the writer fails, after some octets from the front.
 pub fn rebuild_certificate<S: Sink>(
     fields: &CertFields<'_>,
     writer: &mut S,
@@ -33,10 +36,14 @@ pub fn rebuild_certificate<S: Sink>(
     }
 }
 
-/// Appends the octets that these fields write (RFC 5280, 5.1, by the rules of DER), and answers their number. Of fields in
-/// range (`ListFields::in_range`) they are a revocation list. No memory is taken, and nothing is flushed.
+/// Writes the octets of these fields (RFC 5280, 5.1, by the rules of DER), and returns their
+/// number. If the fields are in range (`ListFields::in_range`), the octets are a revocation list.
+/// It takes no memory and doesn't flush.
 ///
-/// Refusals as of `rebuild_certificate`.
+/// # Errors
+///
+/// `InvalidLength` if the number of octets passes `usize`, before anything is written; `IOError` if
+/// the writer fails, after some octets from the front.
 pub fn rebuild_list<S: Sink>(fields: &ListFields<'_>, writer: &mut S) -> SerializeResult<usize>
     ensures written { Rebuilds (S.contents writer.old) (S.contents writer.new) (S.failures writer.old) (S.failures writer.new) (list_octets (list_view fields.now)) result }
     ensures flushes { S.flushes writer.new ≡ S.flushes writer.old }
@@ -51,7 +58,7 @@ pub fn rebuild_list<S: Sink>(fields: &ListFields<'_>, writer: &mut S) -> Seriali
     }
 }
 
-// Whether the octets are the part's, and nothing stands before them.
+// Whether the octets are the part's, and nothing is before them.
 fn is_whole<P: Encode>(part: &P, octets: &[u8]) -> bool
     ensures { IsTrue result ↔ (P.octets part.now ≡ octets.now) }
 {
@@ -61,15 +68,16 @@ fn is_whole<P: Encode>(part: &P, octets: &[u8]) -> bool
     }
 }
 
-/// Whether the octets are those that these fields write (`rebuild_certificate`). They are compared from the end, nothing is
-/// written, and no memory is taken: each octet is read once.
+/// Returns whether the octets are those that `rebuild_certificate` writes of these fields. They are
+/// compared from the end, each octet once; nothing is written, and no memory is taken.
 pub fn writes_certificate(fields: &CertFields<'_>, octets: &[u8]) -> bool
     ensures { IsTrue result ↔ (certificate_octets (certificate_view fields.now) ≡ octets.now) }
 {
     is_whole(&certificate(fields), octets)
 }
 
-/// Whether the octets are those that these fields write (`rebuild_list`), as `writes_certificate`.
+/// Returns whether the octets are those that `rebuild_list` writes of these fields. They are
+/// compared from the end, each octet once; nothing is written, and no memory is taken.
 pub fn writes_list(fields: &ListFields<'_>, octets: &[u8]) -> bool
     ensures { IsTrue result ↔ (list_octets (list_view fields.now) ≡ octets.now) }
 {

@@ -11,7 +11,7 @@ use jiff::civil::DateTime;
 /// A time as it is written: the century's digits from 2050 on, and the others.
 pub(crate) type Time = Element<Both<Option<[u8; 2]>, [u8; 13]>>;
 
-/// A time, in whole seconds.
+/// Returns a time, in whole seconds.
 pub(crate) fn time(time: DateTime) -> Time
     ensures { ⟦<Time as Encode>⟧.octets result ≡ time_octets (time_view time) }
 {
@@ -32,7 +32,7 @@ fn century(time: DateTime) -> [u8; 2]
     [48 + century / 10, 48 + century % 10]
 }
 
-// The digits from the year's last two on, and Z behind them.
+// The digits from the year's last two on, and `Z`.
 fn digits(time: DateTime) -> [u8; 13]
     ensures { let m = moment_in (time_view time) in result ≡ two_digits (m.year % 100) ++ after_year m ++ 90 ∷ [] }
 {

@@ -1,16 +1,17 @@
--- What fields tell of what the lenient readers read of an item. These relations retrace the code.
+-- Which fields are made of what the lenient readers read of an item. These relations retrace the
+-- code.
 use Rattle.std.specs.Prelude.{◌≡◌, ◌⊎◌, ℕ, nat_eq, ◌||◌, Bool, false, List, [], ◌∷◌}
 use Rattle.std.specs.List.{starts_with, AllZip}
 use Rattle.cert_model.specs.Fields.{Algorithm, Attribute, RelativeName, Name, Bits, Key, Extension}
 use Rattle.x509_names.specs.Fields.{Algorithm as ReadAlgorithm, Attribute as ReadAttribute, Name as ReadName, Bits as ReadBits, Key as ReadKey}
 use Rattle.x509_links.specs.Readers.{Extension as ReadExtension}
 
--- octets stand somewhere in others
+-- octets are somewhere in others
 abbrev pub stand_in : List ℕ → List ℕ → Bool
 stand_in [] octets = starts_with nat_eq [] octets
 stand_in (x ∷ s) octets = starts_with nat_eq (x ∷ s) octets || stand_in s octets
 
--- an identifier's octets, or none where they don't stand in the item
+-- an identifier's octets, or none if they aren't in the item
 unfoldable pub TellsIdentifier : List ℕ → List ℕ → List ℕ → Type 0
 TellsIdentifier item octets told = (told ≡ octets) ⊎ ((stand_in item octets ≡ false) × (told ≡ []))
 

@@ -1,4 +1,5 @@
--- What fields of certificates and lists tell that were read leniently of an item. These relations retrace the code.
+-- Which fields are made of certificates and lists that were read leniently of an item. These
+-- relations retrace the code.
 use Rattle.std.specs.Prelude.{◌≡◌, ℕ, min, List, map, option_map}
 use Rattle.std.specs.List.{AllZip}
 use Rattle.cert_model.specs.Fields.{Certificate, Entry, RevocationList}

@@ -1,4 +1,4 @@
-//! Certificates, from what the reader gives to fields (RFC 5280, 4.1).
+//! Certificates: from what the reader returns to fields (RFC 5280, 4.1).
 
 ghost use Rattle.std.specs.Prelude.{◌≡◌, ◌≤◌, min, IfOk};
 ghost use Rattle.cert_model.specs.View.{certificate_view};
@@ -12,14 +12,14 @@ use cert_model::fields::CertFields;
 use std::alloc::Global;
 use x509_links::X509Certificate;
 
-/// The number as an octet, or the greatest octet where it has none.
+/// Returns the number as an octet, or 255 if it is greater.
 pub(crate) fn small_version(version: u32) -> u8
     ensures { result ≡ min version 255 }
 {
     if version < 255 { version as u8 } else { 255 }
 }
 
-/// The fields of a certificate that was read of the item.
+/// Returns the fields of a certificate that was read from the item.
 pub(crate) fn certificate_fields<'a>(
     alloc: Global,
     item: &'a [u8],

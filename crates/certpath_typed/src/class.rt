@@ -1,5 +1,5 @@
-//! What an item is, by the lenient readers: the gate, the reading, the range and the comparison, in this
-//! order, of a certificate and then of a list. Headers are counted on the way.
+//! What an item is, by the lenient readers: the gate, the reading, the range and the comparison, in
+//! this order, of a certificate and then of a list. Headers are counted on the way.
 
 ghost use Rattle.std.specs.Prelude.{◌≡◌, ◌↔◌, ◌+◌, ◌*◌, ◌^◌, ◌<◌, ◌≤◌, ℕ, length, IfOk, IfSome, MatchOption, IsTrue};
 ghost use Rattle.asn1_core.specs.Counts.{attempts};
@@ -20,9 +20,9 @@ use cert_model::fields::{CertFields, ListFields};
 use der_tree::{MAX_RECURSION, is_der_object_counted};
 use std::alloc::Global;
 
-/// `read_typed`, which raises a count by each header that it tries (X.690, 8.1): at most 17 for each
-/// octet, so none for no octets, and at least one for each element of the item's tree and 17 more if it
-/// is a certificate, nine more if it is a list.
+/// `read_typed`, which raises a count by each header that it tries (X.690, 8.1): at most 17 for
+/// each octet, so none for no octets, and at least one for each element of the item's tree and 17
+/// more if it is a certificate, nine more if it is a list.
 ///
 /// The only error is out of memory. The count keeps to these bounds then too, and never falls.
 pub fn read_typed_counted<'a>(
@@ -48,7 +48,8 @@ pub fn read_typed_counted<'a>(
     Ok(ItemClass::Other)
 }
 
-/// Whether the item is one DER object of at most `MAX_RECURSION` levels. No memory is taken.
+/// Returns whether the item is one DER object of at most `MAX_RECURSION` levels. It takes no
+/// memory.
 #[tactic(auto, using(crate::proofs::Gate::each_tried))]
 fn is_object(item: &[u8], count: &mut HeaderCount) -> bool
     requires { attempts count.old + length item.now < 2 ^ 128 }
@@ -60,7 +61,7 @@ fn is_object(item: &[u8], count: &mut HeaderCount) -> bool
     is_der_object_counted(item, MAX_RECURSION, count)
 }
 
-/// The fields of the certificate that the item is.
+/// Returns the fields of the item, if it is a certificate.
 fn certificate_of<'a>(
     alloc: Global,
     item: &'a [u8],
@@ -87,7 +88,7 @@ fn certificate_of<'a>(
     Ok(Some(fields))
 }
 
-/// The fields of the revocation list that the item is.
+/// Returns the fields of the item, if it is a revocation list.
 fn list_of<'a>(
     alloc: Global,
     item: &'a [u8],

@@ -6,8 +6,8 @@ ghost use Rattle.certpath_typed.specs.Met.{met};
 
 use asn1_device::{DeviceFault, Sink, Tally};
 
-/// Octets, and how far what was written met them. It holds the octets that met, and the first one that didn't; behind that one
-/// each write is refused.
+/// Octets, and how far what was written is equal to them. It holds the octets that were equal, and
+/// the first one that wasn't; after that one each write fails.
 #[derive(Drop)]
 pub(crate) struct Comparison<'a> {
     whole: &'a [u8],
@@ -22,7 +22,7 @@ pub(crate) struct Comparison<'a> {
 }
 
 impl<'a> Comparison<'a> {
-    /// With these octets, before anything is written.
+    /// Returns a comparison with these octets, before anything is written.
     pub(crate) fn new(whole: &'a [u8]) -> Comparison<'a>
         ensures whole { result.whole.now ≡ whole.now }
         ensures contents { met result.whole.now result.at result.differs result.other ≡ [] }
@@ -38,7 +38,7 @@ impl<'a> Comparison<'a> {
         }
     }
 
-    /// Whether what was written are the octets.
+    /// Returns whether what was written is equal to the octets.
     pub(crate) fn is_whole(&self) -> bool
         ensures { IsTrue result ↔ (met self.now.whole.now self.now.at self.now.differs self.now.other ≡ self.now.whole.now) }
     {

@@ -1,11 +1,12 @@
-//! Object identifiers as they lie in an item. Those of the readers lie there; one that holds octets of its own is looked for.
+//! Object identifiers as windows of an item. Those of the readers are windows; one that owns its
+//! octets is searched for.
 
 ghost use Rattle.std.specs.Prelude.{◌≡◌};
 ghost use Rattle.certpath_typed.specs.Told.{TellsIdentifier};
 
 use asn1_oid::Oid;
 
-/// The octets where they first stand in the item; none of them where they don't stand there.
+/// Returns the first occurrence of `octets` in `item`, as a window of it; empty if there is none.
 fn place_of<'a>(item: &'a [u8], octets: &[u8]) -> &'a [u8]
     ensures { TellsIdentifier item.now octets.now result.now }
 {
@@ -19,8 +20,9 @@ fn place_of<'a>(item: &'a [u8], octets: &[u8]) -> &'a [u8]
     &rest[..octets.len()]
 }
 
-/// The identifier's octets: those that it borrows. Of one that holds octets of its own, which no reader makes, those of the item, or
-/// none, as no identifier has it, where they don't stand there.
+/// Returns the content octets of an identifier as a window of the item: those that it borrows. An
+/// identifier that owns its octets, which no reader makes, is searched for in the item; if it isn't
+/// there, the result is empty, as no identifier is.
 pub(crate) fn identifier<'a>(item: &'a [u8], oid: &Oid<'a>) -> &'a [u8]
     ensures { TellsIdentifier item.now oid.now result.now }
 {

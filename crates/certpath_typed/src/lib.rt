@@ -1,8 +1,9 @@
-//! The typed road: the class of an item by the lenient readers of certificates and revocation lists, whose fields are written
-//! back and compared with the item.
+//! The typed road: the class of an item by the lenient readers of certificates and revocation
+//! lists, whose fields are written back and compared with the item.
 //!
-//! An item is a certificate where it is a DER object of at most 50 levels, the reader of certificates takes all of it, the
-//! fields that it read are in range, and what they write is the item; a list in the same way; other in every other case.
+//! An item is a certificate if it is a DER object of at most 50 levels, the reader of certificates
+//! reads all of it, the fields that it read are in range, and they write the item. It is a list if
+//! the reader of lists does so. It is `Other` in every other case.
 #![tactic(auto)]
 
 mod certificates;

@@ -1,4 +1,4 @@
-//! Revocation lists, from what the reader gives to fields (RFC 5280, 5.1).
+//! Revocation lists: from what the reader returns to fields (RFC 5280, 5.1).
 
 ghost use Rattle.std.specs.Prelude.{◌≡◌, map, min, option_map, IfOk};
 ghost use Rattle.std.specs.List.{AllZip};
@@ -61,7 +61,7 @@ fn entries_fields<'a>(
     Ok(fields)
 }
 
-/// The fields of a list that was read of the item.
+/// Returns the fields of a list that was read from the item.
 pub(crate) fn list_fields<'a>(
     alloc: Global,
     item: &'a [u8],

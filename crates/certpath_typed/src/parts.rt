@@ -1,4 +1,4 @@
-//! The parts of certificates and lists, from what the readers give to fields.
+//! The parts of certificates and lists: from what the readers return to fields.
 
 ghost use Rattle.std.specs.Prelude.{◌≡◌, map, option_map, IfOk};
 ghost use Rattle.asn1_any.specs.Views.{any_of};
@@ -30,7 +30,7 @@ fn any_field<'a>(any: &Any<'a>) -> AnyField<'a>
     }
 }
 
-/// AlgorithmIdentifier (RFC 5280, 4.1.1.2).
+/// Returns the field of an AlgorithmIdentifier (RFC 5280, 4.1.1.2).
 pub(crate) fn algorithm_field<'a>(
     item: &'a [u8],
     algorithm: &AlgorithmIdentifier<'a>,
@@ -71,7 +71,7 @@ fn attribute_fields<'a>(
     Ok(fields)
 }
 
-/// Name (RFC 5280, 4.1.2.4).
+/// Returns the fields of a Name (RFC 5280, 4.1.2.4).
 pub(crate) fn name_fields<'a>(
     alloc: Global,
     item: &'a [u8],
@@ -87,7 +87,7 @@ pub(crate) fn name_fields<'a>(
     Ok(NameFields { sets })
 }
 
-/// BIT STRING (X.690, 8.6).
+/// Returns the field of a BIT STRING (X.690, 8.6).
 pub(crate) fn bit_field<'a>(bits: BitString<'a>) -> BitField<'a>
     ensures { bit_view result ≡ told_bits (bits_view bits.entry) }
 {
@@ -97,7 +97,7 @@ pub(crate) fn bit_field<'a>(bits: BitString<'a>) -> BitField<'a>
     }
 }
 
-/// A unique identifier, where it stands (RFC 5280, 4.1.2.8).
+/// Returns the field of a unique identifier, if there is one (RFC 5280, 4.1.2.8).
 pub(crate) fn id_field<'a>(id: &Option<UniqueIdentifier<'a>>) -> Option<BitField<'a>>
     ensures { option_map bit_view result ≡ option_map told_bits (option_map identifier_view id.now) }
 {
@@ -107,7 +107,7 @@ pub(crate) fn id_field<'a>(id: &Option<UniqueIdentifier<'a>>) -> Option<BitField
     }
 }
 
-/// SubjectPublicKeyInfo (RFC 5280, 4.1.2.7).
+/// Returns the field of a SubjectPublicKeyInfo (RFC 5280, 4.1.2.7).
 pub(crate) fn key_field<'a>(item: &'a [u8], key: &SubjectPublicKeyInfo<'a>) -> KeyField<'a>
     ensures { TellsKey item.now (read_key_view key.now) (key_view result) }
 {
@@ -127,7 +127,7 @@ fn extension_field<'a>(item: &'a [u8], extension: &X509Extension<'a>) -> ExtFiel
     }
 }
 
-/// Extensions (RFC 5280, 4.2), in the order in which they stand.
+/// Returns the fields of Extensions (RFC 5280, 4.2), in their order.
 pub(crate) fn extension_fields<'a>(
     alloc: Global,
     item: &'a [u8],

@@ -1,4 +1,4 @@
-//! Certificates and lists that the readers take of all of an item.
+//! Certificates and lists, if the readers read all of an item.
 
 ghost use Rattle.std.specs.Prelude.{◌≡◌, ◌+◌, ◌*◌, ◌^◌, ◌<◌, ◌≤◌, length, IfOk, IfSome, MatchOption};
 ghost use Rattle.asn1_core.specs.Counts.{attempts};
@@ -14,7 +14,7 @@ use x509_links::{
     X509CertificateParser,
 };
 
-/// The certificate that the item is read as, where the reader takes all of it.
+/// Returns the certificate as which the item is read, if the reader reads all of it.
 pub(crate) fn certificate_read<'a>(
     alloc: Global,
     item: &'a [u8],
@@ -43,7 +43,7 @@ pub(crate) fn certificate_read<'a>(
     }
 }
 
-/// The revocation list that the item is read as, where the reader takes all of it.
+/// Returns the revocation list as which the item is read, if the reader reads all of it.
 pub(crate) fn list_read<'a>(
     alloc: Global,
     item: &'a [u8],

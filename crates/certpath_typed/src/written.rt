@@ -8,11 +8,11 @@ use crate::comparison::Comparison;
 use cert_model::fields::{CertFields, ListFields};
 use certpath_rebuild::{rebuild_certificate, rebuild_list, writes_certificate, writes_list};
 
-/// The longest item that is compared from its end, which is faster. A longer one is compared from its front, so that one that
-/// differs there is refused before the rest is gone over.
+/// The longest item that is compared from its end, which is faster: 65,536 octets. A longer one is
+/// compared from its front, so that one that differs there is rejected before the rest is read.
 const SHORT: usize = 65536;
 
-/// Whether the certificate of these fields is the item.
+/// Returns whether the certificate of these fields is the item.
 pub(crate) fn is_written_certificate(fields: &CertFields<'_>, item: &[u8]) -> bool
     ensures { IsTrue result ↔ (certificate_octets (certificate_view fields.now) ≡ item.now) }
 {
@@ -23,7 +23,7 @@ pub(crate) fn is_written_certificate(fields: &CertFields<'_>, item: &[u8]) -> bo
     }
 }
 
-/// Whether the certificate of these fields is the item, compared from its front.
+/// Returns whether the certificate of these fields is the item, compared from its front.
 fn is_long_certificate(fields: &CertFields<'_>, item: &[u8]) -> bool
     ensures { IsTrue result ↔ (certificate_octets (certificate_view fields.now) ≡ item.now) }
 {
@@ -34,7 +34,7 @@ fn is_long_certificate(fields: &CertFields<'_>, item: &[u8]) -> bool
     }
 }
 
-/// Whether the list of these fields is the item.
+/// Returns whether the list of these fields is the item.
 pub(crate) fn is_written_list(fields: &ListFields<'_>, item: &[u8]) -> bool
     ensures { IsTrue result ↔ (list_octets (list_view fields.now) ≡ item.now) }
 {
@@ -45,7 +45,7 @@ pub(crate) fn is_written_list(fields: &ListFields<'_>, item: &[u8]) -> bool
     }
 }
 
-/// Whether the list of these fields is the item, compared from its front.
+/// Returns whether the list of these fields is the item, compared from its front.
 fn is_long_list(fields: &ListFields<'_>, item: &[u8]) -> bool
     ensures { IsTrue result ↔ (list_octets (list_view fields.now) ≡ item.now) }
 {

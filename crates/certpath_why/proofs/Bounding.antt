@@ -110,12 +110,6 @@ module _ (R : ℕ → ℕ → Type 0) (ws : List ℕ) where
 
 -- ---- who is held back
 
--- an issuer that a certificate is linked to has its issuer's name
-linked_named : (r : JudgingContext) (items : List Item) (x : CertificateItem) (y : Item) → IsLink r items (certificate_item x) y → IsCertificateWith (λ d. name_octets d.subject ≡ x.issuer.now) y
-linked_named r items x y l =
-    let inner = (with_iff (λ c. IsCertificateWith (λ d. IsIssuedUnder r items (certificate_item x) c (name_octets d.subject) (key_octets d.key) × KeyIdsAgree c d) y) (certificate_item x) (certificate_of x) refl).0 l in
-    (inner.0, inner.1, sym inner.2.0.issuer ∙ sym x.issuer_is)
-
 -- the code's names are those of the definitions
 counted_iff : (items : List ReadItem) (w : ℕ) (x : CertificateItem) → IsAt items w (λ y. y ≡ certificate_read x) → (x.subject.now ≢ x.issuer.now) ↔ IsCounted (map item_of items) w
 counted_iff items w x at =
@@ -129,9 +123,9 @@ pub not_counted : (r : JudgingContext) (items : List ReadItem) (reach : ℕ → 
 not_counted r items reach w x at never v h = never ((counted_iff items w x at).1 h.counts)
 
 pub held_iff : (r : JudgingContext) (read : List ReadItem) (reach : ℕ → Reach) (w : ℕ) (x : CertificateItem) (issuers : List ℕ) → IsAt read w (λ y. y ≡ certificate_read x) → reach w ≡ No → (x.subject.now ≢ x.issuer.now)
-    → ArePositions (HasSubject (map item_of read) x.issuer.now) issuers
+    → ((v : ℕ) → IsAt (map item_of read) v (IsLink r (map item_of read) (certificate_item x)) → Contains issuers v)
     → (v : ℕ) → (Contains issuers v × ((reach v ≡ UpTo 0) × IsAt (map item_of read) v (IsLink r (map item_of read) (certificate_item x)))) ↔ IsHeldBack r (map item_of read) reach w v
-held_iff r read reach w x issuers at nowhere counts named v =
+held_iff r read reach w x issuers at nowhere counts there v =
     let items = map item_of read in
     let linked = at_read (λ z. IsAt items v (IsLink r items z)) read w x at in (
       λ p. record {
@@ -142,7 +136,7 @@ held_iff r read reach w x issuers at nowhere counts named v =
       },
       λ h.
           let l = linked.1 h.linked in
-          ((named.exact v).1 (l.0, λ d. linked_named r items x (get_or items v d) (l.1 d)), (h.bounded, l)),
+          (there v l, (h.bounded, l)),
     )
 
 -- whether the code finds no reason against a link

@@ -1,6 +1,6 @@
 -- Links of one certificate, brought together by what is said of them.
 use Rattle.std.specs.Prelude.{◌↔◌}
-use Rattle.std.proofs.Common.{◌≡◌, ◌∙◌, ap, sym, subst, refl, ℕ, ◌<◌, List, [], length, map, arith, get_or, Some, Vec, Global}
+use Rattle.std.proofs.Common.{◌≡◌, ◌∙◌, ap, sym, subst, refl, ℕ, ◌<◌, List, [], length, map, arith, get_or, Some}
 use Rattle.std.specs.List.{Contains}
 use Rattle.std.specs.List.Sorted.{IsStrictlyIncreasing}
 use Rattle.std.proofs.lemmas.List.{length-map}
@@ -24,7 +24,7 @@ use Rattle.certpath_why.specs.declared.links.Groups.{Groups}
 use Rattle.certpath_why.specs.Fates.{AreFates}
 use Rattle.certpath_why.specs.Groups.{IsDiffering, AreListFates, AreGroups, AreInOrder, FailsIn}
 use Rattle.certpath_why.specs.Reached.{ArePositions, HasSubject}
-use Rattle.certpath_why.specs.Signers.{IsSignedBy, AreSignedBy}
+use Rattle.certpath_why.specs.Signers.{IsSignedBy}
 use Rattle.certpath_why.proofs.Fating.{fates_sorted, fails_iff}
 use Rattle.certpath_why.proofs.Items.{held}
 
@@ -42,12 +42,6 @@ cert_iff items w y d lt at is P =
     (λ p. b.0 (a.1 p), λ h. a.0 (b.1 h))
 
 -- ---- signers
-
-pub signed_within : (V : List ℕ → List ℕ → Type 0) (read : List ReadItem) (others : List Item) (ls : List (Vec ℕ Global)) (v : ℕ) → AreSignedBy V (map item_of read) others ls → v < length read → v < length ls
-signed_within V read others ls v h lt =
-    let long = length-map read item_of in
-    let count = h.count in
-    omega arith
 
 pub in_order_iff : (S : ℕ → Type 0) (ss os : List ℕ) → ArePositions (Contains ss) os → ((w : ℕ) → Contains ss w ↔ S w) → (w : ℕ) → Contains os w ↔ S w
 in_order_iff S ss os h iff w = (λ c. (iff w).0 ((h.exact w).0 c), λ s. (h.exact w).1 ((iff w).1 s))
@@ -76,6 +70,10 @@ linked_anchor_signed r items anchors x a h = (
       let same : certificate_of x ≡ p.0 = one_certificate (certificate_item x).class (certificate_of x) p.0 refl p.1 in
       (q.0, q.1, (ap Some (subst (λ (c : Certificate). name_octets c.issuer ≡ name_octets q.0.subject) (sym same) q.2.issuer), q.2.vouched)),
 )
+
+-- whoever signed by less, signed by more
+pub signed_less : (S V : List ℕ → List ℕ → Type 0) (others : List Item) (x : Item) (w : ℕ) → ((key item : List ℕ) → S key item → V key item) → IsSignedBy S others x w → IsSignedBy V others x w
+signed_less S V others x w less s = (s.0, λ e. let p = s.1 e in (p.0, p.1, (p.2.0, less (key_octets p.0.key) x.octets p.2.1)))
 
 -- those of the name that did not sign are those of which nobody says so
 pub unvouched_iff : (V : List ℕ → List ℕ → Type 0) (others : List Item) (x : CertificateItem) (ws ss : List ℕ) → ArePositions (HasSubject others x.issuer.now) ws → ((w : ℕ) → Contains ss w ↔ IsSignedBy V others (certificate_item x) w)

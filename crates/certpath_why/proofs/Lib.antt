@@ -19,6 +19,8 @@ mod Fating
 mod Fated
 mod Revoking
 mod Amongst
-mod Signing
+mod Adding
+mod Classing
+mod Holding
 mod Signed
 mod Grouped

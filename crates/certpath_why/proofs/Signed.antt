@@ -1,5 +1,5 @@
--- Lists of signers are those of the items.
-use Rattle.std.specs.Prelude.{◌↔◌, slice_get}
+-- Rows of holders are the signers of the items.
+use Rattle.std.specs.Prelude.{◌↔◌, ◌⊎◌, slice_get}
 use Rattle.std.proofs.Common.{◌≡◌, ◌∙◌, ap, sym, subst, refl, ℕ, ◌+◌, ◌<◌, ◌≤◌, List, [], ◌∷◌, ◌++◌, length, map, arith, get_or, take, option_map, Bor, Vec, Global, Some, inl, inr}
 use Rattle.std.specs.List.{Contains}
 use Rattle.std.proofs.lemmas.Bool.{cases_lt}
@@ -20,9 +20,14 @@ use Rattle.cert_judge.specs.Revoking.{Item}
 use Rattle.cert_judge.proofs.Grouping.{element}
 use Rattle.cert_judge.proofs.Linking.{with_iff}
 use Rattle.cert_reasons.proofs.Certain.{viewed_by}
-use Rattle.certpath_why.specs.Signers.{IsSigner, AreSigners, IsSignedBy, AreSignedBy, issued_place, member_place, issuer_name}
-use Rattle.certpath_why.proofs.Items.{at_item, held, empty, no_list, no_other}
-use Rattle.certpath_why.proofs.Signing.{shows_below}
+use Rattle.certpath_why.specs.Classes.{AreClasses}
+use Rattle.certpath_why.specs.Holders.{HasMember, IsInRow, IsSignerOf}
+use Rattle.certpath_why.specs.Reached.{ArePositions}
+use Rattle.certpath_why.specs.Signers.{IsSignedBy, AreSignedBy, issued_place, member_place, issuer_name}
+use Rattle.certpath_why.specs.declared.classes.Classes.{Classes}
+use Rattle.certpath_why.specs.declared.holders.Holders.{Holders}
+use Rattle.certpath_why.proofs.Items.{held, empty, no_list, no_other, positions_as}
+use Rattle.certpath_why.proofs.Holding.{row_iff, shows_below}
 
 -- ---- what items show
 
@@ -62,80 +67,77 @@ octets_all xs k os le h = h ∙ ap (map octets_in) (take_all k xs le)
 
 -- ---- signers
 
-module _ (V : List ℕ → List ℕ → Type 0) (xs ys : List ReadItem) (os : List (Bor (List ℕ))) (same : map now os ≡ map octets_in xs) where
-  octets_at : (i : ℕ) (x : ReadItem) (o : Bor (List ℕ)) → i < length xs → x ≡ get_or xs i x → (get_or os i o).now ≡ octets_in x
-  octets_at i x o lt at =
-      let one = length-map os now in
-      let two = length-map xs octets_in in
-      let both = ap length same in
-      let less : i < length os = omega arith in
-      sym (get_or-map now os i o o.now less) ∙ ap (λ l. get_or l i o.now) same ∙ get_or-map octets_in xs i x o.now lt ∙ ap octets_in (sym at)
+-- a member of the issuer's name whose key vouches is a signer
+signer_iff : (V : List ℕ → List ℕ → Type 0) (ys : List ReadItem) (x : Item) (name : List ℕ) → issuer_name x.class ≡ Some name → (w : ℕ) → IsSignerOf V (map member_place ys) name x.octets w ↔ IsSignedBy V (map item_of ys) x w
+signer_iff V ys x name named w = elim (cases_lt w (length ys)) [
+  | inl less ↦
+      let y = element ys w less in
+      let P : Certificate → Type 0 = λ d. (issuer_name x.class ≡ Some (name_octets d.subject)) × V (key_octets d.key) x.octets in
+      let there = viewed_by item_of ys w y.0 less y.1 (IsCertificateWith P) in (
+        λ s.
+            let d = (member_shows y.0 name s.1.0).0 ((shows_at Name member_place ys w y.0 less y.1 name).0 s.0, (shows_at Key member_place ys w y.0 less y.1 s.1.0).0 s.1.1) in
+            there.0 (d.0, d.1, (named ∙ ap Some (sym d.2.0), subst (λ k. V k x.octets) (sym d.2.1) s.1.2)),
+        λ h.
+            let d = there.1 h in
+            let k = key_octets d.0.key in
+            let is : name_octets d.0.subject ≡ name = held (sym d.2.0 ∙ named) in
+            let m = (member_shows y.0 name k).1 (d.0, d.1, (is, refl)) in
+            ((shows_at Name member_place ys w y.0 less y.1 name).1 m.0, (k, (shows_at Key member_place ys w y.0 less y.1 k).1 m.1, d.2.1)),
+      )
+  | inr past ↦
+      let longer = length-map ys member_place in
+      let long = length-map ys item_of in (
+        λ s. let below = shows_below Name (map member_place ys) w name s.0 in absurd (omega arith),
+        λ h. let below = h.0 in absurd (omega arith),
+      )
+]
 
-  some_octets : (i : ℕ) → i < length xs → i < length os
-  some_octets i lt =
-      let one = length-map os now in
-      let two = length-map xs octets_in in
-      let both = ap length same in
+module _ (V : List ℕ → List ℕ → Type 0) (read others : List ReadItem) (c : Classes) (h : Holders) (are : AreSignedBy V read others c h) where
+  many : length are.octets ≡ length read
+  many = sym (length-map are.octets now) ∙ ap length are.octets_are ∙ length-map read octets_in
+
+  pub signed_number : (v : ℕ) → v < length read → v < length c.numbers.items
+  signed_number v lt = let all = many in let count = are.classes_are.count in omega arith
+
+  pub signed_row : (v : ℕ) → v < length read → get_or c.numbers.items v 0 < length h.rows.items
+  signed_row v lt =
+      let all = many in
+      let count = are.holders_are.count in
+      let less : v < length are.octets = omega arith in
+      let within = (are.classes_are.each v (element are.octets v less).0 less).0 in
       omega arith
 
-  abbrev Signs : Item → Certificate → Type 0
-  Signs x d = (issuer_name x.class ≡ Some (name_octets d.subject)) × V (key_octets d.key) x.octets
+  pub signed_holder : (v : ℕ) → v < length read → (k : ℕ) (r : Vec ℕ Global) → Contains (get_or h.rows.items (get_or c.numbers.items v 0) r).items k → k < length h.all.items
+  signed_holder v lt k r at =
+      let all = many in
+      let less : v < length are.octets = omega arith in
+      let within = (are.classes_are.each v (element are.octets v less).0 less).0 in
+      let t = (element c.texts.items (get_or c.numbers.items v 0) within).0 in
+      (are.holders_are.sound (get_or c.numbers.items v 0) k r (record { name = t; key = t; places = r }) t within at).0
 
-  signer_here : (i w : ℕ) (x : ReadItem) → i < length xs → x ≡ get_or xs i x → IsSigner V (map issued_place xs) (map member_place ys) os i w ↔ IsSignedBy V (map item_of ys) (item_of x) w
-  signer_here i w x lt at = elim (cases_lt w (length ys)) [
-    | inl less ↦
-        let y = element ys w less in
-        let P = Signs (item_of x) in
-        let there = viewed_by item_of ys w y.0 less y.1 (IsCertificateWith P) in
-        let o = (element os i (some_octets i lt)).0 in
-        let octets = octets_at i x o lt at in (
-          λ s.
-              let n = (issued_shows x s.0).0 ((shows_at Name issued_place xs i x lt at s.0).0 s.1) in
-              let d = (member_shows y.0 s.0 s.3.0).0 ((shows_at Name member_place ys w y.0 less y.1 s.0).0 s.2, (shows_at Key member_place ys w y.0 less y.1 s.3.0).0 s.3.1) in
-              let v : V s.3.0 (item_of x).octets = subst (V s.3.0) octets (s.3.2.1 o) in
-              there.0 (d.0, d.1, (n ∙ ap Some (sym d.2.0), subst (λ k. V k (item_of x).octets) (sym d.2.1) v)),
-          λ h.
-              let d = there.1 h in
-              let n = name_octets d.0.subject in
-              let k = key_octets d.0.key in
-              let m = (member_shows y.0 n k).1 (d.0, d.1, (refl, refl)) in (
-                n,
-                (shows_at Name issued_place xs i x lt at n).1 ((issued_shows x n).1 d.2.0),
-                (shows_at Name member_place ys w y.0 less y.1 n).1 m.0,
-                (k, (shows_at Key member_place ys w y.0 less y.1 k).1 m.1, (some_octets i lt, λ p. subst (V k) (sym (octets_at i x p lt at)) d.2.1)),
-              ),
-        )
-    | inr past ↦
-        let longer = length-map ys member_place in
-        let long = length-map ys item_of in (
-          λ s. let below = shows_below Name (map member_place ys) w s.0 s.2 in absurd (omega arith),
-          λ h. let below = h.0 in absurd (omega arith),
-        )
-  ]
+  octets_at : (i : ℕ) (x : ReadItem) (o : Bor (List ℕ)) → i < length read → x ≡ get_or read i x → (get_or are.octets i o).now ≡ octets_in x
+  octets_at i x o lt at =
+      let all = many in
+      let less : i < length are.octets = omega arith in
+      sym (get_or-map now are.octets i o o.now less) ∙ ap (λ l. get_or l i o.now) are.octets_are ∙ get_or-map octets_in read i x o.now lt ∙ ap octets_in (sym at)
 
-  pub signed_all : (ls : List (Vec ℕ Global)) → AreSigners V (map issued_place xs) (map member_place ys) os ls → AreSignedBy V (map item_of xs) (map item_of ys) ls
-  signed_all ls h = record {
-    count = h.count ∙ length-map xs issued_place ∙ sym (length-map xs item_of);
-    exact = λ i w r within.
-        let long = length-map xs item_of in
-        let longer = length-map xs issued_place in
-        let lt : i < length xs = omega arith in
-        let x = element xs i lt in
-        let here = signer_here i w x.0 lt x.1 in
-        let there = viewed_by item_of xs i x.0 lt x.1 (λ y. IsSignedBy V (map item_of ys) y w) in
-        let own = h.exact i w r (omega arith) in
-        (λ c. there.0 (here.0 (own.0 c)), λ s. own.1 (here.1 (there.1 s)));
-  }
+  pub signed_iff : (v : ℕ) (z : ReadItem) (name : List ℕ) → IsAt read v (λ x. x ≡ z) → issuer_name (item_of z).class ≡ Some name
+      → (w : ℕ) → IsInRow h (get_or c.numbers.items v 0) name w ↔ IsSignedBy V (map item_of others) (item_of z) w
+  signed_iff v z name at named w =
+      let lt : v < length read = at.0 in
+      let all = many in
+      let less : v < length are.octets = omega arith in
+      let o = (element are.octets v less).0 in
+      let e = element read v lt in
+      let is : z ≡ get_or read v z = sym (at.1 z) in
+      let shows = (shows_at Name issued_place read v z lt is name).1 ((issued_shows z name).1 named) in
+      let octets : (get_or are.octets v o).now ≡ (item_of z).octets = octets_at v z o lt is in
+      let row = row_iff V (map issued_place read) (map member_place others) are.octets c are.classes_are h are.holders_are v o name less shows w in
+      let signer = signer_iff V others (item_of z) name named w in (
+        λ x. signer.0 (subst (λ q. IsSignerOf V (map member_place others) name q w) octets (row.0 x)),
+        λ s. row.1 (subst (λ q. IsSignerOf V (map member_place others) name q w) (sym octets) (signer.1 s)),
+      )
 
--- the list of an item that was read
-pub signed_at : (V : List ℕ → List ℕ → Type 0) (read : List ReadItem) (others : List Item) (ls : List (Vec ℕ Global)) (v : ℕ) (z : ReadItem) (signers : List ℕ) → AreSignedBy V (map item_of read) others ls → IsAt read v (λ y. y ≡ z)
-    → ((r : Vec ℕ Global) → signers ≡ (get_or ls v r).items) → (w : ℕ) → Contains signers w ↔ IsSignedBy V others (item_of z) w
-signed_at V read others ls v z signers h at is w =
-    let long = length-map read item_of in
-    let lt : v < length read = at.0 in
-    let less : v < length (map item_of read) = omega arith in
-    let count = h.count in
-    let r = (element ls v (omega arith)).0 in
-    let own = h.exact v w r less in
-    let there = at_item (λ y. IsSignedBy V others y w) read v z at in
-    (λ c. there.1 (own.0 (subst (λ l. Contains l w) (is r) c)), λ s. subst (λ l. Contains l w) (sym (is r)) (own.1 (there.0 s)))
+  pub signed_positions : (v : ℕ) (z : ReadItem) (name : List ℕ) (ps : List ℕ) → IsAt read v (λ x. x ≡ z) → issuer_name (item_of z).class ≡ Some name → ArePositions (IsInRow h (get_or c.numbers.items v 0) name) ps
+      → ArePositions (IsSignedBy V (map item_of others) (item_of z)) ps
+  signed_positions v z name ps at named p = positions_as ps (signed_iff v z name at named) p

@@ -5,6 +5,9 @@ pub mod Uses
 pub mod Hosts
 pub mod Demanded
 pub mod Reached
+pub mod Adding
+pub mod Classes
+pub mod Holders
 pub mod Signers
 pub mod Bounds
 pub mod Why

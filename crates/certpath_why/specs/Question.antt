@@ -27,5 +27,5 @@ link_items linking = map item_of linking.items.now
 
 -- the signers of each item are those by what vouches
 pub record IsSigned {V : Type 0} (vouch : Ghosts V) (question : Question V) : Type 0 where
-  pub issuers : AreSignedBy (vouch.vouches_for question.vouch.now).Vouches (items_in question) (items_in question) question.signers.now.issuers.items
-  pub roots : AreSignedBy (vouch.vouches_for question.vouch.now).Vouches (items_in question) (anchors_in question) question.signers.now.roots.items
+  pub issuers : AreSignedBy (vouch.vouches_for question.vouch.now).Vouches question.found.now.items.now question.found.now.items.now question.signers.now.classes question.signers.now.issuers
+  pub roots : AreSignedBy (vouch.vouches_for question.vouch.now).Vouches question.found.now.items.now question.found.now.anchors.now question.signers.now.classes question.signers.now.roots

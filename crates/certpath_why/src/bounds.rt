@@ -1,21 +1,22 @@
 //! Issuers whose path length stands in the way (RFC 5280, 6.1.4, l and m).
 
-ghost use Rattle.std.specs.Prelude.{◌≡◌, ◌≢◌, ◌↔◌, ◌++◌, ◌<◌, ℕ, [], length, map, Contains, IfOk, IfSome, OnOk, IsTrue, string_bytes};
+ghost use Rattle.std.specs.Prelude.{◌≡◌, ◌≢◌, ◌↔◌, ◌++◌, ◌<◌, ℕ, List, [], length, map, Contains, IfOk, IfSome, OnOk, IsTrue, string_bytes};
 ghost use Rattle.std.specs.List.{flat_map};
 ghost use Rattle.cert_graph.specs.Entries.{IsAt};
 ghost use Rattle.cert_graph.specs.declared.reach.Reach.TheVariants.{No, UpTo};
 ghost use Rattle.cert_judge.specs.ItemGraph.{IsLink};
-ghost use Rattle.cert_judge.specs.Items.{certificate_item};
+ghost use Rattle.cert_judge.specs.Items.{certificate_item, rules_by};
 ghost use Rattle.cert_reasons.specs.Linking.{HasItsLists};
 ghost use Rattle.certpath_why.specs.Bounds.{reach_by, IsHeldBack, IsBound};
 ghost use Rattle.certpath_why.specs.Found.{AreMarked, IsFound, IsMarked};
 ghost use Rattle.certpath_why.specs.Lines.{reach_lines};
-ghost use Rattle.certpath_why.specs.Question.{items_in, link_items, link_rules, rules_in};
+ghost use Rattle.certpath_why.specs.Question.{items_in, link_items, link_rules, IsSigned};
 ghost use Rattle.certpath_why.specs.Reached.{ArePositions, HasSubject, IsCertificateAt, IsFurther};
 
 use crate::found::certificate_at;
 use crate::marks::{marked_but, no_marks, put_mark};
 use crate::question::Question;
+use crate::signers::issuers_at;
 use cert_graph::{Answer, Reach};
 use cert_judge::{CertificateItem, Vouch};
 use cert_reasons::{Linking, Unlinked};
@@ -91,7 +92,8 @@ fn is_held_back<V: Vouch>(
     Ok(is_none(&reasons))
 }
 
-/// Marks those of the issuers by name from which a path length holds a certificate back.
+/// Marks those of some issuers of its issuer's name from which a path length holds a certificate
+/// back.
 fn mark_among<V: Vouch>(
     marks: &mut Vec<bool>,
     alloc: Global,
@@ -101,7 +103,7 @@ fn mark_among<V: Vouch>(
     vouch: &V,
 ) -> Result<(), AllocError>
     requires lists { HasItsLists linking.now }
-    requires issuers { ArePositions (HasSubject (link_items linking.now) linking.now.certificate.now.issuer.now) issuers.now }
+    requires issuers { (w : ℕ) → Contains issuers.now w → HasSubject (link_items linking.now) linking.now.certificate.now.issuer.now w }
     requires count { length marks.now.items ≡ length linking.now.items.now }
     ensures { OnOk result (AreMarked (λ v. Contains issuers.now v × ((reach_by answer.now v ≡ UpTo 0)
         × IsAt (link_items linking.now) v (IsLink (link_rules V.Vouch linking.now vouch.now) (link_items linking.now) (certificate_item linking.now.certificate.now)))) marks.old.items marks.new.items) }
@@ -116,18 +118,22 @@ fn mark_among<V: Vouch>(
     Ok(())
 }
 
-/// Marks the issuers from which a path length holds back the certificate at a position.
-fn mark_from<V: Vouch>(
+/// Marks the issuers from which a path length holds back the certificate at a position, by the
+/// relation of the answer, which vouches for less: only whoever signed it can be linked.
+fn mark_from<V: Vouch, S: Vouch>(
     marks: &mut Vec<bool>,
     alloc: Global,
     question: &Question<'_, '_, V>,
+    search: &S,
     answer: &Answer,
     place: usize,
 ) -> Result<(), AllocError>
     requires known { IsFound question.now.found.now }
+    requires signed { IsSigned V.Vouch question.now }
+    requires less { (key item : List ℕ) → (S.vouches_for search.now).Vouches key item → (V.vouches_for question.now.vouch.now).Vouches key item }
     requires certificate { IsCertificateAt (items_in question.now) place }
     requires count { length marks.now.items ≡ length question.now.found.now.items.now }
-    ensures { OnOk result (AreMarked (IsHeldBack (rules_in V.Vouch question.now) (items_in question.now) (reach_by answer.now) place) marks.old.items marks.new.items) }
+    ensures { OnOk result (AreMarked (IsHeldBack (rules_by question.now.policy.now.moment question.now.policy.now.demand_lists (S.vouches_for search.now)) (items_in question.now) (reach_by answer.now) place) marks.old.items marks.new.items) }
 {
     let Some(certificate) = certificate_at(question.found.items, place) else {
         return Ok(());
@@ -138,45 +144,51 @@ fn mark_from<V: Vouch>(
     if !is_counted(certificate) {
         return Ok(());
     }
-    let issuers = question.found.issuers(certificate.issuer);
+    let signers = issuers_at(alloc, question, place, certificate.issuer)?;
     let linking = question.found.linking(alloc, certificate, question.policy)?;
-    mark_among(marks, alloc, answer, &linking, issuers, question.vouch)?;
+    mark_among(marks, alloc, answer, &linking, &signers, search)?;
     Ok(())
 }
 
 /// Marks of the issuers from which a path length holds one of some certificates back.
-fn bound_marks<V: Vouch>(
+fn bound_marks<V: Vouch, S: Vouch>(
     alloc: Global,
     question: &Question<'_, '_, V>,
+    search: &S,
     answer: &Answer,
     further: &[usize],
 ) -> Result<Vec<bool>, AllocError>
     requires known { IsFound question.now.found.now }
+    requires signed { IsSigned V.Vouch question.now }
+    requires less { (key item : List ℕ) → (S.vouches_for search.now).Vouches key item → (V.vouches_for question.now.vouch.now).Vouches key item }
     requires further { ArePositions (IsFurther (items_in question.now) question.now.target) further.now }
     ensures { IfOk result (λ marks. (v : ℕ) → IsMarked marks.items v ↔ ((w : ℕ) × Contains further.now w
-        × IsHeldBack (rules_in V.Vouch question.now) (items_in question.now) (reach_by answer.now) w v)) }
+        × IsHeldBack (rules_by question.now.policy.now.moment question.now.policy.now.demand_lists (S.vouches_for search.now)) (items_in question.now) (reach_by answer.now) w v)) }
 {
     let mut marks = no_marks(alloc, question.found.items.len())?;
     for place in further {
-        mark_from(&mut marks, alloc, question, answer, *place)?;
+        mark_from(&mut marks, alloc, question, search, answer, *place)?;
     }
     Ok(marks)
 }
 
 /// The positions of the issuers whose path length, or that of an issuer above them, stands in the
 /// way of one of the certificates that are reached.
-pub(crate) fn bound_among<V: Vouch>(
+pub(crate) fn bound_among<V: Vouch, S: Vouch>(
     alloc: Global,
     question: &Question<'_, '_, V>,
+    search: &S,
     answer: &Answer,
     further: &[usize],
 ) -> Result<Vec<usize>, AllocError>
     requires known { IsFound question.now.found.now }
+    requires signed { IsSigned V.Vouch question.now }
+    requires less { (key item : List ℕ) → (S.vouches_for search.now).Vouches key item → (V.vouches_for question.now.vouch.now).Vouches key item }
     requires further { ArePositions (IsFurther (items_in question.now) question.now.target) further.now }
-    ensures { IfOk result (λ bound. ArePositions (IsBound (rules_in V.Vouch question.now)
+    ensures { IfOk result (λ bound. ArePositions (IsBound (rules_by question.now.policy.now.moment question.now.policy.now.demand_lists (S.vouches_for search.now))
         (items_in question.now) question.now.target (reach_by answer.now)) bound.items) }
 {
-    let marks = bound_marks(alloc, question, answer, further)?;
+    let marks = bound_marks(alloc, question, search, answer, further)?;
     let bound = marked_but(alloc, &marks, question.target)?;
     Ok(bound)
 }

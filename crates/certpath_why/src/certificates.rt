@@ -26,7 +26,7 @@ use crate::lines::{push_all_no_issuer, push_all_unusable, push_missing, push_sub
 use crate::links::{Front, Groups, push_groups};
 use crate::positions::{in_order, positions_but};
 use crate::question::Question;
-use crate::signers::signers_at;
+use crate::signers::{issuers_at, roots_at};
 use asn1_core::OutOfMemory;
 use cert_judge::{CertificateItem, ReadItem, Vouch};
 use cert_reasons::{Linking, why_no_issuer, why_unusable};
@@ -377,17 +377,17 @@ fn tell_all_links<'q, 'a, V: Vouch>(
     let issuers = found.issuers(certificate.issuer);
     let roots = found.roots(certificate.issuer);
     let linking = found.linking(alloc, certificate, question.policy)?;
-    let signers = signers_at(&question.signers.issuers, place);
+    let signers = issuers_at(alloc, question, place, certificate.issuer)?;
     tell_links(
         text,
         alloc,
         place,
         &linking,
         issuers,
-        signers,
+        &signers,
         question.vouch,
     )?;
-    let signers = signers_at(&question.signers.roots, place);
+    let signers = roots_at(alloc, question, place, certificate.issuer)?;
     tell_anchors(
         text,
         alloc,
@@ -395,7 +395,7 @@ fn tell_all_links<'q, 'a, V: Vouch>(
         place,
         &linking,
         roots,
-        signers,
+        &signers,
         question.vouch,
     )?;
     tell_missing(text, alloc, found, place, certificate, issuers, roots)?;

@@ -14,11 +14,13 @@
 
 mod bounds;
 mod certificates;
+mod classes;
 mod demanded;
 mod differing;
 mod directory;
 mod fates;
 mod found;
+mod holders;
 mod hosts;
 pub mod laws;
 pub mod laws_by;
@@ -34,6 +36,7 @@ mod question;
 mod ranges;
 mod reached;
 mod revokers;
+mod rows;
 mod signers;
 mod uses;
 mod why;

@@ -1,6 +1,6 @@
 //! The lines of the lists that nobody uses.
 
-ghost use Rattle.std.specs.Prelude.{◌≡◌, ◌↔◌, ◌⊎◌, [], ℕ, Contains, length, IsTrue, OnOk, string_bytes};
+ghost use Rattle.std.specs.Prelude.{◌≡◌, length, OnOk, string_bytes};
 ghost use Rattle.cert_graph.specs.Entries.{IsAt};
 ghost use Rattle.cert_judge.specs.Items.{item_of, list_of, list_item};
 ghost use Rattle.cert_judge.specs.declared.items.ReadItem.TheVariants.{List as list_read};
@@ -10,27 +10,11 @@ ghost use Rattle.certpath_why.specs.Appended.{Appends};
 
 use crate::lines::push_list;
 use crate::question::Question;
-use crate::signers::signers_at;
+use crate::signers::is_signed_at;
 use asn1_core::OutOfMemory;
 use cert_judge::{ListItem, ReadItem, Vouch};
 use cert_reasons::why_list_unused;
 use std::alloc::Global;
-
-fn has_none(positions: &[usize]) -> bool
-    ensures { IsTrue result ↔ (positions.now ≡ []) }
-{
-    positions.is_empty()
-}
-
-/// Whether there is a position among one or other.
-fn has_any(one: &[usize], other: &[usize]) -> bool
-    ensures { IsTrue result ↔ ((w : ℕ) × (Contains one.now w ⊎ Contains other.now w)) }
-{
-    if !has_none(one) {
-        return true;
-    }
-    !has_none(other)
-}
 
 /// Appends the lines of a list; none if it is used under a key of its issuer's name.
 fn tell_list<V: Vouch>(
@@ -45,9 +29,7 @@ fn tell_list<V: Vouch>(
     ensures { OnOk result (Appends (TellsList (rules_in V.Vouch question.now)
         (items_in question.now) (anchors_in question.now) place (list_item list.now) (list_of list.now)) (string_bytes text.old) (string_bytes text.new)) }
 {
-    let issuers = signers_at(&question.signers.issuers, place);
-    let roots = signers_at(&question.signers.roots, place);
-    let vouched = has_any(issuers, roots);
+    let vouched = is_signed_at(question, place, list.issuer);
     let moment = question.policy.moment();
     let reasons = why_list_unused(alloc, list, &moment, vouched)?;
     push_list(

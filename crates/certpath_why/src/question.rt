@@ -17,7 +17,7 @@ pub(crate) struct Question<'q, 'a, V> {
     /// Which key vouches for which item.
     pub(crate) vouch: &'q V,
     /// Whose keys vouch for each item.
-    pub(crate) signers: &'q Signers,
+    pub(crate) signers: &'q Signers<'a>,
     /// The moment, and whether revocation lists are demanded.
     pub(crate) policy: &'q Policy,
 }

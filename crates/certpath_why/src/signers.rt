@@ -1,123 +1,34 @@
-//! Which certificates have an item's issuer as their subject and a key that vouches for the item: for
-//! all items at once, so that a key and an item without a voucher cost nothing.
+//! Which certificates have an item's issuer as their subject and a key that vouches for the item:
+//! for all items at once. A key and an item without a voucher cost nothing, and equal items and
+//! equal keys are asked about once, and kept once.
 
-ghost use Rattle.std.specs.Prelude.{◌≡◌, ◌∷◌, ◌<◌, [], ℕ, Vec, length, map, slice_index_or, IfOk, OnOk};
-ghost use Rattle.std.specs.List.Sorted.{IsStrictlyIncreasing};
-ghost use Rattle.std.specs.declared.alloc.Global.{Global};
+ghost use Rattle.std.specs.Prelude.{◌≡◌, ◌↔◌, ◌⊎◌, ◌<◌, ℕ, Some, length, map, IfOk, IsTrue};
+ghost use Rattle.cert_graph.specs.Entries.{IsAt};
 ghost use Rattle.cert_judge.specs.Items.{item_of};
-ghost use Rattle.certpath_why.specs.Signers.{Adds, IsRowOf, IsKeyOf, AreSigners, AreSignedBy, issued_place, member_place};
+ghost use Rattle.cert_judge.specs.declared.items.ReadItem.{ReadItem};
+ghost use Rattle.certpath_why.specs.Question.{items_in, anchors_in, IsSigned};
+ghost use Rattle.certpath_why.specs.Reached.{ArePositions};
+ghost use Rattle.certpath_why.specs.Signers.{AreSignedBy, IsSignedBy, issued_place, issuer_name, member_place};
 
+use crate::classes::{Classes, classes_of};
 use crate::demanded::octets_of;
-use crate::directory::{Directory, numbers_below};
-use cert_graph::lists::empty_lists;
-use cert_graph::{Bucket, Part, Place, alike};
+use crate::directory::Directory;
+use crate::holders::{Holders, holders_of};
+use crate::question::Question;
+use cert_graph::Place;
 use cert_judge::{ReadItem, Vouch};
 use std::alloc::{AllocError, Global};
 
-/// For each item, by its position, who may have signed it: the positions of the certificates that
-/// have its issuer's name and a key that vouches for it, in no order.
+/// The signers of items: the certificates that have an item's issuer's name and a key that vouches
+/// for it.
 #[derive(Drop)]
-pub(crate) struct Signers {
-    /// Those among the items.
-    pub(crate) issuers: Vec<Vec<usize>>,
+pub(crate) struct Signers<'a> {
+    /// The items by their octets.
+    pub(crate) classes: Classes<'a>,
+    /// The certificates among the items.
+    pub(crate) issuers: Holders<'a>,
     /// Those among the anchors.
-    pub(crate) roots: Vec<Vec<usize>>,
-}
-
-/// Returns the positions in the list at a place.
-pub(crate) fn signers_at(lists: &[Vec<usize>], place: usize) -> &[usize]
-    requires { place < length lists.now }
-    ensures { (r : Vec ℕ Global) → result.now ≡ (slice_index_or lists.now place r).items }
-{
-    lists[place].as_slice()
-}
-
-/// Adds positions to the list at a place, if there is one.
-fn add_signers(
-    lists: &mut Vec<Vec<usize>>,
-    item: usize,
-    signers: &[usize],
-) -> Result<(), AllocError>
-    ensures { OnOk result (Adds (IsRowOf (item ∷ []) signers.now) lists.old.items lists.new.items) }
-{
-    if item >= lists.len() {
-        return Ok(());
-    }
-    let list = &mut lists[item];
-    list.extend_from_slice(signers)?;
-    Ok(())
-}
-
-/// Adds positions to the lists at some places.
-fn add_row(lists: &mut Vec<Vec<usize>>, row: &[usize], signers: &[usize]) -> Result<(), AllocError>
-    ensures { OnOk result (Adds (IsRowOf row.now signers.now) lists.old.items lists.new.items) }
-{
-    for item in row {
-        add_signers(lists, *item, signers)?;
-    }
-    Ok(())
-}
-
-/// Returns the keys of buckets.
-fn keys_of<'a>(alloc: Global, buckets: &[Bucket<'a>]) -> Result<Vec<&'a [u8]>, AllocError>
-    ensures { IfOk result (λ keys. keys.items ≡ map (λ b. b.text) buckets.now) }
-{
-    buckets.iter().map(|bucket| bucket.text).collect(alloc)
-}
-
-/// Adds, to the lists of the chosen items, those of some members whose keys vouch for them. The
-/// voucher is asked once, with each key once.
-fn add_members<V: Vouch>(
-    lists: &mut Vec<Vec<usize>>,
-    alloc: Global,
-    members: &[Place<'_>],
-    places: &[usize],
-    octets: &[&[u8]],
-    chosen: &[usize],
-    vouch: &V,
-) -> Result<(), AllocError>
-    requires places { IsStrictlyIncreasing places.now }
-    requires chosen { IsStrictlyIncreasing chosen.now }
-    ensures { OnOk result (Adds (IsKeyOf (V.vouches_for vouch.now).Vouches members.now places.now octets.now chosen.now) lists.old.items lists.new.items) }
-{
-    let buckets = alike(alloc, members, Part::Key, places)?;
-    let keys = keys_of(alloc, &buckets)?;
-    let rows = vouch.vouched_by_each(alloc, &keys, octets, chosen)?;
-    for (number, row) in rows.iter().enumerate() {
-        let bucket = &buckets[number];
-        add_row(lists, row, &bucket.places)?;
-    }
-    Ok(())
-}
-
-/// For each item the members that have its issuer's name and a key that vouches for it. The voucher
-/// is asked once for each name.
-fn signers_of<V: Vouch>(
-    alloc: Global,
-    issued: &[Place<'_>],
-    members: &[Place<'_>],
-    octets: &[&[u8]],
-    vouch: &V,
-) -> Result<Vec<Vec<usize>>, AllocError>
-    ensures { IfOk result (λ lists. AreSigners (V.vouches_for vouch.now).Vouches issued.now members.now octets.now lists.items) }
-{
-    let mut lists = empty_lists(alloc, issued.len())?;
-    let items = Directory::new(alloc, issued)?;
-    let all = numbers_below(alloc, members.len())?;
-    let names = alike(alloc, members, Part::Name, &all)?;
-    for name in &names {
-        let chosen = items.positions(name.text);
-        add_members(
-            &mut lists,
-            alloc,
-            members,
-            &name.places,
-            octets,
-            chosen,
-            vouch,
-        )?;
-    }
-    Ok(lists)
+    pub(crate) roots: Holders<'a>,
 }
 
 /// Returns the place of an item by its issuer, if it is a certificate or a list.
@@ -187,37 +98,91 @@ fn octets_of_all<'a>(alloc: Global, items: &[ReadItem<'a>]) -> Result<Vec<&'a [u
     Ok(octets)
 }
 
-/// For each item the certificates among others that have its issuer's name and a key that vouches
-/// for it.
-fn signers_among<'a, V: Vouch>(
-    alloc: Global,
-    items: &[ReadItem<'a>],
-    others: &[ReadItem<'a>],
-    vouch: &V,
-) -> Result<Vec<Vec<usize>>, AllocError>
-    ensures { IfOk result (λ lists. AreSignedBy (V.vouches_for vouch.now).Vouches (map item_of items.now) (map item_of others.now) lists.items) }
-{
-    let issued = issued_places(alloc, items)?;
-    let members = member_places(alloc, others)?;
-    let octets = octets_of_all(alloc, items)?;
-    let lists = signers_of(alloc, &issued, &members, &octets, vouch)?;
-    Ok(lists)
-}
-
-impl Signers {
-    /// The signers of each item among the items and among the anchors. The voucher is asked twice for
-    /// each name, with each key and each item of the name once.
-    pub(crate) fn new<'a, V: Vouch>(
+impl<'a> Signers<'a> {
+    /// The signers of all items, among the items and among the anchors. The voucher is asked twice
+    /// for each name, with each key of the name and the octets of each of its items once.
+    pub(crate) fn new<V: Vouch>(
         alloc: Global,
         items: &[ReadItem<'a>],
         anchors: &[ReadItem<'a>],
         vouch: &V,
-    ) -> Result<Signers, AllocError>
-        ensures issuers { IfOk result (λ s. AreSignedBy (V.vouches_for vouch.now).Vouches (map item_of items.now) (map item_of items.now) s.issuers.items) }
-        ensures roots { IfOk result (λ s. AreSignedBy (V.vouches_for vouch.now).Vouches (map item_of items.now) (map item_of anchors.now) s.roots.items) }
+    ) -> Result<Signers<'a>, AllocError>
+        ensures issuers { IfOk result (λ s. AreSignedBy (V.vouches_for vouch.now).Vouches items.now items.now s.classes s.issuers) }
+        ensures roots { IfOk result (λ s. AreSignedBy (V.vouches_for vouch.now).Vouches items.now anchors.now s.classes s.roots) }
     {
-        let issuers = signers_among(alloc, items, items, vouch)?;
-        let roots = signers_among(alloc, items, anchors, vouch)?;
-        Ok(Signers { issuers, roots })
+        let octets = octets_of_all(alloc, items)?;
+        let classes = classes_of(alloc, &octets)?;
+        let issued = issued_places(alloc, items)?;
+        let directory = Directory::new(alloc, &issued)?;
+        let members = member_places(alloc, items)?;
+        let issuers = holders_of(alloc, &directory, &classes, &members, vouch)?;
+        let members = member_places(alloc, anchors)?;
+        let roots = holders_of(alloc, &directory, &classes, &members, vouch)?;
+        Ok(Signers {
+            classes,
+            issuers,
+            roots,
+        })
     }
+}
+
+/// The certificates that signed the item at a position, whose issuer's name is given: a step for
+/// each, and one for each key.
+pub(crate) fn issuers_at<V: Vouch>(
+    alloc: Global,
+    question: &Question<'_, '_, V>,
+    place: usize,
+    name: &[u8],
+) -> Result<Vec<usize>, AllocError>
+    requires signed { IsSigned V.Vouch question.now }
+    requires place { place < length question.now.found.now.items.now }
+    ensures { (z : ReadItem) → IsAt question.now.found.now.items.now place (λ x. x ≡ z) → issuer_name (item_of z).class ≡ Some name.now
+        → IfOk result (λ found. ArePositions (IsSignedBy (V.vouches_for question.now.vouch.now).Vouches (items_in question.now) (item_of z)) found.items) }
+{
+    let number = question.signers.classes.number(place);
+    let found = question.signers.issuers.positions(alloc, number, name)?;
+    Ok(found)
+}
+
+/// The anchors that signed the item at a position, whose issuer's name is given: a step for each,
+/// and one for each key.
+pub(crate) fn roots_at<V: Vouch>(
+    alloc: Global,
+    question: &Question<'_, '_, V>,
+    place: usize,
+    name: &[u8],
+) -> Result<Vec<usize>, AllocError>
+    requires signed { IsSigned V.Vouch question.now }
+    requires place { place < length question.now.found.now.items.now }
+    ensures { (z : ReadItem) → IsAt question.now.found.now.items.now place (λ x. x ≡ z) → issuer_name (item_of z).class ≡ Some name.now
+        → IfOk result (λ found. ArePositions (IsSignedBy (V.vouches_for question.now.vouch.now).Vouches (anchors_in question.now) (item_of z)) found.items) }
+{
+    let number = question.signers.classes.number(place);
+    let found = question.signers.roots.positions(alloc, number, name)?;
+    Ok(found)
+}
+
+fn is_either(one: bool, other: bool) -> bool
+    ensures { IsTrue result ↔ (IsTrue one ⊎ IsTrue other) }
+{
+    one || other
+}
+
+/// Whether a certificate or an anchor signed the item at a position, whose issuer's name is given:
+/// a step for each key, up to the first.
+pub(crate) fn is_signed_at<V: Vouch>(
+    question: &Question<'_, '_, V>,
+    place: usize,
+    name: &[u8],
+) -> bool
+    requires signed { IsSigned V.Vouch question.now }
+    requires place { place < length question.now.found.now.items.now }
+    ensures { (z : ReadItem) → IsAt question.now.found.now.items.now place (λ x. x ≡ z) → issuer_name (item_of z).class ≡ Some name.now
+        → IsTrue result ↔ ((w : ℕ) × (IsSignedBy (V.vouches_for question.now.vouch.now).Vouches (items_in question.now) (item_of z) w
+        ⊎ IsSignedBy (V.vouches_for question.now.vouch.now).Vouches (anchors_in question.now) (item_of z) w)) }
+{
+    let number = question.signers.classes.number(place);
+    let by_issuer = question.signers.issuers.has_position(number, name);
+    let by_root = question.signers.roots.has_position(number, name);
+    is_either(by_issuer, by_root)
 }

@@ -1,7 +1,7 @@
 //! The whole report: the lines of what is reached from the target, how far each issuer leads, and the
 //! lines of the lists that nobody uses. It calls what writes one certificate and one list.
 
-ghost use Rattle.std.specs.Prelude.{◌≡◌, ◌⊎◌, OnOk, [], map, string_bytes};
+ghost use Rattle.std.specs.Prelude.{◌≡◌, ◌⊎◌, ℕ, List, OnOk, [], map, string_bytes};
 ghost use Rattle.cert_judge.specs.Items.{item_of, rules_by};
 ghost use Rattle.cert_judge.specs.Vouching.{processing_too};
 ghost use Rattle.cert_purpose.specs.Restricting.{restricted_by};
@@ -80,27 +80,20 @@ fn tell_reached<V: Vouch, S: Vouch>(
     requires known { IsFound question.now.found.now }
     requires signed { IsSigned V.Vouch question.now }
     requires target { question.now.sought.target.now ≡ octets_at (items_in question.now) question.now.target }
+    requires less { (key item : List ℕ) → (S.vouches_for search.now).Vouches key item → (V.vouches_for question.now.vouch.now).Vouches key item }
     ensures { OnOk result (Appends (TellsReached question.now.sought.demand.now (rules_in V.Vouch question.now) (rules_by question.now.policy.now.moment question.now.policy.now.demand_lists (S.vouches_for search.now))
         (items_in question.now) (anchors_in question.now) question.now.target answer.now) (string_bytes text.old) (string_bytes text.new)) }
 {
-    let searched = Question {
-        found: question.found,
-        target: question.target,
-        sought: question.sought,
-        vouch: search,
-        signers: question.signers,
-        policy: question.policy,
-    };
     let further = further_than(alloc, question.found, question.target)?;
     tell_target(text, alloc, question)?;
     tell_further(text, alloc, question, &further)?;
-    let bound = bound_among(alloc, &searched, answer, &further)?;
+    let bound = bound_among(alloc, question, search, answer, &further)?;
     push_all_bounds(text, answer, &bound)?;
     Ok(())
 }
 
 /// What stands in the way, by who vouches for certificates and lists, and by the relation of the
-/// answer.
+/// answer, which vouches for no more.
 fn push_why_by<'q, 'a, V: Vouch, S: Vouch>(
     text: &mut String,
     alloc: Global,
@@ -113,6 +106,7 @@ fn push_why_by<'q, 'a, V: Vouch, S: Vouch>(
     demand: &'q Demand<'a>,
     policy: &'q Policy,
 ) -> Result<(), OutOfMemory>
+    requires { (key item : List ℕ) → (S.vouches_for search.now).Vouches key item → (V.vouches_for vouch.now).Vouches key item }
     ensures { OnOk result (AppendsWhyFor demand.now (rules_by policy.now.moment policy.now.demand_lists (V.vouches_for vouch.now))
         (rules_by policy.now.moment policy.now.demand_lists (S.vouches_for search.now)) (map item_of items.now) (map item_of anchors.now) target answer.now
         (string_bytes text.old) (string_bytes text.new)) }
@@ -149,12 +143,12 @@ fn push_why_by<'q, 'a, V: Vouch, S: Vouch>(
 ///
 /// The only error is out of memory; the text then ends anywhere. Certificates and lists are found
 /// by sorted maps of names. `vouched_by_each` is called twice for each name, with the keys of its
-/// certificates among the items and then among the anchors, each key once, and the certificates and
-/// lists that were issued under it. Each certificate that is reported costs one pass over the
-/// entries of its issuer's lists, a step for each certificate and anchor of its issuer's name, and
-/// what `Linking::why_unlinked` costs for each of them whose key vouches for it; for each of the
-/// name, if lists are demanded or one that is in force has its serial number. Each list costs what
-/// `why_list_unused` costs.
+/// certificates among the items and then among the anchors, each key once, and the octets of the
+/// certificates and lists that it issued, each once. Each certificate that is reported costs one
+/// pass over the entries of its issuer's lists, a step for each certificate and anchor of its
+/// issuer's name, and what `Linking::why_unlinked` costs for each of them whose key vouches for it;
+/// for each of the name, if lists are demanded or one that is in force has its serial number. Each
+/// list costs what `why_list_unused` costs.
 pub fn push_why<V: Vouch>(
     text: &mut String,
     alloc: Global,

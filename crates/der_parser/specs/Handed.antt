@@ -1,4 +1,4 @@
--- A closure that is handed the content of an element.
+-- A closure that is passed the content of an element.
 use Rattle.std.specs.Prelude.{◌≡◌, ◌≢◌, ◌⊎◌, ℕ, List, ◌∷◌, ◌++◌, length, Result, Ok, Err}
 use Rattle.std.specs.Borrow.{Bor}
 use Rattle.asn1_core.specs.declared.error.Error.{Error}
@@ -18,8 +18,8 @@ use Rattle.der_tree.specs.View.{view, content_view}
 use Rattle.der_parser.specs.Refusals.{tagged_at}
 use Rattle.der_parser.specs.Tagged.{IsTagged, HasTagged}
 
--- the octets begin with an element of this tag number, and the rest comes after it; `Called` tells what became of its whole
--- content, of its header and of all its octets
+-- the octets begin with an element of this tag number, and the rest comes after it; `Called` says
+-- what became of its whole content, of its header and of all its octets
 pub record Handed (n : ℕ) (Called : List ℕ → Bor (List ℕ) → Header → Type 0) (octets rest : List ℕ) : Type 0 where
   pub front : List ℕ
   pub element : Element
@@ -32,18 +32,21 @@ pub record Handed (n : ℕ) (Called : List ℕ → Bor (List ℕ) → Header →
   pub held : content.now ≡ element.content
   pub called : Called front content header
 
--- no such element begins the octets, or some are missing: the refusal is that of the element; memory didn't run out
+-- no such element begins the octets, or some are missing: the error is that of the element; memory
+-- didn't run out
 abbrev pub Unwanted : {E : Type 0} → (Error → E → Type 0) → ℕ → List ℕ → Refusal E → Type 0
 Unwanted gives n octets (refusals.Incomplete m) = (HasTagged n octets → ⊥) × IsMissing (HasTagged n) octets (refusals.Incomplete m) × (tagged_at n octets ≡ Err (refusals.Incomplete m))
 Unwanted gives n octets (refusals.Error x) = (HasTagged n octets → ⊥) × ((e : Error) × (e ≢ errors.OutOfMemory) × gives e x × (tagged_at n octets ≡ Err (refusals.Error e)))
 Unwanted gives n octets (refusals.Failure x) = ⊥
 
--- the closure is handed content and header; its value is handed on before the octets after the element, and its refusal as it is
+-- the closure is passed content and header; its value is returned before the octets after the
+-- element, and its error unchanged
 abbrev pub HandsOver : {O E : Type 0} → (Error → E → Type 0) → ℕ → (Bor (List ℕ) → Header → Result (Bor (List ℕ) × O) (Refusal E) → Type 0) → List ℕ → Result (Bor (List ℕ) × O) (Refusal E) → Type 0
 HandsOver gives n post octets (Ok p) = Handed n (λ front content header. (left : Bor (List ℕ)) × post content header (Ok (left, p.1))) octets p.0.now
 HandsOver gives n post octets (Err e) = ((rest : List ℕ) × Handed n (λ front content header. post content header (Err e)) octets rest) ⊎ Unwanted gives n octets e
 
--- the same, of a closure that reads an object's content: the object has the element's header, the length that it tells too, and its octets
+-- a closure that reads an object's content is passed content and header: the object has the
+-- element's header, the length in it, and the element's octets
 abbrev pub HandsObject : {E : Type 0} → (Error → E → Type 0) → ℕ → (Bor (List ℕ) → Header → Result (Bor (List ℕ) × BerObjectContent) (Refusal E) → Type 0) → List ℕ → Result (Bor (List ℕ) × BerObject) (Refusal E) → Type 0
 HandsObject gives n post octets (Ok p) =
     Handed n (λ front content header. (left : Bor (List ℕ)) × (held : BerObjectContent) × post content header (Ok (left, held))

@@ -10,7 +10,8 @@ use Rattle.asn1_core.specs.declared.outcome.Err.TheVariants as refusals
 use Rattle.asn1_core.specs.Conversions.{FailsForMemory, RefusesWith, TellsWhole}
 use Rattle.der_parser.specs.Handed.{Handed, Unwanted}
 
--- call by call, these items were read of the octets, and the rest is left; each item took an octet at least
+-- call by call, these items were read of the octets, and the rest is left; each item took an octet
+-- at least
 abbrev pub Takes : {T E : Type 0} → (Bor (List ℕ) → Result (Bor (List ℕ) × T) (Refusal E) → Type 0) → List ℕ → List T → List ℕ → Type 0
 Takes post octets [] rest = octets ≡ rest
 Takes post octets (x ∷ xs) rest = (i : Bor (List ℕ)) × (after : Bor (List ℕ)) × (i.now ≡ octets) × post i (Ok (after, x)) × (length after.now < length octets) × Takes post after.now xs rest
@@ -34,7 +35,7 @@ abbrev pub ReadsEach : {T E : Type 0} → (Error → E → Type 0) → (Bor (Lis
 ReadsEach gives post octets (Ok v) = Takes post octets v.items []
 ReadsEach gives post octets (Err r) = StopsEarly gives post octets r
 
--- the same of the content of an element of a tag number
+-- the content of an element of a tag number is items, or an item is missing
 abbrev pub HandsItems : {T E : Type 0} → (Error → E → Type 0) → ℕ → (Bor (List ℕ) → Result (Bor (List ℕ) × T) (Refusal E) → Type 0) → List ℕ → Result (Bor (List ℕ) × Vec T Global) (Refusal E) → Type 0
 HandsItems gives n post octets (Ok p) = Handed n (λ front content header. Takes post content.now p.1.items []) octets p.0.now
 HandsItems gives n post octets (Err r) = ((rest : List ℕ) × Handed n (λ front content header. StopsEarly gives post content.now r) octets rest) ⊎ Unwanted gives n octets r

@@ -1,5 +1,5 @@
--- Which refusal comes: that of the header, else of another tag number, else of missing content octets, else the error of the
--- content.
+-- Which error comes: that of the header, else of another tag number, else of missing content
+-- octets, else the error of the content.
 use Rattle.std.specs.Prelude.{◌≡◌, ◌==◌, ℕ, if◌then◌else◌, List, Some, Result, Ok, Err, IfErr, IsErrAnd}
 use Rattle.asn1_core.specs.Answers.{Answer, refuse, then_read}
 use Rattle.asn1_core.specs.Elements.{Element}
@@ -16,7 +16,8 @@ tagged_at n octets =
     then_read (header_at octets) (λ h after.
     if h.tag == n then content_at h after else refuse (errors.UnexpectedTag (Some (record { 0 = n })) (record { 0 = h.tag })))
 
--- what is read of the element at the front: where that isn't there, its refusal; where it is whole, no refusal but this error
+-- what is read of the element at the front: if it isn't there, its error; if it is whole, no error
+-- but this one
 abbrev pub ReadsWhole : {X : Type 0} → (Element → Error) → Answer Element → Result X (Refusal Error) → Type 0
 ReadsWhole error (Ok p) result = IfErr result (λ e. e ≡ refusals.Error (error p.0))
 ReadsWhole error (Err x) result = IsErrAnd result (λ e. e ≡ x)

@@ -1,4 +1,5 @@
--- An element found by its tag number, whatever its class. Its header may be spelled in any of its definite forms.
+-- An element found by its tag number, whatever its class. Its header may be spelled in any of its
+-- definite forms.
 use Rattle.std.specs.Prelude.{◌≡◌, ℕ, List, ◌++◌}
 use Rattle.asn1_core.specs.Elements.{Element}
 use Rattle.asn1_any.specs.DerElements.{SpellsElement}

@@ -1,8 +1,9 @@
-//! Readers built of readers: the content of an element of a tag number is handed to a closure, which is called at most once.
+//! Readers built from readers: the content of an element of a tag number is passed to a closure,
+//! which is called at most once.
 //!
-//! The tag number alone is compared, not the class nor the constructed bit. Octets of the content that the closure leaves are
-//! ignored. Refusals: those of `der_read_element_header`, `UnexpectedTag`, `Incomplete` where the content is cut, and the
-//! closure's, as they are.
+//! The tag number alone is compared, not the class nor the constructed bit. Octets of the content
+//! that the closure leaves are ignored. Errors: those of `der_read_element_header`,
+//! `UnexpectedTag`, `Incomplete` if the content ends early, and the closure's, unchanged.
 
 ghost use Rattle.der_parser.specs.Handed.{HandsOver, HandsObject};
 
@@ -10,7 +11,11 @@ use crate::element::element_of_tag;
 use asn1_core::{Err as Refusal, Error, Header, IResult, Tag};
 use der_tree::{BerObject, BerObjectContent, MAX_RECURSION, object_with};
 
-/// An element of this tag number around others: the closure reads its content (X.690, 8.14.2).
+/// Reads an element of tag number `tag` around other elements (X.690, 8.14.2): the closure reads
+/// its content. Returns `(rest, value)`.
+///
+/// Errors are those of `der_read_element_header`; `UnexpectedTag`; `Incomplete` if the content ends
+/// early; and the closure's, unchanged.
 pub fn parse_der_tagged_explicit_g<
     'a,
     O,
@@ -29,8 +34,12 @@ pub fn parse_der_tagged_explicit_g<
     }
 }
 
-/// An element of this tag number in the place of another (X.690, 8.14.3): the closure reads its content, told its header and
-/// that `MAX_RECURSION` levels are allowed.
+/// Reads an element whose tag number replaces that of a value (X.690, 8.14.3): the closure reads
+/// its content, given its header and `MAX_RECURSION`, the levels that are allowed. Returns `(rest,
+/// value)`.
+///
+/// Errors are those of `der_read_element_header`; `UnexpectedTag`; `Incomplete` if the content ends
+/// early; and the closure's, unchanged.
 pub fn parse_der_tagged_implicit_g<
     'a,
     O,
@@ -49,8 +58,12 @@ pub fn parse_der_tagged_implicit_g<
     }
 }
 
-/// The same for a closure that reads an object's content, as `parse_der_content` does: answers the object with the header
-/// and the octets of the element.
+/// Reads an element whose tag number replaces that of an object (X.690, 8.14.3), with a closure
+/// that reads the object's content, as `parse_der_content` does. Returns `(rest, object)`; the
+/// object has the header and the octets of the element.
+///
+/// Errors are those of `der_read_element_header`; `UnexpectedTag`; `Incomplete` if the content ends
+/// early; and the closure's, unchanged.
 pub fn parse_der_tagged_implicit<
     'a,
     E: From<Error>,
@@ -71,7 +84,7 @@ pub fn parse_der_tagged_implicit<
     }
 }
 
-/// `parse_der_tagged_implicit`.
+/// Another name of `parse_der_tagged_implicit`: it reads what that reads, with its errors.
 pub fn parse_der_implicit<
     'a,
     E: From<Error>,
@@ -83,7 +96,10 @@ pub fn parse_der_implicit<
     parse_der_tagged_implicit(i, tag, f)
 }
 
-/// A SEQUENCE (X.690, 8.9): the closure reads its content.
+/// Reads a SEQUENCE (X.690, 8.9): the closure reads its content. Returns `(rest, value)`.
+///
+/// Errors are those of `der_read_element_header`; `UnexpectedTag`; `Incomplete` if the content ends
+/// early; and the closure's, unchanged.
 pub fn parse_der_sequence_defined_g<
     'a,
     O,
@@ -96,7 +112,10 @@ pub fn parse_der_sequence_defined_g<
     parse_der_tagged_explicit_g(i, Tag::Sequence, f)
 }
 
-/// A SET (X.690, 8.11): the closure reads its content.
+/// Reads a SET (X.690, 8.11): the closure reads its content. Returns `(rest, value)`.
+///
+/// Errors are those of `der_read_element_header`; `UnexpectedTag`; `Incomplete` if the content ends
+/// early; and the closure's, unchanged.
 pub fn parse_der_set_defined_g<
     'a,
     O,

@@ -1,4 +1,4 @@
-//! The content behind a header.
+//! The content after a header.
 
 ghost use Rattle.std.specs.Prelude.{◌≡◌, ◌<◌, ◌≤◌, ◌-◌, ℕ, length, IfOk, IfErr, IsErrAnd};
 ghost use Rattle.asn1_core.specs.Views.{length_of};
@@ -12,11 +12,16 @@ use asn1_core::{Err as Refusal, Error, Header, Length, Needed, Tag};
 use der_tree::{BerObjectContent, BerResult, content_under};
 use std::alloc::Global;
 
-/// Reads as many octets as the header tells, by the table's line of this tag number: an object's content, the object being of
-/// at most so many levels. The header's class and tag number aren't looked at. A tag number without a line is left raw.
+/// Reads the content after a header from the front of `i`, as many octets as the header says, by
+/// the rules of universal tag number `tag`. Returns `(rest, content)`, of an object of at most
+/// `levels` levels. The header's class and tag number aren't compared. The content of another tag
+/// number is returned as raw octets.
 ///
-/// Refusals: `BerMaxDepth` at no level, `IndefiniteLengthUnexpected`, `Incomplete` where octets are missing, `Failure` of
-/// `OutOfMemory`, and else an error: the line doesn't allow the content or the constructed bit.
+/// # Errors
+///
+/// The first that applies: `BerMaxDepth` if `levels` is 0; `IndefiniteLengthUnexpected`;
+/// `Incomplete` with the number of octets that are missing; `Failure(OutOfMemory)`; else an error,
+/// if the type doesn't allow the content or the constructed bit.
 pub fn parse_der_content<'a>(
     alloc: Global,
     i: &'a [u8],

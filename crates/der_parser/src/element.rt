@@ -20,7 +20,7 @@ pub(crate) struct Tagged<'a> {
     pub raw: &'a [u8],
 }
 
-/// The element at the front, of this tag number and any class.
+/// Reads an element of this tag number and any class.
 pub(crate) fn element_of_tag(i: &[u8], tag: Tag) -> BerResult<'_, Tagged<'_>>
     ensures found { IfOk result (λ p. IsTagged tag.0 p.1.raw.now (element_under p.1.header p.1.content.now)
         × (head_of p.1.header ≡ head_of_element (element_under p.1.header p.1.content.now))

@@ -11,8 +11,8 @@ ghost use Rattle.asn1_core.specs.Views.{IsDefinite, head_of, ber_head_of, length
 use asn1_core::Header;
 use der_tree::BerResult;
 
-/// Reads a header by the rules of BER (X.690, 8.1.2 and 8.1.3) from the front of the octets: `Header::from_ber`, whose
-/// refusals it has.
+/// Reads a header by the rules of BER (X.690, 8.1.2 and 8.1.3) from the front of `i`. Returns
+/// `(rest, header)`. Its errors are those of `Header::from_ber`.
 pub fn ber_read_element_header(i: &[u8]) -> BerResult<'_, Header>
     ensures found { IfOk result (λ r. IsBerHead (ber_head_of r.1)
         × ((octets : List ℕ) × SpellsBerHeader octets (ber_head_of r.1) × (i.now ≡ octets ++ r.0.now))) }
@@ -26,8 +26,8 @@ pub fn ber_read_element_header(i: &[u8]) -> BerResult<'_, Header>
     Header::from_ber(i)
 }
 
-/// Reads a header of definite length, in any of its forms, from the front of the octets (X.690, 8.1.2 and 8.1.3):
-/// `Header::from_der`, whose refusals it has.
+/// Reads a header of definite length, in any of its forms, from the front of `i` (X.690, 8.1.2 and
+/// 8.1.3). Returns `(rest, header)`. Its errors are those of `Header::from_der`.
 pub fn der_read_element_header(i: &[u8]) -> BerResult<'_, Header>
     ensures found { IfOk result (λ r. IsHead (head_of r.1)
         × ((octets : List ℕ) × SpellsHeader octets (head_of r.1) × (i.now ≡ octets ++ r.0.now))) }

@@ -1,4 +1,4 @@
-//! Items one after the other, each read by a closure.
+//! Items one after another, each read by a closure.
 
 ghost use Rattle.der_parser.specs.Items.{ReadsEach, HandsItems};
 
@@ -6,10 +6,13 @@ use crate::element::element_of_tag;
 use asn1_core::{Err as Refusal, Error, ErrorKind, IResult, Tag};
 use std::alloc::Global;
 
-/// A SEQUENCE OF (X.690, 8.10): the closure reads item after item, to the end of the content.
+/// Reads a SEQUENCE OF (X.690, 8.10): the closure reads item after item, to the end of the content.
+/// Returns `(rest, items)`.
 ///
-/// Refusals: those of `parse_der_sequence_defined_g`; the closure's, an `Incomplete` becoming an error, since the missing
-/// octets don't come behind the sequence; `NomError(Many0)` for an item that takes no octet; `Failure` of `OutOfMemory`.
+/// # Errors
+///
+/// Those of `parse_der_sequence_defined_g`; the closure's, an `Incomplete` becoming an error, since
+/// the content is whole; `NomError(Many0)` for an item that takes no octet; `Failure(OutOfMemory)`.
 pub fn parse_der_sequence_of_v<
     'a,
     T: Drop,
@@ -28,7 +31,7 @@ pub fn parse_der_sequence_of_v<
     }
 }
 
-/// The items of the octets, to their end.
+/// Reads the items of the octets, to their end.
 fn items_of<'a, T: Drop, E: From<Error>, F: Fn(&'a [u8]) -> IResult<&'a [u8], T, E>>(
     alloc: Global,
     content: &'a [u8],

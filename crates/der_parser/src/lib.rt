@@ -1,4 +1,4 @@
-//! Objects of DER read by their type, and readers built of readers.
+//! Objects of DER read by their type, and readers built from readers.
 #![tactic(auto)]
 
 mod combine;

@@ -22,6 +22,7 @@ pub(crate) struct Cut<'a> {
 }
 
 /// The strict element at the front, of at most `MAX_OBJECT_SIZE` content octets. One header is tried.
+#[inline(always)]
 pub(crate) fn cut_of<'a>(i: &'a [u8], count: &mut HeaderCount) -> BerResult<'a, Cut<'a>>
     requires { attempts count.old + 1 < 2 ^ 128 }
     ensures count { attempts count.new ≡ attempts count.old + 1 }

@@ -35,6 +35,7 @@ pub(crate) fn leaf_of<'a>(header: Header, content: &'a [u8]) -> Result<BerObject
 }
 
 /// Whether an element without parts of this header may have this content.
+#[inline(always)]
 pub(crate) fn is_leaf(header: Header, content: &[u8]) -> bool
     ensures found { IsTrue result → (c : Content) × HoldsLeaf (element_under header content.now) c }
     ensures only { (c : Content) → HoldsLeaf (element_under header content.now) c → IsTrue result }
@@ -49,6 +50,7 @@ pub(crate) fn is_leaf(header: Header, content: &[u8]) -> bool
 }
 
 /// Whether a universal primitive header whose tag number has a line may have this content.
+#[inline(always)]
 fn is_listed_content(header: Header, content: &[u8]) -> bool
     requires class { class_number header.class ≡ 0 }
     requires primitive { header.constructed ≡ false }

@@ -54,6 +54,49 @@ pub fn skip_object_counted<'a>(
     ensures grows { attempts count.old ≤ attempts count.new }
     ensures at_most { attempts count.new ≤ attempts count.old + length i.now }
 {
+    if has_two_octets(i) {
+        skip_element(i, levels, count)
+    } else {
+        skip_long(i, levels, count)
+    }
+}
+
+/// Whether the header that begins the octets has two octets: a low tag number and a short length (X.690, 8.1.2.2 and
+/// 8.1.3.4).
+#[inline(always)]
+fn has_two_octets(i: &[u8]) -> bool {
+    match i {
+        [octet, size, ..] => *octet & 0x1f != 31 && *size < 128,
+        _ => false,
+    }
+}
+
+/// `skip_object_counted` where the header has more than two octets, in a function of its own.
+#[cycle(skipping)]
+#[inline(never)]
+fn skip_long<'a>(i: &'a [u8], levels: usize, count: &mut HeaderCount) -> Option<&'a [u8]>
+    requires { attempts count.old + length i.now < 2 ^ 128 }
+    ensures skipped { MatchOption result (BeginsWithObject levels i.now → ⊥)
+        (λ rest. (t : Tree) × IsObject levels t × (i.now ≡ octets t ++ rest.now)
+        × (attempts count.new ≡ attempts count.old + element_count t)) }
+    ensures grows { attempts count.old ≤ attempts count.new }
+    ensures at_most { attempts count.new ≤ attempts count.old + length i.now }
+{
+    skip_element(i, levels, count)
+}
+
+/// `skip_object_counted`, whatever the header. It is compiled into both callers, so that for a header of two octets no other
+/// form is looked for, and the first octet alone decides what is read.
+#[cycle(skipping)]
+#[inline(always)]
+fn skip_element<'a>(i: &'a [u8], levels: usize, count: &mut HeaderCount) -> Option<&'a [u8]>
+    requires { attempts count.old + length i.now < 2 ^ 128 }
+    ensures skipped { MatchOption result (BeginsWithObject levels i.now → ⊥)
+        (λ rest. (t : Tree) × IsObject levels t × (i.now ≡ octets t ++ rest.now)
+        × (attempts count.new ≡ attempts count.old + element_count t)) }
+    ensures grows { attempts count.old ≤ attempts count.new }
+    ensures at_most { attempts count.new ≤ attempts count.old + length i.now }
+{
     if levels == 0 {
         return None;
     }
@@ -74,6 +117,7 @@ pub fn skip_object_counted<'a>(
 
 /// Whether the content is one of this header, its parts being of at most that many levels.
 #[cycle(skipping)]
+#[inline(always)]
 fn is_content(header: Header, content: &[u8], levels: usize, count: &mut HeaderCount) -> bool
     requires { attempts count.old + length content.now < 2 ^ 128 }
     ensures found { IsTrue result → (c : Content) × IsContent levels (element_under header content.now) c

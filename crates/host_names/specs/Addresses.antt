@@ -11,7 +11,7 @@ abbrev pub address_octets : IpAddr → List ℕ
 address_octets (V4 a) = ipv4_octets a
 address_octets (V6 a) = ipv6_octets a
 
--- the text writes this address; one of IPv6 may stand in brackets
+-- the text writes this address; one of IPv6 may be in brackets
 abbrev pub IsAddressText : List ℕ → IpAddr → Type 0
 IsAddressText text a = IsIpText text a ⊎ ((inner : List ℕ) × (v : Ipv6Addr) × (text ≡ 91 ∷ (inner ++ 93 ∷ [])) × IsIpv6Text inner v × (a ≡ V6 v))
 

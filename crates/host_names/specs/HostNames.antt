@@ -13,7 +13,7 @@ without_dot (x ∷ y ∷ ys) = x ∷ without_dot (y ∷ ys)
 abbrev pub has : ℕ → List ℕ → Bool
 has octet text = list_any (λ x. x == octet) text
 
--- what stands behind the last separator; all of it where there is none
+-- the octets after the last separator; all of them if there is none
 abbrev pub last_part : ℕ → List ℕ → List ℕ
 last_part separator [] = []
 last_part separator (x ∷ xs) = if has separator xs then last_part separator xs else (if x == separator then xs else x ∷ xs)

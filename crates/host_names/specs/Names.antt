@@ -8,13 +8,13 @@ is_spelled begun [] = begun
 is_spelled begun (x ∷ xs) =
     if x == 46 then (if begun then is_spelled false xs else false) else (if is_name_octet x then is_spelled true xs else false)
 
--- what stands behind a label and a dot
+-- the octets after a label and a dot
 abbrev pub after_label : Bool → List ℕ → Option (List ℕ)
 after_label begun [] = None
 after_label begun (x ∷ xs) =
     if x == 46 then (if begun then Some xs else None) else (if is_name_octet x then after_label true xs else None)
 
--- labels that stand behind a star match those of a host behind its first
+-- labels after a star match those of a host after its first
 abbrev pub MatchBehind : List (List ℕ) → List (List ℕ) → Type 0
 MatchBehind ls [] = ⊥
 MatchBehind ls (h ∷ hs) = IsLabel h × (2 ≤ length ls) × IsSpelledOut ls hs

@@ -13,7 +13,7 @@ use Rattle.host_names.specs.HostNames.{without_dot, has, last_part, is_number}
 abbrev pub is_some_number : List ℕ → Bool
 is_some_number text = nat_lt 0 (length text) && is_number text
 
--- a number behind the last colon, where this is the only one or stands behind brackets
+-- a number after the last colon, if this is the only one or comes after brackets
 abbrev pub has_port : List ℕ → Bool
 has_port text = has 58 text && (is_some_number (last_part 58 text) && (nat_lt (count_by (λ x. x == 58) text) 2 || has 93 text))
 
@@ -21,7 +21,7 @@ has_port text = has 58 text && (is_some_number (last_part 58 text) && (nat_lt (c
 abbrev pub is_far : ℕ → Bool
 is_far x = nat_lt 127 x
 
--- an octet that stands in no name of a host
+-- an octet that is in no name of a host
 abbrev pub is_strange : ℕ → Bool
 is_strange x = not (is_name_octet x || x == 46)
 
@@ -72,6 +72,7 @@ refusal_of host =
     else (if has 64 host then Some EmailAddress
     else (if has 42 host then Some Wildcard else refusal_of_colons host)))
 
--- a text that writes no address is refused, with the first reason that applies behind the removal of its final dot
+-- a text that writes no address is rejected, with the first reason that applies once its final dot
+-- is removed
 abbrev pub IsRefusedFor : List ℕ → Refusal → Type 0
 IsRefusedFor text reason = IsNoAddress text × (refusal_of (without_dot text) ≡ Some reason)

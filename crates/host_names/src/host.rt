@@ -10,8 +10,8 @@ use crate::reasons::refusal_of;
 use crate::refusal::Refusal;
 use std::net::{IpAddr, Ipv6Addr};
 
-/// A host whose certificate is asked for: a name of the DNS, in ASCII and without a final dot, or an
-/// address (RFC 9525, 6.1).
+/// A host whose certificate is asked for: a name of the DNS, in ASCII and without a final dot, or
+/// an address (RFC 9525, 6.1).
 #[derive(Clone, Copy, Debug)]
 pub enum Host<'a> {
     Name(&'a [u8]),
@@ -29,7 +29,7 @@ fn behind_bracket(text: &[u8]) -> Option<&[u8]>
     }
 }
 
-/// What stands before a closing bracket at the end.
+/// What is before a closing bracket at the end.
 #[tactic(auto, using(crate::proofs::EndFacts::some_end, crate::proofs::EndFacts::before_end))]
 fn before_bracket(text: &[u8]) -> Option<&[u8]>
     ensures found { IfSome result (λ r. text.now ≡ r.now ++ 93 ∷ []) }
@@ -42,7 +42,7 @@ fn before_bracket(text: &[u8]) -> Option<&[u8]>
     }
 }
 
-/// What stands between brackets.
+/// What is between brackets.
 fn in_brackets(text: &[u8]) -> Option<&[u8]>
     ensures found { IfSome result (λ r. text.now ≡ 91 ∷ (r.now ++ 93 ∷ [])) }
     ensures only { (inner : List ℕ) → text.now ≡ 91 ∷ (inner ++ 93 ∷ []) → IsSomeAnd result (λ r. r.now ≡ inner) }
@@ -66,11 +66,15 @@ fn address_of(text: &[u8]) -> Option<IpAddr>
 }
 
 impl<'a> Host<'a> {
-    /// The host that a text in ASCII asks for: an IPv4 address of four decimal octets, an IPv6
-    /// address (RFC 4291, 2.2) with or without brackets, or else a name of at most 253 octets with
-    /// labels of 1 to 63 letters, digits, hyphens and underscores, of which none begins or ends with
-    /// a hyphen and the last isn't a number. One final dot is taken off a name. Any other text is
-    /// refused, with the first reason that applies. A wildcard is no host. Linear time, no memory.
+    /// Returns the host that a text in ASCII asks for: an IPv4 address of four decimal octets, an
+    /// IPv6 address (RFC 4291, 2.2) with or without brackets, or else a name of at most 253 octets
+    /// with labels of 1 to 63 letters, digits, hyphens and underscores, of which none begins or
+    /// ends with a hyphen and the last isn't a number. One final dot is removed from a name. A
+    /// wildcard is no host. Linear time, no memory.
+    ///
+    /// # Errors
+    ///
+    /// For any other text the first reason that applies, in the order of `Refusal`.
     pub fn parse(text: &'a [u8]) -> Result<Host<'a>, Refusal>
         ensures { MatchResult result (AsksFor text.now) (IsRefusedFor text.now) }
     {

@@ -85,7 +85,9 @@ fn matches_behind(rest: &[u8], host: &[u8]) -> bool
     after_label(rest).is_some()
 }
 
-/// Whether a presented name matches the name of a host (RFC 9525, 6.3).
+/// Returns whether a presented name matches the name of a host (RFC 9525, 6.3): labels are compared
+/// without case, and a star as the whole first label, before two labels or more, matches exactly
+/// one label. It takes no memory, and time linear in the names.
 pub fn dns_matches(presented: &[u8], host: &[u8]) -> bool
     ensures { IsTrue result ↔ Matches presented.now host.now }
 {

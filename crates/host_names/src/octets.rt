@@ -23,7 +23,7 @@ pub(crate) fn has(text: &[u8], octet: u8) -> bool
     false
 }
 
-/// Whether an octet lies outside ASCII.
+/// Returns whether an octet is outside ASCII.
 pub(crate) fn has_far(text: &[u8]) -> bool
     ensures { result ≡ list_any is_far text.now }
 {
@@ -41,7 +41,7 @@ fn is_strange(octet: u8) -> bool
     !(is_name_octet(octet) || octet == b'.')
 }
 
-/// Whether an octet stands in no name of a host.
+/// Returns whether an octet is in no name of a host.
 pub(crate) fn has_strange(text: &[u8]) -> bool
     ensures { result ≡ list_any is_strange text.now }
 {

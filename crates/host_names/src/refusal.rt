@@ -36,7 +36,7 @@ pub enum Refusal {
     /// It has more than 253 octets, without its final dot (RFC 1035, 2.3.4).
     #[error("it has more than 253 octets")]
     LongName,
-    /// It begins with a dot, or two dots stand side by side.
+    /// It begins with a dot, or has two dots side by side.
     #[error("it has an empty label")]
     EmptyLabel,
     /// A label has more than 63 octets (RFC 1035, 2.3.4).

@@ -1,4 +1,6 @@
 pub mod OfElements
 pub mod OfHeaders
 pub mod OfIdentifiers
+pub mod OfLists
+pub mod OfOptional
 pub mod OfValues

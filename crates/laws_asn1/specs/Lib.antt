@@ -1,2 +1,3 @@
+pub mod Lists
 pub mod Times
 pub mod Worked

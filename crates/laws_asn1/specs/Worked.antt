@@ -53,3 +53,7 @@ indefinite_element = record { head = indefinite_head; content = 0x05 ∷ 0x00 �
 
 abbrev pub indefinite_whole : List ℕ
 indefinite_whole = 0x30 ∷ 0x80 ∷ 0x05 ∷ 0x00 ∷ 0x00 ∷ 0x00 ∷ []
+
+-- the first octet of a header, which lacks its length
+abbrev pub cut_header : List ℕ
+cut_header = 0xa1 ∷ []

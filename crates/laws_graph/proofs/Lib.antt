@@ -1,2 +1,3 @@
 pub mod OfFraming
 pub mod OfGraphs
+pub mod OfNodes

@@ -1,1 +1,4 @@
+pub mod Ascending
+pub mod Four
+pub mod Vectors
 pub mod Worked

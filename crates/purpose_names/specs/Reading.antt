@@ -19,7 +19,8 @@ IsNumber text identifier = (components : List ℕ) × (text ≡ dotted component
 abbrev pub IsNoName : List ℕ → Type 0
 IsNoName text = (p : NamedPurpose) → ¬ IsWordOf text p
 
--- A text asks for the purpose of this identifier: by a name, or by its numbers, in at most 128 octets.
+-- A text asks for the purpose of this identifier: by a name, or by its numbers, in at most 128
+-- octets.
 abbrev pub WritesPurpose : List ℕ → List ℕ → Type 0
 WritesPurpose text identifier =
     ((p : NamedPurpose) × IsWordOf text p × (identifier ≡ identifier_of p)) ⊎ (IsNoName text × IsNumber text identifier × (length identifier ≤ 128))

@@ -16,7 +16,7 @@ pub enum NamedPurpose {
 }
 
 impl NamedPurpose {
-    /// The name in RFC 5280.
+    /// Returns the name in RFC 5280, as `serverAuth`.
     pub fn name(self) -> &'static str
         ensures { result.now ≡ name_of self }
     {
@@ -30,7 +30,7 @@ impl NamedPurpose {
         }
     }
 
-    /// The content octets of the object identifier.
+    /// Returns the content octets of the object identifier.
     pub fn identifier(self) -> &'static [u8]
         ensures { result.now ≡ identifier_of self }
     {
@@ -76,8 +76,8 @@ fn is_word_of(text: &str, purpose: NamedPurpose) -> bool
     }
 }
 
-/// The purpose that a text names: by its name in RFC 5280, or by one that
-/// `openssl verify -purpose` takes; letters without case.
+/// Returns the purpose that a text names: by its name in RFC 5280, or by one that `openssl verify
+/// -purpose` accepts; letters without case.
 #[tactic(auto, using(crate::proofs::EachPurpose::no_word))]
 pub fn named_by(text: &str) -> Option<NamedPurpose>
     ensures found { IfSome result (λ p. IsWordOf text.now p) }
@@ -107,7 +107,7 @@ fn is_identifier_of(identifier: &[u8], purpose: NamedPurpose) -> bool
     identifier == purpose.identifier()
 }
 
-/// The purpose of an identifier, by its content octets.
+/// Returns the purpose of an identifier, by its content octets.
 #[tactic(auto, using(crate::proofs::EachPurpose::no_identifier))]
 pub fn named(identifier: &[u8]) -> Option<NamedPurpose>
     ensures found { IfSome result (λ p. identifier.now ≡ identifier_of p) }

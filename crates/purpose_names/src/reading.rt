@@ -10,7 +10,7 @@ use asn1_core::{Error, OutOfMemory};
 use asn1_oid::Oid;
 use std::alloc::{AllocError, Global};
 
-/// As many octets an identifier has at most.
+/// How many octets an identifier has at most.
 const MOST_OCTETS: usize = 128;
 
 /// Whether a text is the name of the purpose of any.
@@ -61,9 +61,14 @@ fn number_of(alloc: Global, text: &str) -> Result<Option<Oid<'static>>, OutOfMem
     }
 }
 
-/// The identifier of the purpose that a text asks for: a name of RFC 5280, 4.2.1.12, a name that
-/// `openssl verify -purpose` takes, letters without case, or an object identifier in dotted
-/// numbers, each of at most 64 bits and without leading zeros.
+/// Returns the identifier of the purpose that a text asks for: a name of RFC 5280, 4.2.1.12, a name
+/// that `openssl verify -purpose` accepts, letters without case, or an object identifier in dotted
+/// numbers, each of at most 64 bits and without leading zeros, as `1.3.6.1.5.5.7.3.1`.
+///
+/// # Errors
+///
+/// `Any` for anyExtendedKeyUsage; `Long` for an identifier of more than 128 octets; `Unknown` for
+/// any other text; `OutOfMemory` if an allocation fails.
 pub fn read_purpose(alloc: Global, text: &str) -> Result<Oid<'static>, PurposeRefusal>
     ensures made { IfOk result (λ oid. WritesPurpose text.now oid) }
     ensures refused { IfErr result (RefusesPurpose text.now) }

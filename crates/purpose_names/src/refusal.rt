@@ -17,13 +17,13 @@ pub enum PurposeRefusal {
     /// Its identifier has more than 128 octets.
     #[error("Long")]
     Long,
-    /// Memory was refused.
+    /// An allocation failed.
     #[error("OutOfMemory")]
     OutOfMemory,
 }
 
 impl PurposeRefusal {
-    /// The reason, in words.
+    /// Returns the reason, in words.
     pub fn reason(self) -> &'static str
         ensures { result.now ≡ reason_of self }
     {

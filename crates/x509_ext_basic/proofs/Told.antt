@@ -2,12 +2,13 @@
 use Rattle.std.proofs.Common.{◌≡◌, ◌∙◌, refl, sym, ap, subst, ℕ, List, [], ◌∷◌, Result, Ok, Err, IfErr, Bor}
 use Rattle.std.specs.Int.Digits.{AllBelowBase}
 use Rattle.asn1_core.specs.declared.error.Error.{Error}
+use Rattle.asn1_core.specs.declared.error.Error.TheVariants as der
 use Rattle.asn1_core.specs.declared.outcome.Err.{Err as Refusal}
 use Rattle.asn1_core.specs.declared.outcome.Err.TheVariants as refusals
 use Rattle.asn1_any.specs.Cutting.{Piece}
 use Rattle.asn1_core.specs.Elements.{Element}
 use Rattle.x509_core.specs.Answers.{Answer, Gives, plain, ◌>>=◌}
-use Rattle.x509_core.specs.Grammar.{One}
+use Rattle.x509_core.specs.Grammar.{NoneBegins, One}
 use Rattle.x509_core.specs.Leaves.{IsAny}
 use Rattle.x509_core.specs.Reading.{piece_at, next, leaf_in}
 use Rattle.x509_core.proofs.Grammars.{next_reading, two, content_below, front_below}
@@ -16,7 +17,7 @@ use Rattle.x509_core.specs.declared.error.X509Error.{X509Error}
 use Rattle.x509_core.specs.declared.error.X509Error.TheVariants as errors
 use Rattle.x509_ext_basic.specs.Leaves.{IsReason, IsSequence, BasicParts}
 use Rattle.x509_ext_basic.specs.Reading.{reason_in, reason_at, sequence_in, parts_in, constraints_at, any_at}
-use Rattle.x509_ext_basic.specs.Refusals.{ToldAs}
+use Rattle.x509_ext_basic.specs.Refusals.{ToldAs, fault_by, fault_in}
 use Rattle.x509_ext_basic.specs.Values as values
 use Rattle.x509_ext_basic.proofs.BasicLaws.{parts_found}
 use Rattle.x509_ext_basic.proofs.Laws.{reason_found}
@@ -62,3 +63,13 @@ content_octets i content rest below is =
 pub inner_read : (i content rest : List ℕ) (e : Element) (left : List ℕ) → AllBelowBase 256 i → One IsSequence i content rest → One IsAny content e left → any_at content ≡ Ok (e, left)
 inner_read i content rest e left below is there =
     (next_reading IsAny (λ p. Ok p.element) any_meaning).only content e left (content_octets i content rest below is) there
+
+-- none does
+none_fault : (o : Answer (Element × List ℕ)) → ((e : Element) (r : List ℕ) → o ≡ Ok (e, r) → ⊥) → fault_by o ≡ der.InvalidLength
+none_fault (Ok (e, [])) none = absurd (none e [] refl)
+none_fault (Ok (e, x ∷ s)) none = refl
+none_fault (Err why) none = refl
+
+pub none_inner : (i content rest : List ℕ) → AllBelowBase 256 i → One IsSequence i content rest → NoneBegins (One IsAny) content → fault_in content ≡ der.InvalidLength
+none_inner i content rest below is none =
+    none_fault (any_at content) (λ e r read. none e r ((next_reading IsAny (λ p. Ok p.element) any_meaning).found content e r (content_octets i content rest below is) read).0)

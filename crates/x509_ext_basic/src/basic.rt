@@ -10,7 +10,7 @@ ghost use Rattle.asn1_traits.specs.Reads.{Reads};
 ghost use Rattle.x509_core.specs.Answers.{Gives, ElseMemory};
 ghost use Rattle.x509_core.specs.Errors.{told};
 ghost use Rattle.x509_core.specs.Fronts.{TakesNoMemory, TellsMissing, one_rest};
-ghost use Rattle.x509_core.specs.Grammar.{One};
+ghost use Rattle.x509_core.specs.Grammar.{NoneBegins, One};
 ghost use Rattle.x509_core.specs.Leaves.{IsAny};
 ghost use Rattle.x509_core.specs.Reading.{next};
 ghost use Rattle.x509_core.specs.declared.error.X509Error.TheVariants as errors;
@@ -148,8 +148,6 @@ impl DerMeaning for BasicConstraints {
 
     ghost der_cut = { EndsWithinElement };
 
-    ghost der_grows = { Unit {0} };
-
     ghost one_rest = { λ i v w r s left right. one_rest IsBasicConstraints i (basic_constraints_view v) (basic_constraints_view w) r s left right };
 }
 
@@ -164,7 +162,7 @@ impl<'a> FromDer<'a, X509Error> for BasicConstraints {
     /// else: `InvalidTag` if that is one element, `InvalidLength` if it is several, or octets that
     /// begin none. Else another `Error` of an element.
     fn from_der(_alloc: Global, bytes: &'a [u8]) -> X509Result<'a, BasicConstraints>
-        ensures reads { Reads (λ given e. e ≡ told given) (Unit {0}) EndsWithinElement (λ i. i.now)
+        ensures reads { Reads (λ given e. e ≡ told given) ⊥ EndsWithinElement (λ i. i.now)
             (λ i v r. grammar.BasicConstraints i (basic_constraints_view v) r) bytes.now result }
         ensures exact { Gives (λ r. (basic_constraints_view r.1, r.0.now)) result (constraints_at bytes.now) }
         ensures memory { IfErr result TakesNoMemory }
@@ -172,6 +170,8 @@ impl<'a> FromDer<'a, X509Error> for BasicConstraints {
             → One IsAny content e [] → result ≡ Err (refusals.Error (errors.Der der.InvalidTag)) }
         ensures length { (content rest : List ℕ) (e : elements.Element) (x : ℕ) (left : List ℕ) → grammar.AnySequence bytes.now content rest
             → grammar.IsNoConstraints content → One IsAny content e (x ∷ left) → result ≡ Err (refusals.Error (errors.Der der.InvalidLength)) }
+        ensures none { (content rest : List ℕ) → grammar.AnySequence bytes.now content rest → grammar.IsNoConstraints content
+            → NoneBegins (One IsAny) content → result ≡ Err (refusals.Error (errors.Der der.InvalidLength)) }
         ensures found { IfOk result (λ r. grammar.BasicConstraints bytes.now (basic_constraints_view r.1) r.0.now) }
         ensures only { (v : values.BasicConstraints) (rest : List ℕ) → grammar.BasicConstraints bytes.now v rest
             → ElseMemory result (λ r. (basic_constraints_view r.1 ≡ v) × (r.0.now ≡ rest)) }

@@ -256,8 +256,6 @@ impl DerMeaning for KeyUsage {
 
     ghost der_cut = { EndsWithinElement };
 
-    ghost der_grows = { Unit {0} };
-
     ghost one_rest = { λ i v w r s left right. one_rest (Leaf 3 AreSixteen) i (usage_view v) (usage_view w) r s left right };
 }
 
@@ -269,7 +267,7 @@ impl<'a> FromDer<'a, X509Error> for KeyUsage {
     ///
     /// `Incomplete` if `bytes` ends inside the element; an `Error` if it isn't a BIT STRING in DER.
     fn from_der(_alloc: Global, bytes: &'a [u8]) -> X509Result<'a, KeyUsage>
-        ensures reads { Reads (λ given e. e ≡ told given) (Unit {0}) EndsWithinElement (λ i. i.now)
+        ensures reads { Reads (λ given e. e ≡ told given) ⊥ EndsWithinElement (λ i. i.now)
             (λ i v r. grammar.KeyUsage i (usage_view v) r) bytes.now result }
         ensures exact { Gives (λ r. (usage_view r.1, r.0.now)) result (usage_at bytes.now) }
         ensures memory { IfErr result TakesNoMemory }
@@ -300,8 +298,6 @@ impl DerMeaning for NSCertType {
 
     ghost der_cut = { EndsWithinElement };
 
-    ghost der_grows = { Unit {0} };
-
     ghost one_rest = { λ i v w r s left right. one_rest (Leaf 3 AreEight) i (netscape_view v) (netscape_view w) r s left right };
 }
 
@@ -313,7 +309,7 @@ impl<'a> FromDer<'a, X509Error> for NSCertType {
     ///
     /// `Incomplete` if `bytes` ends inside the element; an `Error` if it is anything else.
     fn from_der(_alloc: Global, bytes: &'a [u8]) -> X509Result<'a, NSCertType>
-        ensures reads { Reads (λ given e. e ≡ told given) (Unit {0}) EndsWithinElement (λ i. i.now)
+        ensures reads { Reads (λ given e. e ≡ told given) ⊥ EndsWithinElement (λ i. i.now)
             (λ i v r. grammar.NetscapeType i (netscape_view v) r) bytes.now result }
         ensures exact { Gives (λ r. (netscape_view r.1, r.0.now)) result (netscape_at bytes.now) }
         ensures memory { IfErr result TakesNoMemory }

@@ -51,8 +51,6 @@ impl<'b> DerMeaning for KeyIdentifier<'b> {
 
     ghost der_cut = { EndsWithinElement };
 
-    ghost der_grows = { Unit {0} };
-
     ghost one_rest = { λ i v w r s left right. one_rest (IsOctets) i (key_identifier_view v) (key_identifier_view w) r s left right };
 }
 
@@ -64,7 +62,7 @@ impl<'a> FromDer<'a, X509Error> for KeyIdentifier<'a> {
     ///
     /// `Incomplete` if `bytes` ends inside the element; an `Error` if it isn't an OCTET STRING.
     fn from_der(_alloc: Global, bytes: &'a [u8]) -> X509Result<'a, KeyIdentifier<'a>>
-        ensures reads { Reads (λ given e. e ≡ told given) (Unit {0}) EndsWithinElement (λ i. i.now)
+        ensures reads { Reads (λ given e. e ≡ told given) ⊥ EndsWithinElement (λ i. i.now)
             (λ i v r. grammar.KeyIdentifier i (key_identifier_view v) r) bytes.now result }
         ensures exact { Gives (λ r. (key_identifier_view r.1, r.0.now)) result (key_identifier_at bytes.now) }
         ensures memory { IfErr result TakesNoMemory }

@@ -153,8 +153,6 @@ impl DerMeaning for InhibitAnyPolicy {
 
     ghost der_cut = { EndsWithinElement };
 
-    ghost der_grows = { Unit {0} };
-
     ghost one_rest = { λ i v w r s left right. one_rest (Leaf 2 IsNumber) i (inhibit_view v) (inhibit_view w) r s left right };
 }
 
@@ -166,7 +164,7 @@ impl<'a> FromDer<'a, X509Error> for InhibitAnyPolicy {
     ///
     /// `Incomplete` if `bytes` ends inside the element; an `Error` if it is anything else.
     fn from_der(_alloc: Global, bytes: &'a [u8]) -> X509Result<'a, InhibitAnyPolicy>
-        ensures reads { Reads (λ given e. e ≡ told given) (Unit {0}) EndsWithinElement (λ i. i.now)
+        ensures reads { Reads (λ given e. e ≡ told given) ⊥ EndsWithinElement (λ i. i.now)
             (λ i v r. grammar.InhibitAnyPolicy i (inhibit_view v) r) bytes.now result }
         ensures exact { Gives (λ r. (inhibit_view r.1, r.0.now)) result (inhibit_at bytes.now) }
         ensures memory { IfErr result TakesNoMemory }

@@ -1,4 +1,5 @@
 pub mod Cases
+pub mod Faults
 pub mod Identifiers
 pub mod Kinds
 pub mod Parsed

@@ -3,9 +3,10 @@
 ghost use Rattle.std.specs.Prelude.{◌≡◌, IfOk};
 ghost use Rattle.x509_ext_flags.specs.Reading.{key_identifier_at, usage_at, netscape_at, policy_constraints_at, inhibit_at};
 ghost use Rattle.x509_ext_types.specs.Values as values;
-ghost use Rattle.x509_ext_parse.specs.Cases.{HoldsNoMemory};
+ghost use Rattle.x509_ext_parse.specs.Cases.{HoldsFaultOf, HoldsNoMemory};
 ghost use Rattle.x509_ext_parse.specs.Reading.{made, or_error};
 ghost use Rattle.x509_ext_parse.specs.View.{parsed_view};
+ghost use Rattle.x509_ext_parse.specs.declared.kind.Kind.TheVariants as kinds;
 
 use crate::parsed::ParsedExtension;
 use crate::settled::settled;
@@ -21,6 +22,7 @@ pub(crate) fn subject_key_identifier<'a>(
 ) -> Result<ParsedExtension<'a>, OutOfMemory>
     ensures read { IfOk result (λ p. parsed_view p ≡ or_error (made values.subject_key_identifier (key_identifier_at value.now))) }
     ensures memory { IfOk result HoldsNoMemory }
+    ensures fault { IfOk result (HoldsFaultOf kinds.SubjectKeyIdentifier value.now) }
 {
     match settled(KeyIdentifier::from_der(alloc, value))? {
         Ok(parsed) => Ok(ParsedExtension::SubjectKeyIdentifier(parsed)),
@@ -35,6 +37,7 @@ pub(crate) fn key_usage<'a>(
 ) -> Result<ParsedExtension<'a>, OutOfMemory>
     ensures read { IfOk result (λ p. parsed_view p ≡ or_error (made values.key_usage (usage_at value.now))) }
     ensures memory { IfOk result HoldsNoMemory }
+    ensures fault { IfOk result (HoldsFaultOf kinds.KeyUsage value.now) }
 {
     match settled(KeyUsage::from_der(alloc, value))? {
         Ok(parsed) => Ok(ParsedExtension::KeyUsage(parsed)),
@@ -49,6 +52,7 @@ pub(crate) fn ns_cert_type<'a>(
 ) -> Result<ParsedExtension<'a>, OutOfMemory>
     ensures read { IfOk result (λ p. parsed_view p ≡ or_error (made values.ns_cert_type (netscape_at value.now))) }
     ensures memory { IfOk result HoldsNoMemory }
+    ensures fault { IfOk result (HoldsFaultOf kinds.NSCertType value.now) }
 {
     match settled(NSCertType::from_der(alloc, value))? {
         Ok(parsed) => Ok(ParsedExtension::NSCertType(parsed)),
@@ -63,6 +67,7 @@ pub(crate) fn policy_constraints<'a>(
 ) -> Result<ParsedExtension<'a>, OutOfMemory>
     ensures read { IfOk result (λ p. parsed_view p ≡ or_error (made values.policy_constraints (policy_constraints_at value.now))) }
     ensures memory { IfOk result HoldsNoMemory }
+    ensures fault { IfOk result (HoldsFaultOf kinds.PolicyConstraints value.now) }
 {
     match settled(PolicyConstraints::from_der(alloc, value))? {
         Ok(parsed) => Ok(ParsedExtension::PolicyConstraints(parsed)),
@@ -77,6 +82,7 @@ pub(crate) fn inhibit_any_policy<'a>(
 ) -> Result<ParsedExtension<'a>, OutOfMemory>
     ensures read { IfOk result (λ p. parsed_view p ≡ or_error (made values.inhibit_any_policy (inhibit_at value.now))) }
     ensures memory { IfOk result HoldsNoMemory }
+    ensures fault { IfOk result (HoldsFaultOf kinds.InhibitAnyPolicy value.now) }
 {
     match settled(InhibitAnyPolicy::from_der(alloc, value))? {
         Ok(parsed) => Ok(ParsedExtension::InhibitAnyPolicy(parsed)),

@@ -5,9 +5,10 @@ ghost use Rattle.x509_ext_points.specs.Reading.{points_at, issuing_at};
 ghost use Rattle.x509_ext_policies.specs.Reading.{policies_at, mappings_at, purposes_at};
 ghost use Rattle.x509_ext_sct.specs.Reading.{list_at};
 ghost use Rattle.x509_ext_types.specs.Values as values;
-ghost use Rattle.x509_ext_parse.specs.Cases.{HoldsNoMemory};
+ghost use Rattle.x509_ext_parse.specs.Cases.{HoldsFaultOf, HoldsNoMemory};
 ghost use Rattle.x509_ext_parse.specs.Reading.{made, or_error};
 ghost use Rattle.x509_ext_parse.specs.View.{parsed_view};
+ghost use Rattle.x509_ext_parse.specs.declared.kind.Kind.TheVariants as kinds;
 
 use crate::parsed::ParsedExtension;
 use crate::settled::settled;
@@ -25,6 +26,7 @@ pub(crate) fn certificate_policies<'a>(
 ) -> Result<ParsedExtension<'a>, OutOfMemory>
     ensures read { IfOk result (λ p. parsed_view p ≡ or_error (made values.certificate_policies (policies_at value.now))) }
     ensures memory { IfOk result HoldsNoMemory }
+    ensures fault { IfOk result (HoldsFaultOf kinds.CertificatePolicies value.now) }
 {
     match settled(policies_of(alloc, value))? {
         Ok(parsed) => Ok(ParsedExtension::CertificatePolicies(parsed)),
@@ -39,6 +41,7 @@ pub(crate) fn policy_mappings<'a>(
 ) -> Result<ParsedExtension<'a>, OutOfMemory>
     ensures read { IfOk result (λ p. parsed_view p ≡ or_error (made values.policy_mappings (mappings_at value.now))) }
     ensures memory { IfOk result HoldsNoMemory }
+    ensures fault { IfOk result (HoldsFaultOf kinds.PolicyMappings value.now) }
 {
     match settled(PolicyMappings::from_der(alloc, value))? {
         Ok(parsed) => Ok(ParsedExtension::PolicyMappings(parsed)),
@@ -53,6 +56,7 @@ pub(crate) fn extended_key_usage<'a>(
 ) -> Result<ParsedExtension<'a>, OutOfMemory>
     ensures read { IfOk result (λ p. parsed_view p ≡ or_error (made values.extended_key_usage (purposes_at value.now))) }
     ensures memory { IfOk result HoldsNoMemory }
+    ensures fault { IfOk result (HoldsFaultOf kinds.ExtendedKeyUsage value.now) }
 {
     match settled(ExtendedKeyUsage::from_der(alloc, value))? {
         Ok(parsed) => Ok(ParsedExtension::ExtendedKeyUsage(parsed)),
@@ -67,6 +71,7 @@ pub(crate) fn crl_distribution_points<'a>(
 ) -> Result<ParsedExtension<'a>, OutOfMemory>
     ensures read { IfOk result (λ p. parsed_view p ≡ or_error (made values.crl_distribution_points (points_at value.now))) }
     ensures memory { IfOk result HoldsNoMemory }
+    ensures fault { IfOk result (HoldsFaultOf kinds.CRLDistributionPoints value.now) }
 {
     match settled(CRLDistributionPoints::from_der(alloc, value))? {
         Ok(parsed) => Ok(ParsedExtension::CRLDistributionPoints(parsed)),
@@ -81,6 +86,7 @@ pub(crate) fn issuing_distribution_point<'a>(
 ) -> Result<ParsedExtension<'a>, OutOfMemory>
     ensures read { IfOk result (λ p. parsed_view p ≡ or_error (made values.issuing_distribution_point (issuing_at value.now))) }
     ensures memory { IfOk result HoldsNoMemory }
+    ensures fault { IfOk result (HoldsFaultOf kinds.IssuingDistributionPoint value.now) }
 {
     match settled(point_of(alloc, value))? {
         Ok(parsed) => Ok(ParsedExtension::IssuingDistributionPoint(parsed)),
@@ -92,6 +98,7 @@ pub(crate) fn issuing_distribution_point<'a>(
 pub(crate) fn sct<'a>(alloc: Global, value: &'a [u8]) -> Result<ParsedExtension<'a>, OutOfMemory>
     ensures read { IfOk result (λ p. parsed_view p ≡ or_error (made values.sct (list_at value.now))) }
     ensures memory { IfOk result HoldsNoMemory }
+    ensures fault { IfOk result (HoldsFaultOf kinds.SCT value.now) }
 {
     match settled(parse_ct_signed_certificate_timestamp_list(alloc, value))? {
         Ok(parsed) => Ok(ParsedExtension::SCT(parsed)),

@@ -2,7 +2,7 @@
 
 ghost use Rattle.std.specs.Prelude.{◌≡◌, IfOk};
 ghost use Rattle.x509_ext_types.specs.Values.{Parsed};
-ghost use Rattle.x509_ext_parse.specs.Cases.{HoldsNoMemory};
+ghost use Rattle.x509_ext_parse.specs.Cases.{HoldsFault, HoldsFaultOf, HoldsNoMemory};
 ghost use Rattle.x509_ext_parse.specs.Parsed.{IsParsed};
 ghost use Rattle.x509_ext_parse.specs.Reading.{or_error, value_in, deeply};
 ghost use Rattle.x509_ext_parse.specs.View.{parsed_view};
@@ -21,6 +21,7 @@ fn parse_kind<'a>(
 ) -> Result<ParsedExtension<'a>, OutOfMemory>
     ensures read { IfOk result (λ p. parsed_view p ≡ or_error (value_in kind value.now)) }
     ensures memory { IfOk result HoldsNoMemory }
+    ensures fault { IfOk result (HoldsFaultOf kind value.now) }
 {
     match kind {
         Kind::SubjectKeyIdentifier => flags::subject_key_identifier(alloc, value),
@@ -56,6 +57,7 @@ fn read_deeply<'a>(
 ) -> Result<ParsedExtension<'a>, OutOfMemory>
     ensures exact { IfOk result (λ p. parsed_view p ≡ deeply oid.now value.now) }
     ensures memory { IfOk result HoldsNoMemory }
+    ensures fault { IfOk result (HoldsFault oid.now value.now) }
 {
     match kind_of(oid.as_bytes()) {
         Some(kind) => parse_kind(alloc, kind, value),
@@ -80,6 +82,7 @@ pub fn parse_extension<'a>(
 ) -> Result<ParsedExtension<'a>, OutOfMemory>
     ensures exact { IfOk result (λ p. parsed_view p ≡ deeply oid.now value.now) }
     ensures memory { IfOk result HoldsNoMemory }
+    ensures fault { IfOk result (HoldsFault oid.now value.now) }
     ensures found { IfOk result (λ p. IsParsed oid.now value.now (parsed_view p)) }
     ensures only { (parsed : Parsed) → IsParsed oid.now value.now parsed → IfOk result (λ p. parsed_view p ≡ parsed) }
 {

@@ -1,17 +1,18 @@
 //! Conversions of a reader's result to a parsed value.
 
-ghost use Rattle.std.specs.Prelude.{◌≢◌, IfOk, OnOk};
+ghost use Rattle.std.specs.Prelude.{◌≡◌, ◌≢◌, IfOk, OnOk};
 ghost use Rattle.asn1_core.specs.Answers.{TakesNoMemory};
 ghost use Rattle.asn1_core.specs.declared.error.Error.TheVariants as errors;
 ghost use Rattle.x509_core.specs.Fronts.{TakesNoMemory as IsNoFailure};
-ghost use Rattle.x509_ext_parse.specs.Cases.{IsSettled};
+ghost use Rattle.x509_ext_parse.specs.Cases.{IsHeld, IsSettled, element_error};
 
 use asn1_core::{Err as Refusal, Error, OutOfMemory};
 use x509_core::{X509Error, X509Result};
 
 // The error as one of an element; an error of another part is `BerValueError`.
 fn plain(e: X509Error) -> Error
-    ensures { result ≢ errors.OutOfMemory }
+    ensures memory { result ≢ errors.OutOfMemory }
+    ensures error { result ≡ element_error e }
 {
     match e {
         X509Error::Der(Error::OutOfMemory) => Error::BerValueError,
@@ -24,6 +25,7 @@ fn plain(e: X509Error) -> Error
 pub(crate) fn refused(refusal: Refusal<X509Error>) -> Result<Refusal<Error>, OutOfMemory>
     ensures kept { IfOk result TakesNoMemory }
     ensures octets { OnOk result (IsNoFailure refusal) }
+    ensures error { IfOk result (IsHeld refusal) }
 {
     match refusal {
         Refusal::Failure(_) => Err(OutOfMemory),

@@ -1,18 +1,17 @@
 """The command line: `python3 -m certpath.inventory --help`."""
 import argparse
-import errno
 import logging
 import os
-import resource
 import signal
 import sys
 import traceback
+import warnings
 from contextlib import contextmanager
 from types import FrameType
 from typing import Callable, List, NamedTuple, Optional, Set
 
 from ..library import LibraryMissing, loaded
-from . import databases, parquet, tables
+from . import databases, memory, parquet, tables
 from . import words as taken
 from .anchors import BadAnchors
 from .jobs import Different, planned
@@ -32,8 +31,6 @@ SIGNALLED = 128
 ENDING = (signal.SIGINT, signal.SIGTERM)
 # After so many seconds a run is ended that can't be ended at once.
 SOON = 0.01
-# What is said if there is no memory for a library, a thread, or what OpenSSL holds.
-NO_ROOM = "failed to map segment", "can't start new thread", "malloc failure", "annot allocate"
 NO_DASK = ("it comes with `apt-get install python3-distributed python3-cryptography`, or "
            "`pip install 'dask[distributed]' cryptography`")
 
@@ -164,25 +161,6 @@ def said_of(error: BaseException) -> str:
     return str(error)
 
 
-def lacks_memory(error: Optional[BaseException]) -> bool:
-    """Whether an error comes of a lack of memory, which Dask and OpenSSL say in words of their own."""
-    while error is not None:
-        if isinstance(error, MemoryError) or getattr(error, "errno", None) == errno.ENOMEM:
-            return True
-        # (others have the caller's words)
-        is_of_system = isinstance(error, (ImportError, RuntimeError, OSError))
-        if is_of_system and not getattr(error, "filename", None) and any(
-                it in str(error) for it in NO_ROOM):
-            return True
-        error = error.__cause__ or error.__context__
-    return False
-
-
-def is_limited() -> bool:
-    """Whether the memory of this process is limited from outside."""
-    return resource.getrlimit(resource.RLIMIT_AS)[0] != resource.RLIM_INFINITY
-
-
 def without_memory() -> int:
     """Says that there is no memory, and gives the status."""
     show("inventory: out of memory")
@@ -191,7 +169,7 @@ def without_memory() -> int:
 
 def ended(error: BaseException) -> int:
     """Says why a run has ended, and gives the status."""
-    if lacks_memory(error):
+    if memory.is_lacking(error):
         return without_memory()
     for refusal in refusals():
         if isinstance(error, refusal.error):
@@ -212,14 +190,17 @@ def main(given: List[str]) -> int:
             # (it makes the key of the run)
             import cryptography  # noqa: F401
     except Exception as error:  # (without memory Python says otherwise at times why it loads nothing)
-        if lacks_memory(error) or is_limited() and not isinstance(error, ImportError):
+        if memory.is_lacking(error) or memory.is_limited() and not isinstance(error, ImportError):
             return without_memory()
         if not isinstance(error, ImportError):
             raise
         show(f"inventory: {error}; {NO_DASK}")
         return NOT_THERE
-    # (Dask writes tracebacks of connections that end, and what matters of these is said here)
+    # (Dask writes tracebacks of connections that end, and warns of versions that it couldn't ask
+    # for; what matters of these is said here)
     logging.disable(logging.CRITICAL)
+    warnings.simplefilter("ignore")
+    os.environ.setdefault("PYTHONWARNINGS", "ignore")
     for number in ENDING:
         signal.signal(number, end)
     try:
@@ -233,4 +214,8 @@ def main(given: List[str]) -> int:
 
 
 if __name__ == "__main__":
-    sys.exit(main(sys.argv[1:]))
+    found = main(sys.argv[1:])
+    if found == NO_MEMORY:
+        # (threads of Dask and OpenSSL that lack memory fail while Python ends)
+        os._exit(found)
+    sys.exit(found)

@@ -8,13 +8,14 @@ import logging
 import os
 import signal
 import tempfile
-from contextlib import contextmanager
+from contextlib import ExitStack, contextmanager
 from typing import Callable, Dict, Iterator, List, NamedTuple, Optional
 
 import dask
 from dask.distributed import Client, Nanny, Scheduler, Security, SpecCluster, Worker
 from dask.distributed import TimeoutError as DaskTimeoutError
 
+from . import memory
 from .probe import fingerprint
 
 LOOPBACK = "127.0.0.1"
@@ -32,6 +33,9 @@ UNWATCHED = {"distributed.worker.profile.enabled": False,
 SECONDS = 15
 # How long its first worker is.
 WAIT = 600
+# So many seconds the processes of this machine have to begin (it takes two), and then each part of
+# them to end.
+BEGIN, CLOSE = 60, 5
 
 
 class Unreachable(Exception):
@@ -72,15 +76,44 @@ def cluster_of(workers: int, security: Security) -> SpecCluster:
                        scheduler=scheduler, security=security, silence_logs=logging.CRITICAL)
 
 
+def late(*_):
+    raise Unreachable(f"the processes that read haven't begun within {BEGIN} seconds")
+
+
+@contextmanager
+def in_time() -> Iterator[Callable[[], None]]:
+    """What is done within it begins processes, until it calls what it is given. Unreachable if that
+    takes too long; MemoryError if it fails and memory is limited: without it Dask starts a process
+    again and again, says that certificates don't match, and doesn't end."""
+    def done():
+        signal.setitimer(signal.ITIMER_REAL, 0)
+        waited.clear()
+
+    before, waited = signal.signal(signal.SIGALRM, late), [True]
+    signal.setitimer(signal.ITIMER_REAL, BEGIN, CLOSE)
+    try:
+        yield done
+    except Exception as error:
+        if waited and memory.is_limited():
+            raise MemoryError from error
+        raise
+    finally:
+        done()
+        signal.signal(signal.SIGALRM, before)
+
+
 @contextmanager
 def own_processes(workers: int) -> Iterator[Client]:
     """A client of new processes of this machine, one for each core where `workers` is 0."""
-    # (what a worker puts on its disk is read back as pickles, so nobody else may write there)
-    with tempfile.TemporaryDirectory(prefix="inventory-") as scratch:
-        with dask.config.set({**NO_HTTP, **UNWATCHED, "temporary-directory": scratch}), \
-                cluster_of(workers or os.cpu_count() or 1, Security.temporary()) as cluster, \
-                Client(cluster) as client:
-            yield client
+    with in_time() as done, ExitStack() as opened:
+        # (what a worker puts on its disk is read back as pickles, so nobody else may write there)
+        scratch = opened.enter_context(tempfile.TemporaryDirectory(prefix="inventory-"))
+        opened.enter_context(
+            dask.config.set({**NO_HTTP, **UNWATCHED, "temporary-directory": scratch}))
+        cluster = cluster_of(workers or os.cpu_count() or 1, Security.temporary())
+        client = opened.enter_context(Client(opened.enter_context(cluster)))
+        done()
+        yield client
 
 
 def keys_of(keys: Keys) -> Security:

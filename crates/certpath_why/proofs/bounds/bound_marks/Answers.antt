@@ -1,13 +1,14 @@
 use Rattle.std.proofs.Common.{get_or, arith}
 use Rattle.std.proofs.lemmas.List.Elements.{Contains-get_or}
-use Rattle.certpath_why.specs.Question.{items_in, rules_in}
+use Rattle.cert_judge.specs.Items.{rules_by}
+use Rattle.certpath_why.specs.Question.{items_in}
 use Rattle.certpath_why.specs.Bounds.{reach_by, IsHeldBack}
 use Rattle.certpath_why.proofs.Bounding.{of_none, of_more, of_all}
 use Rattle.certpath_why.proofs.Spreading.{further_certificate}
 use Rattle.certpath_why.proofs.bounds.bound_marks.Goals as goal
 
 pub loop-place-init : goal.loop-place-init
-loop-place-init g c = of_none (IsHeldBack (rules_in g.V.Vouch c.args.question.now) (items_in c.args.question.now) (reach_by c.args.answer.now)) c.args.further.now c.in_ok-marks.marks.items
+loop-place-init g c = of_none (IsHeldBack (rules_by c.args.question.now.policy.now.moment c.args.question.now.policy.now.demand_lists (g.S.Vouch.vouches_for c.args.search.now)) (items_in c.args.question.now) (reach_by c.args.answer.now)) c.args.further.now c.in_ok-marks.marks.items
 
 pub mark_from-requires-clause-certificate : goal.mark_from-requires-clause-certificate
 mark_from-requires-clause-certificate g c =
@@ -21,7 +22,7 @@ mark_from-requires-clause-count g c =
     omega arith
 
 pub loop-place-preserved : goal.loop-place-preserved
-loop-place-preserved g c = of_more (IsHeldBack (rules_in g.V.Vouch c.args.question.now) (items_in c.args.question.now) (reach_by c.args.answer.now)) c.args.further.now c.loop-place.place-index c.in_ok-marks.marks.items c.loop-place.marks.items c.mark_from.new.marks.items c.loop-place-test.true c.loop-place.invariant c.in_ok-mark_from.ensures
+loop-place-preserved g c = of_more (IsHeldBack (rules_by c.args.question.now.policy.now.moment c.args.question.now.policy.now.demand_lists (g.S.Vouch.vouches_for c.args.search.now)) (items_in c.args.question.now) (reach_by c.args.answer.now)) c.args.further.now c.loop-place.place-index c.in_ok-marks.marks.items c.loop-place.marks.items c.mark_from.new.marks.items c.loop-place-test.true c.loop-place.invariant c.in_ok-mark_from.ensures
 
 pub returns : goal.returns
-returns g c = of_all (IsHeldBack (rules_in g.V.Vouch c.args.question.now) (items_in c.args.question.now) (reach_by c.args.answer.now)) c.args.further.now c.loop-place.place-index c.in_ok-marks.marks.items c.loop-place.marks.items c.loop-place-test.false c.in_ok-marks.ensures.none c.loop-place.invariant
+returns g c = of_all (IsHeldBack (rules_by c.args.question.now.policy.now.moment c.args.question.now.policy.now.demand_lists (g.S.Vouch.vouches_for c.args.search.now)) (items_in c.args.question.now) (reach_by c.args.answer.now)) c.args.further.now c.loop-place.place-index c.in_ok-marks.marks.items c.loop-place.marks.items c.loop-place-test.false c.in_ok-marks.ensures.none c.loop-place.invariant

@@ -14,11 +14,11 @@ pub loop-issuer-init : goal.loop-issuer-init
 loop-issuer-init g c = among_none (λ v. (reach_by c.args.answer.now v ≡ UpTo 0) × IsAt (map item_of c.args.linking.now.items.now) v (IsLink (rules_by c.args.linking.now.policy.moment c.args.linking.now.policy.demand_lists (g.V.Vouch.vouches_for c.args.vouch.now)) (map item_of c.args.linking.now.items.now) (certificate_item c.args.linking.now.certificate.now))) c.args.issuers.now c.args.marks.now.items
 
 pub is_held_back-requires-clause-subject : goal.is_held_back-requires-clause-subject
-is_held_back-requires-clause-subject g c = (c.requires.issuers.exact _).0 (Contains-get_or c.args.issuers.now c.loop-issuer.issuer-index 0 c.loop-issuer-test.true)
+is_held_back-requires-clause-subject g c = c.requires.issuers _ (Contains-get_or c.args.issuers.now c.loop-issuer.issuer-index 0 c.loop-issuer-test.true)
 
 pub put_mark-requires : goal.put_mark-requires
 put_mark-requires g c =
-    let at = ((c.requires.issuers.exact (get_or c.args.issuers.now c.loop-issuer.issuer-index 0)).0 (Contains-get_or c.args.issuers.now c.loop-issuer.issuer-index 0 c.loop-issuer-test.true)).0 in
+    let at = (c.requires.issuers (get_or c.args.issuers.now c.loop-issuer.issuer-index 0) (Contains-get_or c.args.issuers.now c.loop-issuer.issuer-index 0 c.loop-issuer-test.true)).0 in
     let long = length-map c.args.linking.now.items.now item_of in
     let count = c.requires.count in
     let same = c.loop-issuer.invariant.count in

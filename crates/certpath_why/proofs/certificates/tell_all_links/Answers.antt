@@ -1,7 +1,6 @@
+use Rattle.std.proofs.Common.{ap, sym, Some}
 use Rattle.cert_judge.specs.declared.items.ReadItem.TheVariants.{Certificate as certificate_read}
 use Rattle.certpath_why.specs.Question.{anchors_in, items_in, rules_in}
-use Rattle.certpath_why.proofs.Grouped.{signed_within}
-use Rattle.certpath_why.proofs.Signed.{signed_at}
 use Rattle.certpath_why.proofs.Telling.{tells_links}
 use Rattle.certpath_why.proofs.certificates.tell_all_links.Goals as goal
 
@@ -11,27 +10,21 @@ tell_links-requires-clause-issuers g c = rw (c.in_ok-linking.ensures.items, c.in
 pub tell_anchors-requires-clause-roots : goal.tell_anchors-requires-clause-roots
 tell_anchors-requires-clause-roots g c = rw c.in_ok-linking.ensures.certificate c.roots-roots.ensures
 
-pub signers_at-signers-requires : goal.signers_at-signers-requires
-signers_at-signers-requires g c =
-    let q = c.args.question.now in
-    rw c.deref.ensures.value (signed_within (g.V.Vouch.vouches_for q.vouch.now).Vouches q.found.now.items.now (items_in q) q.signers.now.issuers.items c.args.place c.requires.signed.issuers c.requires.at.0)
-
-pub signers_at-signers-requires-2 : goal.signers_at-signers-requires-2
-signers_at-signers-requires-2 g c =
-    let q = c.args.question.now in
-    rw c.deref-2.ensures.value (signed_within (g.V.Vouch.vouches_for q.vouch.now).Vouches q.found.now.items.now (anchors_in q) q.signers.now.roots.items c.args.place c.requires.signed.roots c.requires.at.0)
-
 pub tell_links-requires-clause-signers : goal.tell_links-requires-clause-signers
 tell_links-requires-clause-signers g c =
-    let q = c.args.question.now in
-    rw (c.in_ok-linking.ensures.items, c.in_ok-linking.ensures.certificate)
-    (signed_at (g.V.Vouch.vouches_for q.vouch.now).Vouches q.found.now.items.now (items_in q) q.signers.now.issuers.items c.args.place (certificate_read c.args.certificate.now) c.signers_at-signers.result.now c.requires.signed.issuers c.requires.at (rw c.deref.ensures.value at c.signers_at-signers.ensures))
+    let x = c.args.certificate.now in
+    rw (c.deref.ensures.value, c.in_ok-linking.ensures.items, c.in_ok-linking.ensures.certificate) ((c.in_ok-signers.ensures (certificate_read x) c.requires.at (ap Some (sym x.issuer_is))).exact)
 
 pub tell_anchors-requires-clause-signers : goal.tell_anchors-requires-clause-signers
 tell_anchors-requires-clause-signers g c =
-    let q = c.args.question.now in
-    rw c.in_ok-linking.ensures.certificate
-    (signed_at (g.V.Vouch.vouches_for q.vouch.now).Vouches q.found.now.items.now (anchors_in q) q.signers.now.roots.items c.args.place (certificate_read c.args.certificate.now) c.signers_at-signers-2.result.now c.requires.signed.roots c.requires.at (rw c.deref-2.ensures.value at c.signers_at-signers-2.ensures))
+    let x = c.args.certificate.now in
+    rw (c.deref-2.ensures.value, c.in_ok-linking.ensures.certificate) ((c.in_ok-signers-2.ensures (certificate_read x) c.requires.at (ap Some (sym x.issuer_is))).exact)
+
+pub issuers_at-requires-clause-place : goal.issuers_at-requires-clause-place
+issuers_at-requires-clause-place g c = c.requires.at.0
+
+pub roots_at-requires-clause-place : goal.roots_at-requires-clause-place
+roots_at-requires-clause-place g c = c.requires.at.0
 
 pub returns : goal.returns
 returns g c =

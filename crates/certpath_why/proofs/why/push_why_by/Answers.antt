@@ -8,6 +8,9 @@ tell_reached-requires-clause-signed g c = record {
   roots = rw (c.in_ok-found.ensures.items, c.in_ok-found.ensures.anchors) c.in_ok-signers.ensures.roots;
 }
 
+pub tell_reached-requires-clause-less : goal.tell_reached-requires-clause-less
+tell_reached-requires-clause-less g c = c.requires
+
 pub tell_lists-requires : goal.tell_lists-requires
 tell_lists-requires g c = record {
   issuers = rw c.in_ok-found.ensures.items c.in_ok-signers.ensures.issuers;

@@ -92,19 +92,19 @@ is_content-returns-clause-only t c = λ d p.
     let b : IsConstructed e 17 → ⊥ = λ q. let x = (c.is_constructed-2.ensures c.args.content.now).1 q in cc in
     c.is_leaf.ensures.only d (content_leaf c.args.levels e a b d p)
 
-pub skip_object_counted-returns-then-levels-eq0-clause-skipped :
-    goal.skip_object_counted-returns-then-levels-eq0-clause-skipped
-skip_object_counted-returns-then-levels-eq0-clause-skipped t c = λ p. omega (arith, (object_parts c.args.levels p.0 p.2).level)
+pub skip_element-returns-then-levels-eq0-clause-skipped :
+    goal.skip_element-returns-then-levels-eq0-clause-skipped
+skip_element-returns-then-levels-eq0-clause-skipped t c = λ p. omega (arith, (object_parts c.args.levels p.0 p.2).level)
 
-pub skip_object_counted-returns-then-is_empty-clause-skipped :
-    goal.skip_object_counted-returns-then-is_empty-clause-skipped
-skip_object_counted-returns-then-is_empty-clause-skipped t c =
+pub skip_element-returns-then-is_empty-clause-skipped :
+    goal.skip_element-returns-then-is_empty-clause-skipped
+skip_element-returns-then-is_empty-clause-skipped t c =
     let empty : length c.args.i.now ≡ 0 = grind (arith, common_steps) in
     nothing_begins c.args.levels c.args.i.now empty
 
-pub skip_object_counted-returns-then-is_content-clause-skipped :
-    goal.skip_object_counted-returns-then-is_content-clause-skipped
-skip_object_counted-returns-then-is_content-clause-skipped t c =
+pub skip_element-returns-then-is_content-clause-skipped :
+    goal.skip_element-returns-then-is_content-clause-skipped
+skip_element-returns-then-is_content-clause-skipped t c =
     let cut = c.in-Ok.ensures.found in
     let e = element_under c.in-Ok.cut.header c.in-Ok.cut.content.now in
     let held = c.is_content.ensures.found c.if-is_content.true in (
@@ -114,9 +114,9 @@ skip_object_counted-returns-then-is_content-clause-skipped t c =
       omega (arith, c.in-Ok.ensures.count, held.2),
     )
 
-pub skip_object_counted-returns-else-is_content-clause-skipped :
-    goal.skip_object_counted-returns-else-is_content-clause-skipped
-skip_object_counted-returns-else-is_content-clause-skipped t c = λ p.
+pub skip_element-returns-else-is_content-clause-skipped :
+    goal.skip_element-returns-else-is_content-clause-skipped
+skip_element-returns-else-is_content-clause-skipped t c = λ p.
     let cut = c.in-Ok.ensures.found in
     let e = element_under c.in-Ok.cut.header c.in-Ok.cut.content.now in
     let holds = object_content c.args.levels c.args.i.now c.in-Ok.cut.raw.now c.in-Ok.after.now e cut.0 cut.2 p in
@@ -124,8 +124,8 @@ skip_object_counted-returns-else-is_content-clause-skipped t c = λ p.
     let y = c.if-is_content.false in
     cc
 
-pub skip_object_counted-returns-in-Err-clause-skipped :
-    goal.skip_object_counted-returns-in-Err-clause-skipped
-skip_object_counted-returns-in-Err-clause-skipped t c = λ p.
+pub skip_element-returns-in-Err-clause-skipped :
+    goal.skip_element-returns-in-Err-clause-skipped
+skip_element-returns-in-Err-clause-skipped t c = λ p.
     let has = object_cut c.args.levels c.args.i.now p in
     c.in-Err.ensures.only has.2 has.0 has.1 has.3 has.4

@@ -5,13 +5,19 @@ use Rattle.der_tree.specs.Shape.{AreObjects}
 use Rattle.der_tree.proofs.skip.+skipping.Given as goal
 
 abbrev pub decreases-is_content : goal.decreases-is_content
-decreases-is_content l = 3 * l.levels + 2
+decreases-is_content l = 5 * l.levels + 4
 
 abbrev pub decreases-are_objects : goal.decreases-are_objects
-decreases-are_objects l = 3 * l.levels + 1
+decreases-are_objects l = 5 * l.levels + 3
 
 abbrev pub decreases-skip_object_counted : goal.decreases-skip_object_counted
-decreases-skip_object_counted l = 3 * l.levels
+decreases-skip_object_counted l = 5 * l.levels + 2
+
+abbrev pub decreases-skip_long : goal.decreases-skip_long
+decreases-skip_long l = 5 * l.levels + 1
+
+abbrev pub decreases-skip_element : goal.decreases-skip_element
+decreases-skip_element l = 5 * l.levels
 
 -- Objects to the end of the rest make objects to the end of the content, and the other way round.
 abbrev pub invariant-are_objects-loop-rest : goal.invariant-are_objects-loop-rest

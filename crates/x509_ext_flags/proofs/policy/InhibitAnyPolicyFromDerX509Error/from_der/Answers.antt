@@ -2,7 +2,7 @@ use Rattle.std.proofs.Common.{arith}
 use Rattle.asn1_core.proofs.Numbers.{octets_below}
 use Rattle.x509_core.proofs.Grammars.{next_reading}
 use Rattle.x509_core.proofs.Public.{gives_found, gives_only}
-use Rattle.x509_core.proofs.FrontLaws.{gives_reads}
+use Rattle.x509_ext_flags.proofs.PlainReads.{gives_reads_plainly}
 use Rattle.x509_core.specs.Leaves.{Leaf}
 use Rattle.x509_ext_flags.specs.Extensions as grammar
 use Rattle.x509_ext_flags.specs.Numbers.{IsNumber}
@@ -13,8 +13,8 @@ use Rattle.x509_ext_flags.proofs.policy.InhibitAnyPolicyFromDerX509Error.from_de
 
 pub returns-clause-reads : goal.returns-clause-reads
 returns-clause-reads c =
-    gives_reads (Leaf 2 IsNumber) (tagged_number_in 2) (number_meaning 2) inhibit_view c.args.bytes.now c.inhibit_at_front.result
-    (octets_below c.args.bytes.now (λ k. omega (arith, c.type_inv.bytes k))) c.inhibit_at_front.ensures.exact c.inhibit_at_front.ensures.missing
+    gives_reads_plainly (Leaf 2 IsNumber) (tagged_number_in 2) (number_meaning 2) inhibit_view c.args.bytes.now c.inhibit_at_front.result
+    (octets_below c.args.bytes.now (λ k. omega (arith, c.type_inv.bytes k))) c.inhibit_at_front.ensures.exact c.inhibit_at_front.ensures.missing c.inhibit_at_front.ensures.memory
 
 pub returns-clause-found : goal.returns-clause-found
 returns-clause-found c =

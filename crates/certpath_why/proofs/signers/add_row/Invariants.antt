@@ -1,6 +1,0 @@
-use Rattle.std.proofs.Common.{take}
-use Rattle.certpath_why.specs.Signers.{Adds, IsRowOf}
-use Rattle.certpath_why.proofs.signers.add_row.Given as goal
-
-abbrev pub invariant-loop-item : goal.invariant-loop-item
-invariant-loop-item l = Adds (IsRowOf (take l.item-index l.row) l.signers) l.initial.lists.items l.lists.items

@@ -1,0 +1,3 @@
+pub mod OfClasses
+pub mod OfFields
+pub mod OfVoucherFiles

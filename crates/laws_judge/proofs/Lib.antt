@@ -1,0 +1,5 @@
+pub mod OfPaths
+pub mod OfPermits
+pub mod OfQuestions
+pub mod OfReasons
+pub mod OfServing

@@ -1,0 +1,3 @@
+pub mod OfTexts
+pub mod OfWhy
+pub mod OfBound

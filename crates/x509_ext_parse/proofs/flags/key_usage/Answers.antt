@@ -1,0 +1,9 @@
+use Rattle.x509_ext_flags.specs.Extensions as grammar
+use Rattle.x509_ext_flags.specs.View.{usage_view}
+use Rattle.x509_ext_parse.proofs.FaultLaws.{by_reads}
+use Rattle.x509_ext_parse.proofs.flags.key_usage.Goals as goal
+
+pub returns-in-Err-clause-fault : goal.returns-in-Err-clause-fault
+returns-in-Err-clause-fault c =
+    let settled = rw c.in-Err.is at c.in_ok-parsed.ensures in
+    by_reads ⊥ (λ i v r. grammar.KeyUsage i (usage_view v) r) c.args.value.now c.from_der.result c.in-Err.error c.from_der.ensures.reads settled
