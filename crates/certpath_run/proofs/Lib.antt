@@ -1,3 +1,4 @@
+pub mod Answering
 mod FrameFacts
 mod InventoryFacts
 mod Reaching

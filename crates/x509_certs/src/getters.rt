@@ -21,7 +21,7 @@ use crate::tbs::TbsCertificate;
 use asn1_oid::Oid;
 use x509_core::X509Error;
 use x509_ext::{BasicExtension, ParsedExtension};
-use x509_ext_types::{
+use x509_ext::types::{
     BasicConstraints, ExtendedKeyUsage, InhibitAnyPolicy, KeyUsage, NameConstraints,
     PolicyConstraints, PolicyMappings, SubjectAlternativeName,
 };

@@ -4,7 +4,7 @@ use crate::tbs::TbsCertificate;
 use asn1_core::{Err as Refusal, Error};
 use asn1_values::BitString;
 use x509_ext::{UniqueIdentifier, X509Extension, X509Version};
-use x509_ext_types::{
+use x509_ext::types::{
     AuthorityInfoAccess, AuthorityKeyIdentifier, BasicConstraints, CRLDistributionPoints,
     CertificatePolicies, ExtendedKeyUsage, InhibitAnyPolicy, IssuerAlternativeName, KeyIdentifier,
     KeyUsage, NSCertType, NameConstraints, PolicyConstraints, PolicyMappings,

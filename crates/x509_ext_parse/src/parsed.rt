@@ -8,7 +8,7 @@ use asn1_core::{Err as Refusal, Error, OutOfMemory};
 use asn1_oid::Oid;
 use asn1_unsigned::UnsignedBytes;
 use std::alloc::Global;
-use x509_ext_types::{
+use crate::types::{
     AuthorityInfoAccess, AuthorityKeyIdentifier, BasicConstraints, CRLDistributionPoints,
     CertificatePolicies, ExtendedKeyUsage, InhibitAnyPolicy, IssuerAlternativeName,
     IssuingDistributionPoint, KeyIdentifier, KeyUsage, NSCertType, NameConstraints,

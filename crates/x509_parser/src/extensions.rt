@@ -4,7 +4,7 @@ pub use x509_ext::{ParsedExtension, X509Extension, X509ExtensionParser};
 pub use x509_ext_sct::{
     parse_ct_signed_certificate_timestamp, parse_ct_signed_certificate_timestamp_list,
 };
-pub use x509_ext_types::{
+pub use x509_ext::types::{
     AccessDescription, AuthorityInfoAccess, AuthorityKeyIdentifier, BasicConstraints,
     CRLDistributionPoint, CRLDistributionPoints, CertificatePolicies, CtExtensions, CtLogID,
     CtVersion, DigitallySigned, DistributionPointName, ExtendedKeyUsage, GeneralName,

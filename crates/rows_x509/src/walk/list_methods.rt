@@ -5,7 +5,7 @@ use asn1_core::{Err as Refusal, Error};
 use asn1_unsigned::UnsignedBytes;
 use asn1_values::BitString;
 use x509_ext::{X509Extension, X509Version};
-use x509_ext_types::{
+use x509_ext::types::{
     AuthorityInfoAccess, AuthorityKeyIdentifier, IssuerAlternativeName, IssuingDistributionPoint,
     ReasonCode, SignedCertificateTimestamp,
 };

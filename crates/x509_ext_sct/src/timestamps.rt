@@ -51,8 +51,8 @@ pub struct SignedCertificateTimestamp<'a> {
 }
 
 impl<'a> Copies for SignedCertificateTimestamp<'a> {
-    ghost use Rattle.x509_ext_types.specs.Values as values;
-    ghost use Rattle.x509_ext_types.specs.View.{timestamp_view};
+    ghost use Rattle.x509_ext_sct.specs.Values as values;
+    ghost use Rattle.x509_ext_sct.specs.View.{timestamp_view};
 
     ghost Value = { values.SignedCertificateTimestamp };
 

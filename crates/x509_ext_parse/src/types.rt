@@ -1,11 +1,5 @@
-//! The types of extension values (RFC 5280, 4.2, 5.2 and 5.3; RFC 6962, 3.3), and octets as text.
-#![tactic(auto)]
+//! The types of the values of extensions (RFC 5280, 4.2, 5.2 and 5.3; RFC 6962, 3.3).
 
-mod timestamps;
-
-pub use crate::timestamps::{
-    CtExtensions, CtLogID, CtVersion, DigitallySigned, SignedCertificateTimestamp,
-};
 pub use x509_ext_basic::BasicConstraints;
 pub use x509_ext_flags::{
     InhibitAnyPolicy, KeyIdentifier, KeyUsage, NSCertType, PolicyConstraints, ReasonCode,
@@ -22,5 +16,8 @@ pub use x509_ext_points::{
 pub use x509_ext_policies::{
     CertificatePolicies, ExtendedKeyUsage, PolicyInformation, PolicyMapping, PolicyMappings,
     PolicyQualifierInfo, certificate_policies,
+};
+pub use x509_ext_sct::{
+    CtExtensions, CtLogID, CtVersion, DigitallySigned, SignedCertificateTimestamp,
 };
 pub use x509_items::{Copies, copy_all, copy_some, format_serial};
