@@ -8,13 +8,20 @@ import re
 import shutil
 import subprocess
 import sys
+import tempfile
 import time
+from concurrent.futures import ThreadPoolExecutor
+from contextlib import contextmanager
 
 from program import building, programs, repo, sources
 from trials import running
 
 # Where the system's own programs are.
 OF_THE_SYSTEM = "/usr/bin"
+# Proofs yield to the trials that run beside them, so that a trial's bounds on seconds hold; two files of trials at a time.
+YIELDING = ("nice", "-n", "5")
+BESIDE_PROOFS = 2
+NOT_COPIED = (".git", "out", "__pycache__")
 COUNTED = re.compile(r"(\d+) passed, (\d+) failed")
 NO_PROOF = ("./test: no proof was run: rt, the Rattle toolchain, isn't on the path (docs/FAQ.md says where it can be had).\n"
             "./test: with rt on the path, ./test proves every crate, and runs all trials at their full size.")
@@ -57,7 +64,7 @@ def environment():
 def proofs(words):
     """Runs `rt ci` and keeps the programs that it built; gives how many passed and failed, by its last line."""
     began, before = time.monotonic(), digests()
-    child = subprocess.Popen(["rt", "ci", *words], cwd=repo.TOP, env=environment(), stdout=subprocess.PIPE, text=True, errors="replace")
+    child = subprocess.Popen([*YIELDING, "rt", "ci", *words], cwd=repo.TOP, env=environment(), stdout=subprocess.PIPE, text=True, errors="replace")
     passed = failed = 0
     for line in child.stdout:
         print(line, end="", flush=True)
@@ -73,6 +80,21 @@ def proofs(words):
     return passed, failed or int(child.returncode != 0)
 
 
+@contextmanager
+def trials_begun():
+    """Begins the trials that need nothing of `rt ci`, on a copy of the checkout, since that moves files of its own; gives
+    their runs, as `running.ended` takes them. Those that haven't begun in the end are left."""
+    with tempfile.TemporaryDirectory(prefix="gate-") as room:
+        top = os.path.join(room, os.path.basename(repo.TOP))
+        shutil.copytree(repo.TOP, top, symlinks=True, ignore=shutil.ignore_patterns(*NOT_COPIED))
+        pool = ThreadPoolExecutor(BESIDE_PROOFS)
+        names = [name for name in running.files() if name not in running.OF_ROWS]
+        try:
+            yield [pool.submit(running.run_file, ["trial", running.BY_THE_GATE], name, top) for name in names]
+        finally:
+            pool.shutdown(cancel_futures=True)
+
+
 def compared():
     """Compares dist/ with what `rt ci` built."""
     from gate import dist
@@ -80,12 +102,12 @@ def compared():
     return int(not amiss), len(amiss)
 
 
-def trials_of_the_gate():
-    """Runs all trials, several files at a time; gives how many rows passed and failed."""
-    began, before = time.monotonic(), running.spent()
-    passed, failed, _ = running.run_apart(is_gate=True)
-    print(f"trials: {running.spent() - before:.0f} s of processors, {time.monotonic() - began:.0f} s by the clock", flush=True)
-    return passed, failed
+def trials_ended(runs):
+    """Waits for the trials that were begun, and runs those of programs of rows; gives how many rows passed and failed."""
+    began = time.monotonic()
+    counts = [running.ended(runs)[:2], running.run_apart(is_gate=True, names=running.OF_ROWS)[:2]]
+    print(f"trials: they ended {time.monotonic() - began:.0f} s after the proofs by the clock", flush=True)
+    return tuple(map(sum, zip(*counts)))
 
 
 def gate(is_anew=False):
@@ -93,9 +115,10 @@ def gate(is_anew=False):
     from gate import quick
     counts = [quick.looked()]
     if not counts[-1][1]:
-        counts.append(proofs(words_of(is_anew)))
-    if not counts[-1][1]:
-        counts += [compared(), trials_of_the_gate()]
+        with trials_begun() as runs:
+            counts.append(proofs(words_of(is_anew)))
+            if not counts[-1][1]:
+                counts += [compared(), trials_ended(runs)]
     passed, failed = map(sum, zip(*counts))
     print(f"{passed} passed, {failed} failed")
     return 1 if failed else 0

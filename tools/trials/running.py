@@ -28,6 +28,8 @@ MOST_SHOWN = 3_000
 LONGEST = ("scaling", "hostile", "verifying", "embedding", "keys", "installing_wheel", "limits", "hosts", "readme",
            "installing_prefix", "vouching", "stores")
 MOST_AT_A_TIME = 4
+# Files whose trials run programs of rows, which the gate has only once `rt ci` has built them.
+OF_ROWS = ("memory", "mutants", "sizes")
 # The word of `./test trial` by which the gate runs a file.
 BY_THE_GATE = "--gate"
 LAST_LINE = re.compile(r"(\d+) passed, (\d+) failed(?:, (\d+) skipped)?\n\Z")
@@ -149,9 +151,10 @@ def files():
     return sorted(names, key=lambda name: LONGEST.index(name) if name in LONGEST else len(LONGEST))
 
 
-def run_file(words, name):
-    """Runs the trials of a file by a `./test` of its own with the words; gives what it printed, and its counts."""
-    ran = subprocess.run([sys.executable, os.path.join(repo.TOP, "test"), *words, name], stdin=subprocess.DEVNULL,
+def run_file(words, name, top=repo.TOP):
+    """Runs the trials of a file by a `./test` of its own with the words, that of this checkout or of another one; gives
+    what it printed, and its counts."""
+    ran = subprocess.run([sys.executable, os.path.join(top, "test"), *words, name], stdin=subprocess.DEVNULL,
                          stdout=subprocess.PIPE, stderr=subprocess.STDOUT, text=True, errors="replace")
     counted = LAST_LINE.search(ran.stdout)
     if counted is None:
@@ -159,17 +162,22 @@ def run_file(words, name):
     return ran.stdout[:counted.start()], tuple(int(count or 0) for count in counted.groups())
 
 
-def run_apart(is_gate=False, is_small=False):
-    """Runs all trials, each file in a process of its own, several at a time; gives how many rows passed and failed, and
-    how many were skipped."""
+def ended(runs):
+    """Prints what files printed as each ends; gives how many rows of all passed and failed, and how many were skipped."""
+    counts = [(0, 0, 0)]
+    for running in as_completed(runs):
+        text, counted = running.result()
+        print(text, end="", flush=True)
+        counts.append(counted)
+    return tuple(map(sum, zip(*counts)))
+
+
+def run_apart(is_gate=False, is_small=False, names=None):
+    """Runs all trials or those of some files, each file in a process of its own, several at a time; gives how many rows
+    passed and failed, and how many were skipped."""
     if programs.is_outdated():
         return run()
     words = ["small" if is_small else "trial", *([BY_THE_GATE] if is_gate else [])]
     at_a_time = min(MOST_AT_A_TIME, len(os.sched_getaffinity(0)))
-    counts = [(0, 0, 0)]
     with ThreadPoolExecutor(at_a_time) as pool:
-        for running in as_completed([pool.submit(run_file, words, name) for name in files()]):
-            text, counted = running.result()
-            print(text, end="", flush=True)
-            counts.append(counted)
-    return tuple(map(sum, zip(*counts)))
+        return ended([pool.submit(run_file, words, name) for name in (files() if names is None else names)])
