@@ -7,12 +7,12 @@ ghost use Rattle.certpath_cli.specs.Outcomes.{IsOfFile, IsOfWord, IsOfWords, IsO
 
 use certpath_engine::{
     AllSettings, AskedPurpose, BundleError, BundleOutcome, Command, EvidenceReport, Exit, File,
-    Findings, FrameOutcome, Input, InputError, ItemFiles, ItemInput, ItemsError, Outcome, PathFiles,
-    PathOutcome, PathReport, PathsOutcome, PathsReport, Question, QuestionsOutcome, ReadSource,
-    RecheckError, RecheckFiles, RecheckOutcome, Reported, Reports, RunError, WhyReport, WordFault,
-    WriteSink, asked_of, bundle, bundle_status, frame, frame_status, frame_why, path_status,
-    paths_status, questions_status, read_file, read_report, read_words, recheck_status,
-    run_questions, run_recheck_for, run_report, words_status, write_text,
+    Findings, FrameOutcome, Input, InputError, ItemFiles, ItemInput, ItemsError, Outcome,
+    PathFiles, PathOutcome, PathReport, PathsOutcome, PathsReport, Question, QuestionsOutcome,
+    ReadSource, RecheckError, RecheckFiles, RecheckOutcome, Reported, Reports, RunError, WhyReport,
+    WordFault, WriteSink, asked_of, bundle, bundle_status, frame, frame_status, frame_why,
+    path_status, paths_status, questions_status, read_file, read_report, read_words,
+    recheck_status, run_questions, run_recheck_for, run_report, words_status, write_text,
 };
 use std::alloc::Global;
 use std::process::ExitCode;

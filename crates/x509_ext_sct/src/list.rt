@@ -11,11 +11,11 @@ ghost use Rattle.x509_ext_sct.specs.View.{timestamp_view};
 
 use crate::octets::opaque;
 use crate::timestamp::timestamp_at_front;
+use crate::timestamps::SignedCertificateTimestamp;
 use asn1_any::Any;
 use asn1_core::{Err as Refusal, Error, HeaderCount, OutOfMemory};
 use std::alloc::Global;
 use x509_core::{X509Error, X509Result, front_element, leaf_of};
-use crate::timestamps::SignedCertificateTimestamp;
 
 // As many timestamps as begin there.
 fn each_timestamp<'a>(

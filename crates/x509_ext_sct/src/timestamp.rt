@@ -9,11 +9,11 @@ ghost use Rattle.x509_ext_sct.specs.Values as values;
 ghost use Rattle.x509_ext_sct.specs.View.{signed_view, timestamp_view};
 
 use crate::octets::{octet, opaque, time};
-use asn1_core::{Err as Refusal, Error};
-use x509_core::{X509Error, X509Result};
 use crate::timestamps::{
     CtExtensions, CtLogID, CtVersion, DigitallySigned, SignedCertificateTimestamp,
 };
+use asn1_core::{Err as Refusal, Error};
+use x509_core::{X509Error, X509Result};
 
 #[tactic(auto, unfolding(crate::specs::Reading::signed_at))]
 fn signed<'a>(i: &'a [u8]) -> X509Result<'a, DigitallySigned<'a>>
