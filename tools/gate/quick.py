@@ -13,7 +13,7 @@ from gate import (dist, edits, formatting, laws, library, listed, page_checks, r
 from program import repo
 
 # The gate tries the named wrong bodies alone: so many edits, in so many crates.
-MOST_EDITS, MOST_CRATES = 25, 12
+MOST_EDITS, MOST_CRATES = 20, 9
 MOST_LINES = 800
 # How many files the gate may read for its sums of what libraries are made from: each takes it some 0.15 ms, one after another.
 MOST_READS = 8_000_000
