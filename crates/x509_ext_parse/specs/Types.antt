@@ -1,4 +1,4 @@
--- The types of the values of extensions, their texts, and what stands where a value isn't read, for the crates above.
+-- The types of the values of extensions, their texts, and the value that isn't read, for the crates above.
 pub use Rattle.x509_ext_parse.specs.Values.{Parsed, unparsed}
 pub use Rattle.x509_items.specs.Texts.{serial_text}
 pub use Rattle.x509_ext_sct.specs.declared.timestamps.SignedCertificateTimestamp.{SignedCertificateTimestamp}
