@@ -1,4 +1,4 @@
-pub mod Answering
+pub mod Searched
 mod FrameFacts
 mod InventoryFacts
 mod Reaching
