@@ -9,18 +9,20 @@ import shutil
 import subprocess
 import sys
 import tempfile
+import threading
 import time
 from concurrent.futures import ThreadPoolExecutor
-from contextlib import contextmanager
 
 from program import building, programs, repo, sources
 from trials import running
 
 # Where the system's own programs are.
 OF_THE_SYSTEM = "/usr/bin"
-# Proofs yield to the trials that run beside them, so that a trial's bounds on seconds hold; two files of trials at a time.
+# Proofs yield to the trials that run beside them, so that a trial's bounds on seconds hold. A file of trials begins where the
+# load of the last minute leaves a processor free, so that it delays no proof; after so many seconds that is asked again.
 YIELDING = ("nice", "-n", "5")
 BESIDE_PROOFS = 2
+BETWEEN_FILES = 30
 NOT_COPIED = (".git", "out", "__pycache__")
 COUNTED = re.compile(r"(\d+) passed, (\d+) failed")
 NO_PROOF = ("./test: no proof was run: rt, the Rattle toolchain, isn't on the path (docs/FAQ.md says where it can be had).\n"
@@ -80,19 +82,36 @@ def proofs(words):
     return passed, failed or int(child.returncode != 0)
 
 
-@contextmanager
-def trials_begun():
-    """Begins the trials that need nothing of `rt ci`, on a copy of the checkout, since that moves files of its own; gives
-    their runs, as `running.ended` takes them. Those that haven't begun in the end are left."""
-    with tempfile.TemporaryDirectory(prefix="gate-") as room:
-        top = os.path.join(room, os.path.basename(repo.TOP))
-        shutil.copytree(repo.TOP, top, symlinks=True, ignore=shutil.ignore_patterns(*NOT_COPIED))
-        pool = ThreadPoolExecutor(BESIDE_PROOFS)
-        names = [name for name in running.files() if name not in running.OF_ROWS]
-        try:
-            yield [pool.submit(running.run_file, ["trial", running.BY_THE_GATE], name, top) for name in names]
-        finally:
-            pool.shutdown(cancel_futures=True)
+class Beside:
+    """The trials that need nothing of `rt ci`: some begin while it runs, the others after it. They run on a copy of the
+    checkout, since `rt ci` moves files of its own."""
+
+    def __init__(self, room):
+        self.top = os.path.join(room, os.path.basename(repo.TOP))
+        shutil.copytree(repo.TOP, self.top, symlinks=True, ignore=shutil.ignore_patterns(*NOT_COPIED))
+        self.names = [name for name in running.files() if name not in running.OF_ROWS]
+        self.runs, self.pool, self.over = [], ThreadPoolExecutor(), threading.Event()
+        self.feeder = threading.Thread(target=self.feed)
+        self.feeder.start()
+
+    def begin(self):
+        self.runs.append(self.pool.submit(running.run_file, ["trial", running.BY_THE_GATE], self.names.pop(0), self.top))
+
+    def feed(self):
+        """Begins files, two at a time at most, where a processor is free, until the proofs are over."""
+        while self.names and not self.over.wait(BETWEEN_FILES):
+            is_free = os.getloadavg()[0] <= len(os.sched_getaffinity(0)) - 1
+            if is_free and sum(not run.done() for run in self.runs) < BESIDE_PROOFS:
+                self.begin()
+
+    def proofs_over(self):
+        self.over.set()
+        self.feeder.join()
+
+    def ended(self):
+        """Waits for the files that were begun, and runs the others; gives how many rows passed and failed."""
+        counts = [running.ended(self.runs)[:2], running.run_apart(is_gate=True, names=[*self.names, *running.OF_ROWS])[:2]]
+        return tuple(map(sum, zip(*counts)))
 
 
 def compared():
@@ -102,23 +121,20 @@ def compared():
     return int(not amiss), len(amiss)
 
 
-def trials_ended(runs):
-    """Waits for the trials that were begun, and runs those of programs of rows; gives how many rows passed and failed."""
-    began = time.monotonic()
-    counts = [running.ended(runs)[:2], running.run_apart(is_gate=True, names=running.OF_ROWS)[:2]]
-    print(f"trials: they ended {time.monotonic() - began:.0f} s after the proofs by the clock", flush=True)
-    return tuple(map(sum, zip(*counts)))
-
-
 def gate(is_anew=False):
     """Runs the gate, of which each step counts; gives the status. If a look or a proof fails, the rest isn't run."""
     from gate import quick
     counts = [quick.looked()]
     if not counts[-1][1]:
-        with trials_begun() as runs:
+        with tempfile.TemporaryDirectory(prefix="gate-") as room:
+            beside = Beside(room)
             counts.append(proofs(words_of(is_anew)))
+            beside.proofs_over()
             if not counts[-1][1]:
-                counts += [compared(), trials_ended(runs)]
+                began = time.monotonic()
+                counts += [compared(), beside.ended()]
+                print(f"trials: they ended {time.monotonic() - began:.0f} s after the proofs by the clock", flush=True)
+            beside.pool.shutdown()
     passed, failed = map(sum, zip(*counts))
     print(f"{passed} passed, {failed} failed")
     return 1 if failed else 0
