@@ -1,11 +1,11 @@
 -- Settings with neither a purpose nor a host, and what they demand: they try the laws' definitions, not the code.
-use Rattle.std.specs.Prelude.{[], None}
+use Rattle.std.specs.Prelude.{[], None, pos}
 use Rattle.certpath_c.specs.declared.times.Moment.{Moment}
 use Rattle.certpath_c.specs.declared.asked.Settings.{Settings}
 use Rattle.certpath_c.specs.declared.wanted.Wanted.{Wanted}
 
 abbrev pub no_moment : Moment
-no_moment = record { year = 0; month = 0; day = 0; hour = 0; minute = 0; second = 0 }
+no_moment = record { year = pos 0; month = pos 0; day = pos 0; hour = pos 0; minute = pos 0; second = pos 0 }
 
 abbrev pub plain_settings : Settings
 plain_settings = record {
