@@ -122,7 +122,7 @@ LAYERS = (
     ("Values", "asn1_traits asn1_values asn1_strings asn1_times asn1_lists asn1_tagged asn1_rs"),
     ("Trees", "der_tree ber_tree der_parser"),
     ("Certificates: parts", "x509_core x509_objects x509_names x509_time x509_items"),
-    ("Certificates: extension values", "x509_ext_flags x509_ext_policies x509_ext_names x509_ext_points x509_ext_basic x509_ext_types x509_ext_sct x509_ext_parse"),
+    ("Certificates: extension values", "x509_ext_flags x509_ext_policies x509_ext_names x509_ext_points x509_ext_basic x509_ext_sct x509_ext_parse"),
     ("Certificates: whole", "x509_ext x509_certs x509_lists x509_requests x509_algorithms x509_validate x509_parser"),
     ("Items, classes, names of hosts and purposes", "cert_framing cert_model cert_faults host_names purpose_names"),
     ("Graphs and judging", "cert_graph cert_judge cert_purpose cert_vouchers fault_texts"),

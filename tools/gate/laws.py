@@ -16,7 +16,7 @@ import re
 from dev import believe
 from gate import calls, syntax
 
-LEFT = 13
+LEFT = 8
 OPEN, CLOSE = "({⟦", ")}⟧"
 ARROW, TIMES, COLON, FALSE = "→", "×", ":", "⊥"
 TOKEN = re.compile(r"""[(){}⟦⟧]|[^\s(){}⟦⟧;,"]+|[;,]""")

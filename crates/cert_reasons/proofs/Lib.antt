@@ -5,6 +5,8 @@ pub mod OfLists
 pub mod OfLinks
 pub mod Marks
 pub mod Listing
+pub mod Rowed
+pub mod Rowing
 pub mod Repeating
 pub mod Worked
 pub mod WorkedKeys

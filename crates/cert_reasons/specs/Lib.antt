@@ -3,7 +3,9 @@ pub mod Certificates
 pub mod Issuers
 pub mod Lists
 pub mod Links
+pub mod Rows
 pub mod Listed
+pub mod InForce
 pub mod Linking
 pub mod Repeats
 pub mod Found

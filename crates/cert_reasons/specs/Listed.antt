@@ -12,6 +12,13 @@ use Rattle.cert_judge.specs.Vouching.{Vouching}
 use Rattle.cert_judge.specs.Revoking.{IsCurrent, IsPlain}
 use Rattle.cert_judge.specs.Items.{list_of, IsListWith}
 use Rattle.cert_reasons.specs.declared.listed.Listed.{Listed}
+use Rattle.cert_reasons.specs.declared.listed.Places.{Places}
+use Rattle.cert_reasons.specs.declared.listed.Places.TheVariants.{Own, Lent}
+
+-- the places that are kept, or were lent
+abbrev pub places_in : Places → List ℕ
+places_in (Own places) = places.items
+places_in (Lent places) = places.now
 
 -- exactly the places with a property, in ascending order
 pub record ArePlaces (P : ℕ → Type 0) (ps : List ℕ) : Type 0 where
@@ -47,5 +54,5 @@ IsVouchedAt v xs key p = IsAt xs p (IsListWith (IsVouched v key))
 
 -- the lists of an issuer that are in force, and those of them that have an entry of a serial number
 pub record AreListed (xs : List ReadItem) (moment : DateTime) (name serial : List ℕ) (l : Listed) : Type 0 where
-  pub in_force : ArePlaces (IsInForceAt xs moment name) l.in_force.items
+  pub in_force : ArePlaces (IsInForceAt xs moment name) (places_in l.in_force)
   pub revoking : ArePlaces (λ p. IsInForceAt xs moment name p × HasSerialAt xs serial p) l.revoking.items

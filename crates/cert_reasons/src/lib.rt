@@ -8,6 +8,7 @@
 #![tactic(auto)]
 
 mod certificates;
+mod in_force;
 mod issuers;
 pub mod laws;
 pub mod laws_by;
@@ -16,9 +17,11 @@ mod links;
 mod listed;
 mod lists;
 mod repeats;
+mod rows;
 mod values;
 
 pub use crate::certificates::{Unusable, has_reason, why_unusable};
+pub use crate::in_force::ListsInForce;
 pub use crate::issuers::{NoIssuer, has_issuer_reason, why_no_issuer};
 pub use crate::linking::Linking;
 pub use crate::links::{Unlinked, why_unlinked, why_unlinked_to_anchor};

@@ -8,11 +8,13 @@ ghost use Rattle.cert_judge.specs.ItemGraph.{KeyIdsAgree, IsLink, IsAnchorLink};
 ghost use Rattle.cert_judge.specs.Items.{certificate_of, certificate_item, item_of, rules_by, IsListWith};
 ghost use Rattle.cert_reasons.specs.Order.{AreAll};
 ghost use Rattle.cert_reasons.specs.Links.{HasLinkReason, Revokes, link_order};
-ghost use Rattle.cert_reasons.specs.Listed.{IsOf};
+ghost use Rattle.cert_reasons.specs.Listed.{ArePlaces, IsOf, IsInForceAt, HasSerialAt};
+ghost use Rattle.cert_reasons.specs.InForce.{AreListsInForce};
 ghost use Rattle.cert_reasons.specs.Linking.{HasItsLists};
 
+use crate::in_force::ListsInForce;
 use crate::links::{Signer, Unlinked, agree_on_key_id, why_unlinked_under};
-use crate::listed::{Listed, listed_among};
+use crate::listed::{Listed, Places, listed_among};
 use cert_judge::{CertificateItem, Policy, ReadItem, Vouch};
 use std::alloc::{AllocError, Global};
 
@@ -27,7 +29,7 @@ pub struct Linking<'b, 'a> {
     items: &'b [ReadItem<'a>],
     certificate: &'b CertificateItem<'a>,
     policy: Policy,
-    listed: Listed,
+    listed: Listed<'b>,
 }
 
 fn has_none(places: &[usize]) -> bool
@@ -66,11 +68,51 @@ impl<'b, 'a> Linking<'b, 'a> {
         })
     }
 
+    /// Likewise, by the lists of its issuer that are in force at the moment of the policy, which
+    /// were found among these items before.
+    ///
+    /// The only error is out of memory. It costs a look-up of its serial number.
+    pub fn by(
+        alloc: Global,
+        items: &'b [ReadItem<'a>],
+        lists: &'b ListsInForce<'a>,
+        certificate: &'b CertificateItem<'a>,
+        policy: &Policy,
+    ) -> Result<Linking<'b, 'a>, AllocError>
+        requires { AreListsInForce items.now policy.now.moment certificate.now.issuer.now lists.now }
+        ensures items { IfOk result (λ l. l.items.now ≡ items.now) }
+        ensures certificate { IfOk result (λ l. l.certificate.now ≡ certificate.now) }
+        ensures policy { IfOk result (λ l. l.policy ≡ policy.now) }
+        ensures lists { IfOk result HasItsLists }
+    {
+        let revoking = lists.revoking(alloc, items, certificate.fields.serial)?;
+        Ok(Linking {
+            items,
+            certificate,
+            policy: *policy,
+            listed: Listed {
+                in_force: Places::Lent(lists.places()),
+                revoking,
+            },
+        })
+    }
+
     /// The items that it was made from.
     pub fn items(&self) -> &'b [ReadItem<'a>]
         ensures { result.now ≡ self.now.items.now }
     {
         self.items
+    }
+
+    /// The places of the lists of its issuer that are in force and have an entry of its serial
+    /// number, in ascending order. Of two certificates of an issuer for which they are equal, each
+    /// list revokes both or neither.
+    pub fn revoking(&self) -> &[usize]
+        requires { HasItsLists self.now }
+        ensures { let c = self.now.certificate.now in
+            ArePlaces (λ p. IsInForceAt self.now.items.now self.now.policy.moment c.issuer.now p × HasSerialAt self.now.items.now c.fields.serial.now p) result.now }
+    {
+        self.listed.revoking.as_slice()
     }
 
     /// Whether the certificate names a key identifier of its issuer (RFC 5280, 4.2.1.1). If it names

@@ -151,7 +151,7 @@ pub(crate) fn why_unlinked_under<V: Vouch>(
     alloc: Global,
     items: &[ReadItem<'_>],
     certificate: &CertificateItem<'_>,
-    listed: &Listed,
+    listed: &Listed<'_>,
     signer: &Signer<'_>,
     vouch: &V,
     policy: &Policy,
@@ -164,7 +164,8 @@ pub(crate) fn why_unlinked_under<V: Vouch>(
     let against = vouched_among(alloc, items, &listed.revoking, vouch, signer.key)?;
     let revoking = against.as_slice();
     let vouched = vouch.vouches(signer.key, certificate.octets);
-    let lacking = is_lacking(items, &listed.in_force, vouch, signer.key, policy);
+    let in_force = listed.in_force.as_slice();
+    let lacking = is_lacking(items, in_force, vouch, signer.key, policy);
     let findings = Findings {
         vouched,
         agree: signer.agree,

@@ -11,10 +11,30 @@ use cert_judge::{ListItem, ReadItem, Vouch, has_entry, is_in_force};
 use jiff::civil::DateTime;
 use std::alloc::{AllocError, Global};
 
+/// Places that are kept here, or were lent.
+#[derive(Drop)]
+pub(crate) enum Places<'b> {
+    Own(Vec<usize>),
+    Lent(&'b [usize]),
+}
+
+impl Places<'_> {
+    ghost use Rattle.cert_reasons.specs.Listed.{places_in};
+
+    pub(crate) fn as_slice(&self) -> &[usize]
+        ensures { result.now ≡ places_in self.now }
+    {
+        match self {
+            Places::Own(places) => places.as_slice(),
+            Places::Lent(places) => places,
+        }
+    }
+}
+
 /// Places of lists of one issuer that are in force, in ascending order.
 #[derive(Drop)]
-pub(crate) struct Listed {
-    pub(crate) in_force: Vec<usize>,
+pub(crate) struct Listed<'b> {
+    pub(crate) in_force: Places<'b>,
     /// Of these, the lists that have an entry of a serial number.
     pub(crate) revoking: Vec<usize>,
 }
@@ -83,7 +103,7 @@ fn is_vouched_at<V: Vouch>(items: &[ReadItem<'_>], place: usize, vouch: &V, key:
 }
 
 /// Of places among which are those of the lists of an issuer, the lists of it that are in force.
-fn in_force_among(
+pub(crate) fn in_force_among(
     alloc: Global,
     items: &[ReadItem<'_>],
     places: &[usize],
@@ -168,14 +188,17 @@ pub(crate) fn listed_among(
     moment: &DateTime,
     name: &[u8],
     serial: &[u8],
-) -> Result<Listed, AllocError>
+) -> Result<Listed<'static>, AllocError>
     requires ascends { IsStrictlyIncreasing places.now }
     requires complete { (p : ℕ) → IsAt items.now p (IsListWith (IsOf name.now)) → Contains places.now p }
     ensures { IfOk result (AreListed items.now moment.now name.now serial.now) }
 {
     let in_force = in_force_among(alloc, items, places, moment, name)?;
     let revoking = with_serial(alloc, items, &in_force, serial)?;
-    Ok(Listed { in_force, revoking })
+    Ok(Listed {
+        in_force: Places::Own(in_force),
+        revoking,
+    })
 }
 
 /// All places of so many items.

@@ -30,8 +30,8 @@ use Rattle.cert_serving.specs.Demanding.{Demanded, PermitsOf, ProcessesFor}
 use Rattle.cert_serving.specs.Refusing.{are_permitted, are_processed}
 use Rattle.cert_vouchers.specs.declared.vouchers.Vouchers.{Vouchers}
 use Rattle.cert_vouchers.specs.Vouching.{HasPair}
-use Rattle.certpath_find.specs.Answered.{HoldsOfItems}
-use Rattle.certpath_find.proofs.Answering.{check_says_yes, one_classing}
+use Rattle.certpath_run.specs.Answered.{HoldsOfItems}
+use Rattle.certpath_run.proofs.Searched.{check_says_yes, one_classing}
 use Rattle.certpath_c.specs.declared.answers.AnswerRow.{AnswerRow}
 use Rattle.certpath_c.specs.declared.asked.Settings.{Settings}
 use Rattle.certpath_c.specs.declared.asked.Voucher.{Voucher}

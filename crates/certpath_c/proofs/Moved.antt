@@ -4,7 +4,7 @@ use Rattle.cert_graph.specs.Graph.{Graph}
 use Rattle.cert_judge.specs.declared.policy.Policy.{Policy}
 use Rattle.cert_serving.specs.declared.permits.Permits.{Permits}
 use Rattle.cert_vouchers.specs.declared.vouchers.Vouchers.{Vouchers}
-use Rattle.certpath_find.specs.Answered.{HoldsOfItems}
+use Rattle.certpath_run.specs.Answered.{HoldsOfItems}
 use Rattle.certpath_c.specs.Wanted.{rules_in}
 
 pub moved : (policy : Policy) (pairs others : Vouchers) (permits more : Permits) (items anchors : List (List ℕ)) (P : Graph → Type 0) → pairs ≡ others → permits ≡ more

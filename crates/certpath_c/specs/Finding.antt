@@ -7,7 +7,7 @@ use Rattle.cert_judge.specs.declared.policy.Policy.{Policy}
 use Rattle.cert_search.specs.Exact.{HasExactRows, IsShort}
 use Rattle.cert_serving.specs.declared.permits.Permits.{Permits}
 use Rattle.cert_vouchers.specs.declared.vouchers.Vouchers.{Vouchers}
-use Rattle.certpath_find.specs.Answered.{HoldsOfItems, NamesCertificates}
+use Rattle.certpath_run.specs.Answered.{HoldsOfItems, NamesCertificates}
 use Rattle.certpath_c.specs.declared.answers.AnswerRow.{AnswerRow}
 use Rattle.certpath_c.specs.declared.asked.Settings.{Settings}
 use Rattle.certpath_c.specs.declared.asked.Voucher.{Voucher}

@@ -17,6 +17,7 @@ pub mod Answers
 pub mod Asked
 pub mod Wanted
 pub mod Demands
+pub mod Examples
 pub mod Finding
 pub mod Checking
 pub mod Reports

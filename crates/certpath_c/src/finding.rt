@@ -13,7 +13,7 @@ use asn1_core::OutOfMemory;
 use cert_graph::Answer;
 use cert_purpose::Restricted;
 use cert_serving::Permits;
-use certpath_find::find;
+use certpath_run::find;
 use std::alloc::Global;
 
 /// The answer by a policy, of the files as they are cut, for a purpose and a host. The only error is

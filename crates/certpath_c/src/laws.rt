@@ -7,7 +7,7 @@ ghost use Rattle.cert_model.specs.Range.{AreCertificateFields};
 ghost use Rattle.cert_vouchers.specs.declared.vouchers.Vouchers.{Vouchers};
 ghost use Rattle.certpath_files.specs.Rows.{item, at, octet};
 ghost use Rattle.certpath_files.specs.Sequences.{stream_rows};
-ghost use Rattle.certpath_files.specs.Shapes.{Kind};
+ghost use Rattle.certpath_files.specs.Shapes.{Kind, list};
 ghost use Rattle.certpath_run.specs.AllReport.{IsAllReportOn};
 ghost use Rattle.certpath_run.specs.Runs.{IsReportOn, IsWhyOn};
 ghost use Rattle.certpath_run.specs.declared.settings.AllOutcome.{AllOutcome};
@@ -22,6 +22,7 @@ ghost use Rattle.certpath_c.specs.declared.asked.Voucher.{Voucher};
 ghost use Rattle.certpath_c.specs.declared.wanted.Wanted.{Wanted};
 ghost use Rattle.certpath_c.specs.Checking.{CheckAnswer};
 ghost use Rattle.certpath_c.specs.Demands.{IsDemandOf, IsDemandOfAll};
+ghost use Rattle.certpath_c.specs.Examples.{nothing_wanted, plain_settings};
 ghost use Rattle.certpath_c.specs.Finding.{FindAnswer};
 ghost use Rattle.certpath_c.specs.Loading.{kind_number};
 ghost use Rattle.certpath_c.specs.Reports.{IsPathReport, IsWhyReport, IsPathsReport};
@@ -49,6 +50,7 @@ pub fn found_is_right()
 pub fn shapes_are_taken()
     ensures taken { (octets : List ℕ) (kind : Kind) → shape_number octets ≡ kind_number kind → stream_rows octets ≡ item (at (octet 0)) kind octets ∷ [] }
     ensures example { shape_number (48 ∷ 13 ∷ 48 ∷ 6 ∷ 48 ∷ 0 ∷ 48 ∷ 0 ∷ 23 ∷ 0 ∷ 48 ∷ 0 ∷ 3 ∷ 1 ∷ 0 ∷ []) ≡ 2 }
+    ensures kind { shape_number (48 ∷ 13 ∷ 48 ∷ 6 ∷ 48 ∷ 0 ∷ 48 ∷ 0 ∷ 23 ∷ 0 ∷ 48 ∷ 0 ∷ 3 ∷ 1 ∷ 0 ∷ []) ≡ kind_number list }
     ensures longer { shape_number (48 ∷ 13 ∷ 48 ∷ 6 ∷ 48 ∷ 0 ∷ 48 ∷ 0 ∷ 23 ∷ 0 ∷ 48 ∷ 0 ∷ 3 ∷ 1 ∷ 0 ∷ 0 ∷ []) ≡ 0 }
 {}
 
@@ -61,6 +63,13 @@ pub fn nothing_left_out()
 /// settings.
 pub fn same_demand()
     ensures { (settings : Settings) (demand : Demand) (wanted : Wanted) (target : List ℕ) → IsDemandOf settings demand → IsWantedBy settings wanted → asked_for demand target ≡ demanded wanted target }
+{}
+
+/// Settings with neither a purpose nor a host, and what they demand of a path and of all paths.
+pub fn example_of_no_demand()
+    ensures wanted { IsDemandOf plain_settings (of_purpose None) × IsWantedBy plain_settings nothing_wanted }
+    ensures target { (plain_settings.purpose.now ≡ []) × (plain_settings.host.now ≡ []) × IsDemandOf plain_settings (of_purpose None) }
+    ensures all { (plain_settings.purpose.now ≡ []) × IsDemandOfAll plain_settings (of_purpose None) }
 {}
 
 /// Settings without a purpose and a host demand nothing, and the reports are then those of `run`,

@@ -13,17 +13,15 @@ use Rattle.certpath_engine.specs.declared.path_exit.PathsOutcome.TheVariants as 
 use Rattle.certpath_engine.specs.declared.recheck_exit.RecheckFiles.{RecheckFiles}
 use Rattle.certpath_engine.specs.declared.recheck_exit.RecheckOutcome.{RecheckOutcome}
 use Rattle.certpath_engine.specs.declared.recheck_exit.RecheckOutcome.TheVariants as rechecked
-use Rattle.certpath_engine.specs.PathExits.{word_of}
+use Rattle.certpath_engine.specs.PathExits.{Input, word_of}
 use Rattle.certpath_engine.specs.declared.items_exit.ItemFiles.{ItemFiles}
 use Rattle.certpath_engine.specs.declared.items_exit.QuestionsOutcome.{QuestionsOutcome}
 use Rattle.certpath_engine.specs.declared.items_exit.QuestionsOutcome.TheVariants as asked
-use Rattle.certpath_engine.specs.ItemsExits.{item_word_of}
-use Rattle.certpath_run.specs.declared.items.ItemInput.{ItemInput}
-use Rattle.certpath_run.specs.declared.items.ItemInput.TheVariants as items
-use Rattle.certpath_run.specs.declared.items.ItemsError.TheVariants as failures
-use Rattle.certpath_inputs.specs.declared.settings.Input.{Input}
-use Rattle.certpath_inputs.specs.declared.settings.Input.TheVariants.{Bundle, Anchors, Vouchers}
-use Rattle.certpath_inputs.specs.declared.settings.RunError.TheVariants.{OutOfMemory}
+use Rattle.certpath_engine.specs.ItemsExits.{ItemInput, item_word_of}
+use Rattle.certpath_engine.specs.ItemInputs as items
+use Rattle.certpath_engine.specs.ItemsErrors as failures
+use Rattle.certpath_engine.specs.Inputs.{Bundle, Anchors, Vouchers}
+use Rattle.certpath_engine.specs.RunErrors.{OutOfMemory}
 
 -- it tells of the file of this word
 abbrev pub IsOfFile : List ℕ → FrameOutcome → Type 0

@@ -5,19 +5,14 @@
 ghost use Rattle.std.specs.Prelude.{◌≡◌, IfOk, IfErr, map};
 ghost use Rattle.certpath_cli.specs.Outcomes.{IsOfFile, IsOfWord, IsOfWords, IsOfFiles, IsUnopened, IsOfSearch, IsOfPaths, IsOfItemFiles, AreItemsUnopened, IsOfRecheck};
 
-use asn1_device::{ReadSource, WriteSink};
-use certpath_bundle::{BundleError, File, bundle, read_file};
 use certpath_engine::{
-    BundleOutcome, Command, Exit, FrameOutcome, Input, ItemFiles, ItemInput, ItemsError, PathFiles,
-    PathOutcome, PathsOutcome, Question, QuestionsOutcome, RecheckFiles, RecheckOutcome, WordFault,
-    asked_of, bundle_status, frame, frame_status, frame_why, path_status, paths_status,
-    questions_status, read_words, recheck_status, words_status,
-};
-use certpath_inputs::{InputError, write_text};
-use certpath_recheck::{RecheckError, run_recheck_for};
-use certpath_run::{
-    AllSettings, AskedPurpose, EvidenceReport, Findings, Outcome, PathReport, PathsReport,
-    Reported, Reports, RunError, WhyReport, read_report, run_questions, run_report,
+    AllSettings, AskedPurpose, BundleError, BundleOutcome, Command, EvidenceReport, Exit, File,
+    Findings, FrameOutcome, Input, InputError, ItemFiles, ItemInput, ItemsError, Outcome,
+    PathFiles, PathOutcome, PathReport, PathsOutcome, PathsReport, Question, QuestionsOutcome,
+    ReadSource, RecheckError, RecheckFiles, RecheckOutcome, Reported, Reports, RunError, WhyReport,
+    WordFault, WriteSink, asked_of, bundle, bundle_status, frame, frame_status, frame_why,
+    path_status, paths_status, questions_status, read_file, read_report, read_words,
+    recheck_status, run_questions, run_recheck_for, run_report, words_status, write_text,
 };
 use std::alloc::Global;
 use std::process::ExitCode;

@@ -3,7 +3,7 @@ use Rattle.std.specs.Prelude.{ℕ, List, [], Result, Ok, Err, codes}
 use Rattle.std.specs.Borrow.{Bor}
 use Rattle.cert_framing.specs.declared.ending.End.{End}
 use Rattle.cert_framing.specs.declared.ending.End.TheVariants.{Clean, Cut, Fault}
-use Rattle.certpath_run.specs.declared.items.ItemInput.{ItemInput}
+pub use Rattle.certpath_run.specs.declared.items.ItemInput.{ItemInput}
 use Rattle.certpath_run.specs.declared.items.ItemInput.TheVariants.{Bundle, Anchors}
 use Rattle.certpath_run.specs.declared.items.ItemsError.{ItemsError}
 use Rattle.certpath_run.specs.declared.items.ItemsError.TheVariants.{Read, TooLong, OutOfMemory, Write}

@@ -1,6 +1,6 @@
 -- What the program ends with after `path`, `why` and `paths`: its exit status, and what it says on standard error.
 use Rattle.std.specs.Prelude.{ℕ, List, [], Result, Ok, Err, codes}
-use Rattle.certpath_inputs.specs.declared.settings.Input.{Input}
+pub use Rattle.certpath_inputs.specs.declared.settings.Input.{Input}
 use Rattle.certpath_inputs.specs.declared.settings.Input.TheVariants.{Bundle, Anchors, Vouchers}
 use Rattle.certpath_run.specs.declared.settings.Outcome.{Outcome}
 use Rattle.certpath_run.specs.declared.settings.Outcome.TheVariants.{Path, NoPath, NoTarget}

@@ -19,10 +19,17 @@ mod refusals;
 mod texts;
 mod words;
 
+pub use asn1_device::{ReadSource, WriteSink};
 pub use bundle_exit::{BundleOutcome, bundle_status};
 pub use cert_framing::End;
-pub use certpath_inputs::{MAX_READS, READ_SIZE};
-pub use certpath_run::{Input, ItemInput, ItemsError, frame, frame_why};
+pub use certpath_bundle::{BundleError, File, bundle, read_file};
+pub use certpath_inputs::{InputError, MAX_READS, READ_SIZE, write_text};
+pub use certpath_recheck::{RecheckError, run_recheck_for};
+pub use certpath_run::{
+    AllSettings, AskedPurpose, EvidenceReport, Findings, Input, ItemInput, ItemsError, Outcome,
+    PathReport, PathsReport, Reported, Reports, RunError, Settings, WhyReport, frame, frame_why,
+    read_report, run, run_questions, run_report,
+};
 pub use demands::Purpose;
 pub use exit::{Exit, Message, words_status};
 pub use items_exit::{FrameOutcome, ItemFiles, QuestionsOutcome, frame_status, questions_status};

@@ -1,3 +1,4 @@
+pub mod Searched
 mod FrameFacts
 mod InventoryFacts
 mod Reaching

@@ -1,4 +1,5 @@
 pub mod AllReport
+pub mod Answered
 pub mod Asking
 pub mod FrameText
 pub mod Frames

@@ -7,14 +7,13 @@ use Rattle.std.proofs.lemmas.List.Elements.{Contains-append_left, Contains-push,
 use Rattle.cert_graph.specs.Entries.{IsAt}
 use Rattle.cert_graph.specs.declared.reach.Reach.{Reach}
 use Rattle.cert_graph.specs.declared.reach.Reach.TheVariants.{No, UpTo}
-use Rattle.cert_model.specs.Octets.{name_octets, key_octets}
+use Rattle.cert_model.specs.Octets.{name_octets}
 use Rattle.cert_judge.specs.declared.items.CertificateItem.{CertificateItem}
 use Rattle.cert_judge.specs.declared.items.ReadItem.{ReadItem}
 use Rattle.cert_judge.specs.declared.items.ReadItem.TheVariants.{Certificate as certificate_read}
 use Rattle.cert_judge.specs.Items.{item_of, certificate_of, certificate_item}
-use Rattle.cert_judge.specs.ItemGraph.{IsCertificateWith, IsIssuedUnder, KeyIdsAgree, IsLink}
+use Rattle.cert_judge.specs.ItemGraph.{IsLink}
 use Rattle.cert_judge.specs.Revoking.{Item, JudgingContext}
-use Rattle.cert_judge.proofs.Linking.{with_iff}
 use Rattle.certpath_why.specs.Bounds.{IsCounted, IsHeldBack, IsBound}
 use Rattle.certpath_why.specs.Found.{IsMarked, AreMarked}
 use Rattle.certpath_why.specs.Reached.{HasSubject, ArePositions, IsFurther}
@@ -111,7 +110,7 @@ module _ (R : ℕ → ℕ → Type 0) (ws : List ℕ) where
 -- ---- who is held back
 
 -- the code's names are those of the definitions
-counted_iff : (items : List ReadItem) (w : ℕ) (x : CertificateItem) → IsAt items w (λ y. y ≡ certificate_read x) → (x.subject.now ≢ x.issuer.now) ↔ IsCounted (map item_of items) w
+pub counted_iff : (items : List ReadItem) (w : ℕ) (x : CertificateItem) → IsAt items w (λ y. y ≡ certificate_read x) → (x.subject.now ≢ x.issuer.now) ↔ IsCounted (map item_of items) w
 counted_iff items w x at =
     let with = with_read (λ c. name_octets c.subject ≢ name_octets c.issuer) items w x at in (
       λ n. with.0 (λ e. n (x.subject_is ∙ e ∙ sym x.issuer_is)),

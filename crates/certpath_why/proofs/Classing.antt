@@ -1,6 +1,6 @@
 -- Numbers of octets.
 use Rattle.std.specs.Prelude.{◌⊎◌}
-use Rattle.std.proofs.Common.{◌≡◌, ◌∙◌, ap, sym, subst, refl, ℕ, ◌+◌, ◌<◌, ◌≤◌, cond, List, [], ◌∷◌, ◌++◌, length, length-append, arith, get_or, take, Some, None, Bor, inl, inr}
+use Rattle.std.proofs.Common.{◌≡◌, ◌∙◌, ap, sym, subst, ℕ, ◌+◌, ◌<◌, ◌≤◌, cond, List, [], ◌∷◌, ◌++◌, length, length-append, arith, get_or, take, Some, None, Bor, inl, inr}
 use Rattle.std.specs.List.{Contains}
 use Rattle.std.specs.BTreeMap as mapped
 use Rattle.std.specs.BTreeMap.{BTreeMap, is_at}

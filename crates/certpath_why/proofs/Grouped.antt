@@ -1,16 +1,14 @@
 -- Links of one certificate, brought together by what is said of them.
 use Rattle.std.specs.Prelude.{◌↔◌}
-use Rattle.std.proofs.Common.{◌≡◌, ◌∙◌, ap, sym, subst, refl, ℕ, ◌<◌, List, [], length, map, arith, get_or, Some}
+use Rattle.std.proofs.Common.{◌≡◌, ◌∙◌, ap, sym, subst, refl, ℕ, ◌<◌, List, [], length, arith, get_or, Some}
 use Rattle.std.specs.List.{Contains}
 use Rattle.std.specs.List.Sorted.{IsStrictlyIncreasing}
-use Rattle.std.proofs.lemmas.List.{length-map}
 use Rattle.cert_graph.specs.Entries.{IsAt}
 use Rattle.cert_model.specs.Class.{certificate}
 use Rattle.cert_model.specs.Fields.{Certificate}
 use Rattle.cert_model.specs.Octets.{name_octets, key_octets}
 use Rattle.cert_judge.specs.declared.items.CertificateItem.{CertificateItem}
-use Rattle.cert_judge.specs.declared.items.ReadItem.{ReadItem}
-use Rattle.cert_judge.specs.Items.{item_of, certificate_of, certificate_item}
+use Rattle.cert_judge.specs.Items.{certificate_of, certificate_item}
 use Rattle.cert_judge.specs.ItemGraph.{IsCertificateWith, IsLink, IsAnchorLink, KeyIdsAgree}
 use Rattle.cert_judge.specs.Revoking.{Item, JudgingContext}
 use Rattle.cert_judge.proofs.Grouping.{element, one_certificate}

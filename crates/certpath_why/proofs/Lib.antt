@@ -24,3 +24,8 @@ mod Classing
 mod Holding
 mod Signed
 mod Grouped
+mod Issued
+mod Numbering
+mod Alike
+mod Tailing
+mod Searching

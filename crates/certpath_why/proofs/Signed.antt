@@ -1,5 +1,5 @@
 -- Rows of holders are the signers of the items.
-use Rattle.std.specs.Prelude.{◌↔◌, ◌⊎◌, slice_get}
+use Rattle.std.specs.Prelude.{◌↔◌, slice_get}
 use Rattle.std.proofs.Common.{◌≡◌, ◌∙◌, ap, sym, subst, refl, ℕ, ◌+◌, ◌<◌, ◌≤◌, List, [], ◌∷◌, ◌++◌, length, map, arith, get_or, take, option_map, Bor, Vec, Global, Some, inl, inr}
 use Rattle.std.specs.List.{Contains}
 use Rattle.std.proofs.lemmas.Bool.{cases_lt}
@@ -20,8 +20,7 @@ use Rattle.cert_judge.specs.Revoking.{Item}
 use Rattle.cert_judge.proofs.Grouping.{element}
 use Rattle.cert_judge.proofs.Linking.{with_iff}
 use Rattle.cert_reasons.proofs.Certain.{viewed_by}
-use Rattle.certpath_why.specs.Classes.{AreClasses}
-use Rattle.certpath_why.specs.Holders.{HasMember, IsInRow, IsSignerOf}
+use Rattle.certpath_why.specs.Holders.{IsInRow, IsSignerOf}
 use Rattle.certpath_why.specs.Reached.{ArePositions}
 use Rattle.certpath_why.specs.Signers.{IsSignedBy, AreSignedBy, issued_place, member_place, issuer_name}
 use Rattle.certpath_why.specs.declared.classes.Classes.{Classes}
@@ -31,7 +30,7 @@ use Rattle.certpath_why.proofs.Holding.{row_iff, shows_below}
 
 -- ---- what items show
 
-shows_at : (part : Part) (f : ReadItem → Place) (xs : List ReadItem) (i : ℕ) (x : ReadItem) → i < length xs → x ≡ get_or xs i x → (q : List ℕ) → Shows part (map f xs) i q ↔ (shown_at part (Some (f x)) ≡ Some q)
+pub shows_at : (part : Part) (f : ReadItem → Place) (xs : List ReadItem) (i : ℕ) (x : ReadItem) → i < length xs → x ≡ get_or xs i x → (q : List ℕ) → Shows part (map f xs) i q ↔ (shown_at part (Some (f x)) ≡ Some q)
 shows_at part f xs i x lt at q =
     let is : slice_get (map f xs) i ≡ Some (f x) = slice_get-map f xs i ∙ ap (λ o. option_map f o) (slice_get-get_or xs i x lt ∙ ap Some (sym at)) in
     (λ s. ap (shown_at part) (sym is) ∙ s, λ h. ap (shown_at part) is ∙ h)
@@ -41,7 +40,7 @@ issued_shows (certificate_read c) q = (λ e. ap Some (sym c.issuer_is) ∙ e, λ
 issued_shows (list_read l) q = (λ e. ap Some (sym l.issuer_is) ∙ e, λ e. ap Some l.issuer_is ∙ e)
 issued_shows (other_read o) q = (λ e. absurd (empty e), λ e. absurd (empty e))
 
-member_shows : (y : ReadItem) (n k : List ℕ) → ((shown_at Name (Some (member_place y)) ≡ Some n) × (shown_at Key (Some (member_place y)) ≡ Some k)) ↔ IsCertificateWith (λ d. (name_octets d.subject ≡ n) × (key_octets d.key ≡ k)) (item_of y)
+pub member_shows : (y : ReadItem) (n k : List ℕ) → ((shown_at Name (Some (member_place y)) ≡ Some n) × (shown_at Key (Some (member_place y)) ≡ Some k)) ↔ IsCertificateWith (λ d. (name_octets d.subject ≡ n) × (key_octets d.key ≡ k)) (item_of y)
 member_shows (certificate_read c) n k =
     let with = with_iff (λ d. (name_octets d.subject ≡ n) × (key_octets d.key ≡ k)) (certificate_item c) (certificate_of c) refl in
     (λ e. with.1 (sym c.subject_is ∙ held e.0, sym c.key_is ∙ held e.1), λ h. let p = with.0 h in (ap Some (c.subject_is ∙ p.0), ap Some (c.key_is ∙ p.1)))

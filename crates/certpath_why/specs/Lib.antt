@@ -16,7 +16,11 @@ pub mod Examples
 pub mod Appended
 pub mod LinkText
 pub mod Numbered
+pub mod ByIssuer
 pub mod Question
+pub mod Kinds
+pub mod Written
+pub mod Held
 pub mod Directories
 pub mod Found
 pub mod Ranges

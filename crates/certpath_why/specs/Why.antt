@@ -66,6 +66,10 @@ pub record TellsGroups (front : List ℕ) (Linked : ℕ → Type 0) (Fails : Unl
   pub lacking_is : TellsGroup front (Some NoUsedList) (Fails NoUsedList) lacking
   pub text_is : text ≡ linked ++ (unvouched ++ (differing ++ (revoked ++ lacking)))
 
+-- the lines of links
+abbrev pub AreLinkLines : List ℕ → (ℕ → Type 0) → (Unlinked → ℕ → Type 0) → List ℕ → Type 0
+AreLinkLines = TellsGroups
+
 -- a certificate is linked to the one at a position
 abbrev pub IsLinkedTo : JudgingContext → List Item → Item → ℕ → Type 0
 IsLinkedTo r items x w = IsAt items w (IsLink r items x)
@@ -90,7 +94,7 @@ missing_lines v issuer [] [] = missing_line v issuer
 missing_lines v issuer (w ∷ ws) roots = []
 missing_lines v issuer [] (a ∷ roots) = []
 
--- What is told of a certificate, given the certificates and anchors of its issuer's name.
+-- What is said of a certificate, given the certificates and anchors of its issuer's name.
 pub record TellsLinks (r : JudgingContext) (items anchors : List Item) (v : ℕ) (x : Item) (c : Certificate) (text : List ℕ) : Type 0 where
   pub issuers : List ℕ
   pub issuers_are : ArePositions (HasSubject items (name_octets c.issuer)) issuers

@@ -9,11 +9,13 @@ ghost use Rattle.cert_judge.specs.Items.{certificate_item, rules_by};
 ghost use Rattle.cert_reasons.specs.Linking.{HasItsLists};
 ghost use Rattle.certpath_why.specs.Bounds.{reach_by, IsHeldBack, IsBound};
 ghost use Rattle.certpath_why.specs.Found.{AreMarked, IsFound, IsMarked};
+ghost use Rattle.certpath_why.specs.Held.{AreDone};
 ghost use Rattle.certpath_why.specs.Lines.{reach_lines};
-ghost use Rattle.certpath_why.specs.Question.{items_in, link_items, link_rules, IsSigned};
+ghost use Rattle.certpath_why.specs.Question.{items_in, link_items, link_rules, IsListed, IsSigned};
 ghost use Rattle.certpath_why.specs.Reached.{ArePositions, HasSubject, IsCertificateAt, IsFurther};
 
 use crate::found::certificate_at;
+use crate::kinds::held_kind;
 use crate::marks::{marked_but, no_marks, put_mark};
 use crate::question::Question;
 use crate::signers::issuers_at;
@@ -21,6 +23,7 @@ use cert_graph::{Answer, Reach};
 use cert_judge::{CertificateItem, Vouch};
 use cert_reasons::{Linking, Unlinked};
 use std::alloc::{AllocError, Global};
+use std::collections::BTreeSet;
 
 /// How far the issuer at a position leads by an answer's row, if there is no path.
 fn reach_in(answer: &Answer, place: usize) -> Reach
@@ -119,9 +122,11 @@ fn mark_among<V: Vouch>(
 }
 
 /// Marks the issuers from which a path length holds back the certificate at a position, by the
-/// relation of the answer, which vouches for less: only whoever signed it can be linked.
+/// relation of the answer, which vouches for less: only whoever signed it can be linked. Of kinds
+/// that are done they are marked already.
 fn mark_from<V: Vouch, S: Vouch>(
     marks: &mut Vec<bool>,
+    done: &mut BTreeSet<Vec<usize>>,
     alloc: Global,
     question: &Question<'_, '_, V>,
     search: &S,
@@ -130,10 +135,13 @@ fn mark_from<V: Vouch, S: Vouch>(
 ) -> Result<(), AllocError>
     requires known { IsFound question.now.found.now }
     requires signed { IsSigned V.Vouch question.now }
+    requires listed { IsListed question.now }
     requires less { (key item : List ℕ) → (S.vouches_for search.now).Vouches key item → (V.vouches_for question.now.vouch.now).Vouches key item }
     requires certificate { IsCertificateAt (items_in question.now) place }
+    requires done { AreDone question.now (S.vouches_for search.now) (reach_by answer.now) done.old marks.old.items }
     requires count { length marks.now.items ≡ length question.now.found.now.items.now }
-    ensures { OnOk result (AreMarked (IsHeldBack (rules_by question.now.policy.now.moment question.now.policy.now.demand_lists (S.vouches_for search.now)) (items_in question.now) (reach_by answer.now) place) marks.old.items marks.new.items) }
+    ensures done { OnOk result (AreDone question.now (S.vouches_for search.now) (reach_by answer.now) done.new marks.new.items) }
+    ensures marks { OnOk result (AreMarked (IsHeldBack (rules_by question.now.policy.now.moment question.now.policy.now.demand_lists (S.vouches_for search.now)) (items_in question.now) (reach_by answer.now) place) marks.old.items marks.new.items) }
 {
     let Some(certificate) = certificate_at(question.found.items, place) else {
         return Ok(());
@@ -144,9 +152,26 @@ fn mark_from<V: Vouch, S: Vouch>(
     if !is_counted(certificate) {
         return Ok(());
     }
+    let found = question.found;
+    let Some(first) = found.issuers(certificate.issuer).first() else {
+        return Ok(());
+    };
+    let linking = found.linking(alloc, question.lists, certificate, question.policy)?;
+    let kind = held_kind(
+        alloc,
+        question,
+        search,
+        place,
+        certificate,
+        &linking,
+        *first,
+    )?;
+    if done.contains(&kind) {
+        return Ok(());
+    }
     let signers = issuers_at(alloc, question, place, certificate.issuer)?;
-    let linking = question.found.linking(alloc, certificate, question.policy)?;
     mark_among(marks, alloc, answer, &linking, &signers, search)?;
+    done.insert(kind)?;
     Ok(())
 }
 
@@ -160,14 +185,18 @@ fn bound_marks<V: Vouch, S: Vouch>(
 ) -> Result<Vec<bool>, AllocError>
     requires known { IsFound question.now.found.now }
     requires signed { IsSigned V.Vouch question.now }
+    requires listed { IsListed question.now }
     requires less { (key item : List ℕ) → (S.vouches_for search.now).Vouches key item → (V.vouches_for question.now.vouch.now).Vouches key item }
     requires further { ArePositions (IsFurther (items_in question.now) question.now.target) further.now }
     ensures { IfOk result (λ marks. (v : ℕ) → IsMarked marks.items v ↔ ((w : ℕ) × Contains further.now w
         × IsHeldBack (rules_by question.now.policy.now.moment question.now.policy.now.demand_lists (S.vouches_for search.now)) (items_in question.now) (reach_by answer.now) w v)) }
 {
     let mut marks = no_marks(alloc, question.found.items.len())?;
+    let mut done = BTreeSet::new(alloc);
     for place in further {
-        mark_from(&mut marks, alloc, question, search, answer, *place)?;
+        mark_from(
+            &mut marks, &mut done, alloc, question, search, answer, *place,
+        )?;
     }
     Ok(marks)
 }
@@ -183,6 +212,7 @@ pub(crate) fn bound_among<V: Vouch, S: Vouch>(
 ) -> Result<Vec<usize>, AllocError>
     requires known { IsFound question.now.found.now }
     requires signed { IsSigned V.Vouch question.now }
+    requires listed { IsListed question.now }
     requires less { (key item : List ℕ) → (S.vouches_for search.now).Vouches key item → (V.vouches_for question.now.vouch.now).Vouches key item }
     requires further { ArePositions (IsFurther (items_in question.now) question.now.target) further.now }
     ensures { IfOk result (λ bound. ArePositions (IsBound (rules_by question.now.policy.now.moment question.now.policy.now.demand_lists (S.vouches_for search.now))

@@ -10,27 +10,32 @@ ghost use Rattle.cert_judge.specs.declared.items.ReadItem.TheVariants.{Certifica
 ghost use Rattle.cert_reasons.specs.Linking.{HasItsLists};
 ghost use Rattle.certpath_why.specs.Reached.{ArePositions, HasSubject, IsCertificateAt};
 ghost use Rattle.certpath_why.specs.Lines.{missing_line, to_items, to_anchors};
-ghost use Rattle.certpath_why.specs.Question.{anchors_in, items_in, link_items, link_rules, rules_in, IsSigned};
+ghost use Rattle.certpath_why.specs.Question.{anchors_in, items_in, link_items, link_rules, rules_in, IsListed, IsSigned};
 ghost use Rattle.certpath_why.specs.Why.{TellsUnusable, TellsNoIssuer, TellsGroups, IsLinkedTo, FailsTo, IsLinkedToAnchor, FailsToAnchor, missing_lines, TellsLinks, TellsCertificate, TellsAt, octets_at};
 ghost use Rattle.certpath_why.specs.Fates.{IsFate, AreFates};
 ghost use Rattle.certpath_why.specs.Found.{IsFound};
 ghost use Rattle.certpath_why.specs.Groups.{AreGroups, AreListFates};
 ghost use Rattle.certpath_why.specs.Signers.{IsSignedBy};
 ghost use Rattle.certpath_why.specs.Appended.{Appends};
+ghost use Rattle.certpath_why.specs.Kinds.{AreAnchorsWritten, AreItemsWritten, AreTails};
+ghost use Rattle.certpath_why.specs.Written.{AreWritten};
 
 use crate::demanded::push_unmet;
 use crate::differing::differing_among;
 use crate::fates::{Fate, places_of};
 use crate::found::{Found, certificate_at};
+use crate::kinds::{anchor_kind, item_kind};
 use crate::lines::{push_all_no_issuer, push_all_unusable, push_missing, push_subject};
-use crate::links::{Front, Groups, push_groups};
+use crate::links::{Front, Groups, push_tails, tails_of};
 use crate::positions::{in_order, positions_but};
 use crate::question::Question;
 use crate::signers::{issuers_at, roots_at};
+use crate::written::Written;
 use asn1_core::OutOfMemory;
 use cert_judge::{CertificateItem, ReadItem, Vouch};
 use cert_reasons::{Linking, why_no_issuer, why_unusable};
 use std::alloc::{AllocError, Global};
+use std::collections::BTreeMap;
 
 /// Appends why a certificate is not usable.
 fn tell_unusable<V: Vouch>(
@@ -179,26 +184,63 @@ fn groups_of<V: Vouch>(
     })
 }
 
-/// Appends the lines of the links to all certificates of the issuer's name, given those that signed
-/// the certificate.
-fn tell_links<V: Vouch>(
-    text: &mut String,
+/// The ends of the lines of the links to all certificates of the issuer's name, given those that
+/// signed the certificate.
+fn tails_to_items<V: Vouch>(
     alloc: Global,
-    place: usize,
     linking: &Linking<'_, '_>,
     issuers: &[usize],
     signers: &[usize],
     vouch: &V,
-) -> Result<(), OutOfMemory>
+) -> Result<Vec<String>, OutOfMemory>
     requires lists { HasItsLists linking.now }
     requires issuers { ArePositions (HasSubject (link_items linking.now) linking.now.certificate.now.issuer.now) issuers.now }
     requires signers { (w : ℕ) → Contains signers.now w ↔ IsSignedBy (V.vouches_for vouch.now).Vouches (link_items linking.now) (certificate_item linking.now.certificate.now) w }
-    ensures { OnOk result (Appends (TellsGroups (to_items place) (IsLinkedTo (link_rules V.Vouch linking.now vouch.now) (link_items linking.now) (certificate_item linking.now.certificate.now))
-        (FailsTo (link_rules V.Vouch linking.now vouch.now) (link_items linking.now) (certificate_item linking.now.certificate.now) (certificate_of linking.now.certificate.now)))
-        (string_bytes text.old) (string_bytes text.new)) }
+    ensures { IfOk result (λ tails. AreTails (IsLinkedTo (link_rules V.Vouch linking.now vouch.now) (link_items linking.now) (certificate_item linking.now.certificate.now))
+        (FailsTo (link_rules V.Vouch linking.now vouch.now) (link_items linking.now) (certificate_item linking.now.certificate.now) (certificate_of linking.now.certificate.now)) tails.items) }
 {
     let groups = groups_of(alloc, linking, issuers, signers, vouch)?;
-    push_groups(text, alloc, Front::Items(place), &groups)?;
+    let tails = tails_of(alloc, &groups)?;
+    Ok(tails)
+}
+
+/// Appends the lines of the links to all certificates of the issuer's name. They are worked out
+/// once for each kind.
+fn tell_links<V: Vouch>(
+    text: &mut String,
+    alloc: Global,
+    written: &mut BTreeMap<Vec<usize>, Vec<String>>,
+    question: &Question<'_, '_, V>,
+    place: usize,
+    certificate: &CertificateItem<'_>,
+    linking: &Linking<'_, '_>,
+    issuers: &[usize],
+) -> Result<(), OutOfMemory>
+    requires written { AreItemsWritten V.Vouch question.now written.old }
+    requires signed { IsSigned V.Vouch question.now }
+    requires at { IsAt question.now.found.now.items.now place (λ x. x ≡ certificate_read certificate.now) }
+    requires lists { HasItsLists linking.now }
+    requires items { linking.now.items.now ≡ question.now.found.now.items.now }
+    requires certificate { linking.now.certificate.now ≡ certificate.now }
+    requires policy { linking.now.policy ≡ question.now.policy.now }
+    requires issuers { ArePositions (HasSubject (items_in question.now) certificate.now.issuer.now) issuers.now }
+    ensures written { OnOk result (AreItemsWritten V.Vouch question.now written.new) }
+    ensures text { OnOk result (Appends (TellsGroups (to_items place) (IsLinkedTo (rules_in V.Vouch question.now) (items_in question.now) (certificate_item certificate.now))
+        (FailsTo (rules_in V.Vouch question.now) (items_in question.now) (certificate_item certificate.now) (certificate_of certificate.now)))
+        (string_bytes text.old) (string_bytes text.new)) }
+{
+    let Some(first) = issuers.first() else {
+        return Ok(());
+    };
+    let kind = item_kind(alloc, question, place, certificate, linking, *first)?;
+    if let Some(tails) = written.get(&kind) {
+        push_tails(text, Front::Items(place), tails)?;
+        return Ok(());
+    }
+    let signers = issuers_at(alloc, question, place, certificate.issuer)?;
+    let tails = tails_to_items(alloc, linking, issuers, &signers, question.vouch)?;
+    push_tails(text, Front::Items(place), &tails)?;
+    written.insert(kind, tails)?;
     Ok(())
 }
 
@@ -312,27 +354,65 @@ fn root_groups_of<V: Vouch>(
     })
 }
 
-/// Appends the lines of the links to all anchors of the issuer's name, given those that signed the
-/// certificate.
-fn tell_anchors<V: Vouch>(
-    text: &mut String,
+/// The ends of the lines of the links to all anchors of the issuer's name, given those that signed
+/// the certificate.
+fn tails_to_anchors<V: Vouch>(
     alloc: Global,
     anchors: &[ReadItem<'_>],
-    place: usize,
     linking: &Linking<'_, '_>,
     roots: &[usize],
     signers: &[usize],
     vouch: &V,
-) -> Result<(), OutOfMemory>
+) -> Result<Vec<String>, OutOfMemory>
     requires lists { HasItsLists linking.now }
     requires roots { ArePositions (HasSubject (map item_of anchors.now) linking.now.certificate.now.issuer.now) roots.now }
     requires signers { (w : ℕ) → Contains signers.now w ↔ IsSignedBy (V.vouches_for vouch.now).Vouches (map item_of anchors.now) (certificate_item linking.now.certificate.now) w }
-    ensures { OnOk result (Appends (TellsGroups (to_anchors place) (IsLinkedToAnchor (link_rules V.Vouch linking.now vouch.now) (link_items linking.now) (map item_of anchors.now) (certificate_item linking.now.certificate.now))
-        (FailsToAnchor (link_rules V.Vouch linking.now vouch.now) (link_items linking.now) (map item_of anchors.now) (certificate_item linking.now.certificate.now) (certificate_of linking.now.certificate.now)))
-        (string_bytes text.old) (string_bytes text.new)) }
+    ensures { IfOk result (λ tails. AreTails (IsLinkedToAnchor (link_rules V.Vouch linking.now vouch.now) (link_items linking.now) (map item_of anchors.now) (certificate_item linking.now.certificate.now))
+        (FailsToAnchor (link_rules V.Vouch linking.now vouch.now) (link_items linking.now) (map item_of anchors.now) (certificate_item linking.now.certificate.now) (certificate_of linking.now.certificate.now)) tails.items) }
 {
     let groups = root_groups_of(alloc, anchors, linking, roots, signers, vouch)?;
-    push_groups(text, alloc, Front::Anchors(place), &groups)?;
+    let tails = tails_of(alloc, &groups)?;
+    Ok(tails)
+}
+
+/// Appends the lines of the links to all anchors of the issuer's name. They are worked out once for
+/// each kind.
+fn tell_anchors<V: Vouch>(
+    text: &mut String,
+    alloc: Global,
+    written: &mut BTreeMap<Vec<usize>, Vec<String>>,
+    question: &Question<'_, '_, V>,
+    place: usize,
+    certificate: &CertificateItem<'_>,
+    linking: &Linking<'_, '_>,
+    roots: &[usize],
+) -> Result<(), OutOfMemory>
+    requires written { AreAnchorsWritten V.Vouch question.now written.old }
+    requires signed { IsSigned V.Vouch question.now }
+    requires at { IsAt question.now.found.now.items.now place (λ x. x ≡ certificate_read certificate.now) }
+    requires lists { HasItsLists linking.now }
+    requires items { linking.now.items.now ≡ question.now.found.now.items.now }
+    requires certificate { linking.now.certificate.now ≡ certificate.now }
+    requires policy { linking.now.policy ≡ question.now.policy.now }
+    requires roots { ArePositions (HasSubject (anchors_in question.now) certificate.now.issuer.now) roots.now }
+    ensures written { OnOk result (AreAnchorsWritten V.Vouch question.now written.new) }
+    ensures text { OnOk result (Appends (TellsGroups (to_anchors place) (IsLinkedToAnchor (rules_in V.Vouch question.now) (items_in question.now) (anchors_in question.now) (certificate_item certificate.now))
+        (FailsToAnchor (rules_in V.Vouch question.now) (items_in question.now) (anchors_in question.now) (certificate_item certificate.now) (certificate_of certificate.now)))
+        (string_bytes text.old) (string_bytes text.new)) }
+{
+    let Some(first) = roots.first() else {
+        return Ok(());
+    };
+    let kind = anchor_kind(alloc, question, place, certificate, linking, *first)?;
+    if let Some(tails) = written.get(&kind) {
+        push_tails(text, Front::Anchors(place), tails)?;
+        return Ok(());
+    }
+    let signers = roots_at(alloc, question, place, certificate.issuer)?;
+    let anchors = question.found.anchors;
+    let tails = tails_to_anchors(alloc, anchors, linking, roots, &signers, question.vouch)?;
+    push_tails(text, Front::Anchors(place), &tails)?;
+    written.insert(kind, tails)?;
     Ok(())
 }
 
@@ -362,41 +442,44 @@ fn tell_missing(
 fn tell_all_links<'q, 'a, V: Vouch>(
     text: &mut String,
     alloc: Global,
+    written: &mut Written,
     question: &Question<'q, 'a, V>,
     place: usize,
     certificate: &'q CertificateItem<'a>,
 ) -> Result<(), OutOfMemory>
+    requires written { AreWritten V.Vouch question.now written.old }
     requires known { IsFound question.now.found.now }
     requires signed { IsSigned V.Vouch question.now }
+    requires listed { IsListed question.now }
     requires at { IsAt question.now.found.now.items.now place (λ x. x ≡ certificate_read certificate.now) }
-    ensures { OnOk result (Appends (TellsLinks (rules_in V.Vouch question.now)
+    ensures written { OnOk result (AreWritten V.Vouch question.now written.new) }
+    ensures text { OnOk result (Appends (TellsLinks (rules_in V.Vouch question.now)
         (items_in question.now) (anchors_in question.now) place (certificate_item certificate.now) (certificate_of certificate.now))
         (string_bytes text.old) (string_bytes text.new)) }
 {
     let found = question.found;
     let issuers = found.issuers(certificate.issuer);
     let roots = found.roots(certificate.issuer);
-    let linking = found.linking(alloc, certificate, question.policy)?;
-    let signers = issuers_at(alloc, question, place, certificate.issuer)?;
+    let linking = found.linking(alloc, question.lists, certificate, question.policy)?;
     tell_links(
         text,
         alloc,
+        &mut written.items,
+        question,
         place,
+        certificate,
         &linking,
         issuers,
-        &signers,
-        question.vouch,
     )?;
-    let signers = roots_at(alloc, question, place, certificate.issuer)?;
     tell_anchors(
         text,
         alloc,
-        found.anchors,
+        &mut written.anchors,
+        question,
         place,
+        certificate,
         &linking,
         roots,
-        &signers,
-        question.vouch,
     )?;
     tell_missing(text, alloc, found, place, certificate, issuers, roots)?;
     Ok(())
@@ -406,15 +489,19 @@ fn tell_all_links<'q, 'a, V: Vouch>(
 fn tell_certificate<'q, 'a, V: Vouch>(
     text: &mut String,
     alloc: Global,
+    written: &mut Written,
     question: &Question<'q, 'a, V>,
     place: usize,
     certificate: &'q CertificateItem<'a>,
 ) -> Result<(), OutOfMemory>
+    requires written { AreWritten V.Vouch question.now written.old }
     requires known { IsFound question.now.found.now }
     requires signed { IsSigned V.Vouch question.now }
+    requires listed { IsListed question.now }
     requires at { IsAt question.now.found.now.items.now place (λ x. x ≡ certificate_read certificate.now) }
     requires target { question.now.sought.target.now ≡ octets_at (items_in question.now) question.now.target }
-    ensures { OnOk result (Appends (TellsCertificate question.now.sought.demand.now (rules_in V.Vouch question.now) (items_in question.now) (anchors_in question.now)
+    ensures written { OnOk result (AreWritten V.Vouch question.now written.new) }
+    ensures text { OnOk result (Appends (TellsCertificate question.now.sought.demand.now (rules_in V.Vouch question.now) (items_in question.now) (anchors_in question.now)
         question.now.target place (certificate_item certificate.now) (certificate_of certificate.now)) (string_bytes text.old) (string_bytes text.new)) }
 {
     push_subject(
@@ -427,7 +514,7 @@ fn tell_certificate<'q, 'a, V: Vouch>(
     tell_unusable(text, alloc, question, place, certificate)?;
     push_unmet(text, alloc, &question.sought, place, certificate)?;
     tell_no_issuer(text, alloc, question.target, place, certificate)?;
-    tell_all_links(text, alloc, question, place, certificate)?;
+    tell_all_links(text, alloc, written, question, place, certificate)?;
     Ok(())
 }
 
@@ -435,19 +522,23 @@ fn tell_certificate<'q, 'a, V: Vouch>(
 pub(crate) fn tell_at<V: Vouch>(
     text: &mut String,
     alloc: Global,
+    written: &mut Written,
     question: &Question<'_, '_, V>,
     place: usize,
 ) -> Result<(), OutOfMemory>
+    requires written { AreWritten V.Vouch question.now written.old }
     requires known { IsFound question.now.found.now }
     requires signed { IsSigned V.Vouch question.now }
+    requires listed { IsListed question.now }
     requires target { question.now.sought.target.now ≡ octets_at (items_in question.now) question.now.target }
     requires certificate { IsCertificateAt (items_in question.now) place }
-    ensures { OnOk result (Appends (TellsAt question.now.sought.demand.now (rules_in V.Vouch question.now)
+    ensures written { OnOk result (AreWritten V.Vouch question.now written.new) }
+    ensures text { OnOk result (Appends (TellsAt question.now.sought.demand.now (rules_in V.Vouch question.now)
         (items_in question.now) (anchors_in question.now) question.now.target place) (string_bytes text.old) (string_bytes text.new)) }
 {
     let Some(certificate) = certificate_at(question.found.items, place) else {
         return Ok(());
     };
-    tell_certificate(text, alloc, question, place, certificate)?;
+    tell_certificate(text, alloc, written, question, place, certificate)?;
     Ok(())
 }

@@ -7,10 +7,12 @@ ghost use Rattle.cert_judge.specs.Items.{item_of, IsListWith};
 ghost use Rattle.cert_judge.specs.declared.items.ReadItem.TheVariants.{Certificate as certificate_read};
 ghost use Rattle.cert_reasons.specs.Listed.{IsOf};
 ghost use Rattle.cert_reasons.specs.Linking.{HasItsLists};
+ghost use Rattle.certpath_why.specs.ByIssuer.{AreByIssuer};
 ghost use Rattle.certpath_why.specs.Found.{IsFound, IsCertificateRead, subject_place, list_place};
 ghost use Rattle.certpath_why.specs.Directories.{IsDirectory};
 ghost use Rattle.certpath_why.specs.Reached.{ArePositions, HasSubject, IsCertificateAt};
 
+use crate::by_issuer::ListsByIssuer;
 use crate::directory::Directory;
 use crate::names::Labels;
 use asn1_core::OutOfMemory;
@@ -150,21 +152,27 @@ impl<'b, 'a> Found<'b, 'a> {
         self.lists.positions(name)
     }
 
-    /// A certificate with the lists of its issuer, which tells of its links.
-    pub(crate) fn linking(
-        &self,
+    /// A certificate with the lists of its issuer, by those in force of some issuers.
+    pub(crate) fn linking<'s>(
+        &'s self,
         alloc: Global,
-        certificate: &'b CertificateItem<'a>,
+        lists: &'s ListsByIssuer<'a>,
+        certificate: &'s CertificateItem<'a>,
         policy: &Policy,
-    ) -> Result<Linking<'b, 'a>, AllocError>
-        requires { IsFound self.now }
+    ) -> Result<Linking<'s, 'a>, AllocError>
+        requires known { IsFound self.now }
+        requires listed { AreByIssuer self.now.items.now policy.now.moment lists.now }
         ensures items { IfOk result (λ l. l.items.now ≡ self.now.items.now) }
         ensures certificate { IfOk result (λ l. l.certificate.now ≡ certificate.now) }
         ensures policy { IfOk result (λ l. l.policy ≡ policy.now) }
         ensures lists { IfOk result HasItsLists }
     {
-        let lists = self.lists(certificate.issuer);
-        let linking = Linking::new(alloc, self.items, lists, certificate, policy)?;
+        if let Some(lists) = lists.of(certificate.issuer) {
+            let linking = Linking::by(alloc, self.items, lists, certificate, policy)?;
+            return Ok(linking);
+        }
+        let places = self.lists(certificate.issuer);
+        let linking = Linking::new(alloc, self.items, places, certificate, policy)?;
         Ok(linking)
     }
 

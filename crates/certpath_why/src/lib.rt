@@ -13,6 +13,7 @@
 #![tactic(auto)]
 
 mod bounds;
+mod by_issuer;
 mod certificates;
 mod classes;
 mod demanded;
@@ -22,6 +23,7 @@ mod fates;
 mod found;
 mod holders;
 mod hosts;
+mod kinds;
 pub mod laws;
 pub mod laws_by;
 mod lines;
@@ -41,5 +43,6 @@ mod signers;
 mod uses;
 mod why;
 mod words;
+mod written;
 
 pub use crate::why::{push_why, push_why_for};

@@ -1,16 +1,18 @@
 //! The lines of the links of one certificate: one for those that hold, and one for each reason why
-//! others don't, with the positions as ranges.
+//! others don't, with the positions as ranges. What follows after the certificate's own position is
+//! worked out by itself, so that it serves all certificates of a kind.
 
-ghost use Rattle.std.specs.Prelude.{◌≡◌, ◌↔◌, ◌++◌, [], Contains, Some, IsTrue, OnOk, string_bytes};
+ghost use Rattle.std.specs.Prelude.{◌≡◌, ◌↔◌, ◌++◌, [], Contains, Some, IsTrue, IfOk, OnOk, string_bytes};
 ghost use Rattle.std.specs.List.Sorted.{IsStrictlyIncreasing};
 ghost use Rattle.cert_reasons.specs.declared.links.Unlinked.TheVariants.{RevokedBy};
-ghost use Rattle.certpath_why.specs.Appended.{Appends};
 ghost use Rattle.certpath_why.specs.Fates.{AreSortedFates, OfSome};
 ghost use Rattle.certpath_why.specs.Groups.{AreInOrder, FailsIn};
+ghost use Rattle.certpath_why.specs.Kinds.{AddsTails, AreTails, lines_of};
 ghost use Rattle.certpath_why.specs.Lines.{link_end, link_lines};
+ghost use Rattle.certpath_why.specs.Listed.{listed};
 ghost use Rattle.certpath_why.specs.LinkText.{front_text};
 ghost use Rattle.certpath_why.specs.Ranges.{range_text};
-ghost use Rattle.certpath_why.specs.Why.{AreTexts, TellsGroup, TellsGroups};
+ghost use Rattle.certpath_why.specs.Why.{AreTexts, TellsGroup};
 
 use crate::fates::{Fate, places_of};
 use crate::listed::{Part, push_list, push_part};
@@ -106,79 +108,104 @@ fn has_none(ranges: &[Range]) -> bool
     ranges.is_empty()
 }
 
-/// Appends the line of some positions; nothing for none.
-fn push_links(
-    text: &mut String,
+/// The end of a line of some positions.
+fn tail_of(alloc: Global, what: Option<Unlinked>, ranges: &[Range]) -> Result<String, OutOfMemory>
+    ensures { IfOk result (λ tail. string_bytes tail ≡ listed range_text ranges.now ++ link_end what) }
+{
+    let mut tail = String::new(alloc);
+    push_list(&mut tail, alloc, ranges)?;
+    push_link_end(&mut tail, what)?;
+    Ok(tail)
+}
+
+/// Adds the end of the line of some positions; nothing for none.
+fn add_links(
+    tails: &mut Vec<String>,
     alloc: Global,
-    front: Front,
     what: Option<Unlinked>,
     ranges: &[Range],
 ) -> Result<(), OutOfMemory>
-    ensures { OnOk result (string_bytes text.new ≡ string_bytes text.old ++ link_lines (front_text front) what ranges.now) }
+    ensures { OnOk result (AddsTails (λ front text. text ≡ link_lines front what ranges.now) tails.old.items tails.new.items) }
 {
     if has_none(ranges) {
         return Ok(());
     }
-    push_front(text, front)?;
-    push_list(text, alloc, ranges)?;
-    push_link_end(text, what)?;
+    let tail = tail_of(alloc, what, ranges)?;
+    tails.push(tail)?;
     Ok(())
 }
 
-/// Appends the line of some positions, given in ascending order; nothing for none.
-fn push_places(
-    text: &mut String,
+/// Adds the end of the line of some positions, given in ascending order; nothing for none.
+fn add_places(
+    tails: &mut Vec<String>,
     alloc: Global,
-    front: Front,
     what: Option<Unlinked>,
     places: &[usize],
 ) -> Result<(), OutOfMemory>
     requires { IsStrictlyIncreasing places.now }
-    ensures { OnOk result (Appends (TellsGroup (front_text front) what (Contains places.now)) (string_bytes text.old) (string_bytes text.new)) }
+    ensures { OnOk result (AddsTails (λ front. TellsGroup front what (Contains places.now)) tails.old.items tails.new.items) }
 {
     let ranges = ranges_of(alloc, places)?;
-    push_links(text, alloc, front, what, &ranges)?;
+    add_links(tails, alloc, what, &ranges)?;
     Ok(())
 }
 
-/// Appends a line for each of some lists that revoke.
-fn push_revoked(
-    text: &mut String,
+/// Adds the end of a line for each of some lists that revoke.
+fn add_revoked(
+    tails: &mut Vec<String>,
     alloc: Global,
-    front: Front,
     fates: &[Fate],
     lists: &[usize],
 ) -> Result<(), OutOfMemory>
     requires { AreSortedFates fates.now }
-    ensures { OnOk result (Appends (AreTexts (λ p. TellsGroup (front_text front) (Some (RevokedBy p)) (OfSome (Some (RevokedBy p)) fates.now)) lists.now) (string_bytes text.old) (string_bytes text.new)) }
+    ensures { OnOk result (AddsTails (λ front. AreTexts (λ p. TellsGroup front (Some (RevokedBy p)) (OfSome (Some (RevokedBy p)) fates.now)) lists.now) tails.old.items tails.new.items) }
 {
     for list in lists {
         let revoked = Some(Unlinked::RevokedBy(*list));
         let places = places_of(alloc, fates, revoked)?;
-        push_places(text, alloc, front, revoked, &places)?;
+        add_places(tails, alloc, revoked, &places)?;
     }
     Ok(())
 }
 
-/// The lines of all links.
-pub(crate) fn push_groups(
-    text: &mut String,
-    alloc: Global,
-    front: Front,
-    groups: &Groups,
-) -> Result<(), OutOfMemory>
+/// The ends of the lines of all links.
+pub(crate) fn tails_of(alloc: Global, groups: &Groups) -> Result<Vec<String>, OutOfMemory>
     requires { AreInOrder groups.now }
-    ensures { OnOk result (Appends (TellsGroups (front_text front) (Contains groups.now.linked.items) (FailsIn groups.now)) (string_bytes text.old) (string_bytes text.new)) }
+    ensures { IfOk result (λ tails. AreTails (Contains groups.now.linked.items) (FailsIn groups.now) tails.items) }
 {
+    let mut tails = Vec::new(alloc);
     let lists = revokers_of(alloc, &groups.listed)?;
     let unvouched = Some(Unlinked::NotVouched);
     let differing = Some(Unlinked::KeyIdsDiffer);
-    push_places(text, alloc, front, None, &groups.linked)?;
-    push_places(text, alloc, front, unvouched, &groups.unvouched)?;
-    push_places(text, alloc, front, differing, &groups.differing)?;
-    push_revoked(text, alloc, front, &groups.listed, &lists)?;
+    add_places(&mut tails, alloc, None, &groups.linked)?;
+    add_places(&mut tails, alloc, unvouched, &groups.unvouched)?;
+    add_places(&mut tails, alloc, differing, &groups.differing)?;
+    add_revoked(&mut tails, alloc, &groups.listed, &lists)?;
     let lacking = Some(Unlinked::NoUsedList);
     let places = places_of(alloc, &groups.listed, lacking)?;
-    push_places(text, alloc, front, lacking, &places)?;
+    add_places(&mut tails, alloc, lacking, &places)?;
+    Ok(tails)
+}
+
+/// Appends a line with its end.
+fn push_tail(text: &mut String, front: Front, tail: &str) -> Result<(), AllocError>
+    ensures { OnOk result (string_bytes text.new ≡ string_bytes text.old ++ (front_text front ++ tail.now)) }
+{
+    push_front(text, front)?;
+    text.push_str(tail)?;
+    Ok(())
+}
+
+/// Appends lines with these ends.
+pub(crate) fn push_tails(
+    text: &mut String,
+    front: Front,
+    tails: &[String],
+) -> Result<(), AllocError>
+    ensures { OnOk result (string_bytes text.new ≡ string_bytes text.old ++ lines_of (front_text front) tails.now) }
+{
+    for tail in tails {
+        push_tail(text, front, tail)?;
+    }
     Ok(())
 }

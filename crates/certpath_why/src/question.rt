@@ -1,5 +1,6 @@
 //! What the lines are about, as it is handed from one to the other.
 
+use crate::by_issuer::ListsByIssuer;
 use crate::demanded::Sought;
 use crate::found::Found;
 use crate::signers::Signers;
@@ -18,6 +19,8 @@ pub(crate) struct Question<'q, 'a, V> {
     pub(crate) vouch: &'q V,
     /// Whose keys vouch for each item.
     pub(crate) signers: &'q Signers<'a>,
+    /// The lists in force of the issuers of what is reached.
+    pub(crate) lists: &'q ListsByIssuer<'a>,
     /// The moment, and whether revocation lists are demanded.
     pub(crate) policy: &'q Policy,
 }

@@ -2,10 +2,12 @@
 //! for all items at once. A key and an item without a voucher cost nothing, and equal items and
 //! equal keys are asked about once, and kept once.
 
-ghost use Rattle.std.specs.Prelude.{◌≡◌, ◌↔◌, ◌⊎◌, ◌<◌, ℕ, Some, length, map, IfOk, IsTrue};
+ghost use Rattle.std.specs.Prelude.{◌≡◌, ◌↔◌, ◌⊎◌, ◌<◌, ℕ, Some, length, map, Contains, IfOk, IsTrue, Vec};
+ghost use Rattle.std.specs.declared.alloc.Global.{Global};
 ghost use Rattle.cert_graph.specs.Entries.{IsAt};
 ghost use Rattle.cert_judge.specs.Items.{item_of};
 ghost use Rattle.cert_judge.specs.declared.items.ReadItem.{ReadItem};
+ghost use Rattle.certpath_why.specs.Kinds.{row_at, VouchesFor};
 ghost use Rattle.certpath_why.specs.Question.{items_in, anchors_in, IsSigned};
 ghost use Rattle.certpath_why.specs.Reached.{ArePositions};
 ghost use Rattle.certpath_why.specs.Signers.{AreSignedBy, IsSignedBy, issued_place, issuer_name, member_place};
@@ -15,6 +17,7 @@ use crate::demanded::octets_of;
 use crate::directory::Directory;
 use crate::holders::{Holders, holders_of};
 use crate::question::Question;
+use crate::rows::row_at;
 use cert_graph::Place;
 use cert_judge::{ReadItem, Vouch};
 use std::alloc::{AllocError, Global};
@@ -160,6 +163,47 @@ pub(crate) fn roots_at<V: Vouch>(
     let number = question.signers.classes.number(place);
     let found = question.signers.roots.positions(alloc, number, name)?;
     Ok(found)
+}
+
+/// The holders among the certificates whose keys vouch for the item at a position.
+pub(crate) fn issuers_row<'q, V: Vouch>(question: &Question<'q, '_, V>, place: usize) -> &'q [usize]
+    requires signed { IsSigned V.Vouch question.now }
+    requires place { place < length question.now.found.now.items.now }
+    ensures { (r : Vec ℕ Global) → result.now ≡ row_at question.now.signers.now.classes question.now.signers.now.issuers place r }
+{
+    let signers = question.signers;
+    let number = signers.classes.number(place);
+    row_at(&signers.issuers.rows, number)
+}
+
+/// Of these holders, those whose keys vouch for the octets of that item by another voucher too.
+pub(crate) fn issuers_row_by<V: Vouch, S: Vouch>(
+    alloc: Global,
+    question: &Question<'_, '_, V>,
+    place: usize,
+    octets: &[u8],
+    search: &S,
+) -> Result<Vec<usize>, AllocError>
+    requires signed { IsSigned V.Vouch question.now }
+    requires place { place < length question.now.found.now.items.now }
+    ensures { IfOk result (λ row. (k : ℕ) → Contains row.items k ↔ (((r : Vec ℕ Global) → Contains (row_at question.now.signers.now.classes question.now.signers.now.issuers place r) k)
+        × VouchesFor (S.vouches_for search.now).Vouches question.now.signers.now.issuers k octets.now)) }
+{
+    let number = question.signers.classes.number(place);
+    let issuers = &question.signers.issuers;
+    let row = issuers.row_by(alloc, number, octets, search)?;
+    Ok(row)
+}
+
+/// The holders among the anchors whose keys vouch for the item at a position.
+pub(crate) fn roots_row<'q, V: Vouch>(question: &Question<'q, '_, V>, place: usize) -> &'q [usize]
+    requires signed { IsSigned V.Vouch question.now }
+    requires place { place < length question.now.found.now.items.now }
+    ensures { (r : Vec ℕ Global) → result.now ≡ row_at question.now.signers.now.classes question.now.signers.now.roots place r }
+{
+    let signers = question.signers;
+    let number = signers.classes.number(place);
+    row_at(&signers.roots.rows, number)
 }
 
 fn is_either(one: bool, other: bool) -> bool

@@ -5,13 +5,15 @@ ghost use Rattle.std.specs.Prelude.{◌≡◌, ◌⊎◌, ℕ, List, OnOk, [], m
 ghost use Rattle.cert_judge.specs.Items.{item_of, rules_by};
 ghost use Rattle.cert_judge.specs.Vouching.{processing_too};
 ghost use Rattle.cert_purpose.specs.Restricting.{restricted_by};
-ghost use Rattle.certpath_why.specs.Question.{anchors_in, items_in, rules_in, IsSigned};
+ghost use Rattle.certpath_why.specs.Question.{anchors_in, items_in, rules_in, IsListed, IsSigned};
 ghost use Rattle.certpath_why.specs.Reached.{ArePositions, IsFurther, IsCertificateAt};
 ghost use Rattle.certpath_why.specs.Why.{AreTexts, TellsAt, TellsReached, AppendsWhy, AppendsWhyFor, octets_at};
 ghost use Rattle.certpath_why.specs.Found.{IsFound};
 ghost use Rattle.certpath_why.specs.Appended.{Appends};
+ghost use Rattle.certpath_why.specs.Written.{AreWritten};
 
 use crate::bounds::{bound_among, push_all_bounds};
+use crate::by_issuer::ListsByIssuer;
 use crate::certificates::tell_at;
 use crate::demanded::{Sought, octets_at};
 use crate::found::{Found, is_certificate};
@@ -20,6 +22,7 @@ use crate::processing::Processing;
 use crate::question::Question;
 use crate::reached::further_than;
 use crate::signers::Signers;
+use crate::written::Written;
 use asn1_core::OutOfMemory;
 use cert_graph::Answer;
 use cert_judge::{Policy, ReadItem, Vouch};
@@ -31,17 +34,21 @@ use std::alloc::Global;
 fn tell_target<V: Vouch>(
     text: &mut String,
     alloc: Global,
+    written: &mut Written,
     question: &Question<'_, '_, V>,
 ) -> Result<(), OutOfMemory>
+    requires written { AreWritten V.Vouch question.now written.old }
     requires known { IsFound question.now.found.now }
     requires signed { IsSigned V.Vouch question.now }
+    requires listed { IsListed question.now }
     requires target { question.now.sought.target.now ≡ octets_at (items_in question.now) question.now.target }
-    ensures { OnOk result (Appends (λ own. TellsAt question.now.sought.demand.now (rules_in V.Vouch question.now)
+    ensures written { OnOk result (AreWritten V.Vouch question.now written.new) }
+    ensures text { OnOk result (Appends (λ own. TellsAt question.now.sought.demand.now (rules_in V.Vouch question.now)
         (items_in question.now) (anchors_in question.now) question.now.target question.now.target own
         ⊎ ((IsCertificateAt (items_in question.now) question.now.target → ⊥) × (own ≡ []))) (string_bytes text.old) (string_bytes text.new)) }
 {
     if is_certificate(question.found.items, question.target) {
-        tell_at(text, alloc, question, question.target)?;
+        tell_at(text, alloc, written, question, question.target)?;
         return Ok(());
     }
     Ok(())
@@ -51,43 +58,50 @@ fn tell_target<V: Vouch>(
 fn tell_further<V: Vouch>(
     text: &mut String,
     alloc: Global,
+    written: &mut Written,
     question: &Question<'_, '_, V>,
     further: &[usize],
 ) -> Result<(), OutOfMemory>
+    requires written { AreWritten V.Vouch question.now written.old }
     requires known { IsFound question.now.found.now }
     requires signed { IsSigned V.Vouch question.now }
+    requires listed { IsListed question.now }
     requires target { question.now.sought.target.now ≡ octets_at (items_in question.now) question.now.target }
     requires further { ArePositions (IsFurther (items_in question.now) question.now.target) further.now }
-    ensures { OnOk result (Appends (AreTexts (TellsAt question.now.sought.demand.now (rules_in V.Vouch question.now)
+    ensures written { OnOk result (AreWritten V.Vouch question.now written.new) }
+    ensures text { OnOk result (Appends (AreTexts (TellsAt question.now.sought.demand.now (rules_in V.Vouch question.now)
         (items_in question.now) (anchors_in question.now) question.now.target) further.now)
         (string_bytes text.old) (string_bytes text.new)) }
 {
     for place in further {
-        tell_at(text, alloc, question, *place)?;
+        tell_at(text, alloc, written, question, *place)?;
     }
     Ok(())
 }
 
-/// The lines of all that is reached, and how far a path length lets each of it lead by the relation
-/// of the answer.
+/// The lines of all that is reached, given the further certificates, and how far a path length lets
+/// each of it lead by the relation of the answer.
 fn tell_reached<V: Vouch, S: Vouch>(
     text: &mut String,
     alloc: Global,
     question: &Question<'_, '_, V>,
     answer: &Answer,
     search: &S,
+    further: &[usize],
 ) -> Result<(), OutOfMemory>
     requires known { IsFound question.now.found.now }
     requires signed { IsSigned V.Vouch question.now }
+    requires listed { IsListed question.now }
     requires target { question.now.sought.target.now ≡ octets_at (items_in question.now) question.now.target }
     requires less { (key item : List ℕ) → (S.vouches_for search.now).Vouches key item → (V.vouches_for question.now.vouch.now).Vouches key item }
+    requires further { ArePositions (IsFurther (items_in question.now) question.now.target) further.now }
     ensures { OnOk result (Appends (TellsReached question.now.sought.demand.now (rules_in V.Vouch question.now) (rules_by question.now.policy.now.moment question.now.policy.now.demand_lists (S.vouches_for search.now))
         (items_in question.now) (anchors_in question.now) question.now.target answer.now) (string_bytes text.old) (string_bytes text.new)) }
 {
-    let further = further_than(alloc, question.found, question.target)?;
-    tell_target(text, alloc, question)?;
-    tell_further(text, alloc, question, &further)?;
-    let bound = bound_among(alloc, question, search, answer, &further)?;
+    let mut written = Written::new(alloc);
+    tell_target(text, alloc, &mut written, question)?;
+    tell_further(text, alloc, &mut written, question, further)?;
+    let bound = bound_among(alloc, question, search, answer, further)?;
     push_all_bounds(text, answer, &bound)?;
     Ok(())
 }
@@ -113,6 +127,8 @@ fn push_why_by<'q, 'a, V: Vouch, S: Vouch>(
 {
     let found = Found::new(alloc, items, anchors)?;
     let signers = Signers::new(alloc, items, anchors, vouch)?;
+    let further = further_than(alloc, &found, target)?;
+    let lists = ListsByIssuer::new(alloc, &found, target, &further, policy)?;
     let question = Question {
         found: &found,
         target,
@@ -122,9 +138,10 @@ fn push_why_by<'q, 'a, V: Vouch, S: Vouch>(
         },
         vouch,
         signers: &signers,
+        lists: &lists,
         policy,
     };
-    tell_reached(text, alloc, &question, answer, search)?;
+    tell_reached(text, alloc, &question, answer, search, &further)?;
     tell_lists(text, alloc, &question)?;
     Ok(())
 }
@@ -144,11 +161,13 @@ fn push_why_by<'q, 'a, V: Vouch, S: Vouch>(
 /// The only error is out of memory; the text then ends anywhere. Certificates and lists are found
 /// by sorted maps of names. `vouched_by_each` is called twice for each name, with the keys of its
 /// certificates among the items and then among the anchors, each key once, and the octets of the
-/// certificates and lists that it issued, each once. Each certificate that is reported costs one
-/// pass over the entries of its issuer's lists, a step for each certificate and anchor of its
-/// issuer's name, and what `Linking::why_unlinked` costs for each of them whose key vouches for it;
-/// for each of the name, if lists are demanded or one that is in force has its serial number. Each
-/// list costs what `why_list_unused` costs.
+/// certificates and lists that it issued, each once. The entries of the lists of each issuer of what
+/// is reported are gone over and sorted once. Each certificate that is reported costs a look-up of
+/// its serial number and of its kind: its issuer's name, the keys that vouch for it, the lists in
+/// force that have its serial number, and the key identifier that it names. Each kind costs a step
+/// for each certificate and anchor of the issuer's name, and what `Linking::why_unlinked` costs for
+/// each of them whose key vouches for it; for each of the name, if lists are demanded or one that is
+/// in force has the serial number. Each list costs what `why_list_unused` costs.
 pub fn push_why<V: Vouch>(
     text: &mut String,
     alloc: Global,

@@ -20,7 +20,7 @@ letter_no_feed = All-from_recursion (λ octet. octet ≡ line_feed → ⊥) lett
 pub lines : AreLines (10 ∷ letter) ([] ∷ []) letter
 lines = record { whole = refl; each = (no_feed, tt); behind = letter_no_feed }
 
-pair : TellsPair zeros_line zeros zeros
+pub pair : TellsPair zeros_line zeros zeros
 unfolding decode_pairs
 pair = record { first = digits; second = digits; line_is = refl; key_is = refl; item_is = refl }
 

@@ -1,4 +1,5 @@
 pub mod CertificateLaws
 pub mod Items
 pub mod Runs
+pub mod Shared
 mod Seen

@@ -20,11 +20,11 @@ use crate::certificate::X509Certificate;
 use crate::tbs::TbsCertificate;
 use asn1_oid::Oid;
 use x509_core::X509Error;
-use x509_ext::{BasicExtension, ParsedExtension};
-use x509_ext_types::{
+use x509_ext::types::{
     BasicConstraints, ExtendedKeyUsage, InhibitAnyPolicy, KeyUsage, NameConstraints,
     PolicyConstraints, PolicyMappings, SubjectAlternativeName,
 };
+use x509_ext::{BasicExtension, ParsedExtension};
 
 /// id-ce-keyUsage, 2.5.29.15.
 const KEY_USAGE: &[u8] = b"\x55\x1d\x0f";

@@ -23,11 +23,11 @@ use asn1_unsigned::UnsignedBytes;
 use std::alloc::Global;
 use std::slice;
 use x509_core::{Parts, X509Error, parts_of};
+use x509_ext::types::format_serial;
 use x509_ext::{
     UniqueIdentifier, X509Extension, X509Version, copy_extensions, extensions_of, find_extension,
     get_extension_unique, next_issuer_id, next_serial, next_subject_id, next_version,
 };
-use x509_ext_types::format_serial;
 use x509_names::{
     AlgorithmIdentifier, SubjectPublicKeyInfo, X509Name, next_algorithm, next_key, next_name,
 };
@@ -156,7 +156,7 @@ impl<'a> TbsCertificate<'a> {
     /// # Errors
     ///
     /// Out of memory, for the copied vectors.
-    #[tactic(auto, using(x509_ext_types::proofs::Copied::same_name))]
+    #[tactic(auto, using(x509_names::proofs::Copied::same_name))]
     pub fn clone(&self, alloc: Global) -> Result<TbsCertificate<'a>, OutOfMemory>
         ensures value { IfOk result (λ copy. tbs_view copy ≡ tbs_view self.now) }
         ensures serial { IfOk result (λ copy. copy.serial ≡ self.now.serial) }

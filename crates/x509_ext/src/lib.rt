@@ -26,4 +26,4 @@ pub use crate::parser::X509ExtensionParser;
 pub use crate::serial::next_serial;
 pub use crate::unique::{UniqueIdentifier, next_issuer_id, next_subject_id};
 pub use crate::version::{X509Version, next_version, version_of};
-pub use x509_ext_parse::ParsedExtension;
+pub use x509_ext_parse::{ParsedExtension, types};

@@ -10,7 +10,7 @@ use Rattle.x509_core.specs.Leaves.{Leaf, IsOctets}
 use Rattle.x509_core.specs.Reading.{Reader}
 use Rattle.x509_core.proofs.Grammars.{IsReading, next_reading}
 use Rattle.x509_items.specs.Grammar.{HoldsSequence}
-use Rattle.x509_ext_types.specs.Values as values
+use Rattle.x509_ext_parse.specs.Values as values
 use Rattle.x509_ext_flags.specs.Extensions.{KeyIdentifier, KeyUsage, NetscapeType, PolicyConstraintsParts, PolicyConstraints, InhibitAnyPolicy}
 use Rattle.x509_ext_flags.specs.Flags.{AreSixteen, AreEight}
 use Rattle.x509_ext_flags.specs.Numbers.{IsNumber}

@@ -3,6 +3,8 @@ pub mod Faults
 pub mod Identifiers
 pub mod Kinds
 pub mod Parsed
+pub mod Parts
 pub mod Reading
-pub mod View
+pub mod Types
 pub mod Values
+pub mod View

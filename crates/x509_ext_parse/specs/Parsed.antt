@@ -1,7 +1,7 @@
 -- What the value of an extension is parsed as, by the extension's identifier.
 use Rattle.std.specs.Prelude.{◌≡◌, ℕ, List}
 use Rattle.x509_core.specs.Grammar.{Grammar}
-use Rattle.x509_ext_types.specs.Values as values
+use Rattle.x509_ext_parse.specs.Values as values
 use Rattle.x509_ext_flags.specs.Extensions.{KeyIdentifier, KeyUsage, NetscapeType, PolicyConstraints, InhibitAnyPolicy}
 use Rattle.x509_ext_names.specs.Extensions.{AuthorityKeyIdentifier, AlternativeName, NameConstraints, InfoAccess}
 use Rattle.x509_ext_basic.specs.Leaves.{BasicConstraints, CRLNumber, CRLReason, InvalidityDate, NetscapeComment}

@@ -1,7 +1,7 @@
 -- Values of extensions, parsed by a function on octets. What they are parsed as stands in `Parsed`; laws tie the function to it.
 use Rattle.std.specs.Prelude.{ℕ, if◌then◌else◌, List, [], ◌∷◌, Option, Some, None, Ok, Err, bytes_eq}
 use Rattle.x509_core.specs.Answers.{Answer}
-use Rattle.x509_ext_types.specs.Values as values
+use Rattle.x509_ext_parse.specs.Values as values
 use Rattle.x509_ext_flags.specs.Reading.{key_identifier_at, usage_at, netscape_at, policy_constraints_at, inhibit_at}
 use Rattle.x509_ext_names.specs.Reading.{authority_key_at, alternative_at, name_constraints_at, info_access_at}
 use Rattle.x509_ext_basic.specs.Reading.{constraints_at, number_at, reason_at, date_at, comment_at}

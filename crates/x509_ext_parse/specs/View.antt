@@ -2,8 +2,8 @@
 use Rattle.std.specs.Prelude.{map}
 use Rattle.asn1_unsigned.specs.Numbers.{number_of}
 use Rattle.x509_time.specs.View.{time_view}
-use Rattle.x509_ext_types.specs.Values as values
-use Rattle.x509_ext_types.specs.View as parts
+use Rattle.x509_ext_parse.specs.Values as values
+use Rattle.x509_ext_parse.specs.Parts as parts
 use Rattle.x509_ext_parse.specs.declared.parsed.ParsedExtension.{ParsedExtension}
 use Rattle.x509_ext_parse.specs.declared.parsed.ParsedExtension.TheVariants as cases
 

@@ -2,7 +2,7 @@
 
 ghost use Rattle.std.specs.Prelude.{◌≡◌, IfOk};
 ghost use Rattle.x509_ext_flags.specs.Reading.{key_identifier_at, usage_at, netscape_at, policy_constraints_at, inhibit_at};
-ghost use Rattle.x509_ext_types.specs.Values as values;
+ghost use Rattle.x509_ext_parse.specs.Values as values;
 ghost use Rattle.x509_ext_parse.specs.Cases.{HoldsFaultOf, HoldsNoMemory};
 ghost use Rattle.x509_ext_parse.specs.Reading.{made, or_error};
 ghost use Rattle.x509_ext_parse.specs.View.{parsed_view};

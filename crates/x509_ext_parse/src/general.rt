@@ -2,7 +2,7 @@
 
 ghost use Rattle.std.specs.Prelude.{◌≡◌, IfOk};
 ghost use Rattle.x509_ext_names.specs.Reading.{authority_key_at, alternative_at, name_constraints_at, info_access_at};
-ghost use Rattle.x509_ext_types.specs.Values as values;
+ghost use Rattle.x509_ext_parse.specs.Values as values;
 ghost use Rattle.x509_ext_parse.specs.Cases.{HoldsFaultOf, HoldsNoMemory};
 ghost use Rattle.x509_ext_parse.specs.Reading.{made, or_error};
 ghost use Rattle.x509_ext_parse.specs.View.{parsed_view};

@@ -2,7 +2,7 @@
 
 ghost use Rattle.std.specs.Prelude.{◌≡◌, IfOk};
 ghost use Rattle.x509_ext_basic.specs.Reading.{constraints_at, number_at, reason_at, date_at, comment_at};
-ghost use Rattle.x509_ext_types.specs.Values as values;
+ghost use Rattle.x509_ext_parse.specs.Values as values;
 ghost use Rattle.x509_ext_parse.specs.Cases.{HoldsFaultOf, HoldsNoMemory};
 ghost use Rattle.x509_ext_parse.specs.Reading.{made, or_error};
 ghost use Rattle.x509_ext_parse.specs.View.{parsed_view};

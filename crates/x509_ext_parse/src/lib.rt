@@ -10,6 +10,7 @@ mod others;
 mod parse;
 mod parsed;
 mod settled;
+pub mod types;
 
 pub use crate::parse::parse_extension;
 pub use crate::parsed::ParsedExtension;

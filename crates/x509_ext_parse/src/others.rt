@@ -4,7 +4,7 @@ ghost use Rattle.std.specs.Prelude.{◌≡◌, IfOk};
 ghost use Rattle.x509_ext_points.specs.Reading.{points_at, issuing_at};
 ghost use Rattle.x509_ext_policies.specs.Reading.{policies_at, mappings_at, purposes_at};
 ghost use Rattle.x509_ext_sct.specs.Reading.{list_at};
-ghost use Rattle.x509_ext_types.specs.Values as values;
+ghost use Rattle.x509_ext_parse.specs.Values as values;
 ghost use Rattle.x509_ext_parse.specs.Cases.{HoldsFaultOf, HoldsNoMemory};
 ghost use Rattle.x509_ext_parse.specs.Reading.{made, or_error};
 ghost use Rattle.x509_ext_parse.specs.View.{parsed_view};

@@ -1,7 +1,7 @@
 //! `parse_extension`, which parses a value by the identifier of its extension.
 
 ghost use Rattle.std.specs.Prelude.{◌≡◌, IfOk};
-ghost use Rattle.x509_ext_types.specs.Values.{Parsed};
+ghost use Rattle.x509_ext_parse.specs.Values.{Parsed};
 ghost use Rattle.x509_ext_parse.specs.Cases.{HoldsFault, HoldsFaultOf, HoldsNoMemory};
 ghost use Rattle.x509_ext_parse.specs.Parsed.{IsParsed};
 ghost use Rattle.x509_ext_parse.specs.Reading.{or_error, value_in, deeply};

@@ -4,17 +4,17 @@ ghost use Rattle.std.specs.Prelude.{◌≡◌, ◌↔◌, IsTrue, IfOk, option_m
 ghost use Rattle.x509_ext_parse.specs.Cases.{IsUnsupported, error_of};
 ghost use Rattle.x509_ext_parse.specs.View.{parsed_view};
 
-use asn1_core::{Err as Refusal, Error, OutOfMemory};
-use asn1_oid::Oid;
-use asn1_unsigned::UnsignedBytes;
-use std::alloc::Global;
-use x509_ext_types::{
+use crate::types::{
     AuthorityInfoAccess, AuthorityKeyIdentifier, BasicConstraints, CRLDistributionPoints,
     CertificatePolicies, ExtendedKeyUsage, InhibitAnyPolicy, IssuerAlternativeName,
     IssuingDistributionPoint, KeyIdentifier, KeyUsage, NSCertType, NameConstraints,
     PolicyConstraints, PolicyMappings, ReasonCode, SignedCertificateTimestamp,
     SubjectAlternativeName, SubjectInfoAccess, copy_all,
 };
+use asn1_core::{Err as Refusal, Error, OutOfMemory};
+use asn1_oid::Oid;
+use asn1_unsigned::UnsignedBytes;
+use std::alloc::Global;
 use x509_time::ASN1Time;
 
 /// The parsed value of an extension, a variant for each known identifier.

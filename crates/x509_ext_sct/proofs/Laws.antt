@@ -20,7 +20,7 @@ use Rattle.x509_items.specs.Grammar.{OneOrMore}
 use Rattle.x509_items.proofs.ManyLaws.{Shortens, as_many_reading}
 use Rattle.x509_ext_sct.specs.Reading.{fixed_at, opaque_at, octet_at, fitting, time_at, signed_at, parts_at, timestamp_at, none_refused, some_timestamps_in, timestamps_in, element_timestamps, list_at}
 use Rattle.x509_ext_sct.specs.Timestamps.{Fixed, Number, Opaque, DigitallySigned, TimestampParts, Timestamp, AreTimestamps, TimestampList}
-use Rattle.x509_ext_types.specs.Values as values
+use Rattle.x509_ext_sct.specs.Values as values
 
 -- ---- octets
 

@@ -1,2 +1,4 @@
 pub mod Reading
 pub mod Timestamps
+pub mod Values
+pub mod View

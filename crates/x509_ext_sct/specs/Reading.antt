@@ -5,7 +5,7 @@ use Rattle.std.specs.Int.Digits.{number_from_digits}
 use Rattle.asn1_core.specs.Elements.{Element}
 use Rattle.x509_core.specs.Answers.{Answer, unnamed, ◌>>=◌}
 use Rattle.x509_core.specs.Reading.{Reader, leaf_in, next, many_of}
-use Rattle.x509_ext_types.specs.Values as values
+use Rattle.x509_ext_sct.specs.Values as values
 
 -- so many octets
 unfoldable pub fixed_at : ℕ → Reader (List ℕ)

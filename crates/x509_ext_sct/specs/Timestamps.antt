@@ -4,7 +4,7 @@ use Rattle.std.specs.Int.Digits.{number_from_digits}
 use Rattle.x509_core.specs.Grammar.{Grammar, One}
 use Rattle.x509_core.specs.Leaves.{Leaf}
 use Rattle.x509_items.specs.Grammar.{OneOrMore}
-use Rattle.x509_ext_types.specs.Values as values
+use Rattle.x509_ext_sct.specs.Values as values
 
 -- opaque [n]: so many octets
 pub record Fixed (n : ℕ) (octets v rest : List ℕ) : Type 0 where

@@ -6,16 +6,16 @@ ghost use Rattle.x509_core.specs.Answers.{Gives, ElseMemory};
 ghost use Rattle.x509_core.specs.Reading.{many_of};
 ghost use Rattle.x509_ext_sct.specs.Reading.{timestamp_at, some_timestamps_in, element_timestamps, list_at};
 ghost use Rattle.x509_ext_sct.specs.Timestamps as grammar;
-ghost use Rattle.x509_ext_types.specs.Values as values;
-ghost use Rattle.x509_ext_types.specs.View.{timestamp_view};
+ghost use Rattle.x509_ext_sct.specs.Values as values;
+ghost use Rattle.x509_ext_sct.specs.View.{timestamp_view};
 
 use crate::octets::opaque;
 use crate::timestamp::timestamp_at_front;
+use crate::timestamps::SignedCertificateTimestamp;
 use asn1_any::Any;
 use asn1_core::{Err as Refusal, Error, HeaderCount, OutOfMemory};
 use std::alloc::Global;
 use x509_core::{X509Error, X509Result, front_element, leaf_of};
-use x509_ext_types::SignedCertificateTimestamp;
 
 // As many timestamps as begin there.
 fn each_timestamp<'a>(

@@ -5,15 +5,15 @@ ghost use Rattle.x509_core.specs.Answers.{Gives, ElseMemory};
 ghost use Rattle.x509_core.specs.Fronts.{TakesNoMemory};
 ghost use Rattle.x509_ext_sct.specs.Reading.{fixed_at, signed_at, parts_at, timestamp_at};
 ghost use Rattle.x509_ext_sct.specs.Timestamps as grammar;
-ghost use Rattle.x509_ext_types.specs.Values as values;
-ghost use Rattle.x509_ext_types.specs.View.{signed_view, timestamp_view};
+ghost use Rattle.x509_ext_sct.specs.Values as values;
+ghost use Rattle.x509_ext_sct.specs.View.{signed_view, timestamp_view};
 
 use crate::octets::{octet, opaque, time};
-use asn1_core::{Err as Refusal, Error};
-use x509_core::{X509Error, X509Result};
-use x509_ext_types::{
+use crate::timestamps::{
     CtExtensions, CtLogID, CtVersion, DigitallySigned, SignedCertificateTimestamp,
 };
+use asn1_core::{Err as Refusal, Error};
+use x509_core::{X509Error, X509Result};
 
 #[tactic(auto, unfolding(crate::specs::Reading::signed_at))]
 fn signed<'a>(i: &'a [u8]) -> X509Result<'a, DigitallySigned<'a>>

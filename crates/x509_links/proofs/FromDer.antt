@@ -7,9 +7,9 @@ use Rattle.cert_model.specs.Fields.{Certificate, RevocationList}
 use Rattle.cert_model.specs.Octets.{certificate_octets, list_octets}
 use Rattle.cert_model.specs.Range.{AreCertificateFields, AreListFields}
 use Rattle.x509_core.specs.Grammar.{HoldsWhole}
-use Rattle.x509_ext.specs.Fields.{IsUnparsed, unread, meaning_of, reading_of}
-use Rattle.x509_ext.specs.Values.{IsParsed, deeply}
-use Rattle.x509_ext.proofs.ExtensionLaws.{reads_law}
+use Rattle.x509_certs.specs.Shared.{IsUnparsed, unread, meaning_of, reading_of}
+use Rattle.x509_certs.specs.Shared.{IsParsed, deeply}
+use Rattle.x509_certs.proofs.Shared.{reads_law}
 use Rattle.x509_certs.specs.Certificates.{CertificateParts, X509Certificate}
 use Rattle.x509_certs.specs.Fields.{Certificate as ReadCertificate}
 use Rattle.x509_lists.specs.Fields.{RevocationList as ReadList}

@@ -8,10 +8,10 @@ use Rattle.x509_core.proofs.Grammars.{content_below, front_below}
 use Rattle.x509_names.specs.Leaves.{IsOid, IsOctets, IsBits}
 use Rattle.x509_names.specs.Names.{AlgorithmParts, NameParts, KeyParts}
 use Rattle.x509_time.specs.Times.{ValidityParts}
-use Rattle.x509_ext.specs.Extensions.{IsBoolean, ExtensionParts, X509Extension, Extensions, absent, there}
-use Rattle.x509_ext.specs.Fields.{Extension, ValueMeaning, ValueReading}
-use Rattle.x509_ext.specs.Parts.{IsTaggedVersion, Version, version_at_end, version_absent, version_there, IsSerial, IsIdentifier, UniqueIdentifier, id_at_end, id_absent, id_there}
-use Rattle.x509_ext.proofs.ExtensionLaws.{IsValueLaw}
+use Rattle.x509_certs.specs.Shared.{IsBoolean, ExtensionParts, X509Extension, Extensions, absent, there}
+use Rattle.x509_certs.specs.Shared.{Extension, ValueMeaning, ValueReading}
+use Rattle.x509_certs.specs.Shared.{IsTaggedVersion, Version, version_at_end, version_absent, version_there, IsSerial, IsIdentifier, UniqueIdentifier, id_at_end, id_absent, id_there}
+use Rattle.x509_certs.proofs.Shared.{IsValueLaw}
 use Rattle.x509_certs.specs.Certificates.{TbsParts, CertificateParts}
 use Rattle.x509_certs.specs.Fields.{Tbs, Certificate}
 use Rattle.x509_links.specs.Values.{extension_by, tbs_by, certificate_by}

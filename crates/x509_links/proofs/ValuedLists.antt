@@ -7,9 +7,9 @@ use Rattle.x509_core.proofs.Grammars.{content_below}
 use Rattle.x509_names.specs.Names.{AlgorithmParts, NameParts}
 use Rattle.x509_time.specs.Times.{Time, IsTime}
 use Rattle.x509_time.specs.Updates.{NextUpdate, there, at_end, cut_tag, no_time}
-use Rattle.x509_ext.specs.Extensions.{X509Extension}
-use Rattle.x509_ext.specs.Fields.{ValueMeaning, ValueReading}
-use Rattle.x509_ext.specs.Parts.{IsVersion, IsSerial}
+use Rattle.x509_certs.specs.Shared.{X509Extension}
+use Rattle.x509_certs.specs.Shared.{ValueMeaning, ValueReading}
+use Rattle.x509_certs.specs.Shared.{IsVersion, IsSerial}
 use Rattle.x509_lists.specs.Fields.{Entry, TbsList, RevocationList}
 use Rattle.x509_lists.specs.Lists.{or_none, EntryParts, RevokedCertificate, TbsParts, ListParts}
 use Rattle.x509_links.specs.Values.{extension_by, entry_by, tbs_list_by, list_by}

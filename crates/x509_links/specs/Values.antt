@@ -1,8 +1,8 @@
 -- What is read of certificates and lists, the values of their extensions parsed by another function: that alone changes.
 use Rattle.std.specs.Prelude.{map}
 use Rattle.cert_model.specs.Fields.{Certificate as StrictCertificate, RevocationList as StrictList}
-use Rattle.x509_ext.specs.Fields.{Extension, ValueReading}
-use Rattle.x509_ext.specs.Values.{deeply}
+use Rattle.x509_certs.specs.Shared.{Extension, ValueReading}
+use Rattle.x509_certs.specs.Shared.{deeply}
 use Rattle.x509_certs.specs.Fields.{Tbs, Certificate}
 use Rattle.x509_lists.specs.Fields.{Entry, TbsList, RevocationList}
 use Rattle.x509_links.specs.Lenient.{lenient_certificate, lenient_list}

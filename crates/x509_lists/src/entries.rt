@@ -15,7 +15,7 @@ use asn1_core::{Err as Refusal, Error, HeaderCount, OutOfMemory};
 use std::alloc::Global;
 use std::cmp;
 use x509_core::{Parts, X509Error, parts_of, push_in_room, renamed};
-use x509_ext_types::copy_all;
+use x509_ext::types::copy_all;
 
 /// The fewest octets of an entry: a header, a serial number, and a time of at least 13 octets. It
 /// bounds the room that is reserved.

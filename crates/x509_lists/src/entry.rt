@@ -21,10 +21,10 @@ use asn1_unsigned::UnsignedBytes;
 use std::alloc::Global;
 use std::slice;
 use x509_core::{Parts, X509Error, parts_of};
+use x509_ext::types::{Copies, ReasonCode, format_serial};
 use x509_ext::{
     ParsedExtension, X509Extension, copy_extensions, extension_list_of, find_extension, next_serial,
 };
-use x509_ext_types::{Copies, ReasonCode, format_serial};
 use x509_time::{ASN1Time, next_time};
 
 /// id-ce-cRLReasons, 2.5.29.21.

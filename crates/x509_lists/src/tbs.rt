@@ -82,7 +82,7 @@ impl<'a> TbsCertList<'a> {
     /// # Errors
     ///
     /// Out of memory, for the copied vectors.
-    #[tactic(auto, using(x509_ext_types::proofs::Copied::same_name))]
+    #[tactic(auto, using(x509_names::proofs::Copied::same_name))]
     pub fn clone(&self, alloc: Global) -> Result<TbsCertList<'a>, OutOfMemory>
         ensures value { IfOk result (λ copy. tbs_view copy ≡ tbs_view self.now) }
         ensures serials { IfOk result (λ copy. map (λ e. e.user_certificate) copy.revoked_certificates.items ≡ map (λ e. e.user_certificate) self.now.revoked_certificates.items) }

@@ -9,11 +9,11 @@ use crate::visit::{ListVisit, ListVisits};
 use asn1_core::{Err as Refusal, Error};
 use asn1_unsigned::UnsignedBytes;
 use asn1_values::BitString;
-use x509_ext::{X509Extension, X509Version};
-use x509_ext_types::{
+use x509_ext::types::{
     AuthorityInfoAccess, AuthorityKeyIdentifier, IssuerAlternativeName, IssuingDistributionPoint,
     ReasonCode, SignedCertificateTimestamp,
 };
+use x509_ext::{X509Extension, X509Version};
 use x509_names::{AlgorithmIdentifier, X509Name};
 use x509_time::ASN1Time;
 

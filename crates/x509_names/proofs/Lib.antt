@@ -1,3 +1,4 @@
+pub mod Copied
 pub mod Items
 pub mod KeyLaws
 pub mod LeafLaws

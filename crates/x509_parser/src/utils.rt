@@ -1,3 +1,3 @@
 //! Octets as text, and copies of collections.
 
-pub use x509_ext_types::{Copies, copy_all, format_serial};
+pub use x509_ext::types::{Copies, copy_all, format_serial};

@@ -1,7 +1,7 @@
 //! Names, algorithms, keys and versions (RFC 5280, 4.1.1.2, 4.1.2.1, 4.1.2.4 and 4.1.2.7).
 
 pub use x509_ext::X509Version;
-pub use x509_ext_types::ReasonCode;
+pub use x509_ext::types::ReasonCode;
 pub use x509_names::{
     AlgorithmIdentifier, AttributeTypeAndValue, Attributes, AttributesOf,
     RelativeDistinguishedName, SubjectPublicKeyInfo, X509Name, laws as name_laws,

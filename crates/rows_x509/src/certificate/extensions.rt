@@ -3,7 +3,7 @@
 use crate::words::Words;
 use rows_hex::{Added, add_hex};
 use x509_ext::ParsedExtension;
-use x509_ext_types::CRLDistributionPoints;
+use x509_ext::types::CRLDistributionPoints;
 
 impl Words for ParsedExtension<'_> {
     /// The value's case and its fields; of one that its type refuses the case alone, since which error is told isn't promised.

@@ -4,7 +4,7 @@ mod rows;
 use crate::tests::devices::{Full, Giver, Repeater, Taker};
 use asn1_device::{ReadSource, WriteSink};
 use cert_judge::Policy;
-use certpath_run::{Input, RunError, Settings, run};
+use certpath_engine::{Input, RunError, Settings, run};
 use jiff::civil::date;
 use rows::{ROWS, Row};
 use std::alloc::Global;

@@ -10,6 +10,10 @@ pub returns-clause-example : goal.returns-clause-example
 unfolding header_at strict_at identity_at length_at size_at
 returns-clause-example c = refl
 
+pub returns-clause-kind : goal.returns-clause-kind
+unfolding header_at strict_at identity_at length_at size_at
+returns-clause-kind c = refl
+
 pub returns-clause-longer : goal.returns-clause-longer
 unfolding header_at strict_at identity_at length_at size_at
 returns-clause-longer c = refl

@@ -4,11 +4,12 @@ use Rattle.cert_judge.specs.Items.{rules_by}
 use Rattle.certpath_why.specs.Question.{items_in}
 use Rattle.certpath_why.specs.Bounds.{reach_by, IsHeldBack}
 use Rattle.certpath_why.proofs.Bounding.{of_none, of_more, of_all}
+use Rattle.certpath_why.proofs.Searching.{none_done}
 use Rattle.certpath_why.proofs.Spreading.{further_certificate}
 use Rattle.certpath_why.proofs.bounds.bound_marks.Goals as goal
 
 pub loop-place-init : goal.loop-place-init
-loop-place-init g c = of_none (IsHeldBack (rules_by c.args.question.now.policy.now.moment c.args.question.now.policy.now.demand_lists (g.S.Vouch.vouches_for c.args.search.now)) (items_in c.args.question.now) (reach_by c.args.answer.now)) c.args.further.now c.in_ok-marks.marks.items
+loop-place-init g c = (none_done c.args.question.now (g.S.Vouch.vouches_for c.args.search.now) (reach_by c.args.answer.now) c.new-done.result c.in_ok-marks.marks.items c.new-done.ensures.empty, of_none (IsHeldBack (rules_by c.args.question.now.policy.now.moment c.args.question.now.policy.now.demand_lists (g.S.Vouch.vouches_for c.args.search.now)) (items_in c.args.question.now) (reach_by c.args.answer.now)) c.args.further.now c.in_ok-marks.marks.items)
 
 pub mark_from-requires-clause-certificate : goal.mark_from-requires-clause-certificate
 mark_from-requires-clause-certificate g c =
@@ -18,11 +19,11 @@ mark_from-requires-clause-certificate g c =
 pub mark_from-requires-clause-count : goal.mark_from-requires-clause-count
 mark_from-requires-clause-count g c =
     let count = c.in_ok-marks.ensures.count in
-    let same = c.loop-place.invariant.count in
+    let same = c.loop-place.invariant.1.count in
     omega arith
 
 pub loop-place-preserved : goal.loop-place-preserved
-loop-place-preserved g c = of_more (IsHeldBack (rules_by c.args.question.now.policy.now.moment c.args.question.now.policy.now.demand_lists (g.S.Vouch.vouches_for c.args.search.now)) (items_in c.args.question.now) (reach_by c.args.answer.now)) c.args.further.now c.loop-place.place-index c.in_ok-marks.marks.items c.loop-place.marks.items c.mark_from.new.marks.items c.loop-place-test.true c.loop-place.invariant c.in_ok-mark_from.ensures
+loop-place-preserved g c = (c.in_ok-mark_from.ensures.done, of_more (IsHeldBack (rules_by c.args.question.now.policy.now.moment c.args.question.now.policy.now.demand_lists (g.S.Vouch.vouches_for c.args.search.now)) (items_in c.args.question.now) (reach_by c.args.answer.now)) c.args.further.now c.loop-place.place-index c.in_ok-marks.marks.items c.loop-place.marks.items c.mark_from.new.marks.items c.loop-place-test.true c.loop-place.invariant.1 c.in_ok-mark_from.ensures.marks)
 
 pub returns : goal.returns
-returns g c = of_all (IsHeldBack (rules_by c.args.question.now.policy.now.moment c.args.question.now.policy.now.demand_lists (g.S.Vouch.vouches_for c.args.search.now)) (items_in c.args.question.now) (reach_by c.args.answer.now)) c.args.further.now c.loop-place.place-index c.in_ok-marks.marks.items c.loop-place.marks.items c.loop-place-test.false c.in_ok-marks.ensures.none c.loop-place.invariant
+returns g c = of_all (IsHeldBack (rules_by c.args.question.now.policy.now.moment c.args.question.now.policy.now.demand_lists (g.S.Vouch.vouches_for c.args.search.now)) (items_in c.args.question.now) (reach_by c.args.answer.now)) c.args.further.now c.loop-place.place-index c.in_ok-marks.marks.items c.loop-place.marks.items c.loop-place-test.false c.in_ok-marks.ensures.none c.loop-place.invariant.1

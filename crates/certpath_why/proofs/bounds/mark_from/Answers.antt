@@ -8,20 +8,49 @@ use Rattle.cert_judge.specs.Items.{certificate_item, rules_by}
 use Rattle.cert_judge.proofs.Mapped.{not_both}
 use Rattle.certpath_why.specs.Question.{items_in}
 use Rattle.certpath_why.specs.Bounds.{reach_by, IsHeldBack}
-use Rattle.certpath_why.proofs.Items.{none_read}
+use Rattle.certpath_why.specs.Found.{AreMarked}
+use Rattle.certpath_why.proofs.Fated.{linked_named}
+use Rattle.certpath_why.proofs.Items.{at_read, none_read}
+use Rattle.certpath_why.proofs.Searching.{done_more, held_by_kind, marks_there}
+use Rattle.certpath_why.proofs.Tailing.{no_first, some_first}
 use Rattle.certpath_why.proofs.Grouped.{linked_signed, signed_less, signed_named}
-use Rattle.certpath_why.proofs.Bounding.{marks_none, marks_as, not_counted, held_iff}
+use Rattle.certpath_why.proofs.Bounding.{marks_none, marks_as, not_counted, counted_iff, held_iff}
 use Rattle.certpath_why.proofs.bounds.mark_from.Goals as goal
 
-pub returns-in_default : goal.returns-in_default
-returns-in_default g c = absurd (none_read c.args.question.now.found.now.items.now c.args.place (c.in_default.ensures.only refl) c.requires.certificate)
+pub returns-in_default-clause-marks : goal.returns-in_default-clause-marks
+returns-in_default-clause-marks g c = absurd (none_read c.args.question.now.found.now.items.now c.args.place (c.in_default.ensures.only refl) c.requires.certificate)
 
-pub returns-then-not-leads_nowhere : goal.returns-then-not-leads_nowhere
-returns-then-not-leads_nowhere g c = marks_none (IsHeldBack (rules_by c.args.question.now.policy.now.moment c.args.question.now.policy.now.demand_lists (g.S.Vouch.vouches_for c.args.search.now)) (items_in c.args.question.now) (reach_by c.args.answer.now) c.args.place) c.args.marks.now.items (λ v h. not_both _ (c.leads_nowhere.ensures.1 (c.reach_in.ensures ∙ h.leads_nowhere)) c.if-not-leads_nowhere.true)
+pub returns-then-not-leads_nowhere-clause-marks : goal.returns-then-not-leads_nowhere-clause-marks
+returns-then-not-leads_nowhere-clause-marks g c = marks_none (IsHeldBack (rules_by c.args.question.now.policy.now.moment c.args.question.now.policy.now.demand_lists (g.S.Vouch.vouches_for c.args.search.now)) (items_in c.args.question.now) (reach_by c.args.answer.now) c.args.place) c.args.marks.now.items (λ v h. not_both _ (c.leads_nowhere.ensures.1 (c.reach_in.ensures ∙ h.leads_nowhere)) c.if-not-leads_nowhere.true)
 
-pub returns-then-not-is_counted : goal.returns-then-not-is_counted
-returns-then-not-is_counted g c =
+pub returns-then-not-is_counted-clause-marks : goal.returns-then-not-is_counted-clause-marks
+returns-then-not-is_counted-clause-marks g c =
     marks_none (IsHeldBack (rules_by c.args.question.now.policy.now.moment c.args.question.now.policy.now.demand_lists (g.S.Vouch.vouches_for c.args.search.now)) (items_in c.args.question.now) (reach_by c.args.answer.now) c.args.place) c.args.marks.now.items (not_counted (rules_by c.args.question.now.policy.now.moment c.args.question.now.policy.now.demand_lists (g.S.Vouch.vouches_for c.args.search.now)) c.args.question.now.found.now.items.now (reach_by c.args.answer.now) c.args.place c.in-Some.certificate.now c.in-Some.ensures.found (λ n. not_both _ (c.is_counted.ensures.1 n) c.if-not-is_counted.true))
+
+pub returns-in_default-first-clause-marks : goal.returns-in_default-first-clause-marks
+returns-in_default-first-clause-marks g c =
+    let q = c.args.question.now in
+    let x = c.in-Some.certificate.now in
+    let items = items_in q in
+    let r = rules_by q.policy.now.moment q.policy.now.demand_lists (g.S.Vouch.vouches_for c.args.search.now) in
+    marks_none (IsHeldBack r items (reach_by c.args.answer.now) c.args.place) c.args.marks.now.items (λ v h.
+    let l = (at_read (λ z. IsAt items v (IsLink r items z)) q.found.now.items.now c.args.place x c.in-Some.ensures.found).1 h.linked in
+    no_first c.issuers.result.now c.in_default-first.ensures.value v ((c.issuers.ensures.exact v).1 (linked_named r items x v l)))
+
+pub held_kind-requires-clause-first : goal.held_kind-requires-clause-first
+held_kind-requires-clause-first g c = (c.issuers.ensures.exact c.in-Some-first.first.now).0 (some_first c.issuers.result.now c.in-Some-first.first.now c.in-Some-first.ensures.value)
+
+pub held_kind-requires-clause-place : goal.held_kind-requires-clause-place
+held_kind-requires-clause-place g c = c.in-Some.ensures.found.0
+
+pub returns-then-contains-clause-marks : goal.returns-then-contains-clause-marks
+returns-then-contains-clause-marks g c =
+    let q = c.args.question.now in
+    let x = c.in-Some.certificate.now in
+    let r = rules_by q.policy.now.moment q.policy.now.demand_lists (g.S.Vouch.vouches_for c.args.search.now) in
+    let kind = rw (c.in_ok-linking.ensures.items, c.in_ok-linking.ensures.policy) at c.in_ok-kind.ensures in
+    marks_there (IsHeldBack r (items_in q) (reach_by c.args.answer.now) c.args.place) c.args.marks.now.items
+    (λ v h. c.requires.done c.in_ok-kind.kind (sym c.contains.ensures ∙ c.if-contains.true) c.args.place x c.in-Some.ensures.found kind v h)
 
 pub mark_among-requires-clause-issuers : goal.mark_among-requires-clause-issuers
 mark_among-requires-clause-issuers g c =
@@ -36,8 +65,28 @@ issuers_at-requires-clause-place g c = c.in-Some.ensures.found.0
 pub mark_among-requires-clause-count : goal.mark_among-requires-clause-count
 mark_among-requires-clause-count g c = rw c.in_ok-linking.ensures.items c.requires.count
 
-pub returns : goal.returns
-returns g c =
+pub returns-clause-done : goal.returns-clause-done
+returns-clause-done g c =
+    let q = c.args.question.now in
+    let x = c.in-Some.certificate.now in
+    let V = (g.V.Vouch.vouches_for q.vouch.now).Vouches in
+    let r = rules_by q.policy.now.moment q.policy.now.demand_lists (g.S.Vouch.vouches_for c.args.search.now) in
+    let items = items_in q in
+    let signers = c.in_ok-signers.ensures (certificate_read x) c.in-Some.ensures.found (ap Some (sym x.issuer_is)) in
+    let reach = reach_by c.args.answer.now in
+    let nowhere = sym c.reach_in.ensures ∙ c.leads_nowhere.ensures.0 c.if-not-leads_nowhere.false in
+    let counts = (counted_iff q.found.now.items.now c.args.place x c.in-Some.ensures.found).0 (c.is_counted.ensures.0 c.if-not-is_counted.false) in
+    let kind = rw (c.in_ok-linking.ensures.items, c.in_ok-linking.ensures.policy) at c.in_ok-kind.ensures in
+    let marked : AreMarked (IsHeldBack r items reach c.args.place) c.args.marks.now.items c.mark_among.new.marks.items =
+    marks_as (λ v. Contains c.in_ok-signers.signers.items v × ((reach_by c.args.answer.now v ≡ UpTo 0) × IsAt items v (IsLink r items (certificate_item x)))) (IsHeldBack r items (reach_by c.args.answer.now) c.args.place) c.args.marks.now.items c.mark_among.new.marks.items
+    (held_iff r q.found.now.items.now (reach_by c.args.answer.now) c.args.place x c.in_ok-signers.signers.items c.in-Some.ensures.found (sym c.reach_in.ensures ∙ c.leads_nowhere.ensures.0 c.if-not-leads_nowhere.false) (c.is_counted.ensures.0 c.if-not-is_counted.false)
+    (λ v l. (signers.exact v).1 (signed_less r.Vouches V items (certificate_item x) v c.requires.less (linked_signed r items x v l))))
+    (rw (c.deref.ensures.value, c.in_ok-linking.ensures.items, c.in_ok-linking.ensures.certificate, c.in_ok-linking.ensures.policy) at c.in_ok-mark_among.ensures) in
+    done_more q (g.S.Vouch.vouches_for c.args.search.now) reach c.args.place c.args.done.now c.insert.new.self c.in_ok-kind.kind c.args.marks.now.items c.mark_among.new.marks.items c.requires.done marked (λ k. c.in_ok-insert.ensures.updates.0 k)
+    (λ w y at is v back. held_by_kind V q (g.S.Vouch.vouches_for c.args.search.now) reach c.args.place w x y c.in_ok-kind.kind c.requires.signed.issuers c.requires.less c.in-Some.ensures.found at kind is nowhere counts v back)
+
+pub returns-clause-marks : goal.returns-clause-marks
+returns-clause-marks g c =
     let q = c.args.question.now in
     let x = c.in-Some.certificate.now in
     let V = (g.V.Vouch.vouches_for q.vouch.now).Vouches in

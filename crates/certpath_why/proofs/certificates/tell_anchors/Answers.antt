@@ -1,25 +1,65 @@
-use Rattle.std.proofs.Common.{map}
-use Rattle.cert_judge.specs.Items.{item_of, certificate_of, certificate_item, rules_by}
+use Rattle.std.proofs.Common.{[], ap, sym, append-nil, ℕ, Some}
+use Rattle.cert_judge.specs.declared.items.ReadItem.TheVariants.{Certificate as certificate_read}
+use Rattle.cert_judge.specs.Items.{certificate_of, certificate_item}
+use Rattle.cert_model.specs.Fields.{Certificate}
+use Rattle.certpath_why.specs.Kinds.{IsAnchorKind, AreAnchorTails, lines_of}
 use Rattle.certpath_why.specs.Lines.{to_anchors}
+use Rattle.certpath_why.specs.Question.{anchors_in, items_in, rules_in}
+use Rattle.certpath_why.specs.Reached.{HasSubject}
 use Rattle.certpath_why.specs.Why.{IsLinkedToAnchor, FailsToAnchor}
-use Rattle.certpath_why.proofs.Fating.{groups_as}
-use Rattle.certpath_why.proofs.Grouped.{groups_ordered, fails_in}
+use Rattle.certpath_why.proofs.Alike.{anchors_alike}
+use Rattle.certpath_why.proofs.Fated.{fails_named, linked_anchor_named}
+use Rattle.certpath_why.proofs.Tailing.{no_first, some_first, no_groups, written_more}
 use Rattle.certpath_why.proofs.certificates.tell_anchors.Goals as goal
 
-pub push_groups-requires : goal.push_groups-requires
-push_groups-requires g c =
-    let l = c.args.linking.now in
-    let x = l.certificate.now in
-    let r = rules_by l.policy.moment l.policy.demand_lists (g.V.Vouch.vouches_for c.args.vouch.now) in
-    let items = map item_of l.items.now in
-    groups_ordered (IsLinkedToAnchor r items (map item_of c.args.anchors.now) (certificate_item x)) (FailsToAnchor r items (map item_of c.args.anchors.now) (certificate_item x) (certificate_of x)) c.in_ok-groups.groups c.in_ok-groups.ensures
+pub returns-in_default-clause-text : goal.returns-in_default-clause-text
+returns-in_default-clause-text g c =
+    let q = c.args.question.now in
+    let x = c.args.certificate.now in
+    let r = rules_in g.V.Vouch q in
+    let none : (w : ℕ) → HasSubject (anchors_in q) x.issuer.now w → ⊥ = λ w s. no_first c.args.roots.now c.in_default.ensures.value w ((c.requires.roots.exact w).1 s) in (
+      [],
+      sym (append-nil _),
+      no_groups (to_anchors c.args.place) (IsLinkedToAnchor r (items_in q) (anchors_in q) (certificate_item x)) (FailsToAnchor r (items_in q) (anchors_in q) (certificate_item x) (certificate_of x)) (λ v l. none v (linked_anchor_named r (items_in q) (anchors_in q) x v l))
+          (λ reason v f. none v (fails_named r (items_in q) (anchors_in q) (certificate_item x) (certificate_of x) x.issuer.now (λ (d : Certificate). Unit {0}) reason v x.issuer_is f)),
+    )
 
-pub returns : goal.returns
-returns g c =
-    let l = c.args.linking.now in
-    let x = l.certificate.now in
-    let r = rules_by l.policy.moment l.policy.demand_lists (g.V.Vouch.vouches_for c.args.vouch.now) in
-    let items = map item_of l.items.now in
-    let told = c.in_ok-push_groups.ensures in
-    let are = c.in_ok-groups.ensures in
-    (told.0, told.1, groups_as (to_anchors c.args.place) _ (IsLinkedToAnchor r items (map item_of c.args.anchors.now) (certificate_item x)) _ (FailsToAnchor r items (map item_of c.args.anchors.now) (certificate_item x) (certificate_of x)) told.0 are.linked.exact (fails_in (IsLinkedToAnchor r items (map item_of c.args.anchors.now) (certificate_item x)) (FailsToAnchor r items (map item_of c.args.anchors.now) (certificate_item x) (certificate_of x)) c.in_ok-groups.groups are) told.2)
+pub anchor_kind-requires-clause-place : goal.anchor_kind-requires-clause-place
+anchor_kind-requires-clause-place g c = c.requires.at.0
+
+pub anchor_kind-requires-clause-first : goal.anchor_kind-requires-clause-first
+anchor_kind-requires-clause-first g c = (c.requires.roots.exact c.in-Some.first.now).0 (some_first c.args.roots.now c.in-Some.first.now c.in-Some.ensures.value)
+
+pub roots_at-requires-clause-place : goal.roots_at-requires-clause-place
+roots_at-requires-clause-place g c = c.requires.at.0
+
+pub tails_to_anchors-requires-clause-roots : goal.tails_to_anchors-requires-clause-roots
+tails_to_anchors-requires-clause-roots g c = rw c.requires.certificate c.requires.roots
+
+pub tails_to_anchors-requires-clause-signers : goal.tails_to_anchors-requires-clause-signers
+tails_to_anchors-requires-clause-signers g c =
+    let x = c.args.certificate.now in
+    rw (c.deref-2.ensures.value, c.requires.certificate) ((c.in_ok-signers.ensures (certificate_read x) c.requires.at (ap Some (sym x.issuer_is))).exact)
+
+pub returns-in-Some-get-clause-text : goal.returns-in-Some-get-clause-text
+returns-in-Some-get-clause-text g c =
+    let front = to_anchors c.args.place in
+    let tails = c.in-Some-get.tails.now in
+    let kind = rw (c.requires.items, c.requires.policy) at c.in_ok-kind.ensures in
+    (lines_of front tails.items, rw c.deref.ensures.value at c.in_ok-push_tails.ensures, c.requires.written c.in_ok-kind.kind tails (sym c.in-Some-get.ensures.value) c.args.place c.args.certificate.now c.requires.at kind front)
+
+pub returns-clause-written : goal.returns-clause-written
+returns-clause-written g c =
+    let q = c.args.question.now in
+    let x = c.args.certificate.now in
+    let V = g.V.Vouch.vouches_for q.vouch.now in
+    let kind = rw (c.requires.items, c.requires.policy) at c.in_ok-kind.ensures in
+    let are = rw (c.requires.items, c.requires.certificate, c.requires.policy) at c.in_ok-tails.ensures in
+    written_more q.found.now.items.now (IsAnchorKind q) (AreAnchorTails g.V.Vouch q) c.args.written.now c.insert.new.self c.in_ok-kind.kind c.in_ok-tails.tails c.requires.written
+    (λ p y at k. anchors_alike V q.policy.now.moment q.policy.now.demand_lists q.found.now.items.now q.found.now.anchors.now q.signers.now.classes q.signers.now.roots c.args.place p x y c.in_ok-kind.kind c.in_ok-tails.tails.items c.requires.signed.roots c.requires.at at kind k are) (λ z. c.in_ok-insert.ensures.updates.0 z)
+
+pub returns-clause-text : goal.returns-clause-text
+returns-clause-text g c =
+    let front = to_anchors c.args.place in
+    let are = rw (c.requires.items, c.requires.certificate, c.requires.policy) at c.in_ok-tails.ensures in
+    (lines_of front c.in_ok-tails.tails.items, rw c.deref-3.ensures.value at c.in_ok-push_tails-2.ensures, are front)

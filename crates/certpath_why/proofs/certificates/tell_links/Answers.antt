@@ -1,25 +1,66 @@
-use Rattle.std.proofs.Common.{map}
-use Rattle.cert_judge.specs.Items.{item_of, certificate_of, certificate_item, rules_by}
+use Rattle.std.proofs.Common.{[], ap, sym, append-nil, ℕ, Some}
+use Rattle.cert_judge.specs.declared.items.ReadItem.TheVariants.{Certificate as certificate_read}
+use Rattle.cert_judge.specs.ItemGraph.{KeyIdsAgree}
+use Rattle.cert_judge.specs.Items.{certificate_of, certificate_item}
+use Rattle.cert_model.specs.Fields.{Certificate}
+use Rattle.certpath_why.specs.Kinds.{IsItemKind, AreItemTails, lines_of}
 use Rattle.certpath_why.specs.Lines.{to_items}
+use Rattle.certpath_why.specs.Question.{items_in, rules_in}
+use Rattle.certpath_why.specs.Reached.{HasSubject}
 use Rattle.certpath_why.specs.Why.{IsLinkedTo, FailsTo}
-use Rattle.certpath_why.proofs.Fating.{groups_as}
-use Rattle.certpath_why.proofs.Grouped.{groups_ordered, fails_in}
+use Rattle.certpath_why.proofs.Alike.{items_alike}
+use Rattle.certpath_why.proofs.Fated.{fails_named, linked_named}
+use Rattle.certpath_why.proofs.Tailing.{no_first, some_first, no_groups, written_more}
 use Rattle.certpath_why.proofs.certificates.tell_links.Goals as goal
 
-pub push_groups-requires : goal.push_groups-requires
-push_groups-requires g c =
-    let l = c.args.linking.now in
-    let x = l.certificate.now in
-    let r = rules_by l.policy.moment l.policy.demand_lists (g.V.Vouch.vouches_for c.args.vouch.now) in
-    let items = map item_of l.items.now in
-    groups_ordered (IsLinkedTo r items (certificate_item x)) (FailsTo r items (certificate_item x) (certificate_of x)) c.in_ok-groups.groups c.in_ok-groups.ensures
+pub returns-in_default-clause-text : goal.returns-in_default-clause-text
+returns-in_default-clause-text g c =
+    let q = c.args.question.now in
+    let x = c.args.certificate.now in
+    let r = rules_in g.V.Vouch q in
+    let none : (w : ℕ) → HasSubject (items_in q) x.issuer.now w → ⊥ = λ w s. no_first c.args.issuers.now c.in_default.ensures.value w ((c.requires.issuers.exact w).1 s) in (
+      [],
+      sym (append-nil _),
+      no_groups (to_items c.args.place) (IsLinkedTo r (items_in q) (certificate_item x)) (FailsTo r (items_in q) (certificate_item x) (certificate_of x)) (λ v l. none v (linked_named r (items_in q) x v l))
+          (λ reason v f. none v (fails_named r (items_in q) (items_in q) (certificate_item x) (certificate_of x) x.issuer.now (λ (d : Certificate). KeyIdsAgree (certificate_of x) d) reason v x.issuer_is f)),
+    )
 
-pub returns : goal.returns
-returns g c =
-    let l = c.args.linking.now in
-    let x = l.certificate.now in
-    let r = rules_by l.policy.moment l.policy.demand_lists (g.V.Vouch.vouches_for c.args.vouch.now) in
-    let items = map item_of l.items.now in
-    let told = c.in_ok-push_groups.ensures in
-    let are = c.in_ok-groups.ensures in
-    (told.0, told.1, groups_as (to_items c.args.place) _ (IsLinkedTo r items (certificate_item x)) _ (FailsTo r items (certificate_item x) (certificate_of x)) told.0 are.linked.exact (fails_in (IsLinkedTo r items (certificate_item x)) (FailsTo r items (certificate_item x) (certificate_of x)) c.in_ok-groups.groups are) told.2)
+pub item_kind-requires-clause-place : goal.item_kind-requires-clause-place
+item_kind-requires-clause-place g c = c.requires.at.0
+
+pub item_kind-requires-clause-first : goal.item_kind-requires-clause-first
+item_kind-requires-clause-first g c = (c.requires.issuers.exact c.in-Some.first.now).0 (some_first c.args.issuers.now c.in-Some.first.now c.in-Some.ensures.value)
+
+pub issuers_at-requires-clause-place : goal.issuers_at-requires-clause-place
+issuers_at-requires-clause-place g c = c.requires.at.0
+
+pub tails_to_items-requires-clause-issuers : goal.tails_to_items-requires-clause-issuers
+tails_to_items-requires-clause-issuers g c = rw (c.requires.items, c.requires.certificate) c.requires.issuers
+
+pub tails_to_items-requires-clause-signers : goal.tails_to_items-requires-clause-signers
+tails_to_items-requires-clause-signers g c =
+    let x = c.args.certificate.now in
+    rw (c.deref-2.ensures.value, c.requires.items, c.requires.certificate) ((c.in_ok-signers.ensures (certificate_read x) c.requires.at (ap Some (sym x.issuer_is))).exact)
+
+pub returns-in-Some-get-clause-text : goal.returns-in-Some-get-clause-text
+returns-in-Some-get-clause-text g c =
+    let front = to_items c.args.place in
+    let tails = c.in-Some-get.tails.now in
+    let kind = rw (c.requires.items, c.requires.policy) at c.in_ok-kind.ensures in
+    (lines_of front tails.items, rw c.deref.ensures.value at c.in_ok-push_tails.ensures, c.requires.written c.in_ok-kind.kind tails (sym c.in-Some-get.ensures.value) c.args.place c.args.certificate.now c.requires.at kind front)
+
+pub returns-clause-written : goal.returns-clause-written
+returns-clause-written g c =
+    let q = c.args.question.now in
+    let x = c.args.certificate.now in
+    let V = g.V.Vouch.vouches_for q.vouch.now in
+    let kind = rw (c.requires.items, c.requires.policy) at c.in_ok-kind.ensures in
+    let are = rw (c.requires.items, c.requires.certificate, c.requires.policy) at c.in_ok-tails.ensures in
+    written_more q.found.now.items.now (IsItemKind q) (AreItemTails g.V.Vouch q) c.args.written.now c.insert.new.self c.in_ok-kind.kind c.in_ok-tails.tails c.requires.written
+    (λ p y at k. items_alike V q.policy.now.moment q.policy.now.demand_lists q.found.now.items.now q.signers.now.classes q.signers.now.issuers c.args.place p x y c.in_ok-kind.kind c.in_ok-tails.tails.items c.requires.signed.issuers c.requires.at at kind k are) (λ z. c.in_ok-insert.ensures.updates.0 z)
+
+pub returns-clause-text : goal.returns-clause-text
+returns-clause-text g c =
+    let front = to_items c.args.place in
+    let are = rw (c.requires.items, c.requires.certificate, c.requires.policy) at c.in_ok-tails.ensures in
+    (lines_of front c.in_ok-tails.tails.items, rw c.deref-3.ensures.value at c.in_ok-push_tails-2.ensures, are front)

@@ -8,6 +8,12 @@ tell_reached-requires-clause-signed g c = record {
   roots = rw (c.in_ok-found.ensures.items, c.in_ok-found.ensures.anchors) c.in_ok-signers.ensures.roots;
 }
 
+pub tell_reached-requires-clause-listed : goal.tell_reached-requires-clause-listed
+tell_reached-requires-clause-listed g c = c.in_ok-lists.ensures
+
+pub tell_reached-requires-clause-further : goal.tell_reached-requires-clause-further
+tell_reached-requires-clause-further g c = rw c.deref-2.ensures.value c.in_ok-further.ensures
+
 pub tell_reached-requires-clause-less : goal.tell_reached-requires-clause-less
 tell_reached-requires-clause-less g c = c.requires
 

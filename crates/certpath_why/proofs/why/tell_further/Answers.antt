@@ -12,10 +12,13 @@ tell_at-requires-clause-certificate g c =
     further_certificate (items_in c.args.question.now) c.args.question.now.target v ((c.requires.further.exact v).0 (Contains-get_or c.args.further.now c.loop-place.place-index 0 c.loop-place-test.true))
 
 pub loop-place-init : goal.loop-place-init
-loop-place-init g c = texts_none (TellsAt c.args.question.now.sought.demand.now (rules_in g.V.Vouch c.args.question.now) (items_in c.args.question.now) (anchors_in c.args.question.now) c.args.question.now.target) c.args.further.now _
+loop-place-init g c = (c.requires.written, texts_none (TellsAt c.args.question.now.sought.demand.now (rules_in g.V.Vouch c.args.question.now) (items_in c.args.question.now) (anchors_in c.args.question.now) c.args.question.now.target) c.args.further.now _)
 
 pub loop-place-preserved : goal.loop-place-preserved
-loop-place-preserved g c = texts_more (TellsAt c.args.question.now.sought.demand.now (rules_in g.V.Vouch c.args.question.now) (items_in c.args.question.now) (anchors_in c.args.question.now) c.args.question.now.target) c.args.further.now c.loop-place.place-index 0 _ _ _ c.loop-place-test.true c.loop-place.invariant c.in_ok-tell_at.ensures
+loop-place-preserved g c = (c.in_ok-tell_at.ensures.written, texts_more (TellsAt c.args.question.now.sought.demand.now (rules_in g.V.Vouch c.args.question.now) (items_in c.args.question.now) (anchors_in c.args.question.now) c.args.question.now.target) c.args.further.now c.loop-place.place-index 0 _ _ _ c.loop-place-test.true c.loop-place.invariant.1 c.in_ok-tell_at.ensures.text)
 
-pub returns : goal.returns
-returns g c = texts_all (TellsAt c.args.question.now.sought.demand.now (rules_in g.V.Vouch c.args.question.now) (items_in c.args.question.now) (anchors_in c.args.question.now) c.args.question.now.target) c.args.further.now c.loop-place.place-index _ _ c.loop-place-test.false c.loop-place.invariant
+pub returns-clause-written : goal.returns-clause-written
+returns-clause-written g c = c.loop-place.invariant.0
+
+pub returns-clause-text : goal.returns-clause-text
+returns-clause-text g c = texts_all (TellsAt c.args.question.now.sought.demand.now (rules_in g.V.Vouch c.args.question.now) (items_in c.args.question.now) (anchors_in c.args.question.now) c.args.question.now.target) c.args.further.now c.loop-place.place-index _ _ c.loop-place-test.false c.loop-place.invariant.1

@@ -1,6 +1,6 @@
 //! Inputs of runs, and their reports.
 
-use certpath_run::Outcome;
+use certpath_engine::Outcome;
 
 /// Bundle, anchors and vouchers; what a run on the first item writes and answers.
 pub struct Row {

@@ -3,8 +3,8 @@ use Rattle.std.proofs.lemmas.List.{map-append}
 use Rattle.x509_core.specs.Fronts.{TakesNoMemory}
 use Rattle.x509_core.proofs.Many.{many_more, many_stops, refused_by}
 use Rattle.x509_ext_sct.specs.Reading.{timestamp_at}
-use Rattle.x509_ext_types.specs.Values.{SignedCertificateTimestamp}
-use Rattle.x509_ext_types.specs.View.{timestamp_view}
+use Rattle.x509_ext_sct.specs.Values.{SignedCertificateTimestamp}
+use Rattle.x509_ext_sct.specs.View.{timestamp_view}
 use Rattle.x509_ext_sct.proofs.list.each_timestamp.Goals as goal
 
 pub loop-rest-preserved : goal.loop-rest-preserved

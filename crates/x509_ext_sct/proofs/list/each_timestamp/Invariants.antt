@@ -2,7 +2,7 @@ use Rattle.std.proofs.Common.{◌≡◌, map, length}
 use Rattle.x509_core.specs.Reading.{many_of}
 use Rattle.x509_core.proofs.Many.{with_front}
 use Rattle.x509_ext_sct.specs.Reading.{timestamp_at}
-use Rattle.x509_ext_types.specs.View.{timestamp_view}
+use Rattle.x509_ext_sct.specs.View.{timestamp_view}
 use Rattle.x509_ext_sct.proofs.list.each_timestamp.Given as goal
 
 abbrev pub invariant-loop-rest : goal.invariant-loop-rest

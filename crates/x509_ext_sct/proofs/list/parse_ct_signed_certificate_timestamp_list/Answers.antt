@@ -3,7 +3,7 @@ use Rattle.asn1_core.proofs.Numbers.{octets_below}
 use Rattle.x509_core.proofs.Public.{gives_found, gives_only}
 use Rattle.x509_ext_sct.specs.Timestamps as grammar
 use Rattle.x509_ext_sct.specs.Reading.{list_at}
-use Rattle.x509_ext_types.specs.View.{timestamp_view}
+use Rattle.x509_ext_sct.specs.View.{timestamp_view}
 use Rattle.x509_ext_sct.proofs.Laws.{list_reading}
 use Rattle.x509_ext_sct.proofs.list.parse_ct_signed_certificate_timestamp_list.Goals as goal
 

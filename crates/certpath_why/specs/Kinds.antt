@@ -1,0 +1,118 @@
+-- What the lines of links depend on, and the lines themselves. Contracts of private functions cite it.
+use Rattle.std.specs.Prelude.{◌≡◌, ◌↔◌, ℕ, List, [], ◌∷◌, ◌++◌, length, slice_index_or, option_map, Contains, Option, Some, None, Vec, String, string_bytes}
+use Rattle.std.specs.List.{flat_map}
+use Rattle.std.specs.Ordering.{nat_cmp}
+use Rattle.std.specs.declared.cmp.Ordering.{Ordering}
+use Rattle.std.specs.Cmp.Lexicographic.{slice_cmp}
+use Rattle.std.specs.BTreeMap as mapped
+use Rattle.std.specs.BTreeMap.{BTreeMap}
+use Rattle.std.specs.declared.alloc.Global.{Global}
+use Rattle.jiff_core.specs.declared.civil.datetime.DateTime.{DateTime}
+use Rattle.cert_graph.specs.Entries.{IsAt}
+use Rattle.cert_judge.specs.declared.items.CertificateItem.{CertificateItem}
+use Rattle.cert_judge.specs.declared.items.ReadItem.{ReadItem}
+use Rattle.cert_judge.specs.declared.items.ReadItem.TheVariants.{Certificate as certificate_read}
+use Rattle.cert_judge.specs.declared.vouch.Vouch.{Ghosts}
+use Rattle.cert_judge.specs.Items.{certificate_of, certificate_item}
+use Rattle.cert_judge.specs.Revoking.{Item}
+use Rattle.cert_reasons.specs.declared.links.Unlinked.{Unlinked}
+use Rattle.cert_reasons.specs.Listed.{ArePlaces, IsInForceAt, HasSerialAt}
+use Rattle.certpath_why.specs.Question.{anchors_in, items_in, rules_in}
+use Rattle.certpath_why.specs.Reached.{HasSubject}
+use Rattle.certpath_why.specs.Why.{AreLinkLines, IsLinkedTo, FailsTo, IsLinkedToAnchor, FailsToAnchor}
+use Rattle.certpath_why.specs.declared.classes.Classes.{Classes}
+use Rattle.certpath_why.specs.declared.holders.Holder.{Holder}
+use Rattle.certpath_why.specs.declared.holders.Holders.{Holders}
+use Rattle.certpath_why.specs.declared.question.Question.{Question}
+
+-- ---- lines
+
+abbrev pub line_of : List ℕ → String Global → List ℕ
+line_of front tail = front ++ string_bytes tail
+
+-- lines that begin alike, by what follows
+abbrev pub lines_of : List ℕ → List (String Global) → List ℕ
+lines_of front tails = flat_map (line_of front) tails
+
+-- the lines of links, whatever comes before the positions
+abbrev pub AreTails : (ℕ → Type 0) → (Unlinked → ℕ → Type 0) → List (String Global) → Type 0
+AreTails Linked Fails tails = (front : List ℕ) → AreLinkLines front Linked Fails (lines_of front tails)
+
+-- lines were added whose text has a property, whatever comes before the positions
+abbrev pub AddsTails : (List ℕ → List ℕ → Type 0) → List (String Global) → List (String Global) → Type 0
+AddsTails IsText old new = (more : List (String Global)) × (new ≡ old ++ more) × ((front : List ℕ) → IsText front (lines_of front more))
+
+-- ---- kinds
+
+-- a key identifier, if there is one
+abbrev pub named_numbers : Option (List ℕ) → List ℕ
+named_numbers None = []
+named_numbers (Some id) = 1 ∷ id
+
+-- a row with its length before it
+abbrev pub row_numbers : List ℕ → List ℕ
+row_numbers row = length row ∷ row
+
+abbrev pub kind_numbers : ℕ → List ℕ → List ℕ → Option (List ℕ) → List ℕ
+kind_numbers first signers revoking named = (first ∷ row_numbers signers) ++ (row_numbers revoking ++ named_numbers named)
+
+abbrev pub kind_cmp : Vec ℕ Global → Vec ℕ Global → Ordering
+kind_cmp a b = slice_cmp nat_cmp a.items b.items
+
+-- the holders whose keys vouch for the item at a position
+abbrev pub row_at : Classes → Holders → ℕ → Vec ℕ Global → List ℕ
+row_at classes h p r = (slice_index_or h.rows.items (slice_index_or classes.numbers.items p 0) r).items
+
+-- the key of the holder of a number vouches for octets
+abbrev pub VouchesFor : (List ℕ → List ℕ → Type 0) → Holders → ℕ → List ℕ → Type 0
+VouchesFor S h k octets = (o : Holder) → S (slice_index_or h.all.items k o).key.now octets
+
+-- the key identifier that a certificate names for its issuer
+abbrev pub named_by : CertificateItem → Option (List ℕ)
+named_by x = option_map (λ s. s.now) x.authority_key_id
+
+-- The numbers of a certificate's kind: the position of one of its issuer's name, the holders whose keys vouch for it, the lists in
+-- force that have its serial number, and a key identifier.
+pub record IsKind (xs : List ReadItem) (others : List Item) (moment : DateTime) (classes : Classes) (h : Holders) (named : Option (List ℕ)) (p : ℕ) (x : CertificateItem) (kind : List ℕ) : Type 0 where
+  pub first : ℕ
+  pub first_is : HasSubject others x.issuer.now first
+  pub revoking : List ℕ
+  pub revoking_are : ArePlaces (λ s. IsInForceAt xs moment x.issuer.now s × HasSerialAt xs x.fields.serial.now s) revoking
+  pub kind_is : (r : Vec ℕ Global) → kind ≡ kind_numbers first (row_at classes h p r) revoking named
+
+-- Likewise by what vouches for less: the holders are those whose keys vouch for the certificate by that too.
+pub record IsHeldKind (xs : List ReadItem) (others : List Item) (moment : DateTime) (classes : Classes) (h : Holders) (S : List ℕ → List ℕ → Type 0) (named : Option (List ℕ)) (p : ℕ) (x : CertificateItem) (kind : List ℕ) : Type 0 where
+  pub first : ℕ
+  pub first_is : HasSubject others x.issuer.now first
+  pub revoking : List ℕ
+  pub revoking_are : ArePlaces (λ s. IsInForceAt xs moment x.issuer.now s × HasSerialAt xs x.fields.serial.now s) revoking
+  pub row : List ℕ
+  pub row_are : (k : ℕ) → Contains row k ↔ (((r : Vec ℕ Global) → Contains (row_at classes h p r) k) × VouchesFor S h k x.octets.now)
+  pub kind_is : kind ≡ kind_numbers first row revoking named
+
+abbrev pub IsItemKind : {V : Type 0} → Question V → ℕ → CertificateItem → List ℕ → Type 0
+IsItemKind question p x kind = IsKind question.found.now.items.now (items_in question) question.policy.now.moment question.signers.now.classes question.signers.now.issuers (named_by x) p x kind
+
+-- of an anchor the key identifier doesn't count
+abbrev pub IsAnchorKind : {V : Type 0} → Question V → ℕ → CertificateItem → List ℕ → Type 0
+IsAnchorKind question p x kind = IsKind question.found.now.items.now (anchors_in question) question.policy.now.moment question.signers.now.classes question.signers.now.roots None p x kind
+
+-- ---- lines by kinds
+
+-- what is under a kind are the lines of each certificate of the kind
+abbrev pub AreWrittenBy : (List ReadItem) → (ℕ → CertificateItem → List ℕ → Type 0) → (CertificateItem → List (String Global) → Type 0) → BTreeMap (Vec ℕ Global) (Vec (String Global) Global) → Type 0
+AreWrittenBy xs Kind Tails written = (kind : Vec ℕ Global) (tails : Vec (String Global) Global) → mapped.get kind_cmp written kind ≡ Some tails
+    → (p : ℕ) (x : CertificateItem) → IsAt xs p (λ z. z ≡ certificate_read x) → Kind p x kind.items → Tails x tails.items
+
+abbrev pub AreItemTails : {V : Type 0} → Ghosts V → Question V → CertificateItem → List (String Global) → Type 0
+AreItemTails vouch question x tails = AreTails (IsLinkedTo (rules_in vouch question) (items_in question) (certificate_item x)) (FailsTo (rules_in vouch question) (items_in question) (certificate_item x) (certificate_of x)) tails
+
+abbrev pub AreAnchorTails : {V : Type 0} → Ghosts V → Question V → CertificateItem → List (String Global) → Type 0
+AreAnchorTails vouch question x tails =
+    AreTails (IsLinkedToAnchor (rules_in vouch question) (items_in question) (anchors_in question) (certificate_item x)) (FailsToAnchor (rules_in vouch question) (items_in question) (anchors_in question) (certificate_item x) (certificate_of x)) tails
+
+abbrev pub AreItemsWritten : {V : Type 0} → Ghosts V → Question V → BTreeMap (Vec ℕ Global) (Vec (String Global) Global) → Type 0
+AreItemsWritten vouch question written = AreWrittenBy question.found.now.items.now (IsItemKind question) (AreItemTails vouch question) written
+
+abbrev pub AreAnchorsWritten : {V : Type 0} → Ghosts V → Question V → BTreeMap (Vec ℕ Global) (Vec (String Global) Global) → Type 0
+AreAnchorsWritten vouch question written = AreWrittenBy question.found.now.items.now (IsAnchorKind question) (AreAnchorTails vouch question) written
