@@ -41,7 +41,7 @@ fails_on : {A B : Type 0} (e : Refusal X509Error) (m : Answer A) (f : A → Answ
 fails_on (refusals.Incomplete n) m f fails = ap (λ z. z >>= f) fails
 fails_on (refusals.Failure e) m f fails = fails
 fails_on (refusals.Error errors.OutOfMemory) m f fails = fails
-fails_on (refusals.Error (errors.Der e)) m f fails = ap (λ z. z >>= f) fails
+fails_on (refusals.Error (errors.Der e)) m f fails = (fails.0, ap (λ z. z >>= f) fails.1)
 fails_on (refusals.Error (errors.NomError k)) m f fails = ap (λ z. z >>= f) fails
 fails_on (refusals.Error e) m f fails = ap (λ z. z >>= f) fails
 

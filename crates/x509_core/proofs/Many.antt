@@ -86,7 +86,7 @@ next_ends {A = A} p xs i none =
 
 pub error_by : {Y : Type 0} (e : X509Error) (read : Answer Y) → FailsWith e read → (y : Why) × (read ≡ Err y)
 error_by errors.OutOfMemory read fails = absurd fails
-error_by (errors.Der e) read fails = (unnamed, fails)
+error_by (errors.Der e) read fails = (unnamed, fails.1)
 error_by (errors.NomError k) read fails = (unnamed, fails)
 error_by e read fails = (named e, fails)
 

@@ -17,7 +17,7 @@ use Rattle.x509_core.specs.Reading.{front_header_at}
 
 pub told_plain : {Y : Type 0} (e : Error) (read : Answer Y) → e ≢ der.OutOfMemory → read ≡ Err unnamed → FailsWith (told e) read
 told_plain der.OutOfMemory read other refused = absurd (other refl)
-told_plain e read other refused = refused
+told_plain e read other refused = (other, refused)
 
 pub told_refused : {Y : Type 0} (e : Refusal Error) (r : Refusal X509Error) (read : Answer Y) → TakesNoMemory e → Converts (λ d x. x ≡ told d) e r → read ≡ Err unnamed → Fails r read
 told_refused (refusals.Incomplete n) r read plainly given refused = subst (λ z. Fails z read) (sym given) refused

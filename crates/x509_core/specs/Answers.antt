@@ -1,5 +1,6 @@
 -- What a reader of certificates answers, and how a call's result gives it.
-use Rattle.std.specs.Prelude.{◌≡◌, ℕ, List, Option, Some, None, Result, Ok, Err}
+use Rattle.std.specs.Prelude.{◌≡◌, ◌≢◌, ℕ, List, Option, Some, None, Result, Ok, Err}
+use Rattle.asn1_core.specs.declared.error.Error.TheVariants as der
 use Rattle.asn1_core.specs.declared.outcome.Err.{Err as Refusal}
 use Rattle.asn1_core.specs.declared.outcome.Err.TheVariants as refusals
 use Rattle.x509_core.specs.declared.error.X509Error.{X509Error}
@@ -29,10 +30,10 @@ abbrev pub naming : {A : Type 0} → X509Error → Answer A → Answer A
 naming e (Ok x) = Ok x
 naming e (Err y) = Err (named e)
 
--- an error, and the reading's refusal
+-- an error, and the reading's refusal; want of memory is never told as an error of an element
 abbrev pub FailsWith : {Y : Type 0} → X509Error → Answer Y → Type 0
 FailsWith errors.OutOfMemory read = ⊥
-FailsWith (errors.Der e) read = read ≡ Err unnamed
+FailsWith (errors.Der e) read = (e ≢ der.OutOfMemory) × (read ≡ Err unnamed)
 FailsWith (errors.NomError k) read = read ≡ Err unnamed
 FailsWith e read = read ≡ Err (named e)
 
