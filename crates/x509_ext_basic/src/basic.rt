@@ -1,6 +1,6 @@
 //! `BasicConstraints` (RFC 5280, 4.2.1.9).
 
-ghost use Rattle.std.specs.Prelude.{◌≡◌, ◌<◌, ◌∷◌, ℕ, List, [], length, option_map, Ok, Err, IfOk, IfErr};
+ghost use Rattle.std.specs.Prelude.{◌≡◌, ◌≢◌, ◌<◌, ◌∷◌, ℕ, List, [], length, option_map, Ok, Err, IfOk, IfErr};
 ghost use Rattle.asn1_any.specs.Views.{any_of};
 ghost use Rattle.asn1_core.specs.Elements as elements;
 ghost use Rattle.asn1_core.specs.declared.error.Error.TheVariants as der;
@@ -116,7 +116,8 @@ fn parts_of(i: &[u8]) -> Option<BasicConstraints>
 
 // Why a content is refused: by its tag where it is one element, else by its length.
 fn fault_of(content: &[u8]) -> Error
-    ensures { result ≡ fault_in content.now }
+    ensures told { result ≡ fault_in content.now }
+    ensures memory { result ≢ der.OutOfMemory }
 {
     let mut count = HeaderCount::new();
     match front_element(content, &mut count) {

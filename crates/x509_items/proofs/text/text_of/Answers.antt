@@ -8,4 +8,4 @@ returns-in-Ok-clause-read c =
     text_only c.args.content.now is.1 ∙ ap (λ t. Ok t) (sym is.0)
 
 pub returns-in-Err-clause-read : goal.returns-in-Err-clause-read
-returns-in-Err-clause-read c = text_refused c.args.content.now c.in-Err.ensures.cases.0
+returns-in-Err-clause-read c = (λ e. cc, text_refused c.args.content.now c.in-Err.ensures.cases.0)

@@ -23,7 +23,7 @@ returns-in_default c =
     let refused = refused_by c.in-Err.refusal (attribute_at deeply c.loop-left.left.now) c.in-Err.ensures.read (λ x is. c.in_default.not-Failure x is) in
     let stop = many_stops (attribute_at deeply) (map attribute_view c.loop-left.attributes.items) c.loop-left.left.now refused.0 refused.1 in
     let some : 0 < length c.loop-left.left.now = grind (arith, common_steps) in
-    record { read = all_stop deeply c.args.octets.now c.loop-left.left.now (map attribute_view c.loop-left.attributes.items) (sym c.loop-left.invariant.read ∙ stop) some; memory = tt }
+    record { read = (λ e. cc, all_stop deeply c.args.octets.now c.loop-left.left.now (map attribute_view c.loop-left.attributes.items) (sym c.loop-left.invariant.read ∙ stop) some); memory = tt }
 
 pub returns : goal.returns
 returns c =
