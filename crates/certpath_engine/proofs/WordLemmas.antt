@@ -1,5 +1,5 @@
 -- What clap's clauses say of a subcommand, in the words of `Asks`.
-use Rattle.std.proofs.Common.{◌≡◌, ◌<◌, ℕ, suc, length, List, ◌∷◌, arith, Option, Some, None, true, codes, inr, refl, sym, ap, subst, ◌∙◌, Result, Ok, Err}
+use Rattle.std.proofs.Common.{◌≡◌, ◌<◌, ℕ, suc, length, List, ◌∷◌, arith, Option, Some, None, true, codes, ◌⊎◌, inl, inr, refl, sym, ap, subst, ◌∙◌, Result, Ok, Err}
 use Rattle.std.specs.Option.{option_map}
 use Rattle.std.specs.Prelude.{slice_index_or}
 use Rattle.std.specs.Borrow.{Bor}
@@ -14,7 +14,7 @@ use Rattle.clap.specs.declared.error.kind.ErrorKind.TheVariants.{OutOfMemory as 
 use Rattle.clap.proofs.WalkLemmas.{first_value-rows}
 use Rattle.clap.specs.declared.parser.matches.ArgMatches.{ArgMatches}
 use Rattle.certpath_engine.specs.Words.{certpath_app}
-use Rattle.certpath_engine.specs.Asking.{AreFrameTexts, ArePathTexts, AreQuestionsTexts, AreAllTexts, ArePathsTexts, AreRecheckTexts, LacksOneOf, TellsTexts, TellsQuestion, TellsAll, all_arguments, path_arguments, recheck_arguments, RefusesHost, RefusesQuestion, RefusesSettings, AnswersTexts, IsNumber, IsRefusal}
+use Rattle.certpath_engine.specs.Asking.{AreFrameTexts, ArePathTexts, AreQuestionsTexts, AreAllTexts, ArePathsTexts, AreRecheckTexts, LacksOneOf, TellsTexts, TellsQuestion, TellsAll, all_arguments, path_arguments, recheck_arguments, Asks, ReadsPath, ReadsWhy, RefusesDemands, RefusesHost, RefusesPurposeOf, RefusesQuestion, RefusesSettings, AnswersTexts, AnswersWords, IsNumber, IsRefusal}
 use Rattle.certpath_engine.specs.declared.texts.FrameTexts.{FrameTexts}
 use Rattle.certpath_engine.specs.declared.texts.PathTexts.{PathTexts}
 use Rattle.certpath_engine.specs.declared.questions_texts.QuestionsTexts.{QuestionsTexts}
@@ -22,6 +22,8 @@ use Rattle.certpath_engine.specs.declared.texts.AllTexts.{AllTexts}
 use Rattle.certpath_engine.specs.declared.texts.PathsTexts.{PathsTexts}
 use Rattle.certpath_engine.specs.declared.texts.RecheckTexts.{RecheckTexts}
 use Rattle.certpath_engine.specs.declared.texts.Asked.{Asked}
+use Rattle.certpath_engine.specs.declared.texts.Asked.TheVariants as asks
+use Rattle.certpath_engine.specs.declared.words.Command.{Command}
 use Rattle.certpath_engine.specs.declared.words.WordFault.{WordFault}
 use Rattle.certpath_engine.specs.declared.words.WordFault.TheVariants as faults
 
@@ -168,3 +170,62 @@ settings_fault t faults.OutOfMemory target r = r
 
 pub refused_host : (word : Option (Bor Text)) (text : Bor Text) (octets : Text) (reason : Refusal) → word ≡ Some text → octets ≡ text.now → IsRefusedFor octets reason → RefusesHost word (faults.Host reason)
 refused_host word text octets reason is same refused = subst (λ w. RefusesHost w (faults.Host reason)) (sym is) (subst (λ t. IsRefusedFor t reason) same refused)
+
+-- ---- which word is named
+
+-- a fault of a host, and of a purpose
+abbrev IsHostFault : WordFault → Type 0
+IsHostFault (faults.Host reason) = Unit {0}
+IsHostFault fault = ⊥
+
+abbrev IsPurposeFault : WordFault → Type 0
+IsPurposeFault (faults.Purpose reason) = Unit {0}
+IsPurposeFault faults.OutOfMemory = Unit {0}
+IsPurposeFault fault = ⊥
+
+host_fault : (word : Option (Bor Text)) (fault : WordFault) → RefusesHost word fault → IsHostFault fault
+host_fault None fault r = absurd r
+host_fault (Some text) (faults.Refused said) r = r
+host_fault (Some text) faults.Number r = r
+host_fault (Some text) faults.Moment r = r
+host_fault (Some text) (faults.Host reason) r = tt
+host_fault (Some text) (faults.Purpose reason) r = r
+host_fault (Some text) faults.OutOfMemory r = r
+
+purpose_fault : (word : Option (Bor Text)) (fault : WordFault) → RefusesPurposeOf word fault → IsPurposeFault fault
+purpose_fault None fault r = absurd r
+purpose_fault (Some text) (faults.Refused said) r = r
+purpose_fault (Some text) faults.Number r = r
+purpose_fault (Some text) faults.Moment r = r
+purpose_fault (Some text) (faults.Host reason) r = r
+purpose_fault (Some text) (faults.Purpose reason) r = tt
+purpose_fault (Some text) faults.OutOfMemory r = tt
+
+demands_fault : (t : PathTexts) (fault : WordFault) → RefusesDemands t fault → RefusesQuestion t fault ⊎ (IsHostFault fault ⊎ IsPurposeFault fault)
+demands_fault t fault (inl r) = inl r
+demands_fault t fault (inr (inl r)) = inr (inl (host_fault t.host fault r.1))
+demands_fault t fault (inr (inr r)) = inr (inr (purpose_fault t.all.purpose fault r.2))
+
+none_of_three : ⊥ ⊎ (⊥ ⊎ ⊥) → ⊥
+none_of_three (inl r) = r
+none_of_three (inr (inl r)) = r
+none_of_three (inr (inr r)) = r
+
+-- what is answered to the words behind `path`, and behind `why`, is answered to all words
+pub path_answers : (words : List Text) (t : PathTexts) (r : Result Command WordFault) → Asks words (asks.Path t) → ReadsPath t r → AnswersWords words r
+path_answers words t (Ok command) asked reads = (asks.Path t, asked, reads)
+path_answers words t (Err (faults.Refused said)) asked reads = absurd (none_of_three (demands_fault t (faults.Refused said) reads))
+path_answers words t (Err faults.Number) asked reads = (asks.Path t, asked, reads)
+path_answers words t (Err faults.Moment) asked reads = (asks.Path t, asked, reads)
+path_answers words t (Err (faults.Host reason)) asked reads = (asks.Path t, asked, reads)
+path_answers words t (Err (faults.Purpose reason)) asked reads = (asks.Path t, asked, reads)
+path_answers words t (Err faults.OutOfMemory) asked reads = tt
+
+pub why_answers : (words : List Text) (t : PathTexts) (r : Result Command WordFault) → Asks words (asks.Why t) → ReadsWhy t r → AnswersWords words r
+why_answers words t (Ok command) asked reads = (asks.Why t, asked, reads)
+why_answers words t (Err (faults.Refused said)) asked reads = absurd (none_of_three (demands_fault t (faults.Refused said) reads))
+why_answers words t (Err faults.Number) asked reads = (asks.Why t, asked, reads)
+why_answers words t (Err faults.Moment) asked reads = (asks.Why t, asked, reads)
+why_answers words t (Err (faults.Host reason)) asked reads = (asks.Why t, asked, reads)
+why_answers words t (Err (faults.Purpose reason)) asked reads = (asks.Why t, asked, reads)
+why_answers words t (Err faults.OutOfMemory) asked reads = tt

@@ -128,6 +128,7 @@ pub enum WordFault {
 /// decimal digits, or above 4,294,967,295. `Moment` where the moment is not of its form, or no date
 /// and time. `Host` and `Purpose` where a text is none, with the reason. `OutOfMemory`. Of several
 /// bad words the first in this order is named.
+#[tactic(auto, using(crate::proofs::WordLemmas::path_answers, crate::proofs::WordLemmas::why_answers))]
 pub fn read_words<'a>(alloc: Global, words: &'a [String]) -> Result<Command<'a>, WordFault>
     ensures { AnswersWords (map string_bytes words.entry.now) result }
 {
