@@ -4,7 +4,7 @@ mod rows;
 use crate::tests::devices::{Full, Giver, Repeater, Taker};
 use asn1_device::{ReadSource, WriteSink};
 use cert_judge::Policy;
-use certpath_engine::{Input, RunError, Settings, run};
+use certpath_engine::{Input, Outcome, RunError, Settings, run};
 use jiff::civil::date;
 use rows::{ROWS, Row};
 use std::alloc::Global;
@@ -29,7 +29,7 @@ const INPUTS: [Input; 3] = [Input::Bundle, Input::Anchors, Input::Vouchers];
 // What a run asks of its devices, and what they were given.
 #[derive(Drop)]
 struct Ran {
-    answer: Result<certpath_run::Outcome, RunError>,
+    answer: Result<Outcome, RunError>,
     taken: Vec<u8>,
     flushes: usize,
     reads: [usize; 3],
@@ -252,7 +252,7 @@ fn a_bundle_without_an_end(rt: HostRuntime) -> Result<(), Fail> {
         let taker = sink.into_inner();
         same(&rt, bundle.into_inner().left, 0);
         if left < 16_777_216 {
-            same(&rt, answer, Ok(certpath_run::Outcome::NoTarget));
+            same(&rt, answer, Ok(Outcome::NoTarget));
             let text = "end fault 0\nanchors 1 of 1, clean\nno target\ncheck yes\n";
             same(&rt, taker.taken.as_slice(), text.as_bytes());
         } else {
