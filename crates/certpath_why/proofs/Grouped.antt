@@ -1,6 +1,6 @@
 -- Links of one certificate, brought together by what is said of them.
 use Rattle.std.specs.Prelude.{◌↔◌}
-use Rattle.std.proofs.Common.{◌≡◌, ◌∙◌, ap, sym, subst, refl, ℕ, ◌<◌, List, [], length, arith, get_or, Some}
+use Rattle.std.proofs.Common.{◌≡◌, ◌∙◌, ap, sym, subst, refl, ℕ, ◌<◌, List, [], length, map, arith, get_or, Some}
 use Rattle.std.specs.List.{Contains}
 use Rattle.std.specs.List.Sorted.{IsStrictlyIncreasing}
 use Rattle.cert_graph.specs.Entries.{IsAt}
@@ -8,8 +8,9 @@ use Rattle.cert_model.specs.Class.{certificate}
 use Rattle.cert_model.specs.Fields.{Certificate}
 use Rattle.cert_model.specs.Octets.{name_octets, key_octets}
 use Rattle.cert_judge.specs.declared.items.CertificateItem.{CertificateItem}
-use Rattle.cert_judge.specs.Items.{certificate_of, certificate_item}
-use Rattle.cert_judge.specs.ItemGraph.{IsCertificateWith, IsLink, IsAnchorLink, KeyIdsAgree}
+use Rattle.cert_judge.specs.declared.items.ReadItem.{ReadItem}
+use Rattle.cert_judge.specs.Items.{certificate_of, certificate_item, item_of}
+use Rattle.cert_judge.specs.ItemGraph.{IsCertificateWith, IsLink, IsAnchorLink}
 use Rattle.cert_judge.specs.Revoking.{Item, JudgingContext}
 use Rattle.cert_judge.proofs.Grouping.{element, one_certificate}
 use Rattle.cert_judge.proofs.Linking.{with_iff}
@@ -17,12 +18,18 @@ use Rattle.cert_reasons.specs.declared.links.Unlinked.{Unlinked}
 use Rattle.cert_reasons.specs.declared.links.Unlinked.TheVariants.{NotVouched, KeyIdsDiffer, RevokedBy, NoUsedList}
 use Rattle.cert_reasons.specs.Links.{Revokes}
 use Rattle.cert_reasons.proofs.Marks.{there_at}
+use Rattle.certpath_why.specs.declared.cuts.Cut.{Cut}
 use Rattle.certpath_why.specs.declared.fates.Fate.{Fate}
 use Rattle.certpath_why.specs.declared.links.Groups.{Groups}
+use Rattle.certpath_why.specs.declared.named.Issuers.{Issuers}
+use Rattle.certpath_why.specs.Cuts.{IsCutOf}
 use Rattle.certpath_why.specs.Fates.{AreFates}
-use Rattle.certpath_why.specs.Groups.{IsDiffering, AreListFates, AreGroups, AreInOrder, FailsIn}
+use Rattle.certpath_why.specs.Groups.{AreListFates, AreGroups, AreInOrder, FailsIn}
+use Rattle.certpath_why.specs.Named.{AreIssuers}
+use Rattle.certpath_why.specs.Ranges.{IsInRanges}
 use Rattle.certpath_why.specs.Reached.{ArePositions, HasSubject}
 use Rattle.certpath_why.specs.Signers.{IsSignedBy}
+use Rattle.certpath_why.proofs.Cutting.{cut_as}
 use Rattle.certpath_why.proofs.Fating.{fates_sorted, fails_iff}
 use Rattle.certpath_why.proofs.Items.{held}
 
@@ -91,29 +98,20 @@ unvouched_iff V others x ws ss named signed w =
           ),
     )
 
+-- the same of the ranges of those of the name
+pub unvouched_cut : (V : List ℕ → List ℕ → Type 0) (read : List ReadItem) (x : CertificateItem) (issuers : Issuers) (ss : List ℕ) (cut : Cut) → AreIssuers read x.issuer.now issuers
+    → ((w : ℕ) → Contains ss w ↔ IsSignedBy V (map item_of read) (certificate_item x) w) → IsCutOf (λ w. IsInRanges issuers.all.items w × (Contains ss w → ⊥)) cut
+    → IsCutOf (λ w. IsAt (map item_of read) w (IsCertificateWith (λ d. (name_octets d.subject ≡ name_octets (certificate_of x).issuer) × (V (key_octets d.key) x.octets.now → ⊥)))) cut
+unvouched_cut V read x issuers ss cut are signed h =
+    let iff = unvouched_iff V (map item_of read) x issuers.places.items ss are.places signed in
+    cut_as (λ w. IsInRanges issuers.all.items w × (Contains ss w → ⊥)) (λ w. IsAt (map item_of read) w (IsCertificateWith (λ d. (name_octets d.subject ≡ name_octets (certificate_of x).issuer) × (V (key_octets d.key) x.octets.now → ⊥)))) cut
+    (λ w. (λ y. (iff w).0 ((are.all.exact w).0 y.0, y.1), λ a. let y = (iff w).1 a in ((are.all.exact w).1 y.0, y.1))) h
+
 -- ---- key identifiers
 
-pub differing_named : (items : List Item) (x : CertificateItem) (w : ℕ) → IsDiffering items (certificate_of x) w → HasSubject items x.issuer.now w
-differing_named items x w h = (h.0, λ e. let p = h.1 e in (p.0, p.1, p.2.0 ∙ sym x.issuer_is))
-
-pub none_differing : (items : List Item) (c : Certificate) → ((d : Certificate) → KeyIdsAgree c d) → ArePositions (IsDiffering items c) []
-none_differing items c agree = record {
-  ascends = λ k lt. absurd (omega arith);
-  exact = λ w. (
-    λ h. let lt = h.1 in absurd (omega arith),
-    λ h. let z = cert_here items w (λ d. (name_octets d.subject ≡ name_octets c.issuer) × (KeyIdsAgree c d → ⊥)) h in absurd (z.5.1 (agree z.1)),
-  );
-}
-
 -- of anchors no key identifier counts
-pub none_differing_there : (anchors : List Item) (c : Certificate) → ArePositions (λ w. IsAt anchors w (IsCertificateWith (λ d. (name_octets d.subject ≡ name_octets c.issuer) × (Unit {0} → ⊥)))) []
-none_differing_there anchors c = record {
-  ascends = λ k lt. absurd (omega arith);
-  exact = λ w. (
-    λ h. let lt = h.1 in absurd (omega arith),
-    λ h. let z = cert_here anchors w (λ d. (name_octets d.subject ≡ name_octets c.issuer) × (Unit {0} → ⊥)) h in absurd (z.5.1 tt),
-  );
-}
+pub none_differing_there : (anchors : List Item) (c : Certificate) (w : ℕ) → IsAt anchors w (IsCertificateWith (λ d. (name_octets d.subject ≡ name_octets c.issuer) × (Unit {0} → ⊥))) → ⊥
+none_differing_there anchors c w h = let z = cert_here anchors w (λ d. (name_octets d.subject ≡ name_octets c.issuer) × (Unit {0} → ⊥)) h in z.5.1 tt
 
 -- ---- reasons that are lists
 
@@ -145,10 +143,10 @@ listed_all Linked Fails ps fs h up there = record {
 -- ---- groups
 
 pub groups_ordered : (Linked : ℕ → Type 0) (Fails : Unlinked → ℕ → Type 0) (g : Groups) → AreGroups Linked Fails g → AreInOrder g
-groups_ordered Linked Fails g h = record { linked = h.linked.ascends; unvouched = h.unvouched.ascends; differing = h.differing.ascends; listed = h.listed.ascend }
+groups_ordered Linked Fails g h = record { linked = h.linked.ascends; listed = h.listed.ascend }
 
-pub fails_in : (Linked : ℕ → Type 0) (Fails : Unlinked → ℕ → Type 0) (g : Groups) → AreGroups Linked Fails g → (reason : Unlinked) (w : ℕ) → FailsIn g reason w ↔ Fails reason w
-fails_in Linked Fails g h NotVouched w = h.unvouched.exact w
-fails_in Linked Fails g h KeyIdsDiffer w = h.differing.exact w
+pub fails_in : (Linked : ℕ → Type 0) (Fails : Unlinked → ℕ → Type 0) (g : Groups) → (h : AreGroups Linked Fails g) → (reason : Unlinked) (w : ℕ) → FailsIn g h.unvouched.0 h.differing.0 reason w ↔ Fails reason w
+fails_in Linked Fails g h NotVouched w = h.unvouched.1.exact w
+fails_in Linked Fails g h KeyIdsDiffer w = h.differing.1.exact w
 fails_in Linked Fails g h (RevokedBy p) w = h.listed.revoked p w
 fails_in Linked Fails g h NoUsedList w = h.listed.lacking w

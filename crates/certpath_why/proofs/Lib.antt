@@ -15,10 +15,12 @@ mod Told
 mod WorkedDemands
 mod Hosting
 mod Ranging
+mod Spacing
+mod Cutting
+mod Naming
 mod Fating
 mod Fated
 mod Revoking
-mod Amongst
 mod Adding
 mod Classing
 mod Holding

@@ -24,5 +24,7 @@ pub mod Held
 pub mod Directories
 pub mod Found
 pub mod Ranges
+pub mod Cuts
+pub mod Named
 pub mod Fates
 pub mod Groups

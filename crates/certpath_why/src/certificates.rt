@@ -10,7 +10,8 @@ ghost use Rattle.cert_judge.specs.declared.items.ReadItem.TheVariants.{Certifica
 ghost use Rattle.cert_reasons.specs.Linking.{HasItsLists};
 ghost use Rattle.certpath_why.specs.Reached.{ArePositions, HasSubject, IsCertificateAt};
 ghost use Rattle.certpath_why.specs.Lines.{missing_line, to_items, to_anchors};
-ghost use Rattle.certpath_why.specs.Question.{anchors_in, items_in, link_items, link_rules, rules_in, IsListed, IsSigned};
+ghost use Rattle.certpath_why.specs.Named.{AreByName, AreIssuers};
+ghost use Rattle.certpath_why.specs.Question.{anchors_in, items_in, link_items, link_rules, rules_in, IsListed, IsNamed, IsSigned};
 ghost use Rattle.certpath_why.specs.Why.{TellsUnusable, TellsNoIssuer, TellsGroups, IsLinkedTo, FailsTo, IsLinkedToAnchor, FailsToAnchor, missing_lines, TellsLinks, TellsCertificate, TellsAt, octets_at};
 ghost use Rattle.certpath_why.specs.Fates.{IsFate, AreFates};
 ghost use Rattle.certpath_why.specs.Found.{IsFound};
@@ -20,6 +21,7 @@ ghost use Rattle.certpath_why.specs.Appended.{Appends};
 ghost use Rattle.certpath_why.specs.Kinds.{AreAnchorsWritten, AreItemsWritten, AreTails};
 ghost use Rattle.certpath_why.specs.Written.{AreWritten};
 
+use crate::cuts::{Cut, ranges_but};
 use crate::demanded::push_unmet;
 use crate::differing::differing_among;
 use crate::fates::{Fate, places_of};
@@ -27,7 +29,8 @@ use crate::found::{Found, certificate_at};
 use crate::kinds::{anchor_kind, item_kind};
 use crate::lines::{push_all_no_issuer, push_all_unusable, push_missing, push_subject};
 use crate::links::{Front, Groups, push_tails, tails_of};
-use crate::positions::{in_order, positions_but};
+use crate::named::{Issuers, IssuersByName};
+use crate::positions::in_order;
 use crate::question::Question;
 use crate::signers::{issuers_at, roots_at};
 use crate::written::Written;
@@ -161,21 +164,23 @@ fn listed_among<V: Vouch>(
 fn groups_of<V: Vouch>(
     alloc: Global,
     linking: &Linking<'_, '_>,
-    issuers: &[usize],
+    certificate: &CertificateItem<'_>,
+    issuers: &Issuers<'_>,
     signers: &[usize],
     vouch: &V,
 ) -> Result<Groups, AllocError>
     requires lists { HasItsLists linking.now }
-    requires issuers { ArePositions (HasSubject (link_items linking.now) linking.now.certificate.now.issuer.now) issuers.now }
+    requires certificate { linking.now.certificate.now ≡ certificate.now }
+    requires issuers { AreIssuers linking.now.items.now linking.now.certificate.now.issuer.now issuers.now }
     requires signers { (w : ℕ) → Contains signers.now w ↔ IsSignedBy (V.vouches_for vouch.now).Vouches (link_items linking.now) (certificate_item linking.now.certificate.now) w }
     ensures { IfOk result (AreGroups (IsLinkedTo (link_rules V.Vouch linking.now vouch.now) (link_items linking.now) (certificate_item linking.now.certificate.now))
         (FailsTo (link_rules V.Vouch linking.now vouch.now) (link_items linking.now) (certificate_item linking.now.certificate.now) (certificate_of linking.now.certificate.now))) }
 {
     let signers = in_order(alloc, signers)?;
     let linked = linked_among(alloc, linking, &signers, vouch)?;
-    let unvouched = positions_but(alloc, issuers, &signers)?;
-    let differing = differing_among(alloc, linking, issuers)?;
-    let listed = listed_among(alloc, linking, issuers, vouch)?;
+    let unvouched = ranges_but(alloc, &issuers.all, &signers)?;
+    let differing = differing_among(alloc, certificate, issuers)?;
+    let listed = listed_among(alloc, linking, &issuers.places, vouch)?;
     Ok(Groups {
         linked,
         unvouched,
@@ -184,22 +189,52 @@ fn groups_of<V: Vouch>(
     })
 }
 
+/// Likewise, given the positions of the certificates of the issuer's name, and the certificates of
+/// names that several have.
+fn groups_by_name<V: Vouch>(
+    alloc: Global,
+    linking: &Linking<'_, '_>,
+    certificate: &CertificateItem<'_>,
+    named: &IssuersByName<'_>,
+    issuers: &[usize],
+    signers: &[usize],
+    vouch: &V,
+) -> Result<Groups, AllocError>
+    requires lists { HasItsLists linking.now }
+    requires certificate { linking.now.certificate.now ≡ certificate.now }
+    requires named { AreByName linking.now.items.now named.now }
+    requires issuers { ArePositions (HasSubject (link_items linking.now) linking.now.certificate.now.issuer.now) issuers.now }
+    requires signers { (w : ℕ) → Contains signers.now w ↔ IsSignedBy (V.vouches_for vouch.now).Vouches (link_items linking.now) (certificate_item linking.now.certificate.now) w }
+    ensures { IfOk result (AreGroups (IsLinkedTo (link_rules V.Vouch linking.now vouch.now) (link_items linking.now) (certificate_item linking.now.certificate.now))
+        (FailsTo (link_rules V.Vouch linking.now vouch.now) (link_items linking.now) (certificate_item linking.now.certificate.now) (certificate_of linking.now.certificate.now))) }
+{
+    if let Some(several) = named.of(certificate.issuer) {
+        return groups_of(alloc, linking, certificate, several, signers, vouch);
+    }
+    let others = Issuers::new(alloc, linking.items(), issuers)?;
+    groups_of(alloc, linking, certificate, &others, signers, vouch)
+}
+
 /// The ends of the lines of the links to all certificates of the issuer's name, given those that
 /// signed the certificate.
 fn tails_to_items<V: Vouch>(
     alloc: Global,
     linking: &Linking<'_, '_>,
+    certificate: &CertificateItem<'_>,
+    named: &IssuersByName<'_>,
     issuers: &[usize],
     signers: &[usize],
     vouch: &V,
 ) -> Result<Vec<String>, OutOfMemory>
     requires lists { HasItsLists linking.now }
+    requires certificate { linking.now.certificate.now ≡ certificate.now }
+    requires named { AreByName linking.now.items.now named.now }
     requires issuers { ArePositions (HasSubject (link_items linking.now) linking.now.certificate.now.issuer.now) issuers.now }
     requires signers { (w : ℕ) → Contains signers.now w ↔ IsSignedBy (V.vouches_for vouch.now).Vouches (link_items linking.now) (certificate_item linking.now.certificate.now) w }
     ensures { IfOk result (λ tails. AreTails (IsLinkedTo (link_rules V.Vouch linking.now vouch.now) (link_items linking.now) (certificate_item linking.now.certificate.now))
         (FailsTo (link_rules V.Vouch linking.now vouch.now) (link_items linking.now) (certificate_item linking.now.certificate.now) (certificate_of linking.now.certificate.now)) tails.items) }
 {
-    let groups = groups_of(alloc, linking, issuers, signers, vouch)?;
+    let groups = groups_by_name(alloc, linking, certificate, named, issuers, signers, vouch)?;
     let tails = tails_of(alloc, &groups)?;
     Ok(tails)
 }
@@ -218,6 +253,7 @@ fn tell_links<V: Vouch>(
 ) -> Result<(), OutOfMemory>
     requires written { AreItemsWritten V.Vouch question.now written.old }
     requires signed { IsSigned V.Vouch question.now }
+    requires named { IsNamed question.now }
     requires at { IsAt question.now.found.now.items.now place (λ x. x ≡ certificate_read certificate.now) }
     requires lists { HasItsLists linking.now }
     requires items { linking.now.items.now ≡ question.now.found.now.items.now }
@@ -238,7 +274,15 @@ fn tell_links<V: Vouch>(
         return Ok(());
     }
     let signers = issuers_at(alloc, question, place, certificate.issuer)?;
-    let tails = tails_to_items(alloc, linking, issuers, &signers, question.vouch)?;
+    let tails = tails_to_items(
+        alloc,
+        linking,
+        certificate,
+        &question.named.issuers,
+        issuers,
+        &signers,
+        question.vouch,
+    )?;
     push_tails(text, Front::Items(place), &tails)?;
     written.insert(kind, tails)?;
     Ok(())
@@ -332,26 +376,53 @@ fn root_groups_of<V: Vouch>(
     alloc: Global,
     anchors: &[ReadItem<'_>],
     linking: &Linking<'_, '_>,
-    roots: &[usize],
+    roots: &Issuers<'_>,
     signers: &[usize],
     vouch: &V,
 ) -> Result<Groups, AllocError>
     requires lists { HasItsLists linking.now }
-    requires roots { ArePositions (HasSubject (map item_of anchors.now) linking.now.certificate.now.issuer.now) roots.now }
+    requires roots { AreIssuers anchors.now linking.now.certificate.now.issuer.now roots.now }
     requires signers { (w : ℕ) → Contains signers.now w ↔ IsSignedBy (V.vouches_for vouch.now).Vouches (map item_of anchors.now) (certificate_item linking.now.certificate.now) w }
     ensures { IfOk result (AreGroups (IsLinkedToAnchor (link_rules V.Vouch linking.now vouch.now) (link_items linking.now) (map item_of anchors.now) (certificate_item linking.now.certificate.now))
         (FailsToAnchor (link_rules V.Vouch linking.now vouch.now) (link_items linking.now) (map item_of anchors.now) (certificate_item linking.now.certificate.now) (certificate_of linking.now.certificate.now))) }
 {
     let signers = in_order(alloc, signers)?;
     let linked = linked_anchors(alloc, anchors, linking, &signers, vouch)?;
-    let unvouched = positions_but(alloc, roots, &signers)?;
-    let listed = listed_anchors(alloc, anchors, linking, roots, vouch)?;
+    let unvouched = ranges_but(alloc, &roots.all, &signers)?;
+    let listed = listed_anchors(alloc, anchors, linking, &roots.places, vouch)?;
     Ok(Groups {
         linked,
         unvouched,
-        differing: Vec::new(alloc),
+        differing: Cut::new(alloc),
         listed,
     })
+}
+
+/// Likewise, given the positions of the anchors of the issuer's name, and the anchors of names that
+/// several have.
+fn root_groups_by_name<V: Vouch>(
+    alloc: Global,
+    anchors: &[ReadItem<'_>],
+    linking: &Linking<'_, '_>,
+    name: &[u8],
+    named: &IssuersByName<'_>,
+    roots: &[usize],
+    signers: &[usize],
+    vouch: &V,
+) -> Result<Groups, AllocError>
+    requires lists { HasItsLists linking.now }
+    requires name { linking.now.certificate.now.issuer.now ≡ name.now }
+    requires named { AreByName anchors.now named.now }
+    requires roots { ArePositions (HasSubject (map item_of anchors.now) linking.now.certificate.now.issuer.now) roots.now }
+    requires signers { (w : ℕ) → Contains signers.now w ↔ IsSignedBy (V.vouches_for vouch.now).Vouches (map item_of anchors.now) (certificate_item linking.now.certificate.now) w }
+    ensures { IfOk result (AreGroups (IsLinkedToAnchor (link_rules V.Vouch linking.now vouch.now) (link_items linking.now) (map item_of anchors.now) (certificate_item linking.now.certificate.now))
+        (FailsToAnchor (link_rules V.Vouch linking.now vouch.now) (link_items linking.now) (map item_of anchors.now) (certificate_item linking.now.certificate.now) (certificate_of linking.now.certificate.now))) }
+{
+    if let Some(several) = named.of(name) {
+        return root_groups_of(alloc, anchors, linking, several, signers, vouch);
+    }
+    let others = Issuers::new(alloc, anchors, roots)?;
+    root_groups_of(alloc, anchors, linking, &others, signers, vouch)
 }
 
 /// The ends of the lines of the links to all anchors of the issuer's name, given those that signed
@@ -360,17 +431,21 @@ fn tails_to_anchors<V: Vouch>(
     alloc: Global,
     anchors: &[ReadItem<'_>],
     linking: &Linking<'_, '_>,
+    name: &[u8],
+    named: &IssuersByName<'_>,
     roots: &[usize],
     signers: &[usize],
     vouch: &V,
 ) -> Result<Vec<String>, OutOfMemory>
     requires lists { HasItsLists linking.now }
+    requires name { linking.now.certificate.now.issuer.now ≡ name.now }
+    requires named { AreByName anchors.now named.now }
     requires roots { ArePositions (HasSubject (map item_of anchors.now) linking.now.certificate.now.issuer.now) roots.now }
     requires signers { (w : ℕ) → Contains signers.now w ↔ IsSignedBy (V.vouches_for vouch.now).Vouches (map item_of anchors.now) (certificate_item linking.now.certificate.now) w }
     ensures { IfOk result (λ tails. AreTails (IsLinkedToAnchor (link_rules V.Vouch linking.now vouch.now) (link_items linking.now) (map item_of anchors.now) (certificate_item linking.now.certificate.now))
         (FailsToAnchor (link_rules V.Vouch linking.now vouch.now) (link_items linking.now) (map item_of anchors.now) (certificate_item linking.now.certificate.now) (certificate_of linking.now.certificate.now)) tails.items) }
 {
-    let groups = root_groups_of(alloc, anchors, linking, roots, signers, vouch)?;
+    let groups = root_groups_by_name(alloc, anchors, linking, name, named, roots, signers, vouch)?;
     let tails = tails_of(alloc, &groups)?;
     Ok(tails)
 }
@@ -389,6 +464,7 @@ fn tell_anchors<V: Vouch>(
 ) -> Result<(), OutOfMemory>
     requires written { AreAnchorsWritten V.Vouch question.now written.old }
     requires signed { IsSigned V.Vouch question.now }
+    requires named { IsNamed question.now }
     requires at { IsAt question.now.found.now.items.now place (λ x. x ≡ certificate_read certificate.now) }
     requires lists { HasItsLists linking.now }
     requires items { linking.now.items.now ≡ question.now.found.now.items.now }
@@ -409,8 +485,16 @@ fn tell_anchors<V: Vouch>(
         return Ok(());
     }
     let signers = roots_at(alloc, question, place, certificate.issuer)?;
-    let anchors = question.found.anchors;
-    let tails = tails_to_anchors(alloc, anchors, linking, roots, &signers, question.vouch)?;
+    let tails = tails_to_anchors(
+        alloc,
+        question.found.anchors,
+        linking,
+        certificate.issuer,
+        &question.named.roots,
+        roots,
+        &signers,
+        question.vouch,
+    )?;
     push_tails(text, Front::Anchors(place), &tails)?;
     written.insert(kind, tails)?;
     Ok(())
@@ -451,6 +535,7 @@ fn tell_all_links<'q, 'a, V: Vouch>(
     requires known { IsFound question.now.found.now }
     requires signed { IsSigned V.Vouch question.now }
     requires listed { IsListed question.now }
+    requires named { IsNamed question.now }
     requires at { IsAt question.now.found.now.items.now place (λ x. x ≡ certificate_read certificate.now) }
     ensures written { OnOk result (AreWritten V.Vouch question.now written.new) }
     ensures text { OnOk result (Appends (TellsLinks (rules_in V.Vouch question.now)
@@ -498,6 +583,7 @@ fn tell_certificate<'q, 'a, V: Vouch>(
     requires known { IsFound question.now.found.now }
     requires signed { IsSigned V.Vouch question.now }
     requires listed { IsListed question.now }
+    requires named { IsNamed question.now }
     requires at { IsAt question.now.found.now.items.now place (λ x. x ≡ certificate_read certificate.now) }
     requires target { question.now.sought.target.now ≡ octets_at (items_in question.now) question.now.target }
     ensures written { OnOk result (AreWritten V.Vouch question.now written.new) }
@@ -530,6 +616,7 @@ pub(crate) fn tell_at<V: Vouch>(
     requires known { IsFound question.now.found.now }
     requires signed { IsSigned V.Vouch question.now }
     requires listed { IsListed question.now }
+    requires named { IsNamed question.now }
     requires target { question.now.sought.target.now ≡ octets_at (items_in question.now) question.now.target }
     requires certificate { IsCertificateAt (items_in question.now) place }
     ensures written { OnOk result (AreWritten V.Vouch question.now written.new) }

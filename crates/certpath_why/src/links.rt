@@ -2,9 +2,10 @@
 //! others don't, with the positions as ranges. What follows after the certificate's own position is
 //! worked out by itself, so that it serves all certificates of a kind.
 
-ghost use Rattle.std.specs.Prelude.{◌≡◌, ◌↔◌, ◌++◌, [], Contains, Some, IsTrue, IfOk, OnOk, string_bytes};
+ghost use Rattle.std.specs.Prelude.{◌≡◌, ◌↔◌, ◌++◌, List, [], Contains, Some, IsTrue, IfOk, OnOk, string_bytes};
 ghost use Rattle.std.specs.List.Sorted.{IsStrictlyIncreasing};
 ghost use Rattle.cert_reasons.specs.declared.links.Unlinked.TheVariants.{RevokedBy};
+ghost use Rattle.certpath_why.specs.Cuts.{IsCut, IsCutIn};
 ghost use Rattle.certpath_why.specs.Fates.{AreSortedFates, OfSome};
 ghost use Rattle.certpath_why.specs.Groups.{AreInOrder, FailsIn};
 ghost use Rattle.certpath_why.specs.Kinds.{AddsTails, AreTails, lines_of};
@@ -13,9 +14,11 @@ ghost use Rattle.certpath_why.specs.Listed.{listed};
 ghost use Rattle.certpath_why.specs.LinkText.{front_text};
 ghost use Rattle.certpath_why.specs.Ranges.{range_text};
 ghost use Rattle.certpath_why.specs.Why.{AreTexts, TellsGroup};
+ghost use Rattle.certpath_why.specs.declared.ranges.Range.{Range};
 
+use crate::cuts::{Cut, MOST_SHOWN};
 use crate::fates::{Fate, places_of};
-use crate::listed::{Part, push_list, push_part};
+use crate::listed::{Part, push_list, push_more, push_others, push_part};
 use crate::ranges::{Range, ranges_of};
 use crate::revokers::revokers_of;
 use crate::words::push_link_words;
@@ -32,15 +35,15 @@ pub(crate) enum Front {
     Anchors(usize),
 }
 
-/// The links of one certificate to those of its issuer's name, by their positions in ascending order.
+/// The links of one certificate to those of its issuer's name. Positions are in ascending order.
 #[derive(Drop)]
 pub(crate) struct Groups {
     /// To whom it is linked.
     pub(crate) linked: Vec<usize>,
     /// Whose keys nobody says to have signed it.
-    pub(crate) unvouched: Vec<usize>,
+    pub(crate) unvouched: Cut,
     /// Whose key identifiers differ from the one that it names.
-    pub(crate) differing: Vec<usize>,
+    pub(crate) differing: Cut,
     /// Links with the reasons that are lists; none where no list is a reason.
     pub(crate) listed: Vec<Fate>,
 }
@@ -150,6 +153,46 @@ fn add_places(
     Ok(())
 }
 
+/// Appends some ranges, of which the first are given with their number.
+fn push_cut(text: &mut String, alloc: Global, cut: &Cut) -> Result<(), OutOfMemory>
+    ensures { OnOk result ((ranges : List Range) → IsCut ranges cut.now → string_bytes text.new ≡ string_bytes text.old ++ listed range_text ranges) }
+{
+    let Some((first, rest)) = cut.shown.as_slice().split_first() else {
+        return Ok(());
+    };
+    first.push_shown(text, alloc)?;
+    push_others(text, alloc, rest)?;
+    push_more(text, cut.count.saturating_sub(MOST_SHOWN))?;
+    Ok(())
+}
+
+/// The end of a line of ranges of which the first are given.
+fn cut_tail(alloc: Global, what: Option<Unlinked>, cut: &Cut) -> Result<String, OutOfMemory>
+    ensures { IfOk result (λ tail. (ranges : List Range) → IsCut ranges cut.now → string_bytes tail ≡ listed range_text ranges ++ link_end what) }
+{
+    let mut tail = String::new(alloc);
+    push_cut(&mut tail, alloc, cut)?;
+    push_link_end(&mut tail, what)?;
+    Ok(tail)
+}
+
+/// Adds the end of the line of ranges of which the first are given; nothing for none.
+fn add_cut(
+    tails: &mut Vec<String>,
+    alloc: Global,
+    what: Option<Unlinked>,
+    cut: &Cut,
+) -> Result<(), OutOfMemory>
+    ensures { OnOk result ((ranges : List Range) → IsCut ranges cut.now → AddsTails (λ front text. text ≡ link_lines front what ranges) tails.old.items tails.new.items) }
+{
+    if has_none(&cut.shown) {
+        return Ok(());
+    }
+    let tail = cut_tail(alloc, what, cut)?;
+    tails.push(tail)?;
+    Ok(())
+}
+
 /// Adds the end of a line for each of some lists that revoke.
 fn add_revoked(
     tails: &mut Vec<String>,
@@ -171,15 +214,16 @@ fn add_revoked(
 /// The ends of the lines of all links.
 pub(crate) fn tails_of(alloc: Global, groups: &Groups) -> Result<Vec<String>, OutOfMemory>
     requires { AreInOrder groups.now }
-    ensures { IfOk result (λ tails. AreTails (Contains groups.now.linked.items) (FailsIn groups.now) tails.items) }
+    ensures { (unvouched differing : List Range) → IsCutIn unvouched groups.now.unvouched → IsCutIn differing groups.now.differing
+        → IfOk result (λ tails. AreTails (Contains groups.now.linked.items) (FailsIn groups.now unvouched differing) tails.items) }
 {
     let mut tails = Vec::new(alloc);
     let lists = revokers_of(alloc, &groups.listed)?;
     let unvouched = Some(Unlinked::NotVouched);
     let differing = Some(Unlinked::KeyIdsDiffer);
     add_places(&mut tails, alloc, None, &groups.linked)?;
-    add_places(&mut tails, alloc, unvouched, &groups.unvouched)?;
-    add_places(&mut tails, alloc, differing, &groups.differing)?;
+    add_cut(&mut tails, alloc, unvouched, &groups.unvouched)?;
+    add_cut(&mut tails, alloc, differing, &groups.differing)?;
     add_revoked(&mut tails, alloc, &groups.listed, &lists)?;
     let lacking = Some(Unlinked::NoUsedList);
     let places = places_of(alloc, &groups.listed, lacking)?;

@@ -1,4 +1,5 @@
 use Rattle.std.proofs.Common.{[], ap, sym, append-nil, ℕ, Some}
+use Rattle.cert_judge.specs.declared.items.CertificateItem.{CertificateItem}
 use Rattle.cert_judge.specs.declared.items.ReadItem.TheVariants.{Certificate as certificate_read}
 use Rattle.cert_judge.specs.Items.{certificate_of, certificate_item}
 use Rattle.cert_model.specs.Fields.{Certificate}
@@ -32,6 +33,12 @@ anchor_kind-requires-clause-first g c = (c.requires.roots.exact c.in-Some.first.
 
 pub roots_at-requires-clause-place : goal.roots_at-requires-clause-place
 roots_at-requires-clause-place g c = c.requires.at.0
+
+pub tails_to_anchors-requires-clause-name : goal.tails_to_anchors-requires-clause-name
+tails_to_anchors-requires-clause-name g c = ap (λ (x : CertificateItem). x.issuer.now) c.requires.certificate
+
+pub tails_to_anchors-requires-clause-named : goal.tails_to_anchors-requires-clause-named
+tails_to_anchors-requires-clause-named g c = c.requires.named.roots
 
 pub tails_to_anchors-requires-clause-roots : goal.tails_to_anchors-requires-clause-roots
 tails_to_anchors-requires-clause-roots g c = rw c.requires.certificate c.requires.roots

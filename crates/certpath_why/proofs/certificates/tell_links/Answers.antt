@@ -34,6 +34,9 @@ item_kind-requires-clause-first g c = (c.requires.issuers.exact c.in-Some.first.
 pub issuers_at-requires-clause-place : goal.issuers_at-requires-clause-place
 issuers_at-requires-clause-place g c = c.requires.at.0
 
+pub tails_to_items-requires-clause-named : goal.tails_to_items-requires-clause-named
+tails_to_items-requires-clause-named g c = rw c.requires.items c.requires.named.issuers
+
 pub tails_to_items-requires-clause-issuers : goal.tails_to_items-requires-clause-issuers
 tails_to_items-requires-clause-issuers g c = rw (c.requires.items, c.requires.certificate) c.requires.issuers
 
