@@ -2,7 +2,7 @@
 use Rattle.std.specs.Prelude.{◌↔◌}
 use Rattle.std.proofs.Common.{◌≡◌, ◌∙◌, refl, ap, sym, ℕ, suc, ◌-◌, List, [], ◌∷◌, ◌++◌, length, take, codes, arith}
 use Rattle.std.specs.List.{flat_map}
-use Rattle.certpath_why.specs.Cuts.{IsCut, IsCutIn, IsCutOf}
+use Rattle.certpath_why.specs.Cuts.{IsCut, IsCutOf}
 use Rattle.certpath_why.specs.Listed.{listed, more_words, most_names, shown_part}
 use Rattle.certpath_why.specs.Ranges.{range_text}
 use Rattle.certpath_why.specs.declared.cuts.Cut.{Cut}
@@ -46,12 +46,6 @@ pub shown_none : (rs : List Range) (cut : Cut) → IsCut rs cut → rs ≡ [] �
 shown_none rs cut h e = h.shown_is ∙ ap (take most_names) e
 
 -- ---- the positions of a cut
-
-pub cut_in : (P : ℕ → Type 0) (cut : Cut) → (h : IsCutOf P cut) → IsCutIn h.0 cut
-cut_in P cut h = record {
-  ranges = record { exact = λ w. (λ i. i, λ i. i); apart = h.1.apart; none_empty = h.1.none_empty };
-  first = h.2;
-}
 
 pub cut_as : (P Q : ℕ → Type 0) (cut : Cut) → ((w : ℕ) → P w ↔ Q w) → IsCutOf P cut → IsCutOf Q cut
 cut_as P Q cut iff h = (h.0, ranges_as h.0 iff h.1, h.2)

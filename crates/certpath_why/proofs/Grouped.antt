@@ -2,7 +2,6 @@
 use Rattle.std.specs.Prelude.{◌↔◌}
 use Rattle.std.proofs.Common.{◌≡◌, ◌∙◌, ap, sym, subst, refl, ℕ, ◌<◌, List, [], length, map, arith, get_or, Some}
 use Rattle.std.specs.List.{Contains}
-use Rattle.std.specs.List.Sorted.{IsStrictlyIncreasing}
 use Rattle.cert_graph.specs.Entries.{IsAt}
 use Rattle.cert_model.specs.Class.{certificate}
 use Rattle.cert_model.specs.Fields.{Certificate}
@@ -14,23 +13,15 @@ use Rattle.cert_judge.specs.ItemGraph.{IsCertificateWith, IsLink, IsAnchorLink}
 use Rattle.cert_judge.specs.Revoking.{Item, JudgingContext}
 use Rattle.cert_judge.proofs.Grouping.{element, one_certificate}
 use Rattle.cert_judge.proofs.Linking.{with_iff}
-use Rattle.cert_reasons.specs.declared.links.Unlinked.{Unlinked}
-use Rattle.cert_reasons.specs.declared.links.Unlinked.TheVariants.{NotVouched, KeyIdsDiffer, RevokedBy, NoUsedList}
-use Rattle.cert_reasons.specs.Links.{Revokes}
 use Rattle.cert_reasons.proofs.Marks.{there_at}
 use Rattle.certpath_why.specs.declared.cuts.Cut.{Cut}
-use Rattle.certpath_why.specs.declared.fates.Fate.{Fate}
-use Rattle.certpath_why.specs.declared.links.Groups.{Groups}
 use Rattle.certpath_why.specs.declared.named.Issuers.{Issuers}
 use Rattle.certpath_why.specs.Cuts.{IsCutOf}
-use Rattle.certpath_why.specs.Fates.{AreFates}
-use Rattle.certpath_why.specs.Groups.{AreListFates, AreGroups, AreInOrder, FailsIn}
 use Rattle.certpath_why.specs.Named.{AreIssuers}
 use Rattle.certpath_why.specs.Ranges.{IsInRanges}
 use Rattle.certpath_why.specs.Reached.{ArePositions, HasSubject}
 use Rattle.certpath_why.specs.Signers.{IsSignedBy}
 use Rattle.certpath_why.proofs.Cutting.{cut_as}
-use Rattle.certpath_why.proofs.Fating.{fates_sorted, fails_iff}
 use Rattle.certpath_why.proofs.Items.{held}
 
 -- the item at a position, and the certificate that it is
@@ -115,38 +106,14 @@ none_differing_there anchors c w h = let z = cert_here anchors w (λ d. (name_oc
 
 -- ---- reasons that are lists
 
-pub listed_none : (Fails : Unlinked → ℕ → Type 0) → ((p w : ℕ) → Fails (RevokedBy p) w → ⊥) → ((w : ℕ) → Fails NoUsedList w → ⊥) → AreListFates Fails []
-listed_none Fails revoked lacking = record {
-  ascend = λ k lt. absurd (omega arith);
-  revoked = λ p w. (λ o. let at = o.1 in let lt = at.1 in absurd (omega arith), λ f. absurd (revoked p w f));
-  lacking = λ w. (λ o. let at = o.1 in let lt = at.1 in absurd (omega arith), λ f. absurd (lacking w f));
-}
-
-pub none_revoked : (r : JudgingContext) (items others : List Item) (x : CertificateItem) → ((key : List ℕ) (p : ℕ) → IsAt items p (Revokes r x.issuer.now key (certificate_of x).serial) → ⊥) → (p w : ℕ)
-    → IsAt others w (IsCertificateWith (λ d. (name_octets d.subject ≡ name_octets (certificate_of x).issuer) × IsAt items p (Revokes r (name_octets d.subject) (key_octets d.key) (certificate_of x).serial))) → ⊥
-none_revoked r items others x none p w h =
-    let z = cert_here others w (λ d. (name_octets d.subject ≡ name_octets (certificate_of x).issuer) × IsAt items p (Revokes r (name_octets d.subject) (key_octets d.key) (certificate_of x).serial)) h in
-    none (key_octets z.1.key) p (subst (λ n. IsAt items p (Revokes r n (key_octets z.1.key) (certificate_of x).serial)) (z.5.0 ∙ sym x.issuer_is) z.5.1)
-
 pub none_lacking : (demanded : Type 0) (others : List Item) (c : Certificate) (Q : Certificate → Type 0) → (demanded → ⊥) → (w : ℕ) → IsAt others w (IsCertificateWith (λ d. (name_octets d.subject ≡ name_octets c.issuer) × (demanded × Q d))) → ⊥
 none_lacking demanded others c Q none w h =
     let z = cert_here others w (λ d. (name_octets d.subject ≡ name_octets c.issuer) × (demanded × Q d)) h in
     none z.5.1.0
 
-pub listed_all : (Linked : ℕ → Type 0) (Fails : Unlinked → ℕ → Type 0) (ps : List ℕ) (fs : List Fate) → AreFates Linked Fails ps fs → IsStrictlyIncreasing ps → ((reason : Unlinked) (w : ℕ) → Fails reason w → Contains ps w) → AreListFates Fails fs
-listed_all Linked Fails ps fs h up there = record {
-  ascend = fates_sorted Linked Fails ps fs h up;
-  revoked = λ p. fails_iff Linked Fails ps fs (RevokedBy p) h (there (RevokedBy p));
-  lacking = fails_iff Linked Fails ps fs NoUsedList h (there NoUsedList);
+-- no positions of what never is
+pub positions_none : (P : ℕ → Type 0) → ((w : ℕ) → P w → ⊥) → ArePositions P []
+positions_none P none = record {
+  ascends = λ k lt. absurd (omega arith);
+  exact = λ w. (λ h. let lt = h.1 in absurd (omega arith), λ p. absurd (none w p));
 }
-
--- ---- groups
-
-pub groups_ordered : (Linked : ℕ → Type 0) (Fails : Unlinked → ℕ → Type 0) (g : Groups) → AreGroups Linked Fails g → AreInOrder g
-groups_ordered Linked Fails g h = record { linked = h.linked.ascends; listed = h.listed.ascend }
-
-pub fails_in : (Linked : ℕ → Type 0) (Fails : Unlinked → ℕ → Type 0) (g : Groups) → (h : AreGroups Linked Fails g) → (reason : Unlinked) (w : ℕ) → FailsIn g h.unvouched.0 h.differing.0 reason w ↔ Fails reason w
-fails_in Linked Fails g h NotVouched w = h.unvouched.1.exact w
-fails_in Linked Fails g h KeyIdsDiffer w = h.differing.1.exact w
-fails_in Linked Fails g h (RevokedBy p) w = h.listed.revoked p w
-fails_in Linked Fails g h NoUsedList w = h.listed.lacking w

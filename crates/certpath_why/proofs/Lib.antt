@@ -20,7 +20,7 @@ mod Cutting
 mod Naming
 mod Fating
 mod Fated
-mod Revoking
+mod Against
 mod Adding
 mod Classing
 mod Holding

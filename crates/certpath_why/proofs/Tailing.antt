@@ -1,5 +1,5 @@
 -- The ends of lines, and lines that were written, by kinds.
-use Rattle.std.specs.Prelude.{slice_get}
+use Rattle.std.specs.Prelude.{◌↔◌, slice_get}
 use Rattle.std.proofs.Common.{◌≡◌, ◌∙◌, ap, sym, subst, refl, ℕ, ◌+◌, ◌<◌, ◌≤◌, cond, List, [], ◌∷◌, ◌++◌, length, take, get_or, append_assoc, append-nil, Option, Some, None, Vec, Global, String, string_bytes, arith, inl, inr}
 use Rattle.std.specs.List.{Contains}
 use Rattle.std.specs.List.Sorted.{IsStrictlyIncreasing}
@@ -16,6 +16,8 @@ use Rattle.cert_judge.specs.declared.items.ReadItem.{ReadItem}
 use Rattle.cert_judge.specs.declared.items.ReadItem.TheVariants.{Certificate as certificate_read}
 use Rattle.cert_reasons.specs.declared.links.Unlinked.{Unlinked}
 use Rattle.cert_reasons.specs.declared.links.Unlinked.TheVariants.{NotVouched, KeyIdsDiffer, RevokedBy, NoUsedList}
+use Rattle.certpath_why.specs.Cuts.{IsCut, IsCutOf}
+use Rattle.certpath_why.specs.declared.cuts.Cut.{Cut}
 use Rattle.certpath_why.specs.Kinds.{AddsTails, AreTails, AreWrittenBy, AreItemTails, AreAnchorTails, IsItemKind, IsAnchorKind, kind_cmp, line_of, lines_of}
 use Rattle.certpath_why.specs.Written.{AreWritten, HasNone}
 use Rattle.certpath_why.specs.declared.question.Question.{Question}
@@ -25,7 +27,7 @@ use Rattle.certpath_why.specs.Listed.{listed}
 use Rattle.certpath_why.specs.Ranges.{AreRanges, range_text}
 use Rattle.certpath_why.specs.Why.{AreTexts, TellsGroup, TellsGroups}
 use Rattle.certpath_why.specs.declared.ranges.Range.{Range}
-use Rattle.certpath_why.proofs.Fating.{line_is}
+use Rattle.certpath_why.proofs.Fating.{line_is, ranges_as}
 use Rattle.certpath_why.proofs.Texts.{texts_append, texts_one}
 
 one_place : {a b : ℕ} → Some a ≡ Some b → a ≡ b
@@ -50,6 +52,15 @@ line_tail front what rs tail is some = ap (λ l. front ++ l) is ∙ sym (line_is
 
 pub tails_as : (P Q : List ℕ → List ℕ → Type 0) (old new : List (String Global)) → ((front text : List ℕ) → P front text → Q front text) → AddsTails P old new → AddsTails Q old new
 tails_as P Q old new f h = (h.0, h.1, λ front. f front (lines_of front h.0) (h.2 front))
+
+-- a line of positions, by what they are
+pub place_tails : (what : Option Unlinked) (P : ℕ → Type 0) (ps : List ℕ) (old new : List (String Global)) → ((w : ℕ) → Contains ps w ↔ P w) → AddsTails (λ front. TellsGroup front what (Contains ps)) old new → AddsTails (λ front. TellsGroup front what P) old new
+place_tails what P ps old new iff h = tails_as (λ front. TellsGroup front what (Contains ps)) (λ front. TellsGroup front what P) old new (λ front text t. (t.0, ranges_as t.0 iff t.1, t.2)) h
+
+-- a line of ranges of which the first are given
+pub cut_tails : (what : Option Unlinked) (P : ℕ → Type 0) (cut : Cut) (old new : List (String Global)) → IsCutOf P cut → ((rs : List Range) → IsCut rs cut → AddsTails (λ front text. text ≡ link_lines front what rs) old new)
+    → AddsTails (λ front. TellsGroup front what P) old new
+cut_tails what P cut old new h f = tails_as (λ front text. text ≡ link_lines front what h.0) (λ front. TellsGroup front what P) old new (λ front text is. (h.0, h.1, is)) (f h.0 h.2)
 
 -- ---- a line for each of some lists
 

@@ -16,11 +16,6 @@ pub record IsCut (rs : List Range) (cut : Cut) : Type 0 where
   pub shown_is : cut.shown.items ≡ take most_names rs
   pub count_is : cut.count ≡ length rs
 
--- and no range could be shorter or go on
-pub record IsCutIn (rs : List Range) (cut : Cut) : Type 0 where
-  pub ranges : AreRanges (IsInRanges rs) rs
-  pub first : IsCut rs cut
-
 -- of exactly the positions with a property
 abbrev pub IsCutOf : (ℕ → Type 0) → Cut → Type 0
 IsCutOf P cut = (rs : List Range) × AreRanges P rs × IsCut rs cut

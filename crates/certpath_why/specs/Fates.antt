@@ -3,7 +3,6 @@ use Rattle.std.specs.Prelude.{◌≡◌, ◌↔◌, ℕ, List, [], Option, Some,
 use Rattle.std.specs.List.Sorted.{IsStrictlyIncreasing}
 use Rattle.certpath_why.specs.declared.fates.Fate.{Fate}
 use Rattle.cert_reasons.specs.declared.links.Unlinked.{Unlinked}
-use Rattle.cert_reasons.specs.declared.links.Unlinked.TheVariants.{NotVouched, KeyIdsDiffer, RevokedBy, NoUsedList}
 
 -- one of these reasons, or none at all
 abbrev pub IsOf : Option Unlinked → Fate → Type 0
@@ -28,10 +27,3 @@ pub record IsFate (Linked : ℕ → Type 0) (Fails : Unlinked → ℕ → Type 0
 pub record AreFates (Linked : ℕ → Type 0) (Fails : Unlinked → ℕ → Type 0) (ps : List ℕ) (fates : List Fate) : Type 0 where
   pub places_are : map (λ f. f.place) fates ≡ ps
   pub each : (f : Fate) → Contains fates f → IsFate Linked Fails f.place f
-
--- the list that a reason names
-abbrev pub revoker : Unlinked → Option ℕ
-revoker NotVouched = None
-revoker KeyIdsDiffer = None
-revoker (RevokedBy p) = Some p
-revoker NoUsedList = None

@@ -8,6 +8,7 @@ ghost use Rattle.cert_model.specs.Octets.{name_octets};
 ghost use Rattle.cert_judge.specs.Items.{item_of, certificate_of, certificate_item};
 ghost use Rattle.cert_judge.specs.declared.items.ReadItem.TheVariants.{Certificate as certificate_read};
 ghost use Rattle.cert_reasons.specs.Linking.{HasItsLists};
+ghost use Rattle.cert_reasons.specs.declared.links.Unlinked.TheVariants.{NoUsedList};
 ghost use Rattle.certpath_why.specs.Reached.{ArePositions, HasSubject, IsCertificateAt};
 ghost use Rattle.certpath_why.specs.Lines.{missing_line, to_items, to_anchors};
 ghost use Rattle.certpath_why.specs.Named.{AreByName, AreIssuers};
@@ -15,10 +16,10 @@ ghost use Rattle.certpath_why.specs.Question.{anchors_in, items_in, link_items, 
 ghost use Rattle.certpath_why.specs.Why.{TellsUnusable, TellsNoIssuer, TellsGroups, IsLinkedTo, FailsTo, IsLinkedToAnchor, FailsToAnchor, missing_lines, TellsLinks, TellsCertificate, TellsAt, octets_at};
 ghost use Rattle.certpath_why.specs.Fates.{IsFate, AreFates};
 ghost use Rattle.certpath_why.specs.Found.{IsFound};
-ghost use Rattle.certpath_why.specs.Groups.{AreGroups, AreListFates};
+ghost use Rattle.certpath_why.specs.Groups.{AreGroups};
 ghost use Rattle.certpath_why.specs.Signers.{IsSignedBy};
 ghost use Rattle.certpath_why.specs.Appended.{Appends};
-ghost use Rattle.certpath_why.specs.Kinds.{AreAnchorsWritten, AreItemsWritten, AreTails};
+ghost use Rattle.certpath_why.specs.Kinds.{AreAnchorTails, AreAnchorsWritten, AreItemTails, AreItemsWritten};
 ghost use Rattle.certpath_why.specs.Written.{AreWritten};
 
 use crate::cuts::{Cut, ranges_but};
@@ -28,15 +29,16 @@ use crate::fates::{Fate, places_of};
 use crate::found::{Found, certificate_at};
 use crate::kinds::{anchor_kind, item_kind};
 use crate::lines::{push_all_no_issuer, push_all_unusable, push_missing, push_subject};
-use crate::links::{Front, Groups, push_tails, tails_of};
+use crate::links::{Front, Groups, add_cut, add_places, push_tails};
 use crate::named::{Issuers, IssuersByName};
 use crate::positions::in_order;
 use crate::question::Question;
+use crate::revoked::{add_revoked, add_root_revoked};
 use crate::signers::{issuers_at, roots_at};
 use crate::written::Written;
 use asn1_core::OutOfMemory;
-use cert_judge::{CertificateItem, ReadItem, Vouch};
-use cert_reasons::{Linking, why_no_issuer, why_unusable};
+use cert_judge::{CertificateItem, Policy, ReadItem, Vouch};
+use cert_reasons::{Linking, Unlinked, why_no_issuer, why_unusable};
 use std::alloc::{AllocError, Global};
 use std::collections::BTreeMap;
 
@@ -140,23 +142,26 @@ fn linked_among<V: Vouch>(
     Ok(linked)
 }
 
-/// The links to the certificates of the issuer's name, with the reasons that are lists: none if no
-/// list can be a reason.
-fn listed_among<V: Vouch>(
+/// The certificates of the issuer's name under whose keys no list is used, if lists are demanded: it
+/// costs what `Linking::why_unlinked` costs for each of them.
+fn lacking_among<V: Vouch>(
     alloc: Global,
     linking: &Linking<'_, '_>,
+    policy: &Policy,
     issuers: &[usize],
     vouch: &V,
-) -> Result<Vec<Fate>, AllocError>
+) -> Result<Vec<usize>, AllocError>
     requires lists { HasItsLists linking.now }
+    requires policy { linking.now.policy ≡ policy.now }
     requires issuers { ArePositions (HasSubject (link_items linking.now) linking.now.certificate.now.issuer.now) issuers.now }
-    ensures { IfOk result (λ fates. AreListFates (FailsTo (link_rules V.Vouch linking.now vouch.now) (link_items linking.now) (certificate_item linking.now.certificate.now) (certificate_of linking.now.certificate.now)) fates.items) }
+    ensures { IfOk result (λ lacking. ArePositions (FailsTo (link_rules V.Vouch linking.now vouch.now) (link_items linking.now) (certificate_item linking.now.certificate.now) (certificate_of linking.now.certificate.now) NoUsedList) lacking.items) }
 {
-    if linking.is_unlisted(vouch) {
+    if !policy.demands_lists() {
         return Ok(Vec::new(alloc));
     }
     let fates = fates_of(alloc, linking, issuers, vouch)?;
-    Ok(fates)
+    let lacking = places_of(alloc, &fates, Some(Unlinked::NoUsedList))?;
+    Ok(lacking)
 }
 
 /// Brings the links to the certificates of the issuer's name together, given those that signed the
@@ -180,12 +185,10 @@ fn groups_of<V: Vouch>(
     let linked = linked_among(alloc, linking, &signers, vouch)?;
     let unvouched = ranges_but(alloc, &issuers.all, &signers)?;
     let differing = differing_among(alloc, certificate, issuers)?;
-    let listed = listed_among(alloc, linking, &issuers.places, vouch)?;
     Ok(Groups {
         linked,
         unvouched,
         differing,
-        listed,
     })
 }
 
@@ -219,23 +222,36 @@ fn groups_by_name<V: Vouch>(
 /// signed the certificate.
 fn tails_to_items<V: Vouch>(
     alloc: Global,
-    linking: &Linking<'_, '_>,
+    question: &Question<'_, '_, V>,
     certificate: &CertificateItem<'_>,
-    named: &IssuersByName<'_>,
+    linking: &Linking<'_, '_>,
     issuers: &[usize],
     signers: &[usize],
-    vouch: &V,
 ) -> Result<Vec<String>, OutOfMemory>
+    requires signed { IsSigned V.Vouch question.now }
+    requires named { IsNamed question.now }
     requires lists { HasItsLists linking.now }
+    requires items { linking.now.items.now ≡ question.now.found.now.items.now }
     requires certificate { linking.now.certificate.now ≡ certificate.now }
-    requires named { AreByName linking.now.items.now named.now }
-    requires issuers { ArePositions (HasSubject (link_items linking.now) linking.now.certificate.now.issuer.now) issuers.now }
-    requires signers { (w : ℕ) → Contains signers.now w ↔ IsSignedBy (V.vouches_for vouch.now).Vouches (link_items linking.now) (certificate_item linking.now.certificate.now) w }
-    ensures { IfOk result (λ tails. AreTails (IsLinkedTo (link_rules V.Vouch linking.now vouch.now) (link_items linking.now) (certificate_item linking.now.certificate.now))
-        (FailsTo (link_rules V.Vouch linking.now vouch.now) (link_items linking.now) (certificate_item linking.now.certificate.now) (certificate_of linking.now.certificate.now)) tails.items) }
+    requires policy { linking.now.policy ≡ question.now.policy.now }
+    requires issuers { ArePositions (HasSubject (items_in question.now) certificate.now.issuer.now) issuers.now }
+    requires signers { (w : ℕ) → Contains signers.now w ↔ IsSignedBy (V.vouches_for question.now.vouch.now).Vouches (items_in question.now) (certificate_item certificate.now) w }
+    ensures { IfOk result (λ tails. AreItemTails V.Vouch question.now certificate.now tails.items) }
 {
+    let vouch = question.vouch;
+    let named = &question.named.issuers;
     let groups = groups_by_name(alloc, linking, certificate, named, issuers, signers, vouch)?;
-    let tails = tails_of(alloc, &groups)?;
+    let lacking = lacking_among(alloc, linking, question.policy, issuers, vouch)?;
+    let lists = linking.revoking();
+    let mut tails = Vec::new(alloc);
+    add_places(&mut tails, alloc, None, &groups.linked)?;
+    let unvouched = Some(Unlinked::NotVouched);
+    add_cut(&mut tails, alloc, unvouched, &groups.unvouched)?;
+    let differing = Some(Unlinked::KeyIdsDiffer);
+    add_cut(&mut tails, alloc, differing, &groups.differing)?;
+    add_revoked(&mut tails, alloc, question, certificate, lists)?;
+    let unlisted = Some(Unlinked::NoUsedList);
+    add_places(&mut tails, alloc, unlisted, &lacking)?;
     Ok(tails)
 }
 
@@ -274,15 +290,7 @@ fn tell_links<V: Vouch>(
         return Ok(());
     }
     let signers = issuers_at(alloc, question, place, certificate.issuer)?;
-    let tails = tails_to_items(
-        alloc,
-        linking,
-        certificate,
-        &question.named.issuers,
-        issuers,
-        &signers,
-        question.vouch,
-    )?;
+    let tails = tails_to_items(alloc, question, certificate, linking, issuers, &signers)?;
     push_tails(text, Front::Items(place), &tails)?;
     written.insert(kind, tails)?;
     Ok(())
@@ -350,24 +358,27 @@ fn linked_anchors<V: Vouch>(
     Ok(linked)
 }
 
-/// The links to the anchors of the issuer's name, with the reasons that are lists: none if no list
-/// can be a reason.
-fn listed_anchors<V: Vouch>(
+/// The anchors of the issuer's name under whose keys no list is used, if lists are demanded: it
+/// costs what `Linking::why_unlinked` costs for each of them.
+fn lacking_anchors<V: Vouch>(
     alloc: Global,
     anchors: &[ReadItem<'_>],
     linking: &Linking<'_, '_>,
+    policy: &Policy,
     roots: &[usize],
     vouch: &V,
-) -> Result<Vec<Fate>, AllocError>
+) -> Result<Vec<usize>, AllocError>
     requires lists { HasItsLists linking.now }
+    requires policy { linking.now.policy ≡ policy.now }
     requires roots { ArePositions (HasSubject (map item_of anchors.now) linking.now.certificate.now.issuer.now) roots.now }
-    ensures { IfOk result (λ fates. AreListFates (FailsToAnchor (link_rules V.Vouch linking.now vouch.now) (link_items linking.now) (map item_of anchors.now) (certificate_item linking.now.certificate.now) (certificate_of linking.now.certificate.now)) fates.items) }
+    ensures { IfOk result (λ lacking. ArePositions (FailsToAnchor (link_rules V.Vouch linking.now vouch.now) (link_items linking.now) (map item_of anchors.now) (certificate_item linking.now.certificate.now) (certificate_of linking.now.certificate.now) NoUsedList) lacking.items) }
 {
-    if linking.is_unlisted(vouch) {
+    if !policy.demands_lists() {
         return Ok(Vec::new(alloc));
     }
     let fates = root_fates_of(alloc, anchors, linking, roots, vouch)?;
-    Ok(fates)
+    let lacking = places_of(alloc, &fates, Some(Unlinked::NoUsedList))?;
+    Ok(lacking)
 }
 
 /// Brings the links to the anchors of the issuer's name together, given those that signed the
@@ -389,12 +400,10 @@ fn root_groups_of<V: Vouch>(
     let signers = in_order(alloc, signers)?;
     let linked = linked_anchors(alloc, anchors, linking, &signers, vouch)?;
     let unvouched = ranges_but(alloc, &roots.all, &signers)?;
-    let listed = listed_anchors(alloc, anchors, linking, &roots.places, vouch)?;
     Ok(Groups {
         linked,
         unvouched,
         differing: Cut::new(alloc),
-        listed,
     })
 }
 
@@ -429,24 +438,45 @@ fn root_groups_by_name<V: Vouch>(
 /// the certificate.
 fn tails_to_anchors<V: Vouch>(
     alloc: Global,
-    anchors: &[ReadItem<'_>],
+    question: &Question<'_, '_, V>,
+    certificate: &CertificateItem<'_>,
     linking: &Linking<'_, '_>,
-    name: &[u8],
-    named: &IssuersByName<'_>,
     roots: &[usize],
     signers: &[usize],
-    vouch: &V,
 ) -> Result<Vec<String>, OutOfMemory>
+    requires signed { IsSigned V.Vouch question.now }
+    requires named { IsNamed question.now }
     requires lists { HasItsLists linking.now }
-    requires name { linking.now.certificate.now.issuer.now ≡ name.now }
-    requires named { AreByName anchors.now named.now }
-    requires roots { ArePositions (HasSubject (map item_of anchors.now) linking.now.certificate.now.issuer.now) roots.now }
-    requires signers { (w : ℕ) → Contains signers.now w ↔ IsSignedBy (V.vouches_for vouch.now).Vouches (map item_of anchors.now) (certificate_item linking.now.certificate.now) w }
-    ensures { IfOk result (λ tails. AreTails (IsLinkedToAnchor (link_rules V.Vouch linking.now vouch.now) (link_items linking.now) (map item_of anchors.now) (certificate_item linking.now.certificate.now))
-        (FailsToAnchor (link_rules V.Vouch linking.now vouch.now) (link_items linking.now) (map item_of anchors.now) (certificate_item linking.now.certificate.now) (certificate_of linking.now.certificate.now)) tails.items) }
+    requires items { linking.now.items.now ≡ question.now.found.now.items.now }
+    requires certificate { linking.now.certificate.now ≡ certificate.now }
+    requires policy { linking.now.policy ≡ question.now.policy.now }
+    requires roots { ArePositions (HasSubject (anchors_in question.now) certificate.now.issuer.now) roots.now }
+    requires signers { (w : ℕ) → Contains signers.now w ↔ IsSignedBy (V.vouches_for question.now.vouch.now).Vouches (anchors_in question.now) (certificate_item certificate.now) w }
+    ensures { IfOk result (λ tails. AreAnchorTails V.Vouch question.now certificate.now tails.items) }
 {
+    let vouch = question.vouch;
+    let anchors = question.found.anchors;
+    let named = &question.named.roots;
+    let name = certificate.issuer;
     let groups = root_groups_by_name(alloc, anchors, linking, name, named, roots, signers, vouch)?;
-    let tails = tails_of(alloc, &groups)?;
+    let lacking = lacking_anchors(alloc, anchors, linking, question.policy, roots, vouch)?;
+    let lists = linking.revoking();
+    let mut tails = Vec::new(alloc);
+    add_places(&mut tails, alloc, None, &groups.linked)?;
+    add_cut(
+        &mut tails,
+        alloc,
+        Some(Unlinked::NotVouched),
+        &groups.unvouched,
+    )?;
+    add_cut(
+        &mut tails,
+        alloc,
+        Some(Unlinked::KeyIdsDiffer),
+        &groups.differing,
+    )?;
+    add_root_revoked(&mut tails, alloc, question, certificate, lists)?;
+    add_places(&mut tails, alloc, Some(Unlinked::NoUsedList), &lacking)?;
     Ok(tails)
 }
 
@@ -485,16 +515,7 @@ fn tell_anchors<V: Vouch>(
         return Ok(());
     }
     let signers = roots_at(alloc, question, place, certificate.issuer)?;
-    let tails = tails_to_anchors(
-        alloc,
-        question.found.anchors,
-        linking,
-        certificate.issuer,
-        &question.named.roots,
-        roots,
-        &signers,
-        question.vouch,
-    )?;
+    let tails = tails_to_anchors(alloc, question, certificate, linking, roots, &signers)?;
     push_tails(text, Front::Anchors(place), &tails)?;
     written.insert(kind, tails)?;
     Ok(())

@@ -39,7 +39,7 @@ mod processing;
 mod question;
 mod ranges;
 mod reached;
-mod revokers;
+mod revoked;
 mod rows;
 mod signers;
 mod uses;

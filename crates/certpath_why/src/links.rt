@@ -4,23 +4,18 @@
 
 ghost use Rattle.std.specs.Prelude.{◌≡◌, ◌↔◌, ◌++◌, List, [], Contains, Some, IsTrue, IfOk, OnOk, string_bytes};
 ghost use Rattle.std.specs.List.Sorted.{IsStrictlyIncreasing};
-ghost use Rattle.cert_reasons.specs.declared.links.Unlinked.TheVariants.{RevokedBy};
-ghost use Rattle.certpath_why.specs.Cuts.{IsCut, IsCutIn};
-ghost use Rattle.certpath_why.specs.Fates.{AreSortedFates, OfSome};
-ghost use Rattle.certpath_why.specs.Groups.{AreInOrder, FailsIn};
-ghost use Rattle.certpath_why.specs.Kinds.{AddsTails, AreTails, lines_of};
+ghost use Rattle.certpath_why.specs.Cuts.{IsCut};
+ghost use Rattle.certpath_why.specs.Kinds.{AddsTails, lines_of};
 ghost use Rattle.certpath_why.specs.Lines.{link_end, link_lines};
 ghost use Rattle.certpath_why.specs.Listed.{listed};
 ghost use Rattle.certpath_why.specs.LinkText.{front_text};
 ghost use Rattle.certpath_why.specs.Ranges.{range_text};
-ghost use Rattle.certpath_why.specs.Why.{AreTexts, TellsGroup};
+ghost use Rattle.certpath_why.specs.Why.{TellsGroup};
 ghost use Rattle.certpath_why.specs.declared.ranges.Range.{Range};
 
 use crate::cuts::{Cut, MOST_SHOWN};
-use crate::fates::{Fate, places_of};
 use crate::listed::{Part, push_list, push_more, push_others, push_part};
 use crate::ranges::{Range, ranges_of};
-use crate::revokers::revokers_of;
 use crate::words::push_link_words;
 use asn1_core::OutOfMemory;
 use cert_reasons::Unlinked;
@@ -35,7 +30,8 @@ pub(crate) enum Front {
     Anchors(usize),
 }
 
-/// The links of one certificate to those of its issuer's name. Positions are in ascending order.
+/// The links of one certificate to those of its issuer's name, but for reasons that are lists.
+/// Positions are in ascending order.
 #[derive(Drop)]
 pub(crate) struct Groups {
     /// To whom it is linked.
@@ -44,8 +40,6 @@ pub(crate) struct Groups {
     pub(crate) unvouched: Cut,
     /// Whose key identifiers differ from the one that it names.
     pub(crate) differing: Cut,
-    /// Links with the reasons that are lists; none where no list is a reason.
-    pub(crate) listed: Vec<Fate>,
 }
 
 /// Appends a position, or the first and the last of several.
@@ -139,7 +133,7 @@ fn add_links(
 }
 
 /// Adds the end of the line of some positions, given in ascending order; nothing for none.
-fn add_places(
+pub(crate) fn add_places(
     tails: &mut Vec<String>,
     alloc: Global,
     what: Option<Unlinked>,
@@ -177,7 +171,7 @@ fn cut_tail(alloc: Global, what: Option<Unlinked>, cut: &Cut) -> Result<String, 
 }
 
 /// Adds the end of the line of ranges of which the first are given; nothing for none.
-fn add_cut(
+pub(crate) fn add_cut(
     tails: &mut Vec<String>,
     alloc: Global,
     what: Option<Unlinked>,
@@ -191,44 +185,6 @@ fn add_cut(
     let tail = cut_tail(alloc, what, cut)?;
     tails.push(tail)?;
     Ok(())
-}
-
-/// Adds the end of a line for each of some lists that revoke.
-fn add_revoked(
-    tails: &mut Vec<String>,
-    alloc: Global,
-    fates: &[Fate],
-    lists: &[usize],
-) -> Result<(), OutOfMemory>
-    requires { AreSortedFates fates.now }
-    ensures { OnOk result (AddsTails (λ front. AreTexts (λ p. TellsGroup front (Some (RevokedBy p)) (OfSome (Some (RevokedBy p)) fates.now)) lists.now) tails.old.items tails.new.items) }
-{
-    for list in lists {
-        let revoked = Some(Unlinked::RevokedBy(*list));
-        let places = places_of(alloc, fates, revoked)?;
-        add_places(tails, alloc, revoked, &places)?;
-    }
-    Ok(())
-}
-
-/// The ends of the lines of all links.
-pub(crate) fn tails_of(alloc: Global, groups: &Groups) -> Result<Vec<String>, OutOfMemory>
-    requires { AreInOrder groups.now }
-    ensures { (unvouched differing : List Range) → IsCutIn unvouched groups.now.unvouched → IsCutIn differing groups.now.differing
-        → IfOk result (λ tails. AreTails (Contains groups.now.linked.items) (FailsIn groups.now unvouched differing) tails.items) }
-{
-    let mut tails = Vec::new(alloc);
-    let lists = revokers_of(alloc, &groups.listed)?;
-    let unvouched = Some(Unlinked::NotVouched);
-    let differing = Some(Unlinked::KeyIdsDiffer);
-    add_places(&mut tails, alloc, None, &groups.linked)?;
-    add_cut(&mut tails, alloc, unvouched, &groups.unvouched)?;
-    add_cut(&mut tails, alloc, differing, &groups.differing)?;
-    add_revoked(&mut tails, alloc, &groups.listed, &lists)?;
-    let lacking = Some(Unlinked::NoUsedList);
-    let places = places_of(alloc, &groups.listed, lacking)?;
-    add_places(&mut tails, alloc, lacking, &places)?;
-    Ok(tails)
 }
 
 /// Appends a line with its end.

@@ -173,9 +173,10 @@ fn push_why_by<'q, 'a, V: Vouch, S: Vouch>(
 /// and of its kind: its issuer's name, the keys that vouch for it, the lists in force that have its
 /// serial number, and the key identifier that it names. Each kind costs what
 /// `Linking::why_unlinked` costs for each certificate and anchor of the issuer's name whose key
-/// vouches for it; for each of the name, if lists are demanded or one that is in force has the
-/// serial number. Besides it costs a binary search for each whose key vouches for it, and for each
-/// whose key identifier is the one that it names. Each list costs what `why_list_unused` costs.
+/// vouches for it; for each of the name, if lists are demanded. Besides it costs a binary search for
+/// each whose key vouches for it, for each whose key identifier is the one that it names, and for
+/// each list in force that has the serial number a step for each whose key vouches for the list.
+/// Each list costs what `why_list_unused` costs.
 pub fn push_why<V: Vouch>(
     text: &mut String,
     alloc: Global,

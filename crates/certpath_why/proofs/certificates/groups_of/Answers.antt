@@ -26,9 +26,6 @@ differing_among-requires g c =
     let i = c.args.issuers.now in
     ranges_spaced (λ w. Contains i.places.items w × HasId c.args.linking.now.items.now w) i.keyed.items c.requires.issuers.keyed
 
-pub listed_among-requires-clause-issuers : goal.listed_among-requires-clause-issuers
-listed_among-requires-clause-issuers g c = rw c.deref-4.ensures.value c.requires.issuers.places
-
 pub returns : goal.returns
 returns g c =
     let l = c.args.linking.now in
@@ -39,5 +36,4 @@ returns g c =
       linked = c.in_ok-linked.ensures;
       unvouched = unvouched_cut V l.items.now x c.args.issuers.now c.in_ok-signers.signers.items c.in_ok-unvouched.unvouched c.requires.issuers signed (rw (c.deref-2.ensures.value, c.deref-3.ensures.value) at c.in_ok-unvouched.ensures);
       differing = rw c.requires.certificate (c.in_ok-differing.ensures l.items.now (rw c.requires.certificate at c.requires.issuers));
-      listed = c.in_ok-listed.ensures;
     }

@@ -23,9 +23,6 @@ ranges_but-requires-clause-all g c = rw c.deref-2.ensures.value (ranges_spaced (
 pub ranges_but-requires-clause-left_out : goal.ranges_but-requires-clause-left_out
 ranges_but-requires-clause-left_out g c = rw c.deref-3.ensures.value c.in_ok-signers.ensures.ascends
 
-pub listed_anchors-requires-clause-roots : goal.listed_anchors-requires-clause-roots
-listed_anchors-requires-clause-roots g c = rw c.deref-4.ensures.value c.requires.roots.places
-
 pub returns : goal.returns
 returns g c =
     let l = c.args.linking.now in
@@ -38,5 +35,4 @@ returns g c =
       linked = c.in_ok-linked.ensures;
       unvouched = unvouched_cut V c.args.anchors.now x c.args.roots.now c.in_ok-signers.signers.items c.in_ok-unvouched.unvouched c.requires.roots signed (rw (c.deref-2.ensures.value, c.deref-3.ensures.value) at c.in_ok-unvouched.ensures);
       differing = cut_none (FailsToAnchor r (map item_of l.items.now) anchors (certificate_item x) (certificate_of x) KeyIdsDiffer) c.new.result (none_differing_there anchors (certificate_of x)) c.new.ensures;
-      listed = c.in_ok-listed.ensures;
     }

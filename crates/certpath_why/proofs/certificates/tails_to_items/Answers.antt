@@ -1,30 +1,54 @@
-use Rattle.std.proofs.Common.{map}
-use Rattle.cert_judge.specs.Items.{item_of, certificate_of, certificate_item, rules_by}
-use Rattle.cert_reasons.specs.declared.links.Unlinked.TheVariants.{KeyIdsDiffer, NotVouched}
-use Rattle.certpath_why.specs.Kinds.{lines_of}
+use Rattle.std.proofs.Common.{Some, None, []}
+use Rattle.cert_judge.specs.ItemGraph.{KeyIdsAgree}
+use Rattle.cert_judge.specs.Items.{certificate_of, certificate_item}
+use Rattle.cert_model.specs.Fields.{Certificate}
+use Rattle.cert_reasons.specs.declared.links.Unlinked.TheVariants.{KeyIdsDiffer, NotVouched, NoUsedList}
+use Rattle.certpath_why.specs.Question.{items_in, rules_in}
 use Rattle.certpath_why.specs.Why.{IsLinkedTo, FailsTo}
-use Rattle.certpath_why.proofs.Cutting.{cut_in}
-use Rattle.certpath_why.proofs.Fating.{groups_as}
-use Rattle.certpath_why.proofs.Grouped.{groups_ordered, fails_in}
+use Rattle.certpath_why.proofs.Against.{revoked_listed}
+use Rattle.certpath_why.proofs.Tailing.{place_tails, cut_tails, tails_told}
 use Rattle.certpath_why.proofs.certificates.tails_to_items.Goals as goal
 
-pub tails_of-requires : goal.tails_of-requires
-tails_of-requires g c =
-    let l = c.args.linking.now in
-    let x = l.certificate.now in
-    let r = rules_by l.policy.moment l.policy.demand_lists (g.V.Vouch.vouches_for c.args.vouch.now) in
-    let items = map item_of l.items.now in
-    groups_ordered (IsLinkedTo r items (certificate_item x)) (FailsTo r items (certificate_item x) (certificate_of x)) c.in_ok-groups.groups c.in_ok-groups.ensures
+pub groups_by_name-requires-clause-named : goal.groups_by_name-requires-clause-named
+groups_by_name-requires-clause-named g c = rw c.requires.items c.requires.named.issuers
+
+pub groups_by_name-requires-clause-issuers : goal.groups_by_name-requires-clause-issuers
+groups_by_name-requires-clause-issuers g c = rw (c.requires.items, c.requires.certificate) c.requires.issuers
+
+pub groups_by_name-requires-clause-signers : goal.groups_by_name-requires-clause-signers
+groups_by_name-requires-clause-signers g c = rw (c.requires.items, c.requires.certificate) c.requires.signers
+
+pub lacking_among-requires-clause-issuers : goal.lacking_among-requires-clause-issuers
+lacking_among-requires-clause-issuers g c = rw (c.requires.items, c.requires.certificate) c.requires.issuers
+
+pub add_places-requires : goal.add_places-requires
+add_places-requires g c = rw c.deref.ensures.value c.in_ok-groups.ensures.linked.ascends
+
+pub add_revoked-requires-clause-lists : goal.add_revoked-requires-clause-lists
+add_revoked-requires-clause-lists g c =
+    let are = rw (c.requires.items, c.requires.certificate, c.requires.policy) at c.revoking-lists.ensures in
+    λ p at. (are.exact p).0 at
+
+pub add_places-requires-2 : goal.add_places-requires-2
+add_places-requires-2 g c = rw c.deref-2.ensures.value c.in_ok-lacking.ensures.ascends
 
 pub returns : goal.returns
-returns g c = λ front.
-    let l = c.args.linking.now in
-    let x = l.certificate.now in
-    let r = rules_by l.policy.moment l.policy.demand_lists (g.V.Vouch.vouches_for c.args.vouch.now) in
-    let items = map item_of l.items.now in
-    let are = c.in_ok-groups.ensures in
+returns g c =
+    let q = c.args.question.now in
+    let x = c.args.certificate.now in
+    let r = rules_in g.V.Vouch q in
+    let items = items_in q in
+    let L = IsLinkedTo r items (certificate_item x) in
+    let F = FailsTo r items (certificate_item x) (certificate_of x) in
     let groups = c.in_ok-groups.groups in
-    let unvouched = cut_in (FailsTo r items (certificate_item x) (certificate_of x) NotVouched) groups.unvouched are.unvouched in
-    let differing = cut_in (FailsTo r items (certificate_item x) (certificate_of x) KeyIdsDiffer) groups.differing are.differing in
-    groups_as front _ (IsLinkedTo r items (certificate_item x)) _ (FailsTo r items (certificate_item x) (certificate_of x)) (lines_of front c.in_ok-tails.tails.items) are.linked.exact
-    (fails_in (IsLinkedTo r items (certificate_item x)) (FailsTo r items (certificate_item x) (certificate_of x)) groups are) (c.in_ok-tails.ensures are.unvouched.0 are.differing.0 unvouched differing front)
+    let lacking = c.in_ok-lacking.lacking.items in
+    let are = rw (c.requires.items, c.requires.certificate, c.requires.policy) at c.in_ok-groups.ensures in
+    let lack = rw (c.requires.items, c.requires.certificate, c.requires.policy) at c.in_ok-lacking.ensures in
+    let lists = rw (c.requires.items, c.requires.certificate, c.requires.policy) at c.revoking-lists.ensures in
+    tails_told L F c.revoking-lists.result.now _ _ _ _ _ lists.ascends
+    (λ p w f. (lists.exact p).1 (revoked_listed (g.V.Vouch.vouches_for q.vouch.now) q.policy.now.moment q.policy.now.demand_lists q.found.now.items.now items x (λ (d : Certificate). KeyIdsAgree (certificate_of x) d) p w f))
+    (place_tails None L groups.linked.items [] _ are.linked.exact (rw (c.deref.ensures.value, c.new-tails.ensures.items) at c.in_ok-add_places.ensures))
+    (cut_tails (Some NotVouched) (F NotVouched) groups.unvouched _ _ are.unvouched c.in_ok-add_cut.ensures)
+    (cut_tails (Some KeyIdsDiffer) (F KeyIdsDiffer) groups.differing _ _ are.differing c.in_ok-add_cut-2.ensures)
+    c.in_ok-add_revoked.ensures
+    (place_tails (Some NoUsedList) (F NoUsedList) lacking _ _ lack.exact (rw c.deref-2.ensures.value at c.in_ok-add_places-2.ensures))

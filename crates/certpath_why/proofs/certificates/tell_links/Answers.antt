@@ -34,16 +34,10 @@ item_kind-requires-clause-first g c = (c.requires.issuers.exact c.in-Some.first.
 pub issuers_at-requires-clause-place : goal.issuers_at-requires-clause-place
 issuers_at-requires-clause-place g c = c.requires.at.0
 
-pub tails_to_items-requires-clause-named : goal.tails_to_items-requires-clause-named
-tails_to_items-requires-clause-named g c = rw c.requires.items c.requires.named.issuers
-
-pub tails_to_items-requires-clause-issuers : goal.tails_to_items-requires-clause-issuers
-tails_to_items-requires-clause-issuers g c = rw (c.requires.items, c.requires.certificate) c.requires.issuers
-
 pub tails_to_items-requires-clause-signers : goal.tails_to_items-requires-clause-signers
 tails_to_items-requires-clause-signers g c =
     let x = c.args.certificate.now in
-    rw (c.deref-2.ensures.value, c.requires.items, c.requires.certificate) ((c.in_ok-signers.ensures (certificate_read x) c.requires.at (ap Some (sym x.issuer_is))).exact)
+    rw c.deref-2.ensures.value ((c.in_ok-signers.ensures (certificate_read x) c.requires.at (ap Some (sym x.issuer_is))).exact)
 
 pub returns-in-Some-get-clause-text : goal.returns-in-Some-get-clause-text
 returns-in-Some-get-clause-text g c =
@@ -58,12 +52,12 @@ returns-clause-written g c =
     let x = c.args.certificate.now in
     let V = g.V.Vouch.vouches_for q.vouch.now in
     let kind = rw (c.requires.items, c.requires.policy) at c.in_ok-kind.ensures in
-    let are = rw (c.requires.items, c.requires.certificate, c.requires.policy) at c.in_ok-tails.ensures in
+    let are = c.in_ok-tails.ensures in
     written_more q.found.now.items.now (IsItemKind q) (AreItemTails g.V.Vouch q) c.args.written.now c.insert.new.self c.in_ok-kind.kind c.in_ok-tails.tails c.requires.written
     (λ p y at k. items_alike V q.policy.now.moment q.policy.now.demand_lists q.found.now.items.now q.signers.now.classes q.signers.now.issuers c.args.place p x y c.in_ok-kind.kind c.in_ok-tails.tails.items c.requires.signed.issuers c.requires.at at kind k are) (λ z. c.in_ok-insert.ensures.updates.0 z)
 
 pub returns-clause-text : goal.returns-clause-text
 returns-clause-text g c =
     let front = to_items c.args.place in
-    let are = rw (c.requires.items, c.requires.certificate, c.requires.policy) at c.in_ok-tails.ensures in
+    let are = c.in_ok-tails.ensures in
     (lines_of front c.in_ok-tails.tails.items, rw c.deref-3.ensures.value at c.in_ok-push_tails-2.ensures, are front)
