@@ -25,6 +25,7 @@ pub mod Directories
 pub mod Found
 pub mod Ranges
 pub mod Cuts
+pub mod Against
 pub mod Named
 pub mod Fates
 pub mod Groups

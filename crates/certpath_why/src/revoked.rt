@@ -5,9 +5,10 @@ ghost use Rattle.std.specs.Prelude.{ℕ, Contains, Some, OnOk};
 ghost use Rattle.cert_judge.specs.Items.{certificate_of, certificate_item};
 ghost use Rattle.cert_reasons.specs.Listed.{HasSerialAt, IsInForceAt};
 ghost use Rattle.cert_reasons.specs.declared.links.Unlinked.TheVariants.{RevokedBy};
+ghost use Rattle.certpath_why.specs.Against.{IsLineOf};
 ghost use Rattle.certpath_why.specs.Kinds.{AddsTails};
 ghost use Rattle.certpath_why.specs.Question.{anchors_in, items_in, rules_in, IsSigned};
-ghost use Rattle.certpath_why.specs.Why.{AreTexts, FailsTo, FailsToAnchor, TellsGroup};
+ghost use Rattle.certpath_why.specs.Why.{AreTexts, FailsTo, FailsToAnchor};
 
 use crate::links::add_places;
 use crate::question::Question;
@@ -29,7 +30,7 @@ fn add_list<V: Vouch>(
     requires signed { IsSigned V.Vouch question.now }
     requires in_force { IsInForceAt question.now.found.now.items.now question.now.policy.now.moment certificate.now.issuer.now list }
     requires serial { HasSerialAt question.now.found.now.items.now certificate.now.fields.serial.now list }
-    ensures { OnOk result (AddsTails (λ front. TellsGroup front (Some (RevokedBy list)) (FailsTo (rules_in V.Vouch question.now) (items_in question.now) (certificate_item certificate.now) (certificate_of certificate.now) (RevokedBy list)))
+    ensures { OnOk result (AddsTails (λ front. IsLineOf front (Some (RevokedBy list)) (FailsTo (rules_in V.Vouch question.now) (items_in question.now) (certificate_item certificate.now) (certificate_of certificate.now) (RevokedBy list)))
         tails.old.items tails.new.items) }
 {
     let places = issuers_at(alloc, question, list, certificate.issuer)?;
@@ -48,7 +49,7 @@ pub(crate) fn add_revoked<V: Vouch>(
 ) -> Result<(), OutOfMemory>
     requires signed { IsSigned V.Vouch question.now }
     requires lists { (p : ℕ) → Contains lists.now p → IsInForceAt question.now.found.now.items.now question.now.policy.now.moment certificate.now.issuer.now p × HasSerialAt question.now.found.now.items.now certificate.now.fields.serial.now p }
-    ensures { OnOk result (AddsTails (λ front. AreTexts (λ p. TellsGroup front (Some (RevokedBy p)) (FailsTo (rules_in V.Vouch question.now) (items_in question.now) (certificate_item certificate.now) (certificate_of certificate.now) (RevokedBy p))) lists.now)
+    ensures { OnOk result (AddsTails (λ front. AreTexts (λ p. IsLineOf front (Some (RevokedBy p)) (FailsTo (rules_in V.Vouch question.now) (items_in question.now) (certificate_item certificate.now) (certificate_of certificate.now) (RevokedBy p))) lists.now)
         tails.old.items tails.new.items) }
 {
     for list in lists {
@@ -68,7 +69,7 @@ fn add_root_list<V: Vouch>(
     requires signed { IsSigned V.Vouch question.now }
     requires in_force { IsInForceAt question.now.found.now.items.now question.now.policy.now.moment certificate.now.issuer.now list }
     requires serial { HasSerialAt question.now.found.now.items.now certificate.now.fields.serial.now list }
-    ensures { OnOk result (AddsTails (λ front. TellsGroup front (Some (RevokedBy list)) (FailsToAnchor (rules_in V.Vouch question.now) (items_in question.now) (anchors_in question.now) (certificate_item certificate.now) (certificate_of certificate.now) (RevokedBy list)))
+    ensures { OnOk result (AddsTails (λ front. IsLineOf front (Some (RevokedBy list)) (FailsToAnchor (rules_in V.Vouch question.now) (items_in question.now) (anchors_in question.now) (certificate_item certificate.now) (certificate_of certificate.now) (RevokedBy list)))
         tails.old.items tails.new.items) }
 {
     let places = roots_at(alloc, question, list, certificate.issuer)?;
@@ -87,7 +88,7 @@ pub(crate) fn add_root_revoked<V: Vouch>(
 ) -> Result<(), OutOfMemory>
     requires signed { IsSigned V.Vouch question.now }
     requires lists { (p : ℕ) → Contains lists.now p → IsInForceAt question.now.found.now.items.now question.now.policy.now.moment certificate.now.issuer.now p × HasSerialAt question.now.found.now.items.now certificate.now.fields.serial.now p }
-    ensures { OnOk result (AddsTails (λ front. AreTexts (λ p. TellsGroup front (Some (RevokedBy p)) (FailsToAnchor (rules_in V.Vouch question.now) (items_in question.now) (anchors_in question.now) (certificate_item certificate.now) (certificate_of certificate.now) (RevokedBy p))) lists.now)
+    ensures { OnOk result (AddsTails (λ front. AreTexts (λ p. IsLineOf front (Some (RevokedBy p)) (FailsToAnchor (rules_in V.Vouch question.now) (items_in question.now) (anchors_in question.now) (certificate_item certificate.now) (certificate_of certificate.now) (RevokedBy p))) lists.now)
         tails.old.items tails.new.items) }
 {
     for list in lists {
