@@ -31,7 +31,7 @@ AfterSubject Q = AfterIssuer (Then Validity (Then X509Name Q))
 abbrev pub AfterKey : (List ℕ → Type 0) → List ℕ → Type 0
 AfterKey Q = AfterSubject (Then SubjectPublicKeyInfo Q)
 
--- its content; no name tells that issuer or subject is no name, nor that extensions behind their header can't be read
+-- its content; by no name it is refused where issuer or subject can't be read, nor where extensions after their header can't
 abbrev pub TbsPartsRefused : X509Error → List ℕ → Type 0
 TbsPartsRefused errors.InvalidVersion = NoneBegins Version
 TbsPartsRefused errors.InvalidSerial = Then Version (NoneBegins (One IsSerial))

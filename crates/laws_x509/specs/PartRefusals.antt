@@ -38,7 +38,7 @@ abbrev pub ExtensionRefused : ValueMeaning → X509Error → List ℕ → Type 0
 ExtensionRefused Means errors.InvalidExtensions = NoneBegins (X509Extension Means)
 ExtensionRefused Means e = Never
 
--- Extensions under this tag number: octets are left, and no header of the tag number begins them. A list behind such a header
+-- Extensions under this tag number: octets are left, and no header of the tag number begins them. A list after such a header
 -- that can't be read is refused by no name.
 abbrev pub ExtensionsRefused : ℕ → X509Error → List ℕ → Type 0
 ExtensionsRefused n errors.InvalidExtensions = NoWrapper n

@@ -35,7 +35,7 @@ other_wrapper = 0xa4 ∷ 0x00 ∷ []
 
 -- ---- certificates
 
--- what stands before a part: a serial number, an algorithm, an empty name, a validity, an empty name, a key
+-- what comes before a part: a serial number, an algorithm, an empty name, a validity, an empty name, a key
 abbrev pub before_signature : List ℕ
 before_signature = 0x02 ∷ 0x01 ∷ 0x01 ∷ []
 
@@ -78,7 +78,7 @@ no_issuer_id = 0x30 ∷ 0x3a ∷ before_ids ++ 0x81 ∷ 0x00 ∷ []
 abbrev pub no_subject_id : List ℕ
 no_subject_id = 0x30 ∷ 0x3a ∷ before_ids ++ 0x82 ∷ 0x00 ∷ []
 
--- an empty [4] where [3] may stand
+-- an empty [4] in the place of [3]
 abbrev pub no_extensions : List ℕ
 no_extensions = 0x30 ∷ 0x3a ∷ before_ids ++ other_wrapper
 
@@ -86,7 +86,7 @@ no_extensions = 0x30 ∷ 0x3a ∷ before_ids ++ other_wrapper
 abbrev pub signed : List ℕ
 signed = 0x30 ∷ 0x38 ∷ before_ids
 
--- and nothing but an algorithm behind it
+-- and nothing but an algorithm after it
 abbrev pub no_signature_value : List ℕ
 no_signature_value = 0x30 ∷ 0x40 ∷ signed ++ algorithm_octets
 
@@ -104,7 +104,7 @@ unnumbered = 0x30 ∷ 0x02 ∷ no_serial
 abbrev pub no_entry_date : List ℕ
 no_entry_date = 0x30 ∷ 0x03 ∷ before_signature
 
--- what stands before the dates: an algorithm and an empty name
+-- what comes before the dates: an algorithm and an empty name
 abbrev pub before_dates : List ℕ
 before_dates = algorithm_octets ++ empty_octets
 
@@ -114,7 +114,7 @@ no_list_algorithm = 0x30 ∷ 0x02 ∷ empty
 abbrev pub no_date : List ℕ
 no_date = 0x30 ∷ 0x08 ∷ before_dates
 
--- an empty [4] where entries and [0] may stand
+-- an empty [4] in the place of entries and of [0]
 abbrev pub no_list_extensions : List ℕ
 no_list_extensions = 0x30 ∷ 0x19 ∷ before_dates ++ start_octets ++ other_wrapper
 
@@ -122,33 +122,6 @@ no_list_extensions = 0x30 ∷ 0x19 ∷ before_dates ++ start_octets ++ other_wra
 abbrev pub signed_list : List ℕ
 signed_list = 0x30 ∷ 0x17 ∷ before_dates ++ start_octets
 
--- and nothing but an algorithm behind it
+-- and nothing but an algorithm after it
 abbrev pub no_list_bits : List ℕ
 no_list_bits = 0x30 ∷ 0x1f ∷ signed_list ++ algorithm_octets
-
--- ---- certification requests
-
--- what stands before the key: version 0 and an empty name
-abbrev pub before_request_key : List ℕ
-before_request_key = 0x02 ∷ 0x01 ∷ 0x00 ∷ empty_octets
-
-abbrev pub before_attributes : List ℕ
-before_attributes = before_request_key ++ key_octets
-
-abbrev pub no_request_algorithm : List ℕ
-no_request_algorithm = 0x30 ∷ 0x09 ∷ before_request_key ++ no_key_algorithm
-
-abbrev pub no_request_key_bits : List ℕ
-no_request_key_bits = 0x30 ∷ 0x0d ∷ before_request_key ++ no_key_bits
-
--- an empty [4] where [0] has to stand
-abbrev pub no_attributes : List ℕ
-no_attributes = 0x30 ∷ 0x12 ∷ before_attributes ++ other_wrapper
-
--- a signed part of such parts, with an empty [0]
-abbrev pub signed_request : List ℕ
-signed_request = 0x30 ∷ 0x12 ∷ before_attributes ++ 0xa0 ∷ 0x00 ∷ []
-
--- and nothing but an algorithm behind it
-abbrev pub no_request_bits : List ℕ
-no_request_bits = 0x30 ∷ 0x1a ∷ signed_request ++ algorithm_octets

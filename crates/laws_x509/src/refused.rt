@@ -85,7 +85,7 @@ pub fn example_of_refused_certificates()
 {}
 
 /// Entries without a serial number and without a date, lists without an algorithm's identifier, without a date, with a header of
-/// tag number 4 where entries or extensions may stand, and without a signature.
+/// tag number 4 in the place of entries and extensions, and without a signature.
 pub fn example_of_refused_lists()
     ensures entry_serial { AllBelowBase 256 refused.empty × (lists.entry_at unread refused.empty ≡ Err (named errors.InvalidSerial))
         × EntryRefused errors.InvalidSerial refused.empty }
