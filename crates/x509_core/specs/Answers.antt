@@ -30,7 +30,7 @@ abbrev pub naming : {A : Type 0} → X509Error → Answer A → Answer A
 naming e (Ok x) = Ok x
 naming e (Err y) = Err (named e)
 
--- an error, and the reading's refusal; want of memory is never told as an error of an element
+-- an error, and the reading's refusal; an error of an element is never `OutOfMemory`
 abbrev pub FailsWith : {Y : Type 0} → X509Error → Answer Y → Type 0
 FailsWith errors.OutOfMemory read = ⊥
 FailsWith (errors.Der e) read = (e ≢ der.OutOfMemory) × (read ≡ Err unnamed)

@@ -116,7 +116,7 @@ fn parts_of(i: &[u8]) -> Option<BasicConstraints>
 
 // Why a content is refused: by its tag where it is one element, else by its length.
 fn fault_of(content: &[u8]) -> Error
-    ensures told { result ≡ fault_in content.now }
+    ensures value { result ≡ fault_in content.now }
     ensures memory { result ≢ der.OutOfMemory }
 {
     let mut count = HeaderCount::new();

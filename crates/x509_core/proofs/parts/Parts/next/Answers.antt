@@ -8,10 +8,11 @@ use Rattle.x509_core.proofs.Pieces.{at_end, at_front}
 use Rattle.x509_core.proofs.parts.Parts.next.Goals as goal
 
 pub returns-in_default-clause-read : goal.returns-in_default-clause-read
-returns-in_default-clause-read c =
-    (λ e. cc,
-    subst (λ (p : Left). piece_at p.octets ≡ Err unnamed) c.self.view_is
-    (at_end c.self.inside.left.now (ahead_of c.self.inside.ahead) c.self.invariant c.in_default.ensures.none))
+returns-in_default-clause-read c = (
+  λ e. cc,
+  subst (λ (p : Left). piece_at p.octets ≡ Err unnamed) c.self.view_is
+      (at_end c.self.inside.left.now (ahead_of c.self.inside.ahead) c.self.invariant c.in_default.ensures.none),
+)
 
 pub returns-clause-read : goal.returns-clause-read
 returns-clause-read c =
