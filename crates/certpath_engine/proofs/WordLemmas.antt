@@ -14,7 +14,7 @@ use Rattle.clap.specs.declared.error.kind.ErrorKind.TheVariants.{OutOfMemory as 
 use Rattle.clap.proofs.WalkLemmas.{first_value-rows}
 use Rattle.clap.specs.declared.parser.matches.ArgMatches.{ArgMatches}
 use Rattle.certpath_engine.specs.Words.{certpath_app}
-use Rattle.certpath_engine.specs.Asking.{AreFrameTexts, ArePathTexts, AreQuestionsTexts, AreAllTexts, ArePathsTexts, AreRecheckTexts, LacksOneOf, TellsTexts, TellsQuestion, TellsAll, all_arguments, path_arguments, recheck_arguments, RefusesHost, RefusesQuestion, RefusesSettings, AnswersTexts, IsRefusal}
+use Rattle.certpath_engine.specs.Asking.{AreFrameTexts, ArePathTexts, AreQuestionsTexts, AreAllTexts, ArePathsTexts, AreRecheckTexts, LacksOneOf, TellsTexts, TellsQuestion, TellsAll, all_arguments, path_arguments, recheck_arguments, RefusesHost, RefusesQuestion, RefusesSettings, AnswersTexts, IsNumber, IsRefusal}
 use Rattle.certpath_engine.specs.declared.texts.FrameTexts.{FrameTexts}
 use Rattle.certpath_engine.specs.declared.texts.PathTexts.{PathTexts}
 use Rattle.certpath_engine.specs.declared.questions_texts.QuestionsTexts.{QuestionsTexts}
@@ -156,13 +156,13 @@ evidence_fault name rows (faults.Host reason) t = t
 evidence_fault name rows (faults.Purpose reason) t = t
 evidence_fault name rows faults.OutOfMemory t = lacks_further (codes "EVIDENCE") all_arguments rows t
 
-pub settings_fault : (t : PathTexts) (fault : WordFault) → RefusesSettings t.all fault → RefusesQuestion t fault
-settings_fault t (faults.Refused said) r = r
-settings_fault t faults.Number r = inr r
-settings_fault t faults.Moment r = r
-settings_fault t (faults.Host reason) r = r
-settings_fault t (faults.Purpose reason) r = r
-settings_fault t faults.OutOfMemory r = r
+pub settings_fault : (t : PathTexts) (fault : WordFault) → IsNumber t.target.now → RefusesSettings t.all fault → RefusesQuestion t fault
+settings_fault t (faults.Refused said) target r = r
+settings_fault t faults.Number target r = inr r
+settings_fault t faults.Moment target r = (target, r.0, r.1)
+settings_fault t (faults.Host reason) target r = r
+settings_fault t (faults.Purpose reason) target r = r
+settings_fault t faults.OutOfMemory target r = r
 
 -- ---- hosts
 

@@ -159,6 +159,10 @@ TellsAll rows (Err OutOfMemory) = LacksOneOf all_arguments rows
 abbrev pub Asks : List Text → Asked → Type 0
 Asks words asked = (rows : List Row) × (subcommand_of certpath_app words ≡ Some (name_of asked, rows)) × AsksOf rows asked
 
+-- a number below 2^32
+abbrev pub IsNumber : Text → Type 0
+IsNumber text = (n : ℕ) × (n < 2 ^ 32) × WritesNumber text n
+
 -- no number below 2^32, no moment
 abbrev pub IsNoNumber : Text → Type 0
 IsNoNumber text = (n : ℕ) → n < 2 ^ 32 → ¬ (WritesNumber text n)
@@ -193,11 +197,11 @@ WritesSettings t settings =
     WritesMoment t.moment.now (time_view settings.policy.moment) × (IsTrue settings.policy.demand_lists ↔ (t.demand.now ≡ codes "true"))
     × WritesNumber t.limit.now settings.limit
 
--- or they write nothing of the kind
+-- or they write nothing of the kind: the limit is looked at before the moment
 abbrev pub RefusesSettings : AllTexts → WordFault → Type 0
 RefusesSettings t (Refused said) = ⊥
 RefusesSettings t Number = IsNoNumber t.limit.now
-RefusesSettings t Moment = IsNoMoment t.moment.now
+RefusesSettings t Moment = IsNumber t.limit.now × IsNoMoment t.moment.now
 RefusesSettings t (Host reason) = ⊥
 RefusesSettings t (PurposeFault reason) = ⊥
 RefusesSettings t OutOfMemory = ⊥
@@ -208,11 +212,11 @@ WritesTarget t settings =
     WritesNumber t.target.now settings.target × WritesMoment t.all.moment.now (time_view settings.policy.moment)
     × (IsTrue settings.policy.demand_lists ↔ (t.all.demand.now ≡ codes "true")) × WritesNumber t.all.limit.now settings.limit
 
--- or they write none
+-- or they write none: the numbers are looked at before the moment
 abbrev pub RefusesQuestion : PathTexts → WordFault → Type 0
 RefusesQuestion t (Refused said) = ⊥
 RefusesQuestion t Number = IsNoNumber t.target.now ⊎ IsNoNumber t.all.limit.now
-RefusesQuestion t Moment = IsNoMoment t.all.moment.now
+RefusesQuestion t Moment = IsNumber t.target.now × IsNumber t.all.limit.now × IsNoMoment t.all.moment.now
 RefusesQuestion t (Host reason) = ⊥
 RefusesQuestion t (PurposeFault reason) = ⊥
 RefusesQuestion t OutOfMemory = ⊥
@@ -258,8 +262,21 @@ AsksPurpose (Some purpose) (Some asked) = (asked.identifier.now ≡ purpose.iden
 abbrev pub AsksDemand : Question → Demand → Type 0
 AsksDemand question demand = (demand.host ≡ question.host) × AsksPurpose question.purpose demand.purpose
 
+-- the words of a question write some settings, and a host where they have the word
+abbrev pub IsTargeted : PathTexts → Type 0
+IsTargeted t = (settings : Settings) × WritesTarget t settings
+
+abbrev pub IsHosted : PathTexts → Type 0
+IsHosted t = (host : Option AskedHost) × WritesHost t.host host
+
+-- or they don't, or there is no such purpose: the settings are looked at first, and then the host
 abbrev pub RefusesDemands : PathTexts → WordFault → Type 0
-RefusesDemands t fault = RefusesQuestion t fault ⊎ (RefusesHost t.host fault ⊎ RefusesPurposeOf t.all.purpose fault)
+RefusesDemands t fault =
+    RefusesQuestion t fault ⊎ ((IsTargeted t × RefusesHost t.host fault) ⊎ (IsTargeted t × IsHosted t × RefusesPurposeOf t.all.purpose fault))
+
+-- the words write no such settings, or they do and name no purpose
+abbrev pub RefusesAll : AllTexts → WordFault → Type 0
+RefusesAll t fault = RefusesSettings t fault ⊎ (((settings : AllSettings) × WritesSettings t settings) × RefusesPurposeOf t.purpose fault)
 
 abbrev pub ReadsPath : PathTexts → Result Command WordFault → Type 0
 ReadsPath t (Ok (Path question)) = AsksQuestion t question
@@ -287,14 +304,14 @@ abbrev pub ReadsPaths : PathsTexts → Result Command WordFault → Type 0
 ReadsPaths t (Ok (Paths files evidence settings purpose)) =
     NamesFiles t.all files × (option_map (λ s. s.now) evidence ≡ option_map (λ s. s.now) t.evidence) × WritesSettings t.all settings × WritesPurposeOf t.all.purpose purpose
 ReadsPaths t (Ok _) = ⊥
-ReadsPaths t (Err fault) = RefusesSettings t.all fault ⊎ RefusesPurposeOf t.all.purpose fault
+ReadsPaths t (Err fault) = RefusesAll t.all fault
 
 -- and behind `recheck`
 abbrev pub ReadsRecheck : RecheckTexts → Result Command WordFault → Type 0
 ReadsRecheck t (Ok (Recheck files settings purpose)) =
     NamesFiles t.all files.searched × (files.evidence.now ≡ t.evidence.now) × WritesSettings t.all settings × WritesPurposeOf t.all.purpose purpose
 ReadsRecheck t (Ok _) = ⊥
-ReadsRecheck t (Err fault) = RefusesSettings t.all fault ⊎ RefusesPurposeOf t.all.purpose fault
+ReadsRecheck t (Err fault) = RefusesAll t.all fault
 
 -- what is answered to a command's words
 abbrev pub Reads : Asked → Result Command WordFault → Type 0

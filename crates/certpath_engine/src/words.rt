@@ -126,8 +126,8 @@ pub enum WordFault {
 ///
 /// `Refused` where `clap` does not take them, with its text. `Number` where an N is not one or more
 /// decimal digits, or above 4,294,967,295. `Moment` where the moment is not of its form, or no date
-/// and time. `Host` and `Purpose` where a text is none, with the reason. `OutOfMemory`. Which of
-/// two bad words is named, is in no clause.
+/// and time. `Host` and `Purpose` where a text is none, with the reason. `OutOfMemory`. Of several
+/// bad words the first in this order is named.
 pub fn read_words<'a>(alloc: Global, words: &'a [String]) -> Result<Command<'a>, WordFault>
     ensures { AnswersWords (map string_bytes words.entry.now) result }
 {
