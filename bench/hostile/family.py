@@ -46,8 +46,6 @@ class Family(NamedTuple):
     statuses: tuple = (0, 1, 3)
     # What the family misses, if that is known.
     known: Known = None
-    # Whether growth is counted by the octets read alone, since the command must not print more than these allow.
-    by_read: bool = False
 
 
 FAMILIES = {}

@@ -6,8 +6,8 @@ from parts import element, entry, integer, name, p256_keys, revocation_list, sma
 from reports import ANCHOR
 from signed import KEY, LEAF, ROOT, X, signed_by_none
 
-SIZES = {"command": "verify", "sizes": (500, 1_000, 2_000, 4_000), "small": (250, 1_000),
-         "by_read": True, "known": OBJECTS}
+SIZES = {"command": "verify", "sizes": (500, 1_000, 2_000, 4_000), "small": (1_000, 4_000),
+         "known": OBJECTS}
 TWO_SECONDS = ("--seconds", "2", "--json")
 # Octets of a name beyond any that a certificate needs, and of a subject for each key of its issuer.
 LONG_NAME, OF_SUBJECT = 20_000, 60
@@ -65,6 +65,12 @@ for form, words in FORMS.items():
 @of_verify("name-dot", "n certificates of one name (--dot)", "--dot", known=WHY_OF_VERIFY,
            sizes=(100, 200, 400, 800), small=(50, 200), statuses=(1, 9))
 def name_dot(count):
+    return Files(keys_of(X, X, count), [ANCHOR])
+
+
+@of_verify("all-keys", "n certificates of one name, all of them targets", "--all", "--json",
+           known=WHY_OF_VERIFY, sizes=(100, 200, 400, 800), small=(50, 200), statuses=(1, 9))
+def all_keys(count):
     return Files(keys_of(X, X, count), [ANCHOR])
 
 

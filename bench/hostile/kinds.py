@@ -18,9 +18,19 @@ PATHS = square("paths")
 QUESTIONS = square("questions", 5_000)
 EVIDENCE = square("evidence")
 LISTS = Known("lists", growth=3.4)
-# Pairs of what `why` looks at, and runs of ./verify that ask it until their seconds are over.
-WHY = square("why", 20_000)
-WHY_OF_VERIFY = WHY._replace(seconds=11.0)
+# Of `why`: steps from name to name; equal key identifiers; two that are looked up; a certificate and
+# a list that are printed; copies with many keys; what is done for each certificate, issuer and
+# list; an entry that many lists have; and the lines of many issuers. Runs of ./verify that ask it
+# until their seconds are over.
+ONE_NAME = Known("why", growth=4, times=20)
+EQUAL_IDS = Known("why", growth=5, seconds=4.0)
+SQUARE = Known("why", growth=5.5, times=16, seconds=10.0)
+PAIRS = Known("why", growth=7, times=500, seconds=10.0)
+COPIES = Known("why", growth=5.5, seconds=4.0)
+CUBE = Known("why", growth=11)
+ENTRIES = Known("why", growth=3.5, times=16, seconds=4.0)
+OF_ISSUERS = Known("why", times=21)
+WHY_OF_VERIFY = Known("why", growth=5.5, times=30, seconds=11.0, least=250_000_000)
 # Items of two octets, small certificates, and elements of two octets within an item.
 ITEMS = Known("items", times=280)
 ITEMS_OF_WHY = ITEMS._replace(times=420)
@@ -32,5 +42,7 @@ LEFT_OUT = Known("left out", times=110)
 VERIFICATIONS = Known("verifications", growth=2.8, times=30, seconds=20.0)
 # Keys of RSA with 16,384 bits, of which 16 have to be read at each size.
 LARGE_KEYS = Known("verifications", growth=12, times=30, seconds=100.0)
+# Keys on the curve that takes longest, with one verification an item.
+BINARY_CURVES = Known("verifications", growth=2.8, times=30, seconds=60.0)
 # What Python keeps of each item, and of each answer until it is printed.
 OBJECTS = Known("objects", times=130, least=120_000_000)

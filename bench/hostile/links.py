@@ -4,13 +4,13 @@ from math import isqrt
 from family import Files, also, family, of_octets
 from graphs import (ANCHOR, COMMON_KEY, LEAF, NOWHERE, ROOT, ROOT_KEY, X, chain_path, lists,
                     own_keys, rising)
-from kinds import EVIDENCE, ITEMS, ITEMS_OF_WHY, LISTS, LOOKED_UP, WHY
+from kinds import ENTRIES, EVIDENCE, ITEMS, ITEMS_OF_WHY, LISTS, LOOKED_UP, OF_ISSUERS
 from parts import (certificate, element, entry, extension, integer, key, name, revocation_list,
                    voucher, vouchers_by_all)
-from reports import LONG_PATHS, SQUARE
+from reports import LONG_PATHS, OF_ONE_NAME
 
-# Sizes for reports that look at each two items and each list.
-CUBE = {"sizes": (25, 50, 100, 200), "small": (25, 100)}
+# Sizes at which as many lists as certificates, with an entry of each, have a megabyte or more.
+OF_LISTS = {"sizes": (50, 100, 200, 400), "small": (100, 400)}
 ROW, BELOW, EMPTY = name("row"), name("below"), element(0x30)
 
 
@@ -26,7 +26,7 @@ def linked(count):
 
 
 @family("why-links-lists", "n certificates of one name and key, and n used lists that have them all",
-        "why", **CUBE, known=WHY)
+        "why", **OF_LISTS, known=ENTRIES)
 def why_links_lists(count):
     items, lines = linked(count)
     rows = b"".join(entry(integer(it + 1)) for it in range(count))
@@ -36,7 +36,7 @@ def why_links_lists(count):
 
 @family("why-links-entries",
         "n certificates of one name and key, and one used list of n entries of others", "why",
-        **SQUARE, known=WHY)
+        **OF_ONE_NAME)
 def why_links_entries(count):
     items, lines = linked(count)
     found = revocation_list(X, b"".join(entry(integer(1_000_000 + it)) for it in range(count)))
@@ -44,7 +44,7 @@ def why_links_entries(count):
 
 
 @family("why-bounds", "n/2 certificates that n/2 issuers of path length 0 hold back", "why",
-        **SQUARE, known=WHY)
+        **OF_ONE_NAME)
 def why_bounds(count):
     half = count // 2
     held = [certificate(X, BELOW, COMMON_KEY, it + 1) for it in range(half)]
@@ -76,7 +76,8 @@ def why_anchors_small(count):
     return Files([certificate(LEAF, X, COMMON_KEY), *[EMPTY] * count], own_keys(count // 16))
 
 
-@family("why-issuers", "a leaf and n keys of its issuer's name; no voucher", "why")
+@family("why-issuers", "a leaf and n keys of its issuer's name; no voucher", "why",
+        known=OF_ISSUERS)
 def why_issuers(count):
     return Files([certificate(LEAF, X, COMMON_KEY), *own_keys(count, X, ROOT)], [ANCHOR])
 

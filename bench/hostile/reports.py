@@ -1,18 +1,23 @@
 """Families for `why`, `paths` and ./verify: over files that were made for `path`, and over certificates with signatures in their form."""
 from family import FAMILIES, Files, also, family
-from kinds import CERTIFICATES_OF_WHY, ELEMENTS, LOOKED_UP, OBJECTS, PATHS, QUESTIONS, STAIRS, WHY, WHY_OF_VERIFY
+from kinds import (CERTIFICATES_OF_WHY, ELEMENTS, EQUAL_IDS, LOOKED_UP, OBJECTS, OF_ISSUERS, ONE_NAME, PATHS, QUESTIONS,
+                   STAIRS, WHY_OF_VERIFY)
 from parts import name, p256_keys
 from signed import KEY, ROOT, X, issuers, signed_by_none
 
-# Sizes for reports that look at each pair of items.
+# Sizes for commands that print a line for each pair of items.
 SQUARE = {"sizes": (250, 500, 1_000, 2_000), "small": (500, 2_000)}
 
 # Sizes at which paths that are printed whole take more than what is read.
 LONG_PATHS = {"sizes": (1_000, 2_000, 4_000, 8_000), "small": (1_000, 4_000), "known": PATHS}
 
-also("why", "keys-none", "ids-never", "self-serials", **SQUARE, known=WHY)
-also("why", "lists-none", "lists-vouched", known=WHY)
-also("why", "chain-path")
+# Sizes of certificates of one name: at the largest a step for each pair of them shows.
+OF_ONE_NAME = {"sizes": (4_000, 8_000, 16_000, 32_000), "small": (8_000, 32_000), "known": ONE_NAME}
+
+also("why", "keys-none", "ids-never", "self-serials", **OF_ONE_NAME)
+also("why", "ids-equal", sizes=(1_000, 2_000, 4_000, 8_000), small=(2_000, 8_000), known=EQUAL_IDS)
+also("why", "lists-none", known=OF_ISSUERS)
+also("why", "chain-path", "lists-vouched")
 also("why", "no-issuers", known=CERTIFICATES_OF_WHY)
 also("why", "copies-keys", "chain-none", "list-long", "list-keys", "names-alike")
 also("why", "extensions", "attributes", "entries", known=ELEMENTS)
@@ -41,17 +46,17 @@ def recheck_none(count):
 
 
 @family("recheck-rows", "n certificates whose issuers aren't there, and evidence of n rows",
-        "recheck", **SQUARE)
+        "recheck")
 def recheck_rows(count):
     return without_path(count, count)
 
 
-SIGNED = {"command": "verify", "sizes": (1_250, 2_500, 5_000, 10_000), "small": (250, 1_000), "known": OBJECTS, "by_read": True}
+SIGNED = {"command": "verify", "sizes": (1_250, 2_500, 5_000, 10_000), "small": (1_250, 5_000), "known": OBJECTS}
 ANCHOR = signed_by_none(ROOT, ROOT, KEY, 1)
 
 
 @family("verify-keys", "n certificates \"x from x\", a P-256 key each, signed by none", "verify", sizes=(100, 200, 400, 800),
-        small=(50, 200), known=WHY_OF_VERIFY, statuses=(1, 9), by_read=True)
+        small=(50, 200), known=WHY_OF_VERIFY, statuses=(1, 9))
 def verify_keys(count):
     return Files([signed_by_none(X, X, it, number) for number, it in enumerate(p256_keys(count))], [ANCHOR])
 

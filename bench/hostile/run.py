@@ -6,14 +6,15 @@
 Prints a row for each family: processor seconds at each size, the greatest growth at a doubling, the seconds of a file of 1 MB, the
 greatest peak memory for each octet read, and a verdict. `pass` wants three things:
 
-- at most 2.4 times the time at each doubling of the octets read and written, if less than 0.02 seconds count as 0.02; of the octets
-  read alone where the command must not print more than these allow;
+- at most 2.4 times the time at each doubling of the octets read, if less than 0.02 seconds count as 0.02; of paths and questions,
+  which may print more than they read, of the octets read and written;
 - at most 16 times the octets read in memory, 30 times if Python or OpenSSL hold them, as for ./vouch and ./verify; or 40 MB if that
   is more (Python and OpenSSL alone take 25);
 - at most 2 seconds for a file of 1 MB, 10 for ./verify, which verifies signatures.
 
 `known` is a miss of a kind that docs/COST.md bounds, by its name there, and that isn't larger than what is stated with the family.
-Exit status 1 if a family fails, or an answer isn't the one that is right.
+Exit status 1 if a family fails, or an answer isn't the one that is right. After the rows each known family has a line that says how
+much of its mark it takes, or that nothing is missed, so that marks can be set; and the last line says how long the run took.
 `--small` takes two sizes, the second four times the first, at which a square would show, and is for a machine that does other
 work: a growth of up to 2.8 passes, and what misses it is measured up to three times more. `--brief` prints the rows of
 families that fail. `--every` takes one family of each N. `--write` keeps the files of the least size.
@@ -26,6 +27,7 @@ import re
 import signal
 import sys
 import tempfile
+import time
 from math import log2
 from typing import NamedTuple
 
@@ -42,6 +44,7 @@ import one_item
 import reports
 import signed
 import texts
+import unlinked
 from family import FAMILIES, LEAST_MEMORY, Files, Known
 from measure import MEGABYTE, MOST_SECONDS, in_child, measured, write_pieces
 from parts import MOMENT
@@ -50,6 +53,8 @@ MOST_GROWTH, MOST_TIMES, MOST_OF_MEGABYTE = 2.4, 16, 2.0
 # Commands of which Python or OpenSSL hold what is read, and one that verifies signatures.
 MOST_TIMES_OF, MOST_OF_MEGABYTE_OF = {"vouch": 30, "verify": 30}, {"verify": 10.0}
 LEAST_SECONDS = 0.02
+# Commands whose growth is counted by what they write, too: their answers may be longer than what they read.
+MAY_PRINT_MORE = ("paths", "questions")
 # If sizes are small other work on the machine counts for more: four times the octets may take 2.8 * 2.8 times the time. Twice the
 # time at a doubling makes four, the logarithm somewhat more, and a square sixteen.
 MOST_SMALL_GROWTH = 2.8
@@ -202,7 +207,7 @@ def point(family, size, bench, room):
         runs.append(measured(words, room, bench.seconds))
     last = runs[-1].status
     is_spent = last in OUT_OF_TIME or last == OUT_OF_MEMORY and OUT_OF_MEMORY not in family.statuses
-    written = 0 if family.by_read else os.path.getsize(runs[-1].output)
+    written = os.path.getsize(runs[-1].output) if family.command in MAY_PRINT_MORE else 0
     fault = fault_of(family, runs[-1], room)
     return Point(size, octets, octets + written, min(it.seconds for it in runs), min(it.memory for it in runs), fault, is_spent)
 
@@ -273,10 +278,28 @@ def confirmed(family, bench, room):
     return points, of_megabyte, found, beyond.all()
 
 
+def most_growth(points):
+    return max((growth(*it) for it in zip(points, points[1:])), default=0)
+
+
+def mark(family, points, of_megabyte, found, _):
+    """What a family takes of what is known of it."""
+    known = family.known
+    if not found.all():
+        return f"mark of {family.name}: not needed, nothing is missed"
+    above = max((times(it) for it in points if it.memory > known.least), default=0)
+    peak = max(it.memory for it in points) / MEGABYTE
+    parts = [f"growth {most_growth(points):.1f} of {known.growth}", f"{peak:.0f} MB of {known.least / MEGABYTE:.0f}",
+             f"above these {above:.1f} of {known.times} times the octets"]
+    if of_megabyte:
+        parts.append(f"1 MB {of_megabyte.seconds:.1f} of {known.seconds} s")
+    return f"mark of {family.name}: {known.name}: {', '.join(parts)}; missed: {'; '.join(found.all())}"
+
+
 def row(family, points, of_megabyte, found, beyond):
     """The cells of a family's row."""
     verdict = f"FAIL: {'; '.join(beyond)}" if beyond else f"known: {family.known.name}" if found.all() else "pass"
-    most = max((growth(*it) for it in zip(points, points[1:])), default=0)
+    most = most_growth(points)
     least = [it for it in points if it.memory > LEAST_MEMORY]
     return (
         family.name,
@@ -327,7 +350,7 @@ def main():
         write_all(families, words.write, words.small)
         return 0
     program = words.program and os.path.abspath(words.program) or programs.ready(programs.CERTPATH)
-    bench, failed = Bench(program, words.seconds, words.small), 0
+    bench, failed, marks, begun = Bench(program, words.seconds, words.small), 0, [], time.monotonic()
     if not words.brief:
         print(f"| {' | '.join(HEAD)} |\n{'|---' * len(HEAD)}|", flush=True)
     for family in families:
@@ -335,9 +358,13 @@ def main():
             measurement = confirmed(family, bench, room)
         has_failed = bool(measurement[-1])
         failed += has_failed
+        if family.known:
+            marks.append(mark(family, *measurement))
         if has_failed or not words.brief:
             print(f"| {' | '.join(row(family, *measurement))} |", flush=True)
-    print(f"hostile: {len(families) - failed} passed, {failed} failed")
+    if not words.brief:
+        print("\n".join(marks))
+    print(f"hostile: {len(families) - failed} passed, {failed} failed, in {time.monotonic() - begun:,.0f} s")
     return 1 if failed else 0
 
 

@@ -1,7 +1,7 @@
 """Families for ./vouch: keys that OpenSSL can read, and signatures that it finds wrong."""
 import slow_keys
 from family import UNLIMITED, Files, family, of_octets
-from kinds import ELEMENTS, LARGE_KEYS, VERIFICATIONS
+from kinds import BINARY_CURVES, ELEMENTS, LARGE_KEYS, VERIFICATIONS
 from one_item import MANY, ONE_ITEM, attribute, identifier
 from parts import (ECDSA_SHA256, FIRST, LAST, VALIDITY, VERSION_3, element, entry, extension, integer, key_ids, name, p256_keys,
                    small_certificate, wrong_signature)
@@ -146,6 +146,14 @@ def vouch_rsa(count):
     algorithm, signature = slow_keys.RSA_SHA256, slow_keys.signed_by_rsa
     leaves = [small_certificate(LEAF, X, KEY, algorithm, signature(it), it) for it in range(count)]
     return Files([*leaves, *roots])
+
+
+@family("vouch-binary", "n leaves below a key on a binary curve of 571 bits, one try each", "vouch",
+        words=("--tries", "1"), sizes=(100, 200, 400, 800), small=(50, 200), known=BINARY_CURVES)
+def vouch_binary(count):
+    root, signature = signed_by_none(X, ROOT, slow_keys.on_binary_curve(), 1), slow_keys.signed_on_binary_curve
+    leaves = (small_certificate(LEAF, X, KEY, ECDSA_SHA256, signature(it), it) for it in range(count))
+    return Files([*leaves, root])
 
 
 def of_dsa(subject, number):

@@ -16,6 +16,13 @@ FIELD_OCTETS = (SLOW_PRIME.bit_length() + 7) // 8
 # A prime of 256 bits, which a DSA key needs for its second number.
 ORDER = 2**256 - 2**224 + 2**192 + 2**96 - 1
 LARGE_BITS = 10_000
+SECT571R1 = bytes.fromhex("06052b81040027")
+BINARY_GENERATOR = bytes.fromhex(
+    "04"
+    "0303001d34b856296c16c0d40d3cd7750a93d1d2955fa80aa5f40fc8db7b2abdbde53950f4c0d293"
+    "cdd711a35b67fb1499ae60038614f1394abfa3b4c850d927e1e7769c8eec2d19"
+    "037bf27342da639b6dccfffeb73d69d78c6c27a6009cbbca1980f8533921e8a684423e43bab08a57"
+    "6291af8f461bb2a8b3531d2f0485c19b16e2f1516e23dd3c1a4827af1b8ac15b")
 # The most bits of an RSA key, and of its exponent, that OpenSSL verifies by.
 RSA_BITS, EXPONENT = 16_384, 2**64 - 1
 
@@ -35,6 +42,17 @@ def compressed(number):
     parameters = element(0x30, integer(1), element(0x30, PRIME_FIELD, integer(SLOW_PRIME)), curve,
                          element(0x04, point), integer(SLOW_PRIME - 2), integer(1))
     return element(0x30, element(0x30, EC, parameters), bits(point))
+
+
+def on_binary_curve():
+    """A key on sect571r1, whose signatures OpenSSL verifies most slowly of the curves that are named:
+    its generator (SEC 2, 3.6.2)."""
+    return element(0x30, element(0x30, EC, SECT571R1), bits(BINARY_GENERATOR))
+
+
+def signed_on_binary_curve(number):
+    """A signature of such a key in its form, by no key. (Small numbers take as long as others.)"""
+    return element(0x30, integer(1), integer(number + 1))
 
 
 def large_dsa(number, size=LARGE_BITS):

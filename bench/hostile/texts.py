@@ -48,6 +48,12 @@ def vouchers_one_key(count):
     return with_lines(begin + line[64:] for line in drawn_lines("lines", count))
 
 
+@family("vouchers-two", "a voucher file of n lines, two unknown keys for each item", **LINES)
+def vouchers_two(count):
+    items = [line[64:] for line in drawn_lines("items", count // 2)]
+    return with_lines(line[:64] + items[it // 2] for it, line in enumerate(drawn_lines("keys", 2 * len(items))))
+
+
 @of_octets("vouchers-empty", "a voucher file of empty lines")
 def vouchers_empty(size):
     return with_lines([b"\n" * size])

@@ -5,19 +5,20 @@ and OpenSSL, on the same octets, by turns; prints a table in Markdown.
     bench/peers/run.py [--ours CHECKOUT] [--crates FOLDER] [--keep FOLDER] [--turns N] [--only NAME]..
                        [--columns NAME].. [--small]
 
-Ours are the programs crates/bench_item/out/bench_item and crates/certpath_cli/out/certpath_cli of a
-checkout, this one if none is named, started directly: `rt ci` leaves them there. Without the latter
-`path` is that of dist/certpath. The crates of Rust are those that librust-x509-parser-dev of Debian
-and what it depends on put into /usr/share/cargo/registry, or into FOLDER; they are built by cargo,
-which fetches nothing. Go's program needs `go`, that of OpenSSL a C compiler and libssl-dev. A column
-is empty where its program can't be built, or doesn't read so. With --keep programs and files are
-kept in a folder, and taken from there.
+Ours are the programs bench_item and certpath_cli of a checkout, this one if none is named, started
+directly: those that `rt` left in crates/NAME/out, else those that `./certpath --build` left in
+out/programs and dist/. They aren't compared with the sources. The crates of Rust are those that
+librust-x509-parser-dev of Debian and what it depends on put into /usr/share/cargo/registry, or into
+FOLDER; they are built by cargo, which fetches nothing. Debian 12 hasn't that package. Go's program
+needs `go`, that of OpenSSL a C compiler and libssl-dev. A cell is empty if its program can't be
+built, or doesn't read so; standard error says which. With --keep programs and files are kept in a
+folder, and taken from there.
 
 Figures are medians of processor seconds of whole processes that read the file, over --turns rounds,
 7 if it isn't given, in each of which every program runs once. `ratio` is ours over the column that
 rows.txt names. Exit status 1 if a ratio is above the most that is named there; or if two programs
-count otherwise. --small takes inputs that show only that all programs read them, and --columns some
-of ours, rust, go and openssl.
+count otherwise. Rows without a ratio are counted on standard error. --small takes inputs that show
+only that all programs read them, and --columns some of ours, rust, go and openssl.
 """
 import argparse
 import os
@@ -35,6 +36,9 @@ sys.path.insert(0, HERE)
 import inputs
 
 TURNS = 7
+# The crates of Rust that are read beside ours, and the crates of ours: that of the readers, and that of `path`.
+CRATES = ("asn1-rs", "der-parser", "x509-parser")
+READERS, PROGRAM = "bench_item", "certpath_cli"
 REGISTRY, GO_PACKAGE = "/usr/share/cargo/registry", "peer.go"
 COLUMNS = ("ours", "rust", "go", "openssl")
 HEADS = ("ours", "Rust", "Go", "OpenSSL")
@@ -74,14 +78,27 @@ def done(words, **how):
     ran = subprocess.run(words, stdin=subprocess.DEVNULL, stdout=subprocess.PIPE,
                          stderr=subprocess.STDOUT, text=True, check=False, **how)
     if ran.returncode:
-        print(f"peers: {' '.join(words[:2])}: {ran.stdout[-1000:]}", file=sys.stderr)
+        say(f"{' '.join(words[:2])}: {ran.stdout[-1000:]}")
     return ran.returncode == 0
+
+
+def say(text):
+    print(f"peers: {text}", file=sys.stderr, flush=True)
+
+
+def in_registry(registry):
+    """The crates of a registry that are read beside ours, each with its version."""
+    names = sorted(os.listdir(registry)) if os.path.isdir(registry) else []
+    return [f"{crate} {name.removeprefix(crate)[1:]}" for crate in CRATES for name in names
+            if name.startswith(f"{crate}-") and name.removeprefix(crate)[1:2].isdigit()]
 
 
 def of_rust(room, registry):
     """Builds the program of Rust; whether it is there."""
-    has_crates = os.path.isdir(registry) and any(name.startswith("x509-parser-") for name in os.listdir(registry))
-    if not shutil.which("cargo") or not has_crates:
+    there = {entry.split()[0] for entry in in_registry(registry)}
+    missing = [*(crate for crate in CRATES if crate not in there), *(() if shutil.which("cargo") else ("cargo",))]
+    if missing:
+        say(f"no column of Rust: {', '.join(missing)} isn't there")
         return False
     folder, target = os.path.join(room, "rust-sources"), os.path.join(room, "rust-target")
     shutil.copytree(os.path.join(HERE, "rust"), folder, dirs_exist_ok=True)
@@ -97,6 +114,7 @@ def of_rust(room, registry):
 
 def of_go(room):
     if not shutil.which("go"):
+        say("no column of Go: go isn't on the path")
         return False
     cache = os.path.join(room, "go-cache")
     words = ["go", "build", "-o", os.path.join(room, "go"), os.path.join(HERE, "go", GO_PACKAGE)]
@@ -105,45 +123,74 @@ def of_go(room):
 
 def of_openssl(room):
     compiler = next((name for name in ("cc", "gcc", "clang") if shutil.which(name)), None)
-    source = os.path.join(HERE, "c", "peer.c")
-    return bool(compiler) and done([compiler, "-O2", "-o", os.path.join(room, "openssl"), source, "-lcrypto"])
+    if not compiler:
+        say("no column of OpenSSL: no C compiler is on the path")
+        return False
+    return done([compiler, "-O2", "-o", os.path.join(room, "openssl"), os.path.join(HERE, "c", "peer.c"), "-lcrypto"])
+
+
+def first_of(*places):
+    return next(filter(os.path.exists, places), None)
+
+
+def of_ours(ours):
+    """The programs of ours: that of the readers, and the one that looks for a path; none for one that isn't there."""
+    def proved(crate):
+        return os.path.join(ours, "crates", crate, "out", crate)
+    found = {"ours": first_of(proved(READERS), os.path.join(ours, "out", "programs", READERS)),
+             "path": first_of(proved(PROGRAM), os.path.join(ours, "dist", "certpath"))}
+    if not found["ours"]:
+        say(f"no readers of ours: {READERS} isn't built")
+    return found
 
 
 def programs(room, ours, registry, columns):
-    """The path of each column's program, built if it isn't there yet; none for one that can't be, or
-    isn't among the columns."""
+    """The path of each column's program, built if it isn't there yet, and of the one of ours that looks
+    for a path; none for one that can't be built, or isn't among the columns."""
     builds = {"rust": lambda: of_rust(room, registry), "go": lambda: of_go(room), "openssl": lambda: of_openssl(room)}
-    found = {"ours": os.path.join(ours, "crates", "bench_item", "out", "bench_item")}
+    found = of_ours(ours) if "ours" in columns else {"ours": None, "path": None}
     for column, build in builds.items():
         path = os.path.join(room, column)
         is_there = column in columns and (os.path.exists(path) or build())
         found[column] = path if is_there else None
-    return {name: path if path and os.path.exists(path) else None for name, path in found.items()}
+    return found
 
 
-def path_of(ours):
-    """The program of ours that looks for a path."""
-    places = (os.path.join(ours, "crates", "certpath_cli", "out", "certpath_cli"), os.path.join(ours, "dist", "certpath"))
-    return next(filter(os.path.exists, places), None)
+def first_line(*words):
+    """The first line that a program prints, none if it can't be asked."""
+    try:
+        printed = subprocess.run(words, stdin=subprocess.DEVNULL, capture_output=True, text=True, check=True).stdout
+    except (OSError, subprocess.CalledProcessError):
+        return ""
+    return printed.partition("\n")[0]
 
 
-def command(row, column, found, ours, files):
+def versions(found, ours, registry):
+    """What is compared: the programs of ours, the crates of Rust, and the versions of Go and OpenSSL."""
+    said = [os.path.relpath(path, ours) for path in (found["ours"], found["path"]) if path]
+    said += in_registry(registry) if found["rust"] else []
+    said += [first_line("go", "version")] if found["go"] else []
+    return [*said, *([first_line("openssl", "version")] if found["openssl"] else [])]
+
+
+def command(row, column, found, files):
     """The words of a run; none if the column is empty."""
     word = row.words[column]
     if column == "ours" and word == "path":
-        program = path_of(ours)
-        return program and [program, "path", *files, *PATH]
+        return [found["path"], word, *files, *PATH] if found["path"] else None
     return [found[column], word, *files] if word and found[column] else None
 
 
 def measured(words):
-    """The processor seconds of a run, and what it prints; none if it fails."""
-    with tempfile.TemporaryFile() as out:
-        child = subprocess.Popen(words, stdin=subprocess.DEVNULL, stdout=out, stderr=subprocess.DEVNULL)
+    """The processor seconds of a run, and what it prints; none, and its last line of errors, if it fails."""
+    with tempfile.TemporaryFile() as out, tempfile.TemporaryFile() as errors:
+        child = subprocess.Popen(words, stdin=subprocess.DEVNULL, stdout=out, stderr=errors)
         _, status, usage = os.wait4(child.pid, 0)
         child.returncode = os.waitstatus_to_exitcode(status)
-        out.seek(0)
-        return (usage.ru_utime + usage.ru_stime, out.read().decode()) if child.returncode == 0 else None
+        printed = errors if child.returncode else out
+        printed.seek(0)
+        text = printed.read().decode(errors="replace")
+        return (usage.ru_utime + usage.ru_stime, text) if child.returncode == 0 else (None, text.strip()[-300:])
 
 
 def count_in(printed, word):
@@ -156,28 +203,30 @@ def count_in(printed, word):
     return last.split(": ")[-1].split()[0]
 
 
-def compared(row, found, ours, files, turns):
+def compared(row, found, files, turns):
     """The median of each column that isn't empty, and what each has counted."""
-    commands = {entry: command(row, entry, found, ours, files) for entry in COLUMNS}
+    commands = {entry: command(row, entry, found, files) for entry in COLUMNS}
     seconds, counts = {entry: [] for entry in COLUMNS}, {}
     for _ in range(turns):
         for column, words in commands.items():
-            run = measured(words) if words else None
-            if run is None:
+            if not words:
+                continue
+            taken, printed = measured(words)
+            if taken is None:
+                say(f"{row.name}: {column} doesn't read it: {printed}")
                 commands[column] = None
                 continue
-            seconds[column].append(run[0])
-            counts[column] = count_in(run[1], row.words[column])
+            seconds[column].append(taken)
+            counts[column] = count_in(printed, row.words[column])
     return {name: statistics.median(taken) for name, taken in seconds.items() if commands[name]}, counts
 
 
 def cells(row, medians):
-    """The cells of a row, and whether it keeps within what is named."""
+    """The cells of a row, and its ratio, none if one of the two columns is empty."""
     shown = [f"{medians[column] * 1000:.1f}" if column in medians else "" for column in COLUMNS]
     ratio = medians["ours"] / medians[row.beside] if {"ours", row.beside} <= {*medians} and medians[row.beside] else None
     beside = row.crate or HEADS[COLUMNS.index(row.beside)]
-    is_missed = ratio is not None and ratio > row.most
-    return [row.name, *shown, beside, f"{ratio:.2f}" if ratio is not None else "", f"{row.most}"], is_missed
+    return [row.name, *shown, beside, f"{ratio:.2f}" if ratio is not None else "", f"{row.most}"], ratio
 
 
 def read_words():
@@ -192,20 +241,28 @@ def read_words():
     return words.parse_args()
 
 
+def tabled(row, medians, counts, is_small):
+    """Prints a row; gives whether it misses something, and whether it has no ratio."""
+    shown, ratio = cells(row, medians)
+    print(f"| {' | '.join(shown)} |", flush=True)
+    is_other = len({*counts.values()}) > 1
+    if is_other:
+        say(f"{row.name}: counted otherwise: {counts}")
+    return is_other or ratio is not None and ratio > row.most and not is_small, ratio is None
+
+
 def table(room, words):
-    """Prints the table; gives how many rows miss something."""
+    """Prints what is compared, and the table; gives how many rows miss something."""
     found = programs(room, words.ours, words.crates, words.columns or COLUMNS)
-    paths, amiss = inputs.written(room, inputs.SMALL if words.small else inputs.FULL), 0
+    paths, ends = inputs.written(room, inputs.SMALL if words.small else inputs.FULL), []
+    print(f"{'; '.join(versions(found, words.ours, words.crates))}\n", flush=True)
     print(f"| milliseconds | {' | '.join(HEADS)} | ours over | ratio | at most |\n{'|---' * 8}|", flush=True)
     for row in rows():
         if words.only and not any(row.name.startswith(text) for text in words.only):
             continue
-        medians, counts = compared(row, found, words.ours, paths[row.given], words.turns)
-        shown, is_missed = cells(row, medians)
-        print(f"| {' | '.join(shown)} |", flush=True)
-        if len({*counts.values()}) > 1:
-            print(f"peers: {row.name}: counted otherwise: {counts}", file=sys.stderr)
-        amiss += is_missed and not words.small or len({*counts.values()}) > 1
+        ends.append(tabled(row, *compared(row, found, paths[row.given], words.turns), words.small))
+    amiss, left = map(sum, zip(*ends)) if ends else (1, 0)
+    say(f"{len(ends)} rows, {left} without a ratio, {amiss} amiss")
     return amiss
 
 

@@ -16,7 +16,7 @@ import re
 from dev import believe
 from gate import calls, syntax
 
-LEFT = 8
+LEFT = 1
 OPEN, CLOSE = "({⟦", ")}⟧"
 ARROW, TIMES, COLON, FALSE = "→", "×", ":", "⊥"
 TOKEN = re.compile(r"""[(){}⟦⟧]|[^\s(){}⟦⟧;,"]+|[;,]""")

@@ -8,7 +8,7 @@ from program import repo
 
 
 # The runs of `certpath_run`, and by which call each finds and by which it checks.
-ASKED = [("PathReport", "find_judged", "check"), ("WhyReport", "find_judged", "check"), ("PathsReport", "find_all_judged", "check_all"), ("EvidenceReport", "find_all_judged", "check_all")]
+ASKED = [("PathReport", "find_judged", "check"), ("WhyReport", "find_judged", "check_read"), ("PathsReport", "find_all_judged", "check_all"), ("EvidenceReport", "find_all_judged", "check_all")]
 # What is made of what a check said: lines of a report.
 TOLD = r"\b(?:report_of|report_of_all|push_check)\(([^;]*)\)\?;"
 

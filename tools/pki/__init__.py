@@ -1,1 +1,1 @@
-"""What ./verify and ./vouch share: how files are read whole, and what is reported of items."""
+"""What ./verify and ./vouch share: how files are read and written whole, and what is reported of items."""

@@ -1,6 +1,5 @@
-"""Builds a crate's program from its sources: `rt ci` proves it and all that it stands on, on a
-copy. With toolchains that keep what they proved, a build that was stopped goes on where it was.
-"""
+"""Builds a crate's program from its sources: `rt ci` proves it with all below it, on a
+copy. With toolchains that keep what they proved, a build that was stopped goes on where it was."""
 import os
 import re
 import shutil
@@ -9,11 +8,11 @@ import subprocess
 import sys
 import tempfile
 
+from pki.writing import SIGNALS
 from program import programs, repo, sources, streams
 
 # What a crate's program doesn't need of its folder.
 LEFT_OUT = ("out", "wrong", "must-fail")
-SIGNALS = (signal.SIGTERM, signal.SIGINT, signal.SIGHUP)
 VERSION_OF_LIBC = re.compile(rb"GLIBC_(\d+(?:\.\d+)*)\0")
 
 
@@ -34,8 +33,8 @@ def copied(crate, to):
 def kit():
     """The line of the toolchain on the path, none if there is none."""
     try:
-        return subprocess.run(["rt", "version"], stdin=subprocess.DEVNULL, capture_output=True,
-                              text=True, check=True).stdout.strip()
+        return subprocess.check_output(["rt", "version"], stdin=subprocess.DEVNULL,
+                                       stderr=subprocess.DEVNULL, text=True).strip()
     except (OSError, subprocess.CalledProcessError):
         return None
 
@@ -58,8 +57,7 @@ def keep(crate, program, digest):
 
 def stop(number, _):
     """Ends this process once a signal came; what it began it ends and removes first."""
-    for entry in SIGNALS:
-        signal.signal(entry, signal.SIG_IGN)
+    signal.pthread_sigmask(signal.SIG_BLOCK, SIGNALS)
     streams.report(f"stopped by {signal.Signals(number).name}")
     sys.exit(128 + number)
 

@@ -6,13 +6,12 @@ its folder `scripts`, and commands have names of their own: `certpath-verify` fo
 import os
 import re
 
-TOP = os.path.dirname(os.path.dirname(os.path.dirname(os.path.abspath(__file__))))
+from program.repo import TOP
+
 # The list of crates, which each checkout has.
 IS_INSTALLED = not os.path.exists(os.path.join(TOP, "crates.txt"))
 # The folder that has the package, the program, and its record.
 FOLDER = os.path.dirname(os.path.dirname(TOP)) if IS_INSTALLED else os.path.join(TOP, "python")
-PROGRAM = os.path.join(FOLDER, "certpath", "certpath")
-RECORD = os.path.join(FOLDER, "certpath", "BUILT")
 # The commands of an installation by the scripts of a checkout.
 COMMANDS = {"certpath": "certpath", "verify": "certpath-verify", "vouch": "certpath-vouch",
             "bundle": "certpath-bundle", "inventory": "certpath-inventory"}
@@ -25,8 +24,7 @@ OF_BUILDS = re.compile(r"(?m)^  --build  .*\n(?:  {4,}.*\n)*| \| --build(?: \[CR
 
 def renamed(text):
     """A text with the commands that an installation has, in the place of scripts."""
-    text = TYPED.sub(lambda found: COMMANDS[found[1]], text)
-    return text.replace(MODULE, COMMANDS["inventory"])
+    return TYPED.sub(lambda found: COMMANDS[found[1]], text).replace(MODULE, COMMANDS["inventory"])
 
 
 def spelled(text):

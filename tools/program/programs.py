@@ -1,7 +1,7 @@
 """Programs that are there, and what each was built from: dist/certpath, and those of other crates
 below out/programs/, which `./certpath --build NAME` and the gate put there.
 
-Beside a program stands its record, lines of a word and what it says. `kit`: the line of the
+Beside a program is its record, lines of a word and what it says. `kit`: the line of the
 toolchain. `sources`: the digest of what it was built from. `program`: the SHA-256 of its octets.
 `needs`: the machine that it runs on.
 """
@@ -14,7 +14,6 @@ from program import installed, repo, sources, streams
 CERTPATH, LIBRARY = "certpath_cli", "certpath_c"
 SHIPPED, SHIPPED_RECORD = os.path.join("dist", "certpath"), os.path.join("dist", "BUILT")
 LIBRARY_RECORD = os.path.join("dist", "BUILT-library")
-OWN = os.path.join("out", "programs")
 WORDS = ("kit", "sources", "program", "needs")
 BUILD = "./certpath --build"
 OLDER = f"dist/ is older than the sources: {BUILD} builds it"
@@ -31,8 +30,8 @@ def remedy(crate):
 def paths(crate):
     """The paths of a crate's program and of its record."""
     if installed.IS_INSTALLED:
-        return installed.PROGRAM, installed.RECORD
-    own = os.path.join(OWN, crate)
+        return tuple(os.path.join(installed.FOLDER, "certpath", name) for name in ("certpath", "BUILT"))
+    own = os.path.join("out", "programs", crate)
     return (SHIPPED, SHIPPED_RECORD) if crate == CERTPATH else (own, f"{own}.built")
 
 

@@ -25,16 +25,9 @@ def crates(top=TOP):
     return {name: [use for use in uses if use in listed] for name, uses in listed.items()}
 
 
-def below(names, listed):
-    """The named crates and all that they depend on, lowest first."""
-    found = []
-
-    def take(name):
-        if name not in found:
-            for entry in listed[name]:
-                take(entry)
-            found.append(name)
-
+def below(names, listed, found=()):
+    """The named crates and all that they depend on, lowest first, after those that were found."""
     for name in names:
-        take(name)
+        if name not in found:
+            found = [*below(listed[name], listed, found), name]
     return found

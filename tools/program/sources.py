@@ -33,15 +33,6 @@ def is_source(name):
     return not name.startswith((".", "#")) and not name.endswith("~")
 
 
-def of_crate(crate, top):
-    """HANDLES and the lines of crates.txt, as one text; and the files of a crate and of all below
-    it with their `os.stat_result`, sorted by path."""
-    crates, lines = repo.below([crate], repo.crates(top)), repo.lines(top)
-    head = "\n".join([repo.read("HANDLES", top), *(lines[entry] for entry in sorted(crates))])
-    folders = (os.path.join(top, "crates", name, part) for name in crates for part in PARTS)
-    return head, sorted((entry for part in folders for entry in scanned(part)), key=lambda file: file[0])
-
-
 def octets_of(path):
     with open(path, "rb") as file:
         return file.read()
@@ -61,7 +52,10 @@ def sum_of_octets(octets):
 
 def digest(crate, top=repo.TOP):
     """The digest in hex digits, made anew only if a file changed since it was made last."""
-    head, files = of_crate(crate, top)
+    crates, lines = repo.below([crate], repo.crates(top)), repo.lines(top)
+    head = "\n".join([repo.read("HANDLES", top), *(lines[entry] for entry in sorted(crates))])
+    folders = (os.path.join(top, "crates", name, part) for name in crates for part in PARTS)
+    files = sorted((entry for part in folders for entry in scanned(part)), key=lambda file: file[0])
     rows = (f"{path} {entry.st_size} {entry.st_mtime_ns} {entry.st_ctime_ns} {entry.st_ino}" for path, entry in files)
     looks = sum_of_octets("\n".join([head, *rows]).encode(errors="surrogateescape"))
     kept = os.path.join(top, KEPT, crate)

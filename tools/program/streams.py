@@ -16,9 +16,8 @@ if sys.stderr is None:
 
 def shown(text):
     """A text for a terminal: what isn't printable, such as control characters, is escaped."""
-    if text.isprintable():
-        return text
-    return "".join(letter if letter.isprintable() else letter.encode("unicode_escape").decode() for letter in text)
+    return text if text.isprintable() else "".join(
+        letter if letter.isprintable() else letter.encode("unicode_escape").decode() for letter in text)
 
 
 def report(text):
@@ -61,25 +60,18 @@ def unraised(what):
 def lacks_memory(error):
     """Whether an error comes of a lack of memory. Python's compiler says otherwise at times: where
     memory is limited that is each error of a module that is there and is being loaded."""
-    while error is not None:
-        number = getattr(error, "errno", None)
-        # (errors of the loader have no number, and those of files may have the caller's words)
-        is_of_loader = isinstance(error, (ImportError, OSError)) and number is None
-        if isinstance(error, MemoryError) or number == errno.ENOMEM:
-            return True
-        if is_of_loader and any(entry in str(error) for entry in NO_ROOM):
-            return True
-        if isinstance(error, Exception) and is_limited() and is_of_loading(error):
-            return True
-        error = error.__cause__
-    return False
+    number = getattr(error, "errno", None)
+    # (errors of the loader have no number, and those of files may have the caller's words)
+    is_of_loader = isinstance(error, (ImportError, OSError)) and number is None
+    return (isinstance(error, MemoryError) or number == errno.ENOMEM
+            or is_of_loader and any(entry in str(error) for entry in NO_ROOM)
+            or isinstance(error, Exception) and is_limited() and is_of_loading(error)
+            or error is not None and lacks_memory(error.__cause__))
 
 
 def is_of_loading(error):
     """Whether an error is of a module that is there and was being loaded: an import is what a frame
     of its traceback does."""
-    if isinstance(error, (SyntaxError, SystemError)):
-        return True
     if isinstance(error, ModuleNotFoundError) or NO_FILE in str(error):
         return False
     try:
@@ -88,11 +80,9 @@ def is_of_loading(error):
         # (there is no memory for the module)
         return True
     at = error.__traceback__
-    while at is not None:
-        if opname[at.tb_frame.f_code.co_code[at.tb_lasti]] in IMPORTS:
-            return True
+    while at and opname[at.tb_frame.f_code.co_code[at.tb_lasti]] not in IMPORTS:
         at = at.tb_next
-    return False
+    return bool(at) or isinstance(error, (SyntaxError, SystemError))
 
 
 def is_limited():
@@ -109,14 +99,12 @@ def is_limited():
 def wrote(octets):
     """Writes the octets on standard output, and returns whether all of them went there."""
     try:
-        if sys.stdout is None:
-            raise OSError("standard output is closed")
-        sys.stdout.buffer.write(octets)
-        sys.stdout.flush()
-        return True
+        if sys.stdout:
+            sys.stdout.buffer.write(octets)
+            sys.stdout.flush()
+            return True
     except OSError:
-        report("cannot write")
-    if sys.stdout is not None:
         # what is left in the buffer would be tried again, and reported, when Python ends
         os.dup2(os.open(os.devnull, os.O_WRONLY), sys.stdout.fileno())
+    report("cannot write")
     return False

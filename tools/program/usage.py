@@ -6,11 +6,10 @@ from program import installed, programs, repo, streams
 # The one version, of the program, the scripts, the Python package and the pages; ./test quick compares what else names it.
 VERSION = "0.1.0"
 INPUT = "/dev/stdin"
-# So many characters of a word stand in a message.
+# So many characters of a word are in a message.
 MOST_SHOWN = 200
 HELP, VERSIONS, BUILD = ("-h", "--help", "help"), ("-V", "--version", "version"), "--build"
 WELL, REFUSED, UNWRITTEN = 0, 2, 7
-SEE = installed.spelled("see './certpath --help'")
 
 COMMANDS = ("path", "why", "paths", "recheck", "questions", "frame", "bundle")
 ENDS = """\
@@ -50,28 +49,22 @@ and path finds no certificate in it, and bundle makes a DER file of it.
 def main(words):
     """Does what the words ask for; gives the status, unless it becomes the program."""
     programs.end_by_interrupt()
+    first, *rest = words or [None]
     try:
-        return done(words)
+        if first in COMMANDS:
+            options = words[:words.index("--")] if "--" in words else words
+            return helped(words) if {*options} & {*HELP[:2]} else run(words)
+        if first in HELP:
+            return helped(rest)
+        if first in VERSIONS:
+            return printed(version())
+        if first == BUILD:
+            return build(rest)
+        return refused(unknown(first) if words else "a command is missing")
     except OSError as error:
         if streams.lacks_memory(error):
             raise
         programs.end(programs.CERTPATH, f"{error.strerror}: {error.filename}")
-
-
-def done(words):
-    first, rest = (words[0], words[1:]) if words else (None, [])
-    if first in COMMANDS:
-        options = rest[:rest.index("--")] if "--" in rest else rest
-        return helped(words) if {*options} & {*HELP[:2]} else run(words)
-    if first is None:
-        return refused("a command is missing")
-    if first in HELP:
-        return helped(rest)
-    if first in VERSIONS:
-        return printed(version())
-    if first == BUILD:
-        return build(rest)
-    return refused(unknown(first))
 
 
 def run(words):
@@ -83,14 +76,14 @@ def run(words):
         return refused("--evidence needs a file: - is standard input")
     if words[0] != "bundle":
         words = [INPUT if it == "-" else it for it in words]
-    from program import beside
-    if words[0] == "paths" and beside.place_of(words):
-        return beside.run(words)
+    if words[0] == "paths":
+        from program import evidence
+        return evidence.run(words)
     return programs.become(programs.CERTPATH, words)
 
 
 def refused(why):
-    streams.report(f"certpath: {why}; {SEE}")
+    streams.report(f"certpath: {why}; see " + installed.spelled("'./certpath --help'"))
     return REFUSED
 
 

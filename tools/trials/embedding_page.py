@@ -41,6 +41,7 @@ def environment(apart):
 class EmbeddingPage(Trial):
     def section(self, heading):
         """Runs a section: writes its programs, and compares what its commands print."""
+        self.need("bash")
         text = sections()[heading]
         programs, commands = PROGRAM.findall(text), readme.commands(text)
         self.same(f"{PAGE}: programs in {heading}", text.count("```") // 2, len(programs))

@@ -26,6 +26,7 @@ NOT_RUN = (
     ("CONTRIBUTING.md", "./test ", IS_GATE),
     ("README.md", "python3 -m venv", WHEEL),
     ("README.md", "certpath-env/", WHEEL),
+    ("bench/README.md", "(cd crates/", NEEDS_RT),
     ("bench/hostile/README.md", "", "it takes minutes, and the gate runs it"),
     ("docs/CLI.md", "./certpath --version", "it prints the digest of the sources, which each change of one changes"),
     ("docs/CLI.md", "./certpath --build", NEEDS_RT),

@@ -99,7 +99,7 @@ def case_rows(made, command, octets, cases):
 def table(made):
     """Rows of words, standard input, status, standard output, standard error; `made` makes a file of a name and octets."""
     octets, cases = worked()
-    rows = [row for command in PRINTED for row in case_rows(made, command, octets, cases)]
+    rows = [row for command in PRINTED for row in case_rows(made, command, octets, cases)] + evidence_rows(made, octets, cases)
     one, key = octets["A"], octets["K"]
     many = made("many_equals", one * EQUALS)
     words = ["path", many, made("equal", one), made("equal_vouchers", vouchers([(key, one)])), "--target", str(EQUALS - 1), "--at", "2025-06-01T00:00:00"]
@@ -140,6 +140,19 @@ def command_rows(made, one, key):
              (["questions", item, "."], b"", 4, b"", b"cannot read .\n"),
              (["questions", item, item, "--limit", ""], b"", 2, b"", b"bad number\n"),
              (["questions", item, item, "--limit", "66"], b"", 0, b"", b"")]
+    return rows
+
+
+def evidence_rows(made, octets, cases):
+    """Rows of `paths --evidence` whose evidence is written out, so that no row of its table is there that need not be."""
+    rows = []
+    for number, (title, (verdicts, table_rows)) in enumerate(EVIDENCE.items()):
+        case = cases[title]
+        files = [made(f"evidence{number}_{name}", b"".join(octets[item] for item in of_case)) for name, of_case in (("bundle", case.items), ("anchors", case.anchors))]
+        files.append(made(f"evidence{number}_vouchers", vouchers((octets[key], octets[item]) for key, item in case.vouching)))
+        lines = "".join(f"{verdict}\n" for verdict in ["certpath evidence 1", *verdicts, *table_rows])
+        report = "".join(f"{k} {verdict}\n" for k, verdict in enumerate(verdicts)) + "end clean\nanchors 1 of 1, clean\ncheck yes\n"
+        rows.append((["paths", *files, "--at", case.moment, "--evidence", "/dev/stdout"], b"", 0, (lines + report).encode(), b""))
     return rows
 
 
@@ -205,6 +218,9 @@ def purposed_rows(made, item, lines, at):
     return rows + [([*recheck, evidence, *at, *words], b"", status, out, error) for evidence, words, (status, out, error) in said]
 
 
+# Worked cases, with the verdicts and the rows of their evidence.
+EVIDENCE = {"an anchor vouches for itself, at the last moment": (["path 0 anchor 0"], ["row"]),
+            "a path of two: the target is not counted": (["path 0 1 anchor 0", "path 1 anchor 0"], ["row", "1 upto 0", "row"])}
 # Texts that are no host and no purpose, and why.
 BAD_HOSTS = {"": "it is empty", ".": "it is empty", "https://a.test": "it is a URL or has a path", "a@a.test": "it is an e-mail address", "*.a.test": "it has a wildcard",
              "::1%1": "it has a zone", "a.test:443": "it has a port", "::g": "it is no IPv6 address",

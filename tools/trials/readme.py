@@ -136,7 +136,7 @@ class Readme(Trial):
                 if lack:
                     self.skipTest(f"{path}: {lack}")
                 wanted = tried(path)
-                self.need("sh", *sorted({word for command, _ in wanted for word in CALLED.findall(QUOTED.sub("", command))}))
+                self.need("bash", *sorted({word for command, _ in wanted for word in CALLED.findall(QUOTED.sub("", command))}))
                 self.need_libcrypto()
                 self.page(path)
 

@@ -7,6 +7,7 @@ beside a model that is written apart from the code.
 import collections
 import difflib
 import os
+import re
 import subprocess
 import sys
 import tempfile
@@ -16,6 +17,7 @@ from typing import NamedTuple
 
 sys.dont_write_bytecode = True
 sys.path.insert(0, os.path.dirname(os.path.dirname(os.path.abspath(__file__))))
+from program import repo
 from trials import paths, reasons_making as making, reasons_model as model
 from trials.count import Trial, size
 from trials.reasons_making import ALGORITHM, KEYS, SIGNATURE
@@ -24,9 +26,12 @@ from trials.synthetic import CONSTRAINTS, USAGE, element, extension, name, numbe
 # How many random bundles are made: by hand, in the gate, and on a machine without the toolchain.
 MANY, SOME, FEW = 10_000, 500, 50
 SEED, SECONDS = "reasons", 600
+# The page that says what each line means, and how many lines have an example there at least.
+PAGE, EXAMPLES = "docs/REASONS.md", 36
 AT = "2025-06-01T00:00:00"
 KEY, YEAR = KEYS[0], ("250101000000Z", "260101000000Z")
 CERTIFICATE_ISSUER, POLICIES = bytes.fromhex("0603551d1d"), bytes.fromhex("0603551d20")
+SUBJECT_ALT_NAME, EXTENDED_KEY_USAGE = bytes.fromhex("0603551d11"), bytes.fromhex("0603551d25")
 # `M\xfcller` as a T61String (20), which is no UTF-8, so that the name has no text.
 NO_TEXT = bytes.fromhex("3011310f300d060355040314064dfc6c6c6572")
 CRITICAL, UNCRITICAL = (extension(CERTIFICATE_ISSUER, index, b"\x30\0") for index in (True, False))
@@ -43,6 +48,7 @@ class Row(NamedTuple):
     anchors: list
     lines: list
     status: int = 0
+    demand: tuple = ()
 
 
 def utc(text):
@@ -219,6 +225,59 @@ def range_rows():
               ["path 0 anchor 0", "at 0 CN=a", "at 0 to anchor 0-1 linked"])
 
 
+def demand_rows():
+    """Targets whose extKeyUsage, or subjectAltName, isn't well written, or is there twice."""
+    client = sequence(bytes.fromhex("06082b06010505070302"))
+    host = sequence(element(0x82, b"a.test"))
+    for demand, identifier, fails, value in (
+            (("purpose", "serverAuth"), EXTENDED_KEY_USAGE, "isn't for serverAuth", client),
+            (("host", "b.test"), SUBJECT_ALT_NAME, "doesn't serve b.test", host)):
+        called = "extKeyUsage" if identifier == EXTENDED_KEY_USAGE else "subjectAltName"
+        for title, values, repeats, words in (
+                ("without an element", [b"\x30\0"], [], f"its {called} isn't well written"),
+                ("twice", [value, value],
+                 [f"not usable: extension 1 repeats 2.5.29.{identifier[-1]}"],
+                 f"it has more than one {called}")):
+            held = [extension(identifier, False, octets) for octets in values]
+            lines = ["none", "at 0 CN=a", *(f"at 0 {reason}" for reason in repeats),
+                     f"at 0 {fails}: {words}", "at 0 to anchor 0 linked"]
+            yield Row(f"{called} {title}", [certificate(name("a"), name("b"), YEAR, held)],
+                      [ANCHOR], lines, 1, demand)
+
+
+def all_rows():
+    """The rows whose dates and names are written out."""
+    for rows in (list_rows, certificate_rows, repeat_rows, usage_rows, name_rows, bound_rows,
+                 range_rows, demand_rows):
+        yield from rows()
+
+
+def report_of(row):
+    """The whole report of a row."""
+    answer, *lines = row.lines
+    return text_of([*[" ".join(row.demand)] * bool(row.demand), answer, "check yes", *lines])
+
+
+def reports_of_page():
+    """The reports that docs/REASONS.md can name as examples, by their titles."""
+    found = {row.title: report_of(row) for row in all_rows()}
+    for title, report in re.findall(r"(?ms)^== ([^:\n]+):[^\n]*\n(.*?)(?=^== |\Z)",
+                                    repo.read("tools/trials/refusals.txt")):
+        found[title] = report
+    for title, report in re.findall(r"(?ms)^case ([^\n]+)\n(.*?)^status ",
+                                    repo.read(paths.PRINTED["why"])):
+        found[title] = re.sub(r"(?m)^> ", "", report)
+    return found
+
+
+def named_examples():
+    """The lines of docs/REASONS.md, as patterns, with the titles of their examples."""
+    for line, title in re.findall(r"(?m)^\| `([^`]+)` \|.*\| ([^|]+) \|$", repo.read(PAGE)):
+        parts = re.split(r"\b(V|P|K|R|MANY|NAME|MOMENT|OID|LIST|WORDS)\b", line)
+        pattern = "".join(".+" if k % 2 else re.escape(part) for k, part in enumerate(parts))
+        yield line, pattern, title
+
+
 class Asking:
     """Asks the program of files in a folder."""
 
@@ -242,13 +301,22 @@ def text_of(lines):
 
 def try_rows(count, asking):
     """The rows whose dates and names are written out."""
-    for row in (*list_rows(), *certificate_rows(), *repeat_rows(), *usage_rows(), *name_rows(),
-                *bound_rows(), *range_rows()):
+    for row in all_rows():
         files = (b"".join(row.items), b"".join(row.anchors),
                  paths.vouchers((KEY, item) for item in row.items))
-        answer, *lines = row.lines
-        count.same(row.title, asking.report(files, ["--target", "0", "--at", AT]),
-                   (row.status, text_of([answer, "check yes", *lines]), b""))
+        words = [f"--{row.demand[0]}", row.demand[1]] if row.demand else []
+        count.same(row.title, asking.report(files, ["--target", "0", "--at", AT, *words]),
+                   (row.status, report_of(row), b""))
+
+
+def try_page(count):
+    """Each line that docs/REASONS.md names is in the report of its example."""
+    reports, examples = reports_of_page(), [*named_examples()]
+    for line, pattern, title in examples:
+        report = reports.get(title, "")
+        count.row(any(re.search(rf"(?:^|: | ){pattern}$", entry) for entry in report.split("\n")),
+                  f"{PAGE}: {line} isn't in the report of {title}")
+    count.row(len(examples) >= EXAMPLES, f"{PAGE}: {len(examples)} lines have an example")
 
 
 def differences(said, lines):
@@ -282,6 +350,9 @@ class Reasons(Trial):
 
     def test_rows(self):
         try_rows(self, self.asking)
+
+    def test_page(self):
+        try_page(self)
 
     def test_bundles(self):
         self.try_bundles(size(SOME, FEW))

@@ -4,8 +4,8 @@ from itertools import islice
 
 from pki import reading
 from pki.reporting import counted
+from pki.writing import put
 from program import programs, repo, streams
-from program.beside import put
 from verify import (answers, asking, core, demands, faults, files, graph, machine, page, people, roles, signing, spelling, stores, waiting,
                     words)
 from verify.core import Kind

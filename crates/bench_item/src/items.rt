@@ -10,6 +10,7 @@ use std::alloc::Global;
 use x509_certs::{X509Certificate, X509CertificateParser};
 use x509_core::X509Error;
 use x509_lists::CertificateRevocationList;
+use x509_names::X509Name;
 
 /// How many items the octets are, each behind the other.
 pub(crate) fn count_items(alloc: Global, reader: &str, octets: &[u8]) -> Result<usize> {
@@ -23,6 +24,7 @@ pub(crate) fn count_items(alloc: Global, reader: &str, octets: &[u8]) -> Result<
             "typed" => after_typed::<X509Certificate<'_>>(alloc, rest),
             "plain" => after_plain(alloc, rest),
             "list" => after_typed::<CertificateRevocationList<'_>>(alloc, rest),
+            "names" => after_typed::<X509Name<'_>>(alloc, rest),
             "tree" | "road" => after_item(alloc, reader, rest),
             _ => bail!("no file is read as {reader:?}"),
         };

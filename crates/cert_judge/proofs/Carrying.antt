@@ -11,6 +11,10 @@ use Rattle.cert_graph.specs.declared.reach.Reach.TheVariants.{No}
 use Rattle.cert_graph.specs.Reach.{Takes}
 use Rattle.cert_graph.specs.Graph.{IsValidPath}
 use Rattle.cert_graph.specs.Entries.{IsAt}
+use Rattle.cert_graph.specs.Inventory.{IsTrueInventory}
+use Rattle.cert_graph.specs.LawsOfInventories.{SayTheSameOfAll}
+use Rattle.cert_graph.specs.declared.inventory.Inventory.{Inventory}
+use Rattle.cert_graph.proofs.OneInventory.{one_inventory}
 use Rattle.cert_graph.specs.Laws.{Carries, Agrees, UsableIsCertificate}
 use Rattle.cert_graph.specs.LawsOfNodes.{SayTheSame}
 use Rattle.cert_graph.proofs.Unique.{one_true_answer}
@@ -266,3 +270,7 @@ usable_is_certificate r items anchors v u = (u.0, λ d. let c = u.1 d in (c.0, c
 
 pub one_answer : (r : JudgingContext) (items anchors : List Item) (target : ℕ) (answer another : Answer) → IsTrueAnswer (graph_of_items r items anchors) target answer → IsTrueAnswer (graph_of_items r items anchors) target another → SayTheSame answer another
 one_answer r items anchors = one_true_answer (graph_of_items r items anchors) (usable_is_certificate r items anchors)
+
+pub one_inventory_of : (r : JudgingContext) (items anchors : List Item) (inventory another : Inventory) → IsTrueInventory (graph_of_items r items anchors) inventory → IsTrueInventory (graph_of_items r items anchors) another
+    → SayTheSameOfAll inventory another
+one_inventory_of r items anchors = one_inventory (graph_of_items r items anchors) (usable_is_certificate r items anchors)

@@ -5,8 +5,11 @@
 ghost use Rattle.std.specs.Prelude.{◌≡◌, ◌↔◌, ◌⊎◌, ℕ, Bool, true, List, All, [], ◌∷◌, ◌++◌};
 ghost use Rattle.cert_graph.specs.Graph.{IsValidPath};
 ghost use Rattle.cert_graph.specs.Adequate.{IsAdequate, IsTrueAnswer};
+ghost use Rattle.cert_graph.specs.Inventory.{IsAdequateInventory, IsTrueInventory};
+ghost use Rattle.cert_graph.specs.LawsOfInventories.{SayTheSameOfAll};
 ghost use Rattle.cert_graph.specs.LawsOfNodes.{SayTheSame};
 ghost use Rattle.cert_graph.specs.declared.answer.Answer.{Answer};
+ghost use Rattle.cert_graph.specs.declared.inventory.Inventory.{Inventory};
 ghost use Rattle.cert_model.specs.Class.{certificate, other};
 ghost use Rattle.cert_model.specs.Extended.{basic_constraints, key_usage};
 ghost use Rattle.cert_model.specs.Fields.{CivilTime, Extension, Certificate};
@@ -44,6 +47,19 @@ pub fn adequate_is_true_by<V: Vouch>(_vouch: &V)
 pub fn one_true_answer_by<V: Vouch>(_vouch: &V)
     ensures { (moment : CivilTime) (demand : Bool) (items anchors : List Item) (target : ℕ) (answer another : Answer)
         → let g = graph_of_items (rules_at moment demand (V.vouches_for _vouch.now)) items anchors in IsTrueAnswer g target answer → IsTrueAnswer g target another → SayTheSame answer another }
+{}
+
+/// An adequate inventory of items is true.
+pub fn adequate_inventory_is_true_by<V: Vouch>(_vouch: &V)
+    ensures { (moment : CivilTime) (demand : Bool) (items anchors : List Item) (inventory : Inventory)
+        → let g = graph_of_items (rules_at moment demand (V.vouches_for _vouch.now)) items anchors in IsAdequateInventory g inventory → IsTrueInventory g inventory }
+{}
+
+/// Two true inventories of items agree at each position: both name one path to one anchor, or say
+/// that there is none, or that the item is no certificate.
+pub fn one_true_inventory_by<V: Vouch>(_vouch: &V)
+    ensures { (moment : CivilTime) (demand : Bool) (items anchors : List Item) (inventory another : Inventory)
+        → let g = graph_of_items (rules_at moment demand (V.vouches_for _vouch.now)) items anchors in IsTrueInventory g inventory → IsTrueInventory g another → SayTheSameOfAll inventory another }
 {}
 
 /// A value that vouches for more certificates, and for equal lists, and processes more, never loses

@@ -5,7 +5,7 @@ ghost use Rattle.asn1_oid.specs.Identifier.{IsOidContent};
 ghost use Rattle.cert_model.specs.Octets.{identifier_octets};
 ghost use Rattle.cert_purpose.specs.Purposes.{any_purpose, AreWritten, IsFor};
 
-use asn1_core::Class;
+use asn1_core::{Class, Tag};
 use asn1_oid::is_oid_content;
 use cert_model::parts::{part, whole};
 
@@ -62,7 +62,7 @@ fn are_written(content: &[u8], purpose: &[u8]) -> bool
 pub fn is_for(value: &[u8], purpose: &[u8]) -> bool
     ensures { IsTrue result ↔ IsFor purpose.now value.now }
 {
-    match whole(Class::Universal, true, 16, value) {
+    match whole(Class::Universal, true, Tag::Sequence.0, value) {
         Some(content) => are_written(content, purpose),
         None => false,
     }

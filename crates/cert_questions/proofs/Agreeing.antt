@@ -7,7 +7,13 @@ use Rattle.std.proofs.lemmas.List.{get_or-append-add}
 use Rattle.std.proofs.lemmas.List.Elements.{Contains-get_or}
 use Rattle.std.proofs.lemmas.Option.{slice_get-get_or}
 use Rattle.cert_graph.specs.Entries.{IsAt}
-use Rattle.cert_graph.specs.Laws.{Agrees}
+use Rattle.cert_graph.specs.Graph.{Graph}
+use Rattle.cert_graph.specs.Inventory.{IsTrueInventory, IsTrueVerdict}
+use Rattle.cert_graph.specs.Laws.{Agrees, FitIsUsable}
+use Rattle.cert_graph.specs.declared.inventory.Inventory.{Inventory}
+use Rattle.cert_graph.specs.declared.inventory.Verdict.{Verdict}
+use Rattle.cert_graph.specs.declared.inventory.Verdict.TheVariants.{FirstPath, Pathless, NoCertificate}
+use Rattle.cert_graph.proofs.AgreeingInventories.{agreed_inventory}
 use Rattle.cert_graph.proofs.Agreeing.{agreed_back, agreed_adequate, agreed_true, valid_same}
 use Rattle.cert_model.specs.Fields.{CivilTime, Number, Certificate, RevocationList}
 use Rattle.cert_model.specs.Octets.{name_octets, key_octets}
@@ -162,6 +168,20 @@ links_agree r s items anchors a = record {
   anchored = λ v w. (anchor_same r s items anchors a v w, anchor_same s r items anchors (back r s items anchors a) v w);
 }
 
+verdict_carried : (g h : Graph) → Agrees g h → FitIsUsable g → FitIsUsable h → (target : ℕ) (verdict : Verdict) → IsTrueVerdict g target verdict → IsTrueVerdict h target verdict
+verdict_carried g h e fit fit_too target (FirstPath ps a) k = record {
+  valid = valid_same g h e fit_too target ps.items a k.valid;
+  first = λ qs b v before. k.first qs b (valid_same h g (agreed_back g h e) fit target qs b v) before;
+}
+verdict_carried g h e fit fit_too target Pathless k = ((e.certificate target).0 k.0, λ ps a v. k.1 ps a (valid_same h g (agreed_back g h e) fit target ps a v))
+verdict_carried g h e fit fit_too target NoCertificate k = λ x. k ((e.certificate target).1 x)
+
+inventory_carried : (g h : Graph) → Agrees g h → FitIsUsable g → FitIsUsable h → (inventory : Inventory) → IsTrueInventory g inventory → IsTrueInventory h inventory
+inventory_carried g h e fit fit_too inventory k = record {
+  count = k.count ∙ e.items;
+  each = λ target within d. verdict_carried g h e fit fit_too target (get_or inventory.verdicts.items target d) (k.each target within d);
+}
+
 pub say_the_same : (r s : JudgingContext) (items anchors : List Item) → AgreeOnQuestions r s items anchors → SayTheSameOf r s items anchors
 say_the_same r s items anchors a =
     let g = graph_of_items r items anchors in
@@ -173,4 +193,6 @@ say_the_same r s items anchors a =
       paths = λ target ps b. (λ p. valid_same g h agree fit_too target ps b p, λ p. valid_same h g (agreed_back g h agree) fit target ps b p);
       holds = λ target answer. agreed_true g h agree fit target answer;
       adequate = λ target answer. agreed_adequate g h agree fit target answer;
+      true_inventories = λ inventory. (inventory_carried g h agree fit fit_too inventory, inventory_carried h g (agreed_back g h agree) fit_too fit inventory);
+      adequate_inventories = λ inventory. agreed_inventory g h agree fit inventory;
     }

@@ -1,8 +1,10 @@
 -- Contexts of judging that agree on each question.
 use Rattle.std.specs.Prelude.{◌≡◌, ◌↔◌, ℕ, List, ◌++◌, Some, Contains, slice_get}
 use Rattle.cert_graph.specs.declared.answer.Answer.{Answer}
+use Rattle.cert_graph.specs.declared.inventory.Inventory.{Inventory}
 use Rattle.cert_graph.specs.Graph.{Graph, IsValidPath}
 use Rattle.cert_graph.specs.Adequate.{IsAdequate, IsTrueAnswer}
+use Rattle.cert_graph.specs.Inventory.{IsAdequateInventory, IsTrueInventory}
 use Rattle.cert_model.specs.Fields.{Certificate}
 use Rattle.cert_model.specs.Class.{certificate}
 use Rattle.cert_judge.specs.Revoking.{Item, JudgingContext}
@@ -19,11 +21,14 @@ pub record AgreeOnQuestions (r s : JudgingContext) (items anchors : List Item) :
       → r.Vouches key x.octets ↔ s.Vouches key x.octets
   pub processed : (x : Item) (c : Certificate) (identifier : List ℕ) → Contains items x → x.class ≡ certificate c → r.Processes x.octets identifier ↔ s.Processes x.octets identifier
 
--- two graphs have equal valid paths, equal true answers and equal adequate ones
+-- two graphs have equal valid paths, equal true answers and equal adequate ones, and likewise equal
+-- inventories
 pub record SayTheSameOfAll (g h : Graph) : Type 0 where
   pub paths : (target : ℕ) (ps : List ℕ) (a : ℕ) → IsValidPath g target ps a ↔ IsValidPath h target ps a
   pub holds : (target : ℕ) (answer : Answer) → IsTrueAnswer g target answer ↔ IsTrueAnswer h target answer
   pub adequate : (target : ℕ) (answer : Answer) → IsAdequate g target answer ↔ IsAdequate h target answer
+  pub true_inventories : (inventory : Inventory) → IsTrueInventory g inventory ↔ IsTrueInventory h inventory
+  pub adequate_inventories : (inventory : Inventory) → IsAdequateInventory g inventory ↔ IsAdequateInventory h inventory
 
 abbrev pub SayTheSameOf : JudgingContext → JudgingContext → List Item → List Item → Type 0
 SayTheSameOf r s items anchors = SayTheSameOfAll (graph_of_items r items anchors) (graph_of_items s items anchors)

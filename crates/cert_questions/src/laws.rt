@@ -13,7 +13,7 @@ ghost use Rattle.cert_questions.specs.Questions.{IsQuestion};
 use cert_judge::Vouch;
 
 /// Two tests that agree on each question of items and anchors have equal valid paths, equal true
-/// answers and equal adequate ones: nothing else is ever asked of them. They process no extension.
+/// answers and inventories, and equal adequate ones. They process no extension.
 pub fn questions_suffice()
     ensures { (moment : CivilTime) (demand : Bool) (vouches others : List ℕ → List ℕ → Bool) (items anchors : List Item)
         → AgreeOnQuestions (rules_from moment demand vouches) (rules_from moment demand others) items anchors
@@ -21,7 +21,7 @@ pub fn questions_suffice()
 {}
 
 /// Two values that vouch alike on each question, and process equal extensions of certificates, have
-/// equal valid paths, equal true answers and equal adequate ones.
+/// equal valid paths, equal true answers and inventories, and equal adequate ones.
 pub fn questions_suffice_by<V: Vouch, W: Vouch>(_vouch: &V, _other: &W)
     ensures { (moment : CivilTime) (demand : Bool) (items anchors : List Item)
         → let r = rules_at moment demand (V.vouches_for _vouch.now) in let s = rules_at moment demand (W.vouches_for _other.now) in

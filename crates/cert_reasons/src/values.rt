@@ -10,7 +10,7 @@ ghost use Rattle.cert_serving.specs.GeneralNames.{AreGeneralNames};
 ghost use Rattle.cert_serving.specs.GeneralNames as spelled;
 ghost use Rattle.cert_serving.specs.View.{general_name_view};
 
-use asn1_core::Class;
+use asn1_core::{Class, Tag};
 use asn1_oid::is_oid_content;
 use cert_model::parts::{part, whole};
 use cert_serving::{GeneralName, next_name};
@@ -59,7 +59,7 @@ pub fn purposes_of<'a>(
 ) -> Result<Option<Vec<Purpose<'a>>>, AllocError>
     ensures { IfOk result (λ o. MatchOption o ((ps : List Identifier) → ArePurposes value.now ps → ⊥) (λ found. ArePurposes value.now (map (λ p. p.identifier.now) found.items))) }
 {
-    let Some(content) = whole(Class::Universal, true, 16, value) else {
+    let Some(content) = whole(Class::Universal, true, Tag::Sequence.0, value) else {
         return Ok(None);
     };
     if content.is_empty() {
@@ -95,7 +95,7 @@ pub fn names_of<'a>(
 ) -> Result<Option<Vec<GeneralName<'a>>>, AllocError>
     ensures { IfOk result (λ o. MatchOption o ((gs : List spelled.GeneralName) → AreGeneralNames value.now gs → ⊥) (λ found. AreGeneralNames value.now (map general_name_view found.items))) }
 {
-    let Some(content) = whole(Class::Universal, true, 16, value) else {
+    let Some(content) = whole(Class::Universal, true, Tag::Sequence.0, value) else {
         return Ok(None);
     };
     if content.is_empty() {

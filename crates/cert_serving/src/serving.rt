@@ -8,7 +8,7 @@ ghost use Rattle.cert_serving.specs.Serving.{IsNameOf, Names, AreNames, Serves};
 ghost use Rattle.cert_serving.specs.View.{general_name_view};
 
 use crate::names::{Choice, GeneralName, next_name};
-use asn1_core::Class;
+use asn1_core::{Class, Tag};
 use cert_model::fields::ExtField;
 use cert_model::parts::whole;
 use cert_purpose::{Value, value_under};
@@ -66,7 +66,7 @@ fn are_names(content: &[u8], host: &Host<'_>) -> bool
 fn has_name(value: &[u8], host: &Host<'_>) -> bool
     ensures { IsTrue result ↔ Names (host_view host.now) value.now }
 {
-    match whole(Class::Universal, true, 16, value) {
+    match whole(Class::Universal, true, Tag::Sequence.0, value) {
         Some(content) => are_names(content, host),
         None => false,
     }

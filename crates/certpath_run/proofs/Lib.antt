@@ -1,6 +1,7 @@
 pub mod Searched
 mod FrameFacts
 mod InventoryFacts
+mod PieceFacts
 mod Reaching
 mod ReportFacts
 mod Why

@@ -4,7 +4,10 @@ use Rattle.cert_framing.specs.Held.{Framed}
 use Rattle.cert_graph.specs.declared.answer.Answer.{Answer}
 use Rattle.cert_judge.specs.Classed.{AreClassed}
 use Rattle.cert_judge.specs.ItemGraph.{graph_of_items}
+use Rattle.cert_judge.specs.JudgedItems.{AreJudged}
 use Rattle.cert_judge.specs.Revoking.{Item, JudgingContext}
+use Rattle.cert_judge.specs.declared.judged.JudgedItem.{JudgedItem}
+use Rattle.cert_model.specs.Fields.{CivilTime}
 use Rattle.certpath_find.specs.Answered.{IsFound}
 use Rattle.certpath_find.proofs.Answering.{one_classing}
 use Rattle.certpath_inputs.specs.Check.{check_line}
@@ -42,3 +45,7 @@ reported demand r search items anchors target xs ys read roots answer said fault
           ∙ ap (λ t. lines ++ t) (append_assoc (answer_line answer) (check_line said) (lines_of ++ why) ∙ ap (λ b. answer_line answer ++ (check_line b ++ (lines_of ++ why))) holds.0);
       outcome_is = is;
     }
+
+-- items that were read twice have one judgement
+pub judged_as_read : (moment : CivilTime) (octets : List (List ℕ)) (xs read : List Item) (judged : List JudgedItem) → AreClassed octets xs → AreClassed octets read → AreJudged moment xs judged → AreJudged moment read judged
+judged_as_read moment octets xs read judged xs_are read_are is = subst (λ l. AreJudged moment l judged) (one_classing octets xs read xs_are read_are) is

@@ -6,6 +6,7 @@ pub mod Frames
 pub mod Items
 pub mod JudgedReport
 pub mod Judging
+pub mod Passing
 pub mod Report
 pub mod Runs
 pub mod Reaching

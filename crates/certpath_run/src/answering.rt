@@ -1,9 +1,9 @@
 //! The answer on a target, found by `certpath_find` and checked by `certcheck`.
 
-ghost use Rattle.std.specs.Prelude.{◌≡◌, List, IfOk, true};
+ghost use Rattle.std.specs.Prelude.{◌≡◌, List, IfOk, map, true};
 ghost use Rattle.cert_judge.specs.Classed.{AreClassed};
 ghost use Rattle.cert_judge.specs.ItemGraph.{graph_of_items};
-ghost use Rattle.cert_judge.specs.Items.{rules_by};
+ghost use Rattle.cert_judge.specs.Items.{item_of, rules_by};
 ghost use Rattle.cert_judge.specs.JudgedItems.{AreJudged};
 ghost use Rattle.cert_judge.specs.Revoking.{Item};
 ghost use Rattle.cert_model.specs.View.{time_view};
@@ -13,8 +13,8 @@ ghost use Rattle.certpath_run.specs.Runs.{kind_of};
 use crate::settings::{Outcome, Settings};
 use asn1_core::OutOfMemory;
 use cert_graph::Answer;
-use cert_judge::{JudgedItem, Vouch};
-use certcheck::check;
+use cert_judge::{JudgedItem, ReadItem, Vouch};
+use certcheck::{check, check_read};
 use certpath_find::find_judged;
 use certpath_inputs::Inputs;
 use std::alloc::Global;
@@ -64,5 +64,27 @@ pub(crate) fn answer_on<'a, V: Vouch>(
         &policy,
         &answer,
     )?;
+    Ok(Answered { answer, said })
+}
+
+/// Finds the answer over the judged items, and checks it over what the reader of the check read
+/// them as.
+pub(crate) fn answer_read<'a, V: Vouch>(
+    alloc: Global,
+    items: &[JudgedItem<'a>],
+    anchors: &[JudgedItem<'a>],
+    read: &[ReadItem<'a>],
+    read_anchors: &[ReadItem<'a>],
+    vouch: &V,
+    settings: &Settings,
+) -> Result<Answered, OutOfMemory>
+    ensures { AreJudged (time_view settings.now.policy.moment) (map item_of read.now) items.now
+        → AreJudged (time_view settings.now.policy.moment) (map item_of read_anchors.now) anchors.now
+        → IfOk result (λ a. (a.said ≡ true) × IsFound (graph_of_items (rules_by settings.now.policy.moment settings.now.policy.demand_lists (V.vouches_for vouch.now)) (map item_of read.now) (map item_of read_anchors.now)) settings.now.target a.answer) }
+{
+    let policy = settings.policy;
+    let target = settings.target;
+    let answer = find_judged(alloc, items, target, anchors, vouch, policy.demands_lists())?;
+    let said = check_read(alloc, read, target, read_anchors, vouch, &policy, &answer)?;
     Ok(Answered { answer, said })
 }

@@ -1,29 +1,14 @@
-//! The text of a framed stream: a line for each item, its first fault if that is asked for, and a
-//! line for how the stream ends.
+//! The text of a framed stream with the faults of its items: a line for each item and its first
+//! fault, and a line for how the stream ends.
 ghost use Rattle.std.specs.Prelude.{◌≡◌, ℕ, ◌+◌, ◌++◌, ◌^◌, ◌<◌, length, take, drop, OnOk, IfOk, string_bytes, slice_index_or};
 ghost use Rattle.std.specs.List.{concat};
-ghost use Rattle.certpath_run.specs.FrameText.{IsFrameWhy, item_line, frame_text};
+ghost use Rattle.certpath_run.specs.FrameText.{IsFrameWhy, item_line};
 
 use crate::report::push_end;
 use asn1_core::OutOfMemory;
 use cert_framing::Items;
 use fault_texts::{Whose, push_fault_of};
 use std::alloc::{AllocError, Global};
-
-/// The lines of all items, and the line of the end.
-pub(crate) fn text_of(alloc: Global, items: &Items) -> Result<String, AllocError>
-    ensures { IfOk result (λ text. string_bytes text ≡ frame_text items.now.items items.now.end) }
-{
-    let mut text = String::new(alloc);
-    let mut offset = 0;
-    for k in 0..items.len() {
-        let size = items.get(k).len();
-        push_item(&mut text, k, offset, size)?;
-        offset += size;
-    }
-    push_end(&mut text, items.end())?;
-    Ok(text)
-}
 
 /// The lines of all items, each that is other with its first fault, and the line of the end.
 pub(crate) fn why_text_of(alloc: Global, items: &Items) -> Result<String, OutOfMemory>

@@ -6,18 +6,18 @@ ghost use Rattle.certpath_run.specs.Items.{IsOfItems, UsesItemReader, failed_ite
 ghost use Rattle.certpath_run.specs.declared.items.ItemInput.TheVariants.{Bundle};
 ghost use Rattle.certpath_inputs.specs.Uses.{counts};
 
-use crate::frame_text::text_of;
+use crate::frame_pieces::{room_for_pieces, write_frame};
 use crate::items::{ItemInput, ItemsError, items_of};
 use asn1_device::{Sink, Source};
 use cert_framing::End;
-use certpath_inputs::write_text;
 use std::alloc::Global;
 
 /// Reads all that `reader` gives, cuts it into items of at most `limit` content octets, and writes
 /// their frame text to `writer`: a line for each item, with its number, where it begins and its
 /// length in octets, and a line for how the stream ends. It returns how the stream ends.
 ///
-/// Nothing is written before all is read and the text is built. The writer is then flushed once.
+/// Nothing is written before all is read. The text is written in pieces of up to 65,536 octets,
+/// whose room is taken before the first; then the writer is flushed once.
 ///
 /// # Errors
 ///
@@ -44,10 +44,10 @@ pub fn frame<R: Source, W: Sink>(
     ensures uses { UsesItemReader result (counts R.Source reader.old) (counts R.Source reader.new) }
 {
     let items = items_of(alloc, reader, ItemInput::Bundle, limit)?;
-    let Ok(text) = text_of(alloc, &items) else {
+    let Ok(mut piece) = room_for_pieces(alloc) else {
         return Err(ItemsError::OutOfMemory);
     };
-    if write_text(writer, text.as_bytes()).is_err() {
+    if write_frame(writer, &mut piece, &items).is_err() {
         return Err(ItemsError::Write);
     }
     Ok(items.end())

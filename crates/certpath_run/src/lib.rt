@@ -1,5 +1,5 @@
 //! The commands of the program over any reader and writer: each reads its inputs to their ends,
-//! builds a text, and writes it at once.
+//! builds a text, and writes it at once; [`frame`] writes its text in pieces.
 //!
 //! `path`, `why` and `paths` read bundle, anchors and vouchers. They are one function,
 //! [`run_report`], over what is reported: a type that implements [`Reports`]. Items are judged by
@@ -11,6 +11,7 @@ mod answering;
 mod asking;
 mod explaining;
 mod finding;
+mod frame_pieces;
 mod frame_text;
 mod framing;
 mod items;

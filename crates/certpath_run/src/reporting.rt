@@ -16,7 +16,7 @@ ghost use Rattle.certpath_inputs.specs.Inputs.{VouchesBy};
 ghost use Rattle.fault_texts.specs.FaultLines.{AppendsFaults};
 ghost use Rattle.certpath_run.specs.Runs.{IsReportWith, IsReportFor, IsWhyOn, IsWhyReportFor, IsWhyReportWith, VouchesAnyWhere};
 
-use crate::answering::{Answered, answer_on};
+use crate::answering::{Answered, answer_on, answer_read};
 use crate::judging::judged_by;
 use crate::remembering::remembered_for;
 use crate::report::{push_answer, report_of};
@@ -178,8 +178,16 @@ fn why_alone<'a>(
     ensures { IfOk result (λ r. IsWhyOn settings.now r.outcome inputs.now.items inputs.now.anchors vouch.now.vouchers.now (string_bytes r.text)) }
 {
     let demand = Demand::none();
-    let answered = answer_on(alloc, inputs, items, anchors, vouch, settings)?;
     let read = both_read(alloc, inputs)?;
+    let answered = answer_read(
+        alloc,
+        items,
+        anchors,
+        &read.items,
+        &read.anchors,
+        vouch,
+        settings,
+    )?;
     let mut text = faulted_text(alloc, &demand, &answered, &read, settings.target)?;
     push_why(
         &mut text,
@@ -214,8 +222,16 @@ fn why_by<'a, P: Permit>(
         inputs.now.items inputs.now.anchors settings.now.target (string_bytes r.text) r.outcome) }
 {
     let restricted = Restricted::new(vouch, permit);
-    let answered = answer_on(alloc, inputs, items, anchors, &restricted, settings)?;
     let read = both_read(alloc, inputs)?;
+    let answered = answer_read(
+        alloc,
+        items,
+        anchors,
+        &read.items,
+        &read.anchors,
+        &restricted,
+        settings,
+    )?;
     let mut text = faulted_text(alloc, demand, &answered, &read, settings.target)?;
     push_why_for(
         &mut text,

@@ -56,7 +56,7 @@ in_row c h p q n m w same name i = (
   λ o. let a = i.2 o in (a.0 ∙ name, a.1),
 )
 
-alike : (V : Vouching) (moment : DateTime) (xs ys : List ReadItem) (c : Classes) (h : Holders) (Agree : Certificate → Certificate → Type 0) (n m : Option (List ℕ)) (p q : ℕ) (x y : CertificateItem) (kind : List ℕ)
+pub alike : (V : Vouching) (moment : DateTime) (xs ys : List ReadItem) (c : Classes) (h : Holders) (Agree : Certificate → Certificate → Type 0) (n m : Option (List ℕ)) (p q : ℕ) (x y : CertificateItem) (kind : List ℕ)
     → AreSignedBy V.Vouches xs ys c h → IsAt xs p (λ z. z ≡ certificate_read x) → IsAt xs q (λ z. z ≡ certificate_read y)
     → IsKind xs (map item_of ys) moment c h n p x kind → IsKind xs (map item_of ys) moment c h m q y kind
     → (n ≡ m → (d : Certificate) → Agree (certificate_of x) d ↔ Agree (certificate_of y) d) → (r : Vec ℕ Global)
@@ -127,7 +127,7 @@ module _ (V : Vouching) (moment : DateTime) (demand : Bool) (xs : List ReadItem)
   abbrev Signs : CertificateItem → Certificate → Type 0
   Signs x d = (Some (name_octets (certificate_of x).issuer) ≡ Some (name_octets d.subject)) × V.Vouches (key_octets d.key) x.octets.now
 
-  fails_alike : (x y : CertificateItem) → AreAlike V moment xs others Agree x y → (reason : Unlinked) (w : ℕ) → IsAt others w (IsCertificateWith (Fails x reason)) → IsAt others w (IsCertificateWith (Fails y reason))
+  pub fails_alike : (x y : CertificateItem) → AreAlike V moment xs others Agree x y → (reason : Unlinked) (w : ℕ) → IsAt others w (IsCertificateWith (Fails x reason)) → IsAt others w (IsCertificateWith (Fails y reason))
   fails_alike x y a NotVouched w h =
       let z = cert_here others w (Fails x NotVouched) h in
       let same = z.5.0 ∙ names_alike x y a in
@@ -166,10 +166,10 @@ module _ (V : Vouching) (moment : DateTime) (demand : Bool) (xs : List ReadItem)
       (get_or items s y'.0, l.0, (s, lt, get_or_default items s (get_or items s y'.0) y'.0 lt), l.1, l.2)
 
   -- what a link is, without whose item it goes from
-  abbrev Issues : CertificateItem → Certificate → Type 0
+  abbrev pub Issues : CertificateItem → Certificate → Type 0
   Issues x d = IsIssuedUnder (rules_by moment demand V) (map item_of xs) (certificate_item x) (certificate_of x) (name_octets d.subject) (key_octets d.key) × Agree (certificate_of x) d
 
-  issues_alike : (x y : CertificateItem) → AreAlike V moment xs others Agree x y → (w : ℕ) → IsAt others w (IsCertificateWith (Issues x)) → IsAt others w (IsCertificateWith (Issues y))
+  pub issues_alike : (x y : CertificateItem) → AreAlike V moment xs others Agree x y → (w : ℕ) → IsAt others w (IsCertificateWith (Issues x)) → IsAt others w (IsCertificateWith (Issues y))
   issues_alike x y a w h =
       let z = cert_here others w (Issues x) h in
       let same = sym (names_alike x y a) ∙ z.5.0.issuer in
@@ -189,7 +189,7 @@ module _ (V : Vouching) (moment : DateTime) (demand : Bool) (xs : List ReadItem)
 -- ---- lines of links to items
 
 module _ (V : Vouching) (moment : DateTime) (demand : Bool) (xs : List ReadItem) where
-  linked_to : (x : CertificateItem) (w : ℕ) → IsLinkedTo (rules_by moment demand V) (map item_of xs) (certificate_item x) w → IsAt (map item_of xs) w (IsCertificateWith (Issues V moment demand xs (map item_of xs) KeyIdsAgree x))
+  pub linked_to : (x : CertificateItem) (w : ℕ) → IsLinkedTo (rules_by moment demand V) (map item_of xs) (certificate_item x) w → IsAt (map item_of xs) w (IsCertificateWith (Issues V moment demand xs (map item_of xs) KeyIdsAgree x))
   linked_to x w h = (
     h.0,
     λ e.
@@ -199,7 +199,7 @@ module _ (V : Vouching) (moment : DateTime) (demand : Bool) (xs : List ReadItem)
         (q.0, q.1, subst (λ (c : Certificate). IsIssuedUnder (rules_by moment demand V) (map item_of xs) (certificate_item x) c (name_octets q.0.subject) (key_octets q.0.key) × KeyIdsAgree c q.0) (sym same) q.2),
   )
 
-  linked_from : (x : CertificateItem) (w : ℕ) → IsAt (map item_of xs) w (IsCertificateWith (Issues V moment demand xs (map item_of xs) KeyIdsAgree x)) → IsLinkedTo (rules_by moment demand V) (map item_of xs) (certificate_item x) w
+  pub linked_from : (x : CertificateItem) (w : ℕ) → IsAt (map item_of xs) w (IsCertificateWith (Issues V moment demand xs (map item_of xs) KeyIdsAgree x)) → IsLinkedTo (rules_by moment demand V) (map item_of xs) (certificate_item x) w
   linked_from x w h = (h.0, λ e. (certificate_of x, refl, h.1 e))
 
   pub linked_alike : (x y : CertificateItem) → AreAlike V moment xs (map item_of xs) KeyIdsAgree x y → (w : ℕ) → IsLinkedTo (rules_by moment demand V) (map item_of xs) (certificate_item x) w
@@ -222,11 +222,11 @@ module _ (V : Vouching) (moment : DateTime) (demand : Bool) (xs : List ReadItem)
 -- ---- lines of links to anchors
 
 -- of an anchor the key identifier doesn't count
-abbrev anyhow : Certificate → Certificate → Type 0
+abbrev pub anyhow : Certificate → Certificate → Type 0
 anyhow c d = Unit {0}
 
 module _ (V : Vouching) (moment : DateTime) (demand : Bool) (xs ys : List ReadItem) where
-  anchor_to : (x : CertificateItem) (w : ℕ) → IsLinkedToAnchor (rules_by moment demand V) (map item_of xs) (map item_of ys) (certificate_item x) w → IsAt (map item_of ys) w (IsCertificateWith (Issues V moment demand xs (map item_of ys) anyhow x))
+  pub anchor_to : (x : CertificateItem) (w : ℕ) → IsLinkedToAnchor (rules_by moment demand V) (map item_of xs) (map item_of ys) (certificate_item x) w → IsAt (map item_of ys) w (IsCertificateWith (Issues V moment demand xs (map item_of ys) anyhow x))
   anchor_to x w h = (
     h.0,
     λ e.
@@ -236,7 +236,7 @@ module _ (V : Vouching) (moment : DateTime) (demand : Bool) (xs ys : List ReadIt
         (q.0, q.1, (subst (λ (c : Certificate). IsIssuedUnder (rules_by moment demand V) (map item_of xs) (certificate_item x) c (name_octets q.0.subject) (key_octets q.0.key)) (sym same) q.2, tt)),
   )
 
-  anchor_from : (x : CertificateItem) (w : ℕ) → IsAt (map item_of ys) w (IsCertificateWith (Issues V moment demand xs (map item_of ys) anyhow x)) → IsLinkedToAnchor (rules_by moment demand V) (map item_of xs) (map item_of ys) (certificate_item x) w
+  pub anchor_from : (x : CertificateItem) (w : ℕ) → IsAt (map item_of ys) w (IsCertificateWith (Issues V moment demand xs (map item_of ys) anyhow x)) → IsLinkedToAnchor (rules_by moment demand V) (map item_of xs) (map item_of ys) (certificate_item x) w
   anchor_from x w h = (h.0, λ e. let q = h.1 e in (certificate_of x, refl, (q.0, q.1, q.2.0)))
 
   anchor_alike : (x y : CertificateItem) → AreAlike V moment xs (map item_of ys) anyhow x y → (w : ℕ) → IsLinkedToAnchor (rules_by moment demand V) (map item_of xs) (map item_of ys) (certificate_item x) w

@@ -84,5 +84,26 @@ chosen_more numbers places found k lt h v at less =
       | inr e ↦ subst (λ p. Contains (found ++ n ∷ []) (get_or numbers p 0)) e (Contains-push found n)
     ]
 
+-- and nothing else
+abbrev pub HasOnly : List ℕ → List ℕ → List ℕ → Type 0
+HasOnly numbers places found = (n : ℕ) → Contains found n → (v : ℕ) × Contains places v × (v < length numbers) × (get_or numbers v 0 ≡ n)
+
+pub only_none : (numbers places : List ℕ) → HasOnly numbers (take 0 places) []
+only_none numbers places n h = let none = h.1 in absurd (omega arith)
+
+pub only_past : (numbers places found : List ℕ) (k : ℕ) → k < length places → HasOnly numbers (take k places) found → HasOnly numbers (take (k + 1) places) found
+only_past numbers places found k lt h n at = let v = h n at in (v.0, subst (λ l. Contains l v.0) (sym (take_more places k 0 lt)) (Contains-append_left (take k places) (get_or places k 0 ∷ []) v.0 v.1), v.2, v.3)
+
+pub only_more : (numbers places found : List ℕ) (k : ℕ) → k < length places → get_or places k 0 < length numbers → HasOnly numbers (take k places) found → HasOnly numbers (take (k + 1) places) (found ++ get_or numbers (get_or places k 0) 0 ∷ [])
+only_more numbers places found k lt within h n at =
+    let p = get_or places k 0 in
+    elim (Contains-push_cases found (get_or numbers p 0) n at) [
+      | inl old ↦ only_past numbers places found k lt h n old
+      | inr e ↦ (p, subst (λ l. Contains l p) (sym (take_more places k 0 lt)) (Contains-push (take k places) p), within, e)
+    ]
+
+pub only_all : (numbers places found sorted : List ℕ) (k : ℕ) → length places ≤ k → HasOnly numbers (take k places) found → ((p : ℕ) → Contains sorted p → Contains found p) → HasOnly numbers places sorted
+only_all numbers places found sorted k le h to n at = let v = h n (to n at) in (v.0, subst (λ l. Contains l v.0) (take_all k places le) v.1, v.2, v.3)
+
 pub chosen_all : (numbers places found sorted : List ℕ) (k : ℕ) → length places ≤ k → HasNumbers numbers (take k places) found → ((p : ℕ) → Contains found p → Contains sorted p) → HasNumbers numbers places sorted
 chosen_all numbers places found sorted k le h to v at less = to (get_or numbers v 0) (h v (subst (λ l. Contains l v) (sym (take_all k places le)) at) less)

@@ -20,30 +20,6 @@ use Rattle.cert_reasons.specs.Links.{HasLinkReason}
 use Rattle.certpath_why.specs.Reached.{HasSubject}
 use Rattle.certpath_why.proofs.Items.{at_read, with_read}
 
--- a property of the one that was read is one of the item at its position
-pub there_iff : (P : Item → Type 0) (Empty : Type 0) (read : List ReadItem) (w : ℕ) (item : CertificateItem) → IsAt read w (λ y. y ≡ certificate_read item) → (Empty ↔ P (certificate_item item)) → Empty ↔ IsAt (map item_of read) w P
-there_iff P Empty read w item at iff =
-    let there = at_read P read w item at in
-    (λ n. there.0 (iff.0 n), λ p. iff.1 (there.1 p))
-
--- a reason against the link to the one that was read
-pub fails_there : (r : JudgingContext) (items : List Item) (x : CertificateItem) (Agree : Certificate → Type 0) (reason : Unlinked) (Has : Type 0) (read : List ReadItem) (w : ℕ) (item : CertificateItem)
-    → IsAt read w (λ y. y ≡ certificate_read item) → x.issuer.now ≡ item.subject.now → (Has ↔ HasLinkReason r items (certificate_item x) (certificate_of x) item.subject.now item.key.now (Agree (certificate_of item)) reason)
-    → Has ↔ IsAt (map item_of read) w (IsCertificateWith (λ d. (name_octets d.subject ≡ name_octets (certificate_of x).issuer) × HasLinkReason r items (certificate_item x) (certificate_of x) (name_octets d.subject) (key_octets d.key) (Agree d) reason))
-fails_there r items x Agree reason Has read w item at named iff =
-    let c = certificate_of x in
-    let d = certificate_of item in
-    let with = with_read (λ e. (name_octets e.subject ≡ name_octets c.issuer) × HasLinkReason r items (certificate_item x) c (name_octets e.subject) (key_octets e.key) (Agree e) reason) read w item at in
-    let same : name_octets d.subject ≡ name_octets c.issuer = sym item.subject_is ∙ sym named ∙ x.issuer_is in (
-      λ h.
-          let one = subst (λ n. HasLinkReason r items (certificate_item x) c n item.key.now (Agree d) reason) item.subject_is (iff.0 h) in
-          with.0 (same, subst (λ k. HasLinkReason r items (certificate_item x) c (name_octets d.subject) k (Agree d) reason) item.key_is one),
-      λ a.
-          let p = with.1 a in
-          let one = subst (λ k. HasLinkReason r items (certificate_item x) c (name_octets d.subject) k (Agree d) reason) (sym item.key_is) p.1 in
-          iff.1 (subst (λ n. HasLinkReason r items (certificate_item x) c n item.key.now (Agree d) reason) (sym item.subject_is) one),
-    )
-
 -- whatever a reason is against has the issuer's name
 pub fails_named : (r : JudgingContext) (items others : List Item) (x : Item) (c : Certificate) (name : List ℕ) (Agree : Certificate → Type 0) (reason : Unlinked) (w : ℕ) → name ≡ name_octets c.issuer
     → IsAt others w (IsCertificateWith (λ d. (name_octets d.subject ≡ name_octets c.issuer) × HasLinkReason r items x c (name_octets d.subject) (key_octets d.key) (Agree d) reason)) → HasSubject others name w

@@ -1,29 +1,27 @@
 -- Links of one certificate, brought together by what is said of them.
 use Rattle.std.specs.Prelude.{◌↔◌}
-use Rattle.std.proofs.Common.{◌≡◌, ◌∙◌, ap, sym, subst, refl, ℕ, ◌<◌, List, [], length, arith, get_or, Some}
+use Rattle.std.proofs.Common.{◌≡◌, ◌∙◌, ap, sym, subst, refl, ℕ, ◌<◌, List, [], length, map, arith, get_or, Some}
 use Rattle.std.specs.List.{Contains}
-use Rattle.std.specs.List.Sorted.{IsStrictlyIncreasing}
 use Rattle.cert_graph.specs.Entries.{IsAt}
 use Rattle.cert_model.specs.Class.{certificate}
 use Rattle.cert_model.specs.Fields.{Certificate}
 use Rattle.cert_model.specs.Octets.{name_octets, key_octets}
 use Rattle.cert_judge.specs.declared.items.CertificateItem.{CertificateItem}
-use Rattle.cert_judge.specs.Items.{certificate_of, certificate_item}
-use Rattle.cert_judge.specs.ItemGraph.{IsCertificateWith, IsLink, IsAnchorLink, KeyIdsAgree}
+use Rattle.cert_judge.specs.declared.items.ReadItem.{ReadItem}
+use Rattle.cert_judge.specs.Items.{certificate_of, certificate_item, item_of}
+use Rattle.cert_judge.specs.ItemGraph.{IsCertificateWith, IsLink, IsAnchorLink}
 use Rattle.cert_judge.specs.Revoking.{Item, JudgingContext}
 use Rattle.cert_judge.proofs.Grouping.{element, one_certificate}
 use Rattle.cert_judge.proofs.Linking.{with_iff}
-use Rattle.cert_reasons.specs.declared.links.Unlinked.{Unlinked}
-use Rattle.cert_reasons.specs.declared.links.Unlinked.TheVariants.{NotVouched, KeyIdsDiffer, RevokedBy, NoUsedList}
-use Rattle.cert_reasons.specs.Links.{Revokes}
 use Rattle.cert_reasons.proofs.Marks.{there_at}
-use Rattle.certpath_why.specs.declared.fates.Fate.{Fate}
-use Rattle.certpath_why.specs.declared.links.Groups.{Groups}
-use Rattle.certpath_why.specs.Fates.{AreFates}
-use Rattle.certpath_why.specs.Groups.{IsDiffering, AreListFates, AreGroups, AreInOrder, FailsIn}
+use Rattle.certpath_why.specs.declared.cuts.Cut.{Cut}
+use Rattle.certpath_why.specs.declared.named.Issuers.{Issuers}
+use Rattle.certpath_why.specs.Cuts.{IsCutOf}
+use Rattle.certpath_why.specs.Named.{AreIssuers}
+use Rattle.certpath_why.specs.Ranges.{IsInRanges}
 use Rattle.certpath_why.specs.Reached.{ArePositions, HasSubject}
 use Rattle.certpath_why.specs.Signers.{IsSignedBy}
-use Rattle.certpath_why.proofs.Fating.{fates_sorted, fails_iff}
+use Rattle.certpath_why.proofs.Cutting.{cut_as}
 use Rattle.certpath_why.proofs.Items.{held}
 
 -- the item at a position, and the certificate that it is
@@ -41,9 +39,6 @@ cert_iff items w y d lt at is P =
 
 -- ---- signers
 
-pub in_order_iff : (S : ℕ → Type 0) (ss os : List ℕ) → ArePositions (Contains ss) os → ((w : ℕ) → Contains ss w ↔ S w) → (w : ℕ) → Contains os w ↔ S w
-in_order_iff S ss os h iff w = (λ c. (iff w).0 ((h.exact w).0 c), λ s. (h.exact w).1 ((iff w).1 s))
-
 -- whoever signed has the issuer's name
 pub signed_named : (V : List ℕ → List ℕ → Type 0) (others : List Item) (x : CertificateItem) (w : ℕ) → IsSignedBy V others (certificate_item x) w → HasSubject others x.issuer.now w
 signed_named V others x w s = (s.0, λ e. let p = s.1 e in (p.0, p.1, sym (x.issuer_is ∙ held p.2.0)))
@@ -57,16 +52,6 @@ linked_signed r items x w h = (
       let q = p.2 in
       let same : certificate_of x ≡ p.0 = one_certificate (certificate_item x).class (certificate_of x) p.0 refl p.1 in
       (q.0, q.1, (ap Some (subst (λ (c : Certificate). name_octets c.issuer ≡ name_octets q.0.subject) (sym same) q.2.0.issuer), q.2.0.vouched)),
-)
-
-pub linked_anchor_signed : (r : JudgingContext) (items anchors : List Item) (x : CertificateItem) (a : ℕ) → IsAt anchors a (IsAnchorLink r items (certificate_item x)) → IsSignedBy r.Vouches anchors (certificate_item x) a
-linked_anchor_signed r items anchors x a h = (
-  h.0,
-  λ e.
-      let p = h.1 e in
-      let q = p.2 in
-      let same : certificate_of x ≡ p.0 = one_certificate (certificate_item x).class (certificate_of x) p.0 refl p.1 in
-      (q.0, q.1, (ap Some (subst (λ (c : Certificate). name_octets c.issuer ≡ name_octets q.0.subject) (sym same) q.2.issuer), q.2.vouched)),
 )
 
 -- whoever signed by less, signed by more
@@ -91,64 +76,17 @@ unvouched_iff V others x ws ss named signed w =
           ),
     )
 
+-- the same of the ranges of those of the name
+pub unvouched_cut : (V : List ℕ → List ℕ → Type 0) (read : List ReadItem) (x : CertificateItem) (issuers : Issuers) (ss : List ℕ) (cut : Cut) → AreIssuers read x.issuer.now issuers
+    → ((w : ℕ) → Contains ss w ↔ IsSignedBy V (map item_of read) (certificate_item x) w) → IsCutOf (λ w. IsInRanges issuers.all.items w × (Contains ss w → ⊥)) cut
+    → IsCutOf (λ w. IsAt (map item_of read) w (IsCertificateWith (λ d. (name_octets d.subject ≡ name_octets (certificate_of x).issuer) × (V (key_octets d.key) x.octets.now → ⊥)))) cut
+unvouched_cut V read x issuers ss cut are signed h =
+    let iff = unvouched_iff V (map item_of read) x issuers.places.items ss are.places signed in
+    cut_as (λ w. IsInRanges issuers.all.items w × (Contains ss w → ⊥)) (λ w. IsAt (map item_of read) w (IsCertificateWith (λ d. (name_octets d.subject ≡ name_octets (certificate_of x).issuer) × (V (key_octets d.key) x.octets.now → ⊥)))) cut
+    (λ w. (λ y. (iff w).0 ((are.all.exact w).0 y.0, y.1), λ a. let y = (iff w).1 a in ((are.all.exact w).1 y.0, y.1))) h
+
 -- ---- key identifiers
 
-pub differing_named : (items : List Item) (x : CertificateItem) (w : ℕ) → IsDiffering items (certificate_of x) w → HasSubject items x.issuer.now w
-differing_named items x w h = (h.0, λ e. let p = h.1 e in (p.0, p.1, p.2.0 ∙ sym x.issuer_is))
-
-pub none_differing : (items : List Item) (c : Certificate) → ((d : Certificate) → KeyIdsAgree c d) → ArePositions (IsDiffering items c) []
-none_differing items c agree = record {
-  ascends = λ k lt. absurd (omega arith);
-  exact = λ w. (
-    λ h. let lt = h.1 in absurd (omega arith),
-    λ h. let z = cert_here items w (λ d. (name_octets d.subject ≡ name_octets c.issuer) × (KeyIdsAgree c d → ⊥)) h in absurd (z.5.1 (agree z.1)),
-  );
-}
-
 -- of anchors no key identifier counts
-pub none_differing_there : (anchors : List Item) (c : Certificate) → ArePositions (λ w. IsAt anchors w (IsCertificateWith (λ d. (name_octets d.subject ≡ name_octets c.issuer) × (Unit {0} → ⊥)))) []
-none_differing_there anchors c = record {
-  ascends = λ k lt. absurd (omega arith);
-  exact = λ w. (
-    λ h. let lt = h.1 in absurd (omega arith),
-    λ h. let z = cert_here anchors w (λ d. (name_octets d.subject ≡ name_octets c.issuer) × (Unit {0} → ⊥)) h in absurd (z.5.1 tt),
-  );
-}
-
--- ---- reasons that are lists
-
-pub listed_none : (Fails : Unlinked → ℕ → Type 0) → ((p w : ℕ) → Fails (RevokedBy p) w → ⊥) → ((w : ℕ) → Fails NoUsedList w → ⊥) → AreListFates Fails []
-listed_none Fails revoked lacking = record {
-  ascend = λ k lt. absurd (omega arith);
-  revoked = λ p w. (λ o. let at = o.1 in let lt = at.1 in absurd (omega arith), λ f. absurd (revoked p w f));
-  lacking = λ w. (λ o. let at = o.1 in let lt = at.1 in absurd (omega arith), λ f. absurd (lacking w f));
-}
-
-pub none_revoked : (r : JudgingContext) (items others : List Item) (x : CertificateItem) → ((key : List ℕ) (p : ℕ) → IsAt items p (Revokes r x.issuer.now key (certificate_of x).serial) → ⊥) → (p w : ℕ)
-    → IsAt others w (IsCertificateWith (λ d. (name_octets d.subject ≡ name_octets (certificate_of x).issuer) × IsAt items p (Revokes r (name_octets d.subject) (key_octets d.key) (certificate_of x).serial))) → ⊥
-none_revoked r items others x none p w h =
-    let z = cert_here others w (λ d. (name_octets d.subject ≡ name_octets (certificate_of x).issuer) × IsAt items p (Revokes r (name_octets d.subject) (key_octets d.key) (certificate_of x).serial)) h in
-    none (key_octets z.1.key) p (subst (λ n. IsAt items p (Revokes r n (key_octets z.1.key) (certificate_of x).serial)) (z.5.0 ∙ sym x.issuer_is) z.5.1)
-
-pub none_lacking : (demanded : Type 0) (others : List Item) (c : Certificate) (Q : Certificate → Type 0) → (demanded → ⊥) → (w : ℕ) → IsAt others w (IsCertificateWith (λ d. (name_octets d.subject ≡ name_octets c.issuer) × (demanded × Q d))) → ⊥
-none_lacking demanded others c Q none w h =
-    let z = cert_here others w (λ d. (name_octets d.subject ≡ name_octets c.issuer) × (demanded × Q d)) h in
-    none z.5.1.0
-
-pub listed_all : (Linked : ℕ → Type 0) (Fails : Unlinked → ℕ → Type 0) (ps : List ℕ) (fs : List Fate) → AreFates Linked Fails ps fs → IsStrictlyIncreasing ps → ((reason : Unlinked) (w : ℕ) → Fails reason w → Contains ps w) → AreListFates Fails fs
-listed_all Linked Fails ps fs h up there = record {
-  ascend = fates_sorted Linked Fails ps fs h up;
-  revoked = λ p. fails_iff Linked Fails ps fs (RevokedBy p) h (there (RevokedBy p));
-  lacking = fails_iff Linked Fails ps fs NoUsedList h (there NoUsedList);
-}
-
--- ---- groups
-
-pub groups_ordered : (Linked : ℕ → Type 0) (Fails : Unlinked → ℕ → Type 0) (g : Groups) → AreGroups Linked Fails g → AreInOrder g
-groups_ordered Linked Fails g h = record { linked = h.linked.ascends; unvouched = h.unvouched.ascends; differing = h.differing.ascends; listed = h.listed.ascend }
-
-pub fails_in : (Linked : ℕ → Type 0) (Fails : Unlinked → ℕ → Type 0) (g : Groups) → AreGroups Linked Fails g → (reason : Unlinked) (w : ℕ) → FailsIn g reason w ↔ Fails reason w
-fails_in Linked Fails g h NotVouched w = h.unvouched.exact w
-fails_in Linked Fails g h KeyIdsDiffer w = h.differing.exact w
-fails_in Linked Fails g h (RevokedBy p) w = h.listed.revoked p w
-fails_in Linked Fails g h NoUsedList w = h.listed.lacking w
+pub none_differing_there : (anchors : List Item) (c : Certificate) (w : ℕ) → IsAt anchors w (IsCertificateWith (λ d. (name_octets d.subject ≡ name_octets c.issuer) × (Unit {0} → ⊥))) → ⊥
+none_differing_there anchors c w h = let z = cert_here anchors w (λ d. (name_octets d.subject ≡ name_octets c.issuer) × (Unit {0} → ⊥)) h in z.5.1 tt

@@ -21,7 +21,7 @@ use Rattle.certpath_why.specs.Classes.{AreClasses}
 use Rattle.certpath_why.specs.declared.classes.Classes.{Classes}
 use Rattle.certpath_why.specs.declared.holders.Holder.{Holder}
 use Rattle.certpath_why.specs.declared.holders.Holders.{Holders}
-use Rattle.certpath_why.specs.Holders.{IsHolder, IsOfKey, KeysAdded, NameAdded, AreHolders, HasMember, IsOfNames, IsSignerOf, IsNamedAt, IsInRow}
+use Rattle.certpath_why.specs.Holders.{IsHolder, IsOfKey, KeysAdded, NameAdded, AreHolders, HasMember, IsOfNames, IsSignerOf, IsNamedAt, IsInRow, IsInRows}
 use Rattle.certpath_why.proofs.Adding.{adds_none, adds_as, adds_then, one_in}
 
 -- ---- keys
@@ -298,14 +298,60 @@ first_more h row name j found new lt before more w =
       ]),
     )
 
-pub first_all : (h : Holders) (c : ℕ) (row : List ℕ) (name : List ℕ) (j : ℕ) (found sorted : List ℕ) → c < length h.rows.items → length row ≤ j → ((r : Vec ℕ Global) → row ≡ (get_or h.rows.items c r).items) → ((w : ℕ) → Contains found w ↔ IsOfFirst h (take j row) name w)
-    → ((w : ℕ) → Contains sorted w ↔ Contains found w) → (w : ℕ) → Contains sorted w ↔ IsInRow h c name w
-first_all h c row name j found sorted in_rows le is before kept w =
+pub first_whole : (h : Holders) (row name : List ℕ) (j : ℕ) (found sorted : List ℕ) → length row ≤ j → ((w : ℕ) → Contains found w ↔ IsOfFirst h (take j row) name w)
+    → ((w : ℕ) → Contains sorted w ↔ Contains found w) → (w : ℕ) → Contains sorted w ↔ IsOfFirst h row name w
+first_whole h row name j found sorted le before kept w =
+    let iff = subst (λ l. Contains found w ↔ IsOfFirst h l name w) (take_all j row le) (before w) in
+    (λ s. iff.0 ((kept w).0 s), λ x. (kept w).1 (iff.1 x))
+
+pub first_row : (h : Holders) (c : ℕ) (row : List ℕ) (name : List ℕ) → c < length h.rows.items → ((r : Vec ℕ Global) → row ≡ (get_or h.rows.items c r).items) → (w : ℕ) → IsOfFirst h row name w ↔ IsInRow h c name w
+first_row h c row name in_rows is w =
     let d = (element_at h.rows.items c in_rows).0 in
-    let whole = take_all j row le in (
-      λ s. let f = (before w).0 ((kept w).0 s) in (f.0, λ r. subst (λ l. Contains l f.0) (whole ∙ is r) f.1, f.2),
-      λ x. (kept w).1 ((before w).1 (x.0, subst (λ l. Contains l x.0) (sym (whole ∙ is d)) (x.1 d), x.2)),
+    (λ f. (f.0, λ r. subst (λ l. Contains l f.0) (is r) f.1, f.2), λ x. (x.0, subst (λ l. Contains l x.0) (sym (is d)) (x.1 d), x.2))
+
+pub row_holder : (h : Holders) (c : ℕ) (row : List ℕ) → c < length h.rows.items → ((r : Vec ℕ Global) → row ≡ (get_or h.rows.items c r).items)
+    → ((k : ℕ) (r : Vec ℕ Global) → Contains (get_or h.rows.items c r).items k → k < length h.all.items) → (k : ℕ) → Contains row k → k < length h.all.items
+row_holder h c row in_rows is within k at = let d = (element_at h.rows.items c in_rows).0 in within k d (subst (λ l. Contains l k) (is d) at)
+
+-- ---- the rows of several numbers
+
+pub rows_none : (h : Holders) (numbers : List ℕ) (k : ℕ) → Contains [] k ↔ IsInRows h (take 0 numbers) k
+rows_none h numbers k = (λ c. absurd (let lt = c.1 in omega arith), λ x. absurd (let at = x.1 in let lt = at.1 in omega arith))
+
+pub rows_more : (h : Holders) (numbers : List ℕ) (j : ℕ) (row found new : List ℕ) → j < length numbers → get_or numbers j 0 < length h.rows.items → ((r : Vec ℕ Global) → row ≡ (get_or h.rows.items (get_or numbers j 0) r).items)
+    → ((k : ℕ) → Contains found k ↔ IsInRows h (take j numbers) k) → new ≡ found ++ row → (k : ℕ) → Contains new k ↔ IsInRows h (take (j + 1) numbers) k
+rows_more h numbers j row found new lt in_rows is before all k =
+    let c = get_or numbers j 0 in
+    let d = (element_at h.rows.items c in_rows).0 in
+    let longer = take_more numbers j 0 lt in (
+      λ at. elim (Contains-append_cases found row k (subst (λ l. Contains l k) all at)) [
+        | inl x ↦ let f = (before k).0 x in (f.0, subst (λ l. Contains l f.0) (sym longer) (Contains-append_left (take j numbers) (c ∷ []) f.0 f.1), f.2)
+        | inr y ↦ (c, subst (λ l. Contains l c) (sym longer) (Contains-push (take j numbers) c), λ r. subst (λ l. Contains l k) (is r) y)
+      ],
+      λ f. subst (λ l. Contains l k) (sym all) (elim (Contains-push_cases (take j numbers) c f.0 (subst (λ l. Contains l f.0) longer f.1)) [
+        | inl x ↦ Contains-append_left found row k ((before k).1 (f.0, x, f.2))
+        | inr e ↦ Contains-append_right found row k (subst (λ l. Contains l k) (sym (is d)) (subst (λ i. Contains (get_or h.rows.items i d).items k) (sym e) (f.2 d)))
+      ]),
     )
+
+pub rows_all : (h : Holders) (numbers : List ℕ) (j : ℕ) (found sorted : List ℕ) → length numbers ≤ j → ((k : ℕ) → Contains found k ↔ IsInRows h (take j numbers) k) → ((k : ℕ) → Contains sorted k ↔ Contains found k)
+    → (k : ℕ) → Contains sorted k ↔ IsInRows h numbers k
+rows_all h numbers j found sorted le before kept k =
+    let iff = subst (λ l. Contains found k ↔ IsInRows h l k) (take_all j numbers le) (before k) in
+    (λ s. iff.0 ((kept k).0 s), λ x. (kept k).1 (iff.1 x))
+
+pub rows_holder : (h : Holders) (numbers row : List ℕ) → ((c : ℕ) → Contains numbers c → c < length h.rows.items) → ((c k : ℕ) (r : Vec ℕ Global) → Contains numbers c → Contains (get_or h.rows.items c r).items k → k < length h.all.items)
+    → ((k : ℕ) → Contains row k ↔ IsInRows h numbers k) → (k : ℕ) → Contains row k → k < length h.all.items
+rows_holder h numbers row in_rows within iff k at =
+    let x = (iff k).0 at in
+    let d = (element_at h.rows.items x.0 (in_rows x.0 x.1)).0 in
+    within x.0 k d x.1 (x.2 d)
+
+pub rows_named : (h : Holders) (numbers row name : List ℕ) → ((k : ℕ) → Contains row k ↔ IsInRows h numbers k) → (w : ℕ) → IsOfFirst h row name w ↔ ((c : ℕ) × Contains numbers c × IsInRow h c name w)
+rows_named h numbers row name iff w = (
+  λ f. let x = (iff f.0).0 f.1 in (x.0, x.1, (f.0, x.2, f.2)),
+  λ x. let y = x.2 in (y.0, (iff y.0).1 (x.0, x.1, y.1), y.2),
+)
 
 -- ---- whether a row has a position
 

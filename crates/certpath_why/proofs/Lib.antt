@@ -15,10 +15,12 @@ mod Told
 mod WorkedDemands
 mod Hosting
 mod Ranging
+mod Spacing
+mod Cutting
+mod Naming
 mod Fating
 mod Fated
-mod Revoking
-mod Amongst
+mod Against
 mod Adding
 mod Classing
 mod Holding
@@ -29,3 +31,8 @@ mod Numbering
 mod Alike
 mod Tailing
 mod Searching
+mod Keeping
+mod Using
+mod Writing
+mod Issues
+mod Unlike

@@ -22,7 +22,8 @@ use Rattle.cert_judge.proofs.Linking.{with_iff}
 use Rattle.cert_reasons.proofs.Certain.{viewed_by}
 use Rattle.certpath_why.specs.Holders.{IsInRow, IsSignerOf}
 use Rattle.certpath_why.specs.Reached.{ArePositions}
-use Rattle.certpath_why.specs.Signers.{IsSignedBy, AreSignedBy, issued_place, member_place, issuer_name}
+use Rattle.cert_reasons.proofs.Marks.{there_at}
+use Rattle.certpath_why.specs.Signers.{IsSignedBy, AreOfIssuer, AreSignedBy, SignsAny, issued_place, member_place, issuer_name}
 use Rattle.certpath_why.specs.declared.classes.Classes.{Classes}
 use Rattle.certpath_why.specs.declared.holders.Holders.{Holders}
 use Rattle.certpath_why.proofs.Items.{held, empty, no_list, no_other, positions_as}
@@ -140,3 +141,36 @@ module _ (V : List ℕ → List ℕ → Type 0) (read others : List ReadItem) (c
   pub signed_positions : (v : ℕ) (z : ReadItem) (name : List ℕ) (ps : List ℕ) → IsAt read v (λ x. x ≡ z) → issuer_name (item_of z).class ≡ Some name → ArePositions (IsInRow h (get_or c.numbers.items v 0) name) ps
       → ArePositions (IsSignedBy V (map item_of others) (item_of z)) ps
   signed_positions v z name ps at named p = positions_as ps (signed_iff v z name at named) p
+
+  -- ---- signers of one of some items
+
+  -- the numbers of the items at some places
+  abbrev pub AreTheirs : List ℕ → List ℕ → Type 0
+  AreTheirs places numbers = (n : ℕ) → Contains numbers n → (v : ℕ) × Contains places v × (v < length c.numbers.items) × (get_or c.numbers.items v 0 ≡ n)
+
+  pub any_row : (name places numbers : List ℕ) → AreOfIssuer read name places → AreTheirs places numbers → (n : ℕ) → Contains numbers n → n < length h.rows.items
+  any_row name places numbers of only n at = let v = only n at in subst (λ m. m < length h.rows.items) v.3 (signed_row v.0 (of v.0 v.1).0)
+
+  pub any_holder : (name places numbers : List ℕ) → AreOfIssuer read name places → AreTheirs places numbers → (n k : ℕ) (r : Vec ℕ Global) → Contains numbers n → Contains (get_or h.rows.items n r).items k → k < length h.all.items
+  any_holder name places numbers of only n k r at has =
+      let v = only n at in
+      signed_holder v.0 (of v.0 v.1).0 k r (subst (λ m. Contains (get_or h.rows.items m r).items k) (sym v.3) has)
+
+  -- the item at a place, and who signed it
+  at_place : (name : List ℕ) (v : ℕ) → IsAt read v (λ z. issuer_name (item_of z).class ≡ Some name) → (w : ℕ) → IsInRow h (get_or c.numbers.items v 0) name w ↔ IsAt read v (λ z. IsSignedBy V (map item_of others) (item_of z) w)
+  at_place name v of w =
+      let e = element read v of.0 in
+      let named = (there_at read v e.0 of.0 e.1 (λ z. issuer_name (item_of z).class ≡ Some name)).1 of in
+      let here = (there_at read v e.0 of.0 e.1 (λ z. z ≡ e.0)).0 refl in
+      let signed = there_at read v e.0 of.0 e.1 (λ z. IsSignedBy V (map item_of others) (item_of z) w) in
+      let iff = signed_iff v e.0 name here named w in
+      (λ x. signed.0 (iff.0 x), λ s. iff.1 (signed.1 s))
+
+  pub any_signed : (name places numbers : List ℕ) → AreOfIssuer read name places → AreTheirs places numbers → ((v : ℕ) → Contains places v → v < length c.numbers.items → Contains numbers (get_or c.numbers.items v 0))
+      → (w : ℕ) → ((n : ℕ) × Contains numbers n × IsInRow h n name w) ↔ SignsAny V read (map item_of others) places w
+  any_signed name places numbers of only all w = (
+    λ x.
+        let v = only x.0 x.1 in
+        (v.0, v.1, (at_place name v.0 (of v.0 v.1) w).0 (subst (λ m. IsInRow h m name w) (sym v.3) x.2)),
+    λ s. (get_or c.numbers.items s.0 0, all s.0 s.1 (signed_number s.0 (of s.0 s.1).0), (at_place name s.0 (of s.0 s.1) w).1 s.2),
+  )

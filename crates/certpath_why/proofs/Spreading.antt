@@ -9,9 +9,12 @@ use Rattle.std.proofs.lemmas.Bool.{cases_lt, cases_eq, false≢true}
 use Rattle.std.proofs.lemmas.List.{append-nil, take_more, get_or-set_same, get_or-set_other, get_or_default, get_or_past}
 use Rattle.std.proofs.lemmas.List.Elements.{Contains-append_left, Contains-append_right, Contains-append_cases, Contains-push, Contains-push_cases}
 use Rattle.cert_graph.proofs.Sifted.{push_ascends}
+use Rattle.cert_judge.proofs.Grouping.{element, one_certificate}
 use Rattle.cert_judge.specs.Revoking.{Item}
-use Rattle.certpath_why.specs.Found.{IsMarked, Spreads, SpreadsFrom, AreSpread}
-use Rattle.certpath_why.specs.Reached.{IsCertificateAt, IsIssuerByName, IsReachedIn, IsReached, IsFurther, ArePositions}
+use Rattle.cert_model.specs.Fields.{Certificate}
+use Rattle.cert_model.specs.Octets.{name_octets}
+use Rattle.certpath_why.specs.Found.{AreSpent, IsMarked, Spreads, SpreadsFrom, AreSpread}
+use Rattle.certpath_why.specs.Reached.{HasSubject, IsCertificateAt, IsIssuerByName, IsReachedIn, IsReached, IsFurther, ArePositions}
 
 -- ---- marks
 
@@ -67,6 +70,17 @@ spreads_none marks queue = record {
   marked = λ u c. absurd (omega (arith, c.1));
 }
 
+pub spreads_marked : (ps : List ℕ) (marks : List Bool) (queue : List ℕ) → ((u : ℕ) → Contains ps u → IsMarked marks u) → Spreads ps marks queue marks queue
+spreads_marked ps marks queue all = record {
+  count = refl;
+  kept = λ u m. m;
+  more = [];
+  queue_is = sym (append-nil queue);
+  more_are = λ u c. absurd (omega (arith, c.1));
+  queued = λ u old m. old m;
+  marked = all;
+}
+
 pub spreads_known : (v : ℕ) (marks : List Bool) (queue : List ℕ) → IsMarked marks v → Spreads (v ∷ []) marks queue marks queue
 spreads_known v marks queue known = record {
   count = refl;
@@ -111,6 +125,31 @@ spreads_then ps qs a b c x y z g h = record {
 
 pub spreads_more : (ps : List ℕ) (k : ℕ) (d : ℕ) (a b c : List Bool) (x y z : List ℕ) → k < length ps → Spreads (take k ps) a x b y → Spreads (get_or ps k d ∷ []) b y c z → Spreads (take (k + 1) ps) a x c z
 spreads_more ps k d a b c x y z lt g h = subst (λ l. Spreads l a x c z) (sym (take_more ps k d lt)) (spreads_then (take k ps) (get_or ps k d ∷ []) a b c x y z g h)
+
+-- ---- names that are spent
+
+one_subject : (items : List Item) (a b : List ℕ) (w : ℕ) → HasSubject items a w → HasSubject items b w → a ≡ b
+one_subject items a b w g h =
+    let e = (element items w g.0).0 in
+    let x = g.1 e in
+    let y = h.1 e in
+    let same : x.0 ≡ y.0 = one_certificate (get_or items w e).class x.0 y.0 x.1 y.1 in
+    sym x.2 ∙ ap (λ (c : Certificate). name_octets c.subject) same ∙ y.2
+
+pub spent_none : (items : List Item) (spent marks : List Bool) → length spent ≡ length items → ((u : ℕ) → IsMarked spent u → ⊥) → AreSpent items spent marks
+spent_none items spent marks count none = record { count = count; whole = λ u w name m. absurd (none u m) }
+
+pub spent_more : (items : List Item) (spent new marks wider : List Bool) (queue longer : List ℕ) (ps : List ℕ) (name : List ℕ) (first : ℕ) → AreSpent items spent marks → Spreads ps marks queue wider longer → ArePositions (HasSubject items name) ps
+    → Contains ps first → length new ≡ length spent → ((u : ℕ) → IsMarked new u ↔ (IsMarked spent u ⊎ (u ≡ first))) → AreSpent items new wider
+spent_more items spent new marks wider queue longer ps name first h s are in_first count exact = record {
+  count = count ∙ h.count;
+  whole = λ u w other m one two. elim ((exact u).0 m) [
+    | inl old ↦ s.kept w (h.whole u w other old one two)
+    | inr e ↦
+        let same : other ≡ name = one_subject items other name first (subst (HasSubject items other) e one) ((are.exact first).0 in_first) in
+        s.marked w ((are.exact w).1 (subst (λ n. HasSubject items n w) same two))
+  ];
+}
 
 -- ---- what is reached
 

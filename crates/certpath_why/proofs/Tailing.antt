@@ -1,5 +1,5 @@
 -- The ends of lines, and lines that were written, by kinds.
-use Rattle.std.specs.Prelude.{slice_get}
+use Rattle.std.specs.Prelude.{◌↔◌, slice_get}
 use Rattle.std.proofs.Common.{◌≡◌, ◌∙◌, ap, sym, subst, refl, ℕ, ◌+◌, ◌<◌, ◌≤◌, cond, List, [], ◌∷◌, ◌++◌, length, take, get_or, append_assoc, append-nil, Option, Some, None, Vec, Global, String, string_bytes, arith, inl, inr}
 use Rattle.std.specs.List.{Contains}
 use Rattle.std.specs.List.Sorted.{IsStrictlyIncreasing}
@@ -10,22 +10,20 @@ use Rattle.std.proofs.lemmas.Bool.{cases_Bool, cond-true, cond-false}
 use Rattle.std.proofs.lemmas.List.{take_more, take_all}
 use Rattle.cert_graph.specs.Entries.{IsAt}
 use Rattle.cert_graph.proofs.Gathering.{E, same}
-use Rattle.cert_judge.specs.declared.vouch.Vouch.{Ghosts}
 use Rattle.cert_judge.specs.declared.items.CertificateItem.{CertificateItem}
 use Rattle.cert_judge.specs.declared.items.ReadItem.{ReadItem}
 use Rattle.cert_judge.specs.declared.items.ReadItem.TheVariants.{Certificate as certificate_read}
 use Rattle.cert_reasons.specs.declared.links.Unlinked.{Unlinked}
 use Rattle.cert_reasons.specs.declared.links.Unlinked.TheVariants.{NotVouched, KeyIdsDiffer, RevokedBy, NoUsedList}
-use Rattle.certpath_why.specs.Kinds.{AddsTails, AreTails, AreWrittenBy, AreItemTails, AreAnchorTails, IsItemKind, IsAnchorKind, kind_cmp, line_of, lines_of}
-use Rattle.certpath_why.specs.Written.{AreWritten, HasNone}
-use Rattle.certpath_why.specs.declared.question.Question.{Question}
-use Rattle.certpath_why.specs.declared.written.Written.{Written}
+use Rattle.certpath_why.specs.Cuts.{IsCut, IsCutOf}
+use Rattle.certpath_why.specs.declared.cuts.Cut.{Cut}
+use Rattle.certpath_why.specs.Kinds.{AddsTails, AreTails, AreWrittenBy, kind_cmp, line_of, lines_of}
 use Rattle.certpath_why.specs.Lines.{link_end, link_lines}
 use Rattle.certpath_why.specs.Listed.{listed}
 use Rattle.certpath_why.specs.Ranges.{AreRanges, range_text}
 use Rattle.certpath_why.specs.Why.{AreTexts, TellsGroup, TellsGroups}
 use Rattle.certpath_why.specs.declared.ranges.Range.{Range}
-use Rattle.certpath_why.proofs.Fating.{line_is}
+use Rattle.certpath_why.proofs.Fating.{line_is, ranges_as}
 use Rattle.certpath_why.proofs.Texts.{texts_append, texts_one}
 
 one_place : {a b : ℕ} → Some a ≡ Some b → a ≡ b
@@ -50,6 +48,11 @@ line_tail front what rs tail is some = ap (λ l. front ++ l) is ∙ sym (line_is
 
 pub tails_as : (P Q : List ℕ → List ℕ → Type 0) (old new : List (String Global)) → ((front text : List ℕ) → P front text → Q front text) → AddsTails P old new → AddsTails Q old new
 tails_as P Q old new f h = (h.0, h.1, λ front. f front (lines_of front h.0) (h.2 front))
+
+-- a line of ranges of which the first are given
+pub cut_tails : (what : Option Unlinked) (P : ℕ → Type 0) (cut : Cut) (old new : List (String Global)) → IsCutOf P cut → ((rs : List Range) → IsCut rs cut → AddsTails (λ front text. text ≡ link_lines front what rs) old new)
+    → AddsTails (λ front. TellsGroup front what P) old new
+cut_tails what P cut old new h f = tails_as (λ front text. text ≡ link_lines front what h.0) (λ front. TellsGroup front what P) old new (λ front text is. (h.0, h.1, is)) (f h.0 h.2)
 
 -- ---- a line for each of some lists
 
@@ -102,14 +105,14 @@ tails_told L F lists one two three four new up all a b c d e front =
     }
 
 -- no lines where there is nobody to be linked to
-no_ranges : (P : ℕ → Type 0) → ((w : ℕ) → P w → ⊥) → AreRanges P []
+pub no_ranges : (P : ℕ → Type 0) → ((w : ℕ) → P w → ⊥) → AreRanges P []
 no_ranges P none = record {
   exact = λ w. (λ i. let at = i.1 in let lt = at.1 in absurd (omega arith), λ p. absurd (none w p));
   apart = λ i j d less below. absurd (omega arith);
   none_empty = λ r at. let lt = at.1 in absurd (omega arith);
 }
 
-no_group : (front : List ℕ) (what : Option Unlinked) (P : ℕ → Type 0) → ((w : ℕ) → P w → ⊥) → TellsGroup front what P []
+pub no_group : (front : List ℕ) (what : Option Unlinked) (P : ℕ → Type 0) → ((w : ℕ) → P w → ⊥) → TellsGroup front what P []
 no_group front what P none = ([], no_ranges P none, refl)
 
 pub no_groups : (front : List ℕ) (L : ℕ → Type 0) (F : Unlinked → ℕ → Type 0) → ((w : ℕ) → L w → ⊥) → ((reason : Unlinked) (w : ℕ) → F reason w → ⊥) → TellsGroups front L F []
@@ -148,29 +151,19 @@ some_none e = cc
 one_held : {X : Type 0} {x y : X} → Some x ≡ Some y → x ≡ y
 one_held e = cc
 
-abbrev Lines : Type 0
-Lines = BTreeMap (Vec ℕ Global) (Vec (String Global) Global)
-
-module _ (xs : List ReadItem) (Kind : ℕ → CertificateItem → List ℕ → Type 0) (Tails : CertificateItem → List (String Global) → Type 0) where
-  pub written_none : (m : Lines) → m.entries ≡ [] → AreWrittenBy xs Kind Tails m
-  written_none m empty q tails is =
+module _ {X : Type 0} (xs : List ReadItem) (Kind : ℕ → CertificateItem → List ℕ → Type 0) (Holds : CertificateItem → X → Type 0) where
+  pub written_none : (m : BTreeMap (Vec ℕ Global) X) → m.entries ≡ [] → AreWrittenBy xs Kind Holds m
+  written_none m empty q found is =
       let none : mapped.get kind_cmp m q ≡ None = ap (λ es. lookup (is_at (kind_cmp q)) es) empty in
       absurd (some_none (sym is ∙ none))
 
-  pub written_more : (m n : Lines) (kind : Vec ℕ Global) (tails : Vec (String Global) Global) → AreWrittenBy xs Kind Tails m
-      → ((p : ℕ) (x : CertificateItem) → IsAt xs p (λ z. z ≡ certificate_read x) → Kind p x kind.items → Tails x tails.items)
-      → ((q : Vec ℕ Global) → mapped.get kind_cmp n q ≡ cond (E kind.items q.items) (Some tails) (mapped.get kind_cmp m q)) → AreWrittenBy xs Kind Tails n
-  written_more m n kind tails h own update q found is p x at k = elim (cases_Bool (E kind.items q.items)) [
+  pub written_more : (m n : BTreeMap (Vec ℕ Global) X) (kind : Vec ℕ Global) (new : X) → AreWrittenBy xs Kind Holds m
+      → ((p : ℕ) (x : CertificateItem) → IsAt xs p (λ z. z ≡ certificate_read x) → Kind p x kind.items → Holds x new)
+      → ((q : Vec ℕ Global) → mapped.get kind_cmp n q ≡ cond (E kind.items q.items) (Some new) (mapped.get kind_cmp m q)) → AreWrittenBy xs Kind Holds n
+  written_more m n kind new h own update q found is p x at k = elim (cases_Bool (E kind.items q.items)) [
     | inl eq ↦
-        let this : found ≡ tails = one_held (sym is ∙ update q ∙ cond-true _ _ _ eq) in
+        let this : found ≡ new = one_held (sym is ∙ update q ∙ cond-true _ _ _ eq) in
         let key : kind.items ≡ q.items = (same kind.items q.items).0 eq in
-        subst (λ (t : Vec (String Global) Global). Tails x t.items) (sym this) (own p x at (subst (Kind p x) (sym key) k))
+        subst (Holds x) (sym this) (own p x at (subst (Kind p x) (sym key) k))
     | inr un ↦ h q found (sym (update q ∙ cond-false _ _ _ un) ∙ is) p x at k
   ]
-
--- nothing stands under any kind
-pub none_written : {V : Type 0} (vouch : Ghosts V) (question : Question V) (written : Written) → HasNone written → AreWritten vouch question written
-none_written vouch question written none = record {
-  items = written_none question.found.now.items.now (IsItemKind question) (AreItemTails vouch question) written.items none.items;
-  anchors = written_none question.found.now.items.now (IsAnchorKind question) (AreAnchorTails vouch question) written.anchors none.anchors;
-}

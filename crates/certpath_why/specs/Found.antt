@@ -6,7 +6,7 @@ use Rattle.cert_judge.specs.declared.items.ReadItem.TheVariants.{Certificate as 
 use Rattle.cert_judge.specs.Revoking.{Item}
 use Rattle.certpath_why.specs.declared.found.Found.{Found}
 use Rattle.certpath_why.specs.Directories.{IsDirectory}
-use Rattle.certpath_why.specs.Reached.{IsReached, IsIssuerByName}
+use Rattle.certpath_why.specs.Reached.{HasSubject, IsReached, IsIssuerByName}
 
 -- a certificate shows its subject, and other items show nothing
 abbrev pub subject_place : ReadItem → Place
@@ -50,6 +50,11 @@ pub record SpreadsFrom (items : List Item) (v : ℕ) (marks : List Bool) (queue 
   pub places : List ℕ
   pub exact : (w : ℕ) → Contains places w ↔ IsIssuerByName items v w
   pub spreads : Spreads places marks queue new_marks new_queue
+
+-- There is a second mark for each position. Where it is set, all certificates with the subject of the one there are marked.
+pub record AreSpent (items : List Item) (spent marks : List Bool) : Type 0 where
+  pub count : length spent ≡ length items
+  pub whole : (u w : ℕ) (name : List ℕ) → IsMarked spent u → HasSubject items name u → HasSubject items name w → IsMarked marks w
 
 -- the item is a certificate
 abbrev pub IsCertificateRead : ReadItem → Type 0

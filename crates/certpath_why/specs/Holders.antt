@@ -64,6 +64,14 @@ IsSignerOf V members name octets w = Shows Name members w name × ((key : List �
 abbrev pub IsNamedAt : Holders → ℕ → List ℕ → ℕ → Type 0
 IsNamedAt h k name w = (o : Holder) → ((slice_index_or h.all.items k o).name.now ≡ name) × Contains (slice_index_or h.all.items k o).places.items w
 
+-- one of some holders has a name and a position
+abbrev pub IsOfRow : Holders → List ℕ → List ℕ → ℕ → Type 0
+IsOfRow h row name w = (k : ℕ) × Contains row k × IsNamedAt h k name w
+
+-- a holder is in the row of one of some numbers of octets
+abbrev pub IsInRows : Holders → List ℕ → ℕ → Type 0
+IsInRows h numbers k = (c : ℕ) × Contains numbers c × ((r : Vec ℕ Global) → Contains (slice_index_or h.rows.items c r).items k)
+
 -- a holder with this name and position is in the row of a number of octets
 abbrev pub IsInRow : Holders → ℕ → List ℕ → ℕ → Type 0
 IsInRow h c name w = (k : ℕ) × ((r : Vec ℕ Global) → Contains (slice_index_or h.rows.items c r).items k) × IsNamedAt h k name w

@@ -93,16 +93,20 @@ pub record IsHeldKind (xs : List ReadItem) (others : List Item) (moment : DateTi
 abbrev pub IsItemKind : {V : Type 0} → Question V → ℕ → CertificateItem → List ℕ → Type 0
 IsItemKind question p x kind = IsKind question.found.now.items.now (items_in question) question.policy.now.moment question.signers.now.classes question.signers.now.issuers (named_by x) p x kind
 
+-- likewise whatever key identifier it names
+abbrev pub IsGroupKind : {V : Type 0} → Question V → ℕ → CertificateItem → List ℕ → Type 0
+IsGroupKind question p x kind = IsKind question.found.now.items.now (items_in question) question.policy.now.moment question.signers.now.classes question.signers.now.issuers None p x kind
+
 -- of an anchor the key identifier doesn't count
 abbrev pub IsAnchorKind : {V : Type 0} → Question V → ℕ → CertificateItem → List ℕ → Type 0
 IsAnchorKind question p x kind = IsKind question.found.now.items.now (anchors_in question) question.policy.now.moment question.signers.now.classes question.signers.now.roots None p x kind
 
 -- ---- lines by kinds
 
--- what is under a kind are the lines of each certificate of the kind
-abbrev pub AreWrittenBy : (List ReadItem) → (ℕ → CertificateItem → List ℕ → Type 0) → (CertificateItem → List (String Global) → Type 0) → BTreeMap (Vec ℕ Global) (Vec (String Global) Global) → Type 0
-AreWrittenBy xs Kind Tails written = (kind : Vec ℕ Global) (tails : Vec (String Global) Global) → mapped.get kind_cmp written kind ≡ Some tails
-    → (p : ℕ) (x : CertificateItem) → IsAt xs p (λ z. z ≡ certificate_read x) → Kind p x kind.items → Tails x tails.items
+-- what is under a kind is so of each certificate of the kind
+abbrev pub AreWrittenBy : {X : Type 0} → List ReadItem → (ℕ → CertificateItem → List ℕ → Type 0) → (CertificateItem → X → Type 0) → BTreeMap (Vec ℕ Global) X → Type 0
+AreWrittenBy {X} xs Kind Holds written = (kind : Vec ℕ Global) (found : X) → mapped.get kind_cmp written kind ≡ Some found
+    → (p : ℕ) (x : CertificateItem) → IsAt xs p (λ z. z ≡ certificate_read x) → Kind p x kind.items → Holds x found
 
 abbrev pub AreItemTails : {V : Type 0} → Ghosts V → Question V → CertificateItem → List (String Global) → Type 0
 AreItemTails vouch question x tails = AreTails (IsLinkedTo (rules_in vouch question) (items_in question) (certificate_item x)) (FailsTo (rules_in vouch question) (items_in question) (certificate_item x) (certificate_of x)) tails
@@ -111,8 +115,8 @@ abbrev pub AreAnchorTails : {V : Type 0} → Ghosts V → Question V → Certifi
 AreAnchorTails vouch question x tails =
     AreTails (IsLinkedToAnchor (rules_in vouch question) (items_in question) (anchors_in question) (certificate_item x)) (FailsToAnchor (rules_in vouch question) (items_in question) (anchors_in question) (certificate_item x) (certificate_of x)) tails
 
-abbrev pub AreItemsWritten : {V : Type 0} → Ghosts V → Question V → BTreeMap (Vec ℕ Global) (Vec (String Global) Global) → Type 0
-AreItemsWritten vouch question written = AreWrittenBy question.found.now.items.now (IsItemKind question) (AreItemTails vouch question) written
+abbrev pub AreItemTailsKept : {V : Type 0} → Ghosts V → Question V → BTreeMap (Vec ℕ Global) (Vec (String Global) Global) → Type 0
+AreItemTailsKept vouch question written = AreWrittenBy question.found.now.items.now (IsItemKind question) (λ x (tails : Vec (String Global) Global). AreItemTails vouch question x tails.items) written
 
-abbrev pub AreAnchorsWritten : {V : Type 0} → Ghosts V → Question V → BTreeMap (Vec ℕ Global) (Vec (String Global) Global) → Type 0
-AreAnchorsWritten vouch question written = AreWrittenBy question.found.now.items.now (IsAnchorKind question) (AreAnchorTails vouch question) written
+abbrev pub AreAnchorTailsKept : {V : Type 0} → Ghosts V → Question V → BTreeMap (Vec ℕ Global) (Vec (String Global) Global) → Type 0
+AreAnchorTailsKept vouch question written = AreWrittenBy question.found.now.items.now (IsAnchorKind question) (λ x (tails : Vec (String Global) Global). AreAnchorTails vouch question x tails.items) written

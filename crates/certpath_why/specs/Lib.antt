@@ -24,5 +24,11 @@ pub mod Held
 pub mod Directories
 pub mod Found
 pub mod Ranges
-pub mod Fates
+pub mod Cuts
+pub mod Against
+pub mod Named
 pub mod Groups
+pub mod Sides
+pub mod Used
+pub mod Issuing
+pub mod Revoked

@@ -5,6 +5,7 @@ use Rattle.cert_judge.specs.Revoking.{Item, JudgingContext}
 use Rattle.cert_judge.specs.declared.vouch.Vouch.{Ghosts}
 use Rattle.cert_reasons.specs.declared.linking.Linking.{Linking}
 use Rattle.certpath_why.specs.ByIssuer.{AreByIssuer}
+use Rattle.certpath_why.specs.Named.{AreNamed}
 use Rattle.certpath_why.specs.Signers.{AreSignedBy}
 use Rattle.certpath_why.specs.declared.question.Question.{Question}
 
@@ -29,6 +30,10 @@ link_items linking = map item_of linking.items.now
 -- the lists in force are those at the moment
 abbrev pub IsListed : {V : Type 0} → Question V → Type 0
 IsListed question = AreByIssuer question.found.now.items.now question.policy.now.moment question.lists.now
+
+-- the certificates of names of issuers are those among the items and the anchors
+abbrev pub IsNamed : {V : Type 0} → Question V → Type 0
+IsNamed question = AreNamed question.found.now question.named.now
 
 -- the signers of each item are those by what vouches
 pub record IsSigned {V : Type 0} (vouch : Ghosts V) (question : Question V) : Type 0 where

@@ -1,6 +1,6 @@
 -- Whose keys vouch for which items. Contracts of private functions cite it.
 use Rattle.std.specs.Borrow.{Bor}
-use Rattle.std.specs.Prelude.{◌≡◌, ℕ, List, Option, Some, None, map}
+use Rattle.std.specs.Prelude.{◌≡◌, ℕ, List, Option, Some, None, map, Contains}
 use Rattle.cert_graph.specs.Entries.{IsAt}
 use Rattle.cert_graph.specs.declared.places.Place.{Place}
 use Rattle.cert_model.specs.Class.{Class, certificate, list, other}
@@ -36,6 +36,14 @@ issuer_name other = None
 -- the certificate at a position has an item's issuer as its subject, and its key vouches for the item
 abbrev pub IsSignedBy : (List ℕ → List ℕ → Type 0) → List Item → Item → ℕ → Type 0
 IsSignedBy V others x w = IsAt others w (IsCertificateWith (λ d. (issuer_name x.class ≡ Some (name_octets d.subject)) × V (key_octets d.key) x.octets))
+
+-- it signed the item at one of some places
+abbrev pub SignsAny : (List ℕ → List ℕ → Type 0) → List ReadItem → List Item → List ℕ → ℕ → Type 0
+SignsAny V items others places w = (p : ℕ) × Contains places p × IsAt items p (λ z. IsSignedBy V others (item_of z) w)
+
+-- the items at some places have this issuer
+abbrev pub AreOfIssuer : List ReadItem → List ℕ → List ℕ → Type 0
+AreOfIssuer items name places = (p : ℕ) → Contains places p → IsAt items p (λ z. issuer_name (item_of z).class ≡ Some name)
 
 -- The holders are those of some certificates, and their rows are those of the items that they signed.
 pub record AreSignedBy (V : List ℕ → List ℕ → Type 0) (items others : List ReadItem) (classes : Classes) (h : Holders) : Type 0 where

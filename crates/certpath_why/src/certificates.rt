@@ -1,39 +1,42 @@
 //! The lines of one certificate that is reached: why it is not usable, what it doesn't meet, why it
 //! may not issue others, and its links to the certificates and anchors of its issuer's name.
 
-ghost use Rattle.std.specs.Prelude.{◌≡◌, ◌↔◌, ◌++◌, ℕ, List, [], nat_eq, Contains, OnOk, IfOk, map, string_bytes};
-ghost use Rattle.std.specs.List.Sorted.{IsStrictlyIncreasing};
+ghost use Rattle.std.specs.Prelude.{◌≡◌, ◌++◌, ℕ, List, [], nat_eq, OnOk, IfOk, string_bytes};
 ghost use Rattle.cert_graph.specs.Entries.{IsAt};
 ghost use Rattle.cert_model.specs.Octets.{name_octets};
-ghost use Rattle.cert_judge.specs.Items.{item_of, certificate_of, certificate_item};
+ghost use Rattle.cert_judge.specs.Items.{certificate_of, certificate_item};
 ghost use Rattle.cert_judge.specs.declared.items.ReadItem.TheVariants.{Certificate as certificate_read};
 ghost use Rattle.cert_reasons.specs.Linking.{HasItsLists};
 ghost use Rattle.certpath_why.specs.Reached.{ArePositions, HasSubject, IsCertificateAt};
 ghost use Rattle.certpath_why.specs.Lines.{missing_line, to_items, to_anchors};
-ghost use Rattle.certpath_why.specs.Question.{anchors_in, items_in, link_items, link_rules, rules_in, IsListed, IsSigned};
+ghost use Rattle.certpath_why.specs.Question.{anchors_in, items_in, rules_in, IsListed, IsNamed, IsSigned};
 ghost use Rattle.certpath_why.specs.Why.{TellsUnusable, TellsNoIssuer, TellsGroups, IsLinkedTo, FailsTo, IsLinkedToAnchor, FailsToAnchor, missing_lines, TellsLinks, TellsCertificate, TellsAt, octets_at};
-ghost use Rattle.certpath_why.specs.Fates.{IsFate, AreFates};
 ghost use Rattle.certpath_why.specs.Found.{IsFound};
-ghost use Rattle.certpath_why.specs.Groups.{AreGroups, AreListFates};
-ghost use Rattle.certpath_why.specs.Signers.{IsSignedBy};
+ghost use Rattle.certpath_why.specs.Groups.{AreGroups};
 ghost use Rattle.certpath_why.specs.Appended.{Appends};
-ghost use Rattle.certpath_why.specs.Kinds.{AreAnchorsWritten, AreItemsWritten, AreTails};
-ghost use Rattle.certpath_why.specs.Written.{AreWritten};
+ghost use Rattle.certpath_why.specs.Issuing.{IsIssued};
+ghost use Rattle.certpath_why.specs.Kinds.{AreAnchorTails, AreItemTails};
+ghost use Rattle.certpath_why.specs.Sides.{IsSide};
+ghost use Rattle.certpath_why.specs.Used.{AreUsedKept};
+ghost use Rattle.certpath_why.specs.Written.{AreAnchorsWritten, AreItemsWritten, AreWritten};
 
+use crate::cuts::Cut;
 use crate::demanded::push_unmet;
-use crate::differing::differing_among;
-use crate::fates::{Fate, places_of};
+use crate::differing::add_differing;
 use crate::found::{Found, certificate_at};
-use crate::kinds::{anchor_kind, item_kind};
+use crate::issuing::{Issued, linked_among};
+use crate::kinds::{anchor_kind, group_kind, item_kind};
 use crate::lines::{push_all_no_issuer, push_all_unusable, push_missing, push_subject};
-use crate::links::{Front, Groups, push_tails, tails_of};
-use crate::positions::{in_order, positions_but};
+use crate::links::{Front, Groups, add_cut, push_tails};
+use crate::named::Issuers;
 use crate::question::Question;
-use crate::signers::{issuers_at, roots_at};
-use crate::written::Written;
+use crate::revoked::{add_revoked, add_root_revoked};
+use crate::side::Side;
+use crate::used::{Used, add_lacking};
+use crate::written::{Kept, Written};
 use asn1_core::OutOfMemory;
-use cert_judge::{CertificateItem, ReadItem, Vouch};
-use cert_reasons::{Linking, why_no_issuer, why_unusable};
+use cert_judge::{CertificateItem, Vouch};
+use cert_reasons::{Linking, Unlinked, why_no_issuer, why_unusable};
 use std::alloc::{AllocError, Global};
 use std::collections::BTreeMap;
 
@@ -78,146 +81,178 @@ fn tell_no_issuer(
     Ok(())
 }
 
-/// The link to a certificate of the issuer's name.
-fn fate_of<V: Vouch>(
+/// The links of a certificate by what it has in common with others.
+fn groups_from<V: Vouch>(
     alloc: Global,
-    linking: &Linking<'_, '_>,
-    issuer: usize,
-    vouch: &V,
-) -> Result<Fate, AllocError>
-    requires lists { HasItsLists linking.now }
-    requires subject { HasSubject (link_items linking.now) linking.now.certificate.now.issuer.now issuer }
-    ensures { IfOk result (IsFate (IsLinkedTo (link_rules V.Vouch linking.now vouch.now) (link_items linking.now) (certificate_item linking.now.certificate.now))
-        (FailsTo (link_rules V.Vouch linking.now vouch.now) (link_items linking.now) (certificate_item linking.now.certificate.now) (certificate_of linking.now.certificate.now)) issuer) }
-{
-    let Some(item) = certificate_at(linking.items(), issuer) else {
-        return Ok(Fate::without_reasons(alloc, issuer));
-    };
-    let reasons = linking.why_unlinked(alloc, item, vouch)?;
-    Ok(Fate {
-        place: issuer,
-        reasons,
-    })
-}
-
-/// The links to some certificates of the issuer's name.
-fn fates_of<V: Vouch>(
-    alloc: Global,
-    linking: &Linking<'_, '_>,
-    issuers: &[usize],
-    vouch: &V,
-) -> Result<Vec<Fate>, AllocError>
-    requires lists { HasItsLists linking.now }
-    requires issuers { (w : ℕ) → Contains issuers.now w → HasSubject (link_items linking.now) linking.now.certificate.now.issuer.now w }
-    ensures { IfOk result (λ fates. AreFates (IsLinkedTo (link_rules V.Vouch linking.now vouch.now) (link_items linking.now) (certificate_item linking.now.certificate.now))
-        (FailsTo (link_rules V.Vouch linking.now vouch.now) (link_items linking.now) (certificate_item linking.now.certificate.now) (certificate_of linking.now.certificate.now)) issuers.now fates.items) }
-{
-    let mut fates = Vec::new(alloc);
-    for issuer in issuers {
-        let fate = fate_of(alloc, linking, *issuer, vouch)?;
-        fates.push(fate)?;
-    }
-    Ok(fates)
-}
-
-/// The links to the certificates of the issuer's name that signed the certificate.
-fn linked_among<V: Vouch>(
-    alloc: Global,
-    linking: &Linking<'_, '_>,
-    signers: &[usize],
-    vouch: &V,
-) -> Result<Vec<usize>, AllocError>
-    requires lists { HasItsLists linking.now }
-    requires ascend { IsStrictlyIncreasing signers.now }
-    requires signers { (w : ℕ) → Contains signers.now w ↔ IsSignedBy (V.vouches_for vouch.now).Vouches (link_items linking.now) (certificate_item linking.now.certificate.now) w }
-    ensures { IfOk result (λ linked. ArePositions (IsLinkedTo (link_rules V.Vouch linking.now vouch.now) (link_items linking.now) (certificate_item linking.now.certificate.now)) linked.items) }
-{
-    let fates = fates_of(alloc, linking, signers, vouch)?;
-    let linked = places_of(alloc, &fates, None)?;
-    Ok(linked)
-}
-
-/// The links to the certificates of the issuer's name, with the reasons that are lists: none if no
-/// list can be a reason.
-fn listed_among<V: Vouch>(
-    alloc: Global,
-    linking: &Linking<'_, '_>,
-    issuers: &[usize],
-    vouch: &V,
-) -> Result<Vec<Fate>, AllocError>
-    requires lists { HasItsLists linking.now }
-    requires issuers { ArePositions (HasSubject (link_items linking.now) linking.now.certificate.now.issuer.now) issuers.now }
-    ensures { IfOk result (λ fates. AreListFates (FailsTo (link_rules V.Vouch linking.now vouch.now) (link_items linking.now) (certificate_item linking.now.certificate.now) (certificate_of linking.now.certificate.now)) fates.items) }
-{
-    if linking.is_unlisted(vouch) {
-        return Ok(Vec::new(alloc));
-    }
-    let fates = fates_of(alloc, linking, issuers, vouch)?;
-    Ok(fates)
-}
-
-/// Brings the links to the certificates of the issuer's name together, given those that signed the
-/// certificate.
-fn groups_of<V: Vouch>(
-    alloc: Global,
-    linking: &Linking<'_, '_>,
-    issuers: &[usize],
-    signers: &[usize],
-    vouch: &V,
+    question: &Question<'_, '_, V>,
+    certificate: &CertificateItem<'_>,
+    issued: &Issued<'_>,
 ) -> Result<Groups, AllocError>
-    requires lists { HasItsLists linking.now }
-    requires issuers { ArePositions (HasSubject (link_items linking.now) linking.now.certificate.now.issuer.now) issuers.now }
-    requires signers { (w : ℕ) → Contains signers.now w ↔ IsSignedBy (V.vouches_for vouch.now).Vouches (link_items linking.now) (certificate_item linking.now.certificate.now) w }
-    ensures { IfOk result (AreGroups (IsLinkedTo (link_rules V.Vouch linking.now vouch.now) (link_items linking.now) (certificate_item linking.now.certificate.now))
-        (FailsTo (link_rules V.Vouch linking.now vouch.now) (link_items linking.now) (certificate_item linking.now.certificate.now) (certificate_of linking.now.certificate.now))) }
+    requires { IsIssued (rules_in V.Vouch question.now) (items_in question.now) question.now.found.now.items.now certificate.now issued.now }
+    ensures { IfOk result (AreGroups (IsLinkedTo (rules_in V.Vouch question.now) (items_in question.now) (certificate_item certificate.now))
+        (FailsTo (rules_in V.Vouch question.now) (items_in question.now) (certificate_item certificate.now) (certificate_of certificate.now))) }
 {
-    let signers = in_order(alloc, signers)?;
-    let linked = linked_among(alloc, linking, &signers, vouch)?;
-    let unvouched = positions_but(alloc, issuers, &signers)?;
-    let differing = differing_among(alloc, linking, issuers)?;
-    let listed = listed_among(alloc, linking, issuers, vouch)?;
-    Ok(Groups {
-        linked,
-        unvouched,
-        differing,
-        listed,
-    })
+    let linked = linked_among(alloc, certificate, &issued.under)?;
+    let unvouched = issued.unvouched.copied(alloc)?;
+    Ok(Groups { linked, unvouched })
 }
 
-/// The ends of the lines of the links to all certificates of the issuer's name, given those that
-/// signed the certificate.
-fn tails_to_items<V: Vouch>(
+/// The links to the certificates of the issuer's name. What it has in common with others is worked
+/// out once.
+fn groups_of<'a, V: Vouch>(
     alloc: Global,
+    kept: &mut Kept<'a>,
+    question: &Question<'_, '_, V>,
+    side: &Side<'_, 'a>,
+    place: usize,
+    certificate: &CertificateItem<'_>,
+    linking: &Linking<'_, '_>,
+) -> Result<Groups, AllocError>
+    requires kept { AreItemsWritten V.Vouch question.now kept.old }
+    requires known { IsFound question.now.found.now }
+    requires signed { IsSigned V.Vouch question.now }
+    requires side { IsSide V.Vouch question.now side.now }
+    requires others { side.now.others.now ≡ question.now.found.now.items.now }
+    requires name { side.now.name.now ≡ certificate.now.issuer.now }
+    requires at { IsAt question.now.found.now.items.now place (λ x. x ≡ certificate_read certificate.now) }
+    requires lists { HasItsLists linking.now }
+    requires items { linking.now.items.now ≡ question.now.found.now.items.now }
+    requires certificate { linking.now.certificate.now ≡ certificate.now }
+    requires policy { linking.now.policy ≡ question.now.policy.now }
+    ensures kept { OnOk result (AreItemsWritten V.Vouch question.now kept.new) }
+    ensures groups { IfOk result (AreGroups (IsLinkedTo (rules_in V.Vouch question.now) (items_in question.now) (certificate_item certificate.now))
+        (FailsTo (rules_in V.Vouch question.now) (items_in question.now) (certificate_item certificate.now) (certificate_of certificate.now))) }
+{
+    let kind = group_kind(alloc, question, place, certificate, linking, side.first)?;
+    if let Some(issued) = kept.issued.get(&kind) {
+        let groups = groups_from(alloc, question, certificate, issued)?;
+        return Ok(groups);
+    }
+    let used = &mut kept.used;
+    let issued = Issued::new(alloc, used, question, side, place, certificate, linking)?;
+    let groups = groups_from(alloc, question, certificate, &issued)?;
+    kept.issued.insert(kind, issued)?;
+    Ok(groups)
+}
+
+/// The ends of the lines of the links to all certificates of the issuer's name, which are brought
+/// together.
+fn tails_among<'a, V: Vouch>(
+    alloc: Global,
+    kept: &mut Kept<'a>,
+    question: &Question<'_, '_, V>,
+    side: &Side<'_, 'a>,
+    place: usize,
+    certificate: &CertificateItem<'_>,
+    linking: &Linking<'_, '_>,
+) -> Result<Vec<String>, OutOfMemory>
+    requires kept { AreItemsWritten V.Vouch question.now kept.old }
+    requires known { IsFound question.now.found.now }
+    requires signed { IsSigned V.Vouch question.now }
+    requires side { IsSide V.Vouch question.now side.now }
+    requires others { side.now.others.now ≡ question.now.found.now.items.now }
+    requires name { side.now.name.now ≡ certificate.now.issuer.now }
+    requires at { IsAt question.now.found.now.items.now place (λ x. x ≡ certificate_read certificate.now) }
+    requires lists { HasItsLists linking.now }
+    requires items { linking.now.items.now ≡ question.now.found.now.items.now }
+    requires certificate { linking.now.certificate.now ≡ certificate.now }
+    requires policy { linking.now.policy ≡ question.now.policy.now }
+    ensures kept { OnOk result (AreItemsWritten V.Vouch question.now kept.new) }
+    ensures tails { IfOk result (λ tails. AreItemTails V.Vouch question.now certificate.now tails.items) }
+{
+    let groups = groups_of(alloc, kept, question, side, place, certificate, linking)?;
+    let lists = linking.revoking();
+    let mut tails = Vec::new(alloc);
+    add_cut(&mut tails, alloc, None, &groups.linked)?;
+    let unvouched = Some(Unlinked::NotVouched);
+    add_cut(&mut tails, alloc, unvouched, &groups.unvouched)?;
+    let items = question.found.items;
+    add_differing(
+        &mut tails,
+        alloc,
+        &mut kept.differing,
+        items,
+        side,
+        place,
+        certificate,
+    )?;
+    add_revoked(
+        &mut tails,
+        alloc,
+        &mut kept.lists,
+        question,
+        certificate,
+        lists,
+    )?;
+    add_lacking(&mut tails, alloc, &mut kept.used, question, side)?;
+    Ok(tails)
+}
+
+/// Likewise, given their positions. Those of names that several have were brought together before.
+fn tails_to_items<'a, V: Vouch>(
+    alloc: Global,
+    kept: &mut Kept<'a>,
+    question: &Question<'_, 'a, V>,
+    place: usize,
+    certificate: &CertificateItem<'_>,
     linking: &Linking<'_, '_>,
     issuers: &[usize],
-    signers: &[usize],
-    vouch: &V,
+    first: usize,
 ) -> Result<Vec<String>, OutOfMemory>
+    requires kept { AreItemsWritten V.Vouch question.now kept.old }
+    requires known { IsFound question.now.found.now }
+    requires signed { IsSigned V.Vouch question.now }
+    requires named { IsNamed question.now }
+    requires at { IsAt question.now.found.now.items.now place (λ x. x ≡ certificate_read certificate.now) }
     requires lists { HasItsLists linking.now }
-    requires issuers { ArePositions (HasSubject (link_items linking.now) linking.now.certificate.now.issuer.now) issuers.now }
-    requires signers { (w : ℕ) → Contains signers.now w ↔ IsSignedBy (V.vouches_for vouch.now).Vouches (link_items linking.now) (certificate_item linking.now.certificate.now) w }
-    ensures { IfOk result (λ tails. AreTails (IsLinkedTo (link_rules V.Vouch linking.now vouch.now) (link_items linking.now) (certificate_item linking.now.certificate.now))
-        (FailsTo (link_rules V.Vouch linking.now vouch.now) (link_items linking.now) (certificate_item linking.now.certificate.now) (certificate_of linking.now.certificate.now)) tails.items) }
+    requires items { linking.now.items.now ≡ question.now.found.now.items.now }
+    requires certificate { linking.now.certificate.now ≡ certificate.now }
+    requires policy { linking.now.policy ≡ question.now.policy.now }
+    requires issuers { ArePositions (HasSubject (items_in question.now) certificate.now.issuer.now) issuers.now }
+    requires first { HasSubject (items_in question.now) certificate.now.issuer.now first }
+    ensures kept { OnOk result (AreItemsWritten V.Vouch question.now kept.new) }
+    ensures tails { IfOk result (λ tails. AreItemTails V.Vouch question.now certificate.now tails.items) }
 {
-    let groups = groups_of(alloc, linking, issuers, signers, vouch)?;
-    let tails = tails_of(alloc, &groups)?;
-    Ok(tails)
+    let others = question.found.items;
+    let holders = &question.signers.issuers;
+    let name = certificate.issuer;
+    if let Some(named) = question.named.issuers.of(name) {
+        let side = Side {
+            others,
+            holders,
+            name,
+            named,
+            first,
+        };
+        return tails_among(alloc, kept, question, &side, place, certificate, linking);
+    }
+    let named = Issuers::new(alloc, others, issuers)?;
+    let side = Side {
+        others,
+        holders,
+        name,
+        named: &named,
+        first,
+    };
+    tails_among(alloc, kept, question, &side, place, certificate, linking)
 }
 
 /// Appends the lines of the links to all certificates of the issuer's name. They are worked out
 /// once for each kind.
-fn tell_links<V: Vouch>(
+fn tell_links<'a, V: Vouch>(
     text: &mut String,
     alloc: Global,
-    written: &mut BTreeMap<Vec<usize>, Vec<String>>,
-    question: &Question<'_, '_, V>,
+    written: &mut Kept<'a>,
+    question: &Question<'_, 'a, V>,
     place: usize,
     certificate: &CertificateItem<'_>,
     linking: &Linking<'_, '_>,
     issuers: &[usize],
 ) -> Result<(), OutOfMemory>
     requires written { AreItemsWritten V.Vouch question.now written.old }
+    requires known { IsFound question.now.found.now }
     requires signed { IsSigned V.Vouch question.now }
+    requires named { IsNamed question.now }
     requires at { IsAt question.now.found.now.items.now place (λ x. x ≡ certificate_read certificate.now) }
     requires lists { HasItsLists linking.now }
     requires items { linking.now.items.now ≡ question.now.found.now.items.now }
@@ -233,162 +268,164 @@ fn tell_links<V: Vouch>(
         return Ok(());
     };
     let kind = item_kind(alloc, question, place, certificate, linking, *first)?;
-    if let Some(tails) = written.get(&kind) {
+    if let Some(tails) = written.tails.get(&kind) {
         push_tails(text, Front::Items(place), tails)?;
         return Ok(());
     }
-    let signers = issuers_at(alloc, question, place, certificate.issuer)?;
-    let tails = tails_to_items(alloc, linking, issuers, &signers, question.vouch)?;
+    let tails = tails_to_items(
+        alloc,
+        written,
+        question,
+        place,
+        certificate,
+        linking,
+        issuers,
+        *first,
+    )?;
     push_tails(text, Front::Items(place), &tails)?;
-    written.insert(kind, tails)?;
+    written.tails.insert(kind, tails)?;
     Ok(())
 }
 
-/// The link to an anchor of the issuer's name.
-fn root_fate_of<V: Vouch>(
+/// The links to the anchors of the issuer's name, of which the key identifier doesn't count.
+fn root_groups_of<'a, V: Vouch>(
     alloc: Global,
-    anchors: &[ReadItem<'_>],
+    used: &mut BTreeMap<usize, Used>,
+    question: &Question<'_, '_, V>,
+    side: &Side<'_, 'a>,
+    place: usize,
+    certificate: &CertificateItem<'_>,
     linking: &Linking<'_, '_>,
-    root: usize,
-    vouch: &V,
-) -> Result<Fate, AllocError>
-    requires lists { HasItsLists linking.now }
-    requires subject { HasSubject (map item_of anchors.now) linking.now.certificate.now.issuer.now root }
-    ensures { IfOk result (IsFate (IsLinkedToAnchor (link_rules V.Vouch linking.now vouch.now) (link_items linking.now) (map item_of anchors.now) (certificate_item linking.now.certificate.now))
-        (FailsToAnchor (link_rules V.Vouch linking.now vouch.now) (link_items linking.now) (map item_of anchors.now) (certificate_item linking.now.certificate.now) (certificate_of linking.now.certificate.now)) root) }
-{
-    let Some(anchor) = certificate_at(anchors, root) else {
-        return Ok(Fate::without_reasons(alloc, root));
-    };
-    let reasons = linking.why_unlinked_to_anchor(alloc, anchor, vouch)?;
-    Ok(Fate {
-        place: root,
-        reasons,
-    })
-}
-
-/// The links to some anchors of the issuer's name.
-fn root_fates_of<V: Vouch>(
-    alloc: Global,
-    anchors: &[ReadItem<'_>],
-    linking: &Linking<'_, '_>,
-    roots: &[usize],
-    vouch: &V,
-) -> Result<Vec<Fate>, AllocError>
-    requires lists { HasItsLists linking.now }
-    requires roots { (w : ℕ) → Contains roots.now w → HasSubject (map item_of anchors.now) linking.now.certificate.now.issuer.now w }
-    ensures { IfOk result (λ fates. AreFates (IsLinkedToAnchor (link_rules V.Vouch linking.now vouch.now) (link_items linking.now) (map item_of anchors.now) (certificate_item linking.now.certificate.now))
-        (FailsToAnchor (link_rules V.Vouch linking.now vouch.now) (link_items linking.now) (map item_of anchors.now) (certificate_item linking.now.certificate.now) (certificate_of linking.now.certificate.now)) roots.now fates.items) }
-{
-    let mut fates = Vec::new(alloc);
-    for root in roots {
-        let fate = root_fate_of(alloc, anchors, linking, *root, vouch)?;
-        fates.push(fate)?;
-    }
-    Ok(fates)
-}
-
-/// The links to the anchors of the issuer's name that signed the certificate.
-fn linked_anchors<V: Vouch>(
-    alloc: Global,
-    anchors: &[ReadItem<'_>],
-    linking: &Linking<'_, '_>,
-    signers: &[usize],
-    vouch: &V,
-) -> Result<Vec<usize>, AllocError>
-    requires lists { HasItsLists linking.now }
-    requires ascend { IsStrictlyIncreasing signers.now }
-    requires signers { (w : ℕ) → Contains signers.now w ↔ IsSignedBy (V.vouches_for vouch.now).Vouches (map item_of anchors.now) (certificate_item linking.now.certificate.now) w }
-    ensures { IfOk result (λ linked. ArePositions (IsLinkedToAnchor (link_rules V.Vouch linking.now vouch.now) (link_items linking.now) (map item_of anchors.now) (certificate_item linking.now.certificate.now)) linked.items) }
-{
-    let fates = root_fates_of(alloc, anchors, linking, signers, vouch)?;
-    let linked = places_of(alloc, &fates, None)?;
-    Ok(linked)
-}
-
-/// The links to the anchors of the issuer's name, with the reasons that are lists: none if no list
-/// can be a reason.
-fn listed_anchors<V: Vouch>(
-    alloc: Global,
-    anchors: &[ReadItem<'_>],
-    linking: &Linking<'_, '_>,
-    roots: &[usize],
-    vouch: &V,
-) -> Result<Vec<Fate>, AllocError>
-    requires lists { HasItsLists linking.now }
-    requires roots { ArePositions (HasSubject (map item_of anchors.now) linking.now.certificate.now.issuer.now) roots.now }
-    ensures { IfOk result (λ fates. AreListFates (FailsToAnchor (link_rules V.Vouch linking.now vouch.now) (link_items linking.now) (map item_of anchors.now) (certificate_item linking.now.certificate.now) (certificate_of linking.now.certificate.now)) fates.items) }
-{
-    if linking.is_unlisted(vouch) {
-        return Ok(Vec::new(alloc));
-    }
-    let fates = root_fates_of(alloc, anchors, linking, roots, vouch)?;
-    Ok(fates)
-}
-
-/// Brings the links to the anchors of the issuer's name together, given those that signed the
-/// certificate. Of an anchor the key identifier doesn't count.
-fn root_groups_of<V: Vouch>(
-    alloc: Global,
-    anchors: &[ReadItem<'_>],
-    linking: &Linking<'_, '_>,
-    roots: &[usize],
-    signers: &[usize],
-    vouch: &V,
 ) -> Result<Groups, AllocError>
+    requires used { AreUsedKept (rules_in V.Vouch question.now) (items_in question.now) (anchors_in question.now) used.old }
+    requires known { IsFound question.now.found.now }
+    requires side { IsSide V.Vouch question.now side.now }
+    requires others { side.now.others.now ≡ question.now.found.now.anchors.now }
+    requires name { side.now.name.now ≡ certificate.now.issuer.now }
+    requires at { IsAt question.now.found.now.items.now place (λ x. x ≡ certificate_read certificate.now) }
     requires lists { HasItsLists linking.now }
-    requires roots { ArePositions (HasSubject (map item_of anchors.now) linking.now.certificate.now.issuer.now) roots.now }
-    requires signers { (w : ℕ) → Contains signers.now w ↔ IsSignedBy (V.vouches_for vouch.now).Vouches (map item_of anchors.now) (certificate_item linking.now.certificate.now) w }
-    ensures { IfOk result (AreGroups (IsLinkedToAnchor (link_rules V.Vouch linking.now vouch.now) (link_items linking.now) (map item_of anchors.now) (certificate_item linking.now.certificate.now))
-        (FailsToAnchor (link_rules V.Vouch linking.now vouch.now) (link_items linking.now) (map item_of anchors.now) (certificate_item linking.now.certificate.now) (certificate_of linking.now.certificate.now))) }
+    requires items { linking.now.items.now ≡ question.now.found.now.items.now }
+    requires certificate { linking.now.certificate.now ≡ certificate.now }
+    requires policy { linking.now.policy ≡ question.now.policy.now }
+    ensures used { OnOk result (AreUsedKept (rules_in V.Vouch question.now) (items_in question.now) (anchors_in question.now) used.new) }
+    ensures groups { IfOk result (AreGroups (IsLinkedToAnchor (rules_in V.Vouch question.now) (items_in question.now) (anchors_in question.now) (certificate_item certificate.now))
+        (FailsToAnchor (rules_in V.Vouch question.now) (items_in question.now) (anchors_in question.now) (certificate_item certificate.now) (certificate_of certificate.now))) }
 {
-    let signers = in_order(alloc, signers)?;
-    let linked = linked_anchors(alloc, anchors, linking, &signers, vouch)?;
-    let unvouched = positions_but(alloc, roots, &signers)?;
-    let listed = listed_anchors(alloc, anchors, linking, roots, vouch)?;
-    Ok(Groups {
-        linked,
-        unvouched,
-        differing: Vec::new(alloc),
-        listed,
-    })
+    let issued = Issued::new(alloc, used, question, side, place, certificate, linking)?;
+    let linked = Cut::of(alloc, &issued.under.all)?;
+    let unvouched = issued.unvouched.copied(alloc)?;
+    Ok(Groups { linked, unvouched })
 }
 
-/// The ends of the lines of the links to all anchors of the issuer's name, given those that signed
-/// the certificate.
-fn tails_to_anchors<V: Vouch>(
+/// The ends of the lines of the links to all anchors of the issuer's name, which are brought
+/// together.
+fn root_tails_among<'a, V: Vouch>(
     alloc: Global,
-    anchors: &[ReadItem<'_>],
+    kept: &mut Kept<'_>,
+    question: &Question<'_, '_, V>,
+    side: &Side<'_, 'a>,
+    place: usize,
+    certificate: &CertificateItem<'_>,
+    linking: &Linking<'_, '_>,
+) -> Result<Vec<String>, OutOfMemory>
+    requires kept { AreAnchorsWritten V.Vouch question.now kept.old }
+    requires known { IsFound question.now.found.now }
+    requires signed { IsSigned V.Vouch question.now }
+    requires side { IsSide V.Vouch question.now side.now }
+    requires others { side.now.others.now ≡ question.now.found.now.anchors.now }
+    requires name { side.now.name.now ≡ certificate.now.issuer.now }
+    requires at { IsAt question.now.found.now.items.now place (λ x. x ≡ certificate_read certificate.now) }
+    requires lists { HasItsLists linking.now }
+    requires items { linking.now.items.now ≡ question.now.found.now.items.now }
+    requires certificate { linking.now.certificate.now ≡ certificate.now }
+    requires policy { linking.now.policy ≡ question.now.policy.now }
+    ensures kept { OnOk result (AreAnchorsWritten V.Vouch question.now kept.new) }
+    ensures tails { IfOk result (λ tails. AreAnchorTails V.Vouch question.now certificate.now tails.items) }
+{
+    let used = &mut kept.used;
+    let groups = root_groups_of(alloc, used, question, side, place, certificate, linking)?;
+    let lists = linking.revoking();
+    let mut tails = Vec::new(alloc);
+    add_cut(&mut tails, alloc, None, &groups.linked)?;
+    let unvouched = Some(Unlinked::NotVouched);
+    add_cut(&mut tails, alloc, unvouched, &groups.unvouched)?;
+    add_root_revoked(
+        &mut tails,
+        alloc,
+        &mut kept.lists,
+        question,
+        certificate,
+        lists,
+    )?;
+    add_lacking(&mut tails, alloc, &mut kept.used, question, side)?;
+    Ok(tails)
+}
+
+/// Likewise, given their positions.
+fn tails_to_anchors<'a, V: Vouch>(
+    alloc: Global,
+    kept: &mut Kept<'_>,
+    question: &Question<'_, 'a, V>,
+    place: usize,
+    certificate: &CertificateItem<'_>,
     linking: &Linking<'_, '_>,
     roots: &[usize],
-    signers: &[usize],
-    vouch: &V,
+    first: usize,
 ) -> Result<Vec<String>, OutOfMemory>
+    requires kept { AreAnchorsWritten V.Vouch question.now kept.old }
+    requires known { IsFound question.now.found.now }
+    requires signed { IsSigned V.Vouch question.now }
+    requires named { IsNamed question.now }
+    requires at { IsAt question.now.found.now.items.now place (λ x. x ≡ certificate_read certificate.now) }
     requires lists { HasItsLists linking.now }
-    requires roots { ArePositions (HasSubject (map item_of anchors.now) linking.now.certificate.now.issuer.now) roots.now }
-    requires signers { (w : ℕ) → Contains signers.now w ↔ IsSignedBy (V.vouches_for vouch.now).Vouches (map item_of anchors.now) (certificate_item linking.now.certificate.now) w }
-    ensures { IfOk result (λ tails. AreTails (IsLinkedToAnchor (link_rules V.Vouch linking.now vouch.now) (link_items linking.now) (map item_of anchors.now) (certificate_item linking.now.certificate.now))
-        (FailsToAnchor (link_rules V.Vouch linking.now vouch.now) (link_items linking.now) (map item_of anchors.now) (certificate_item linking.now.certificate.now) (certificate_of linking.now.certificate.now)) tails.items) }
+    requires items { linking.now.items.now ≡ question.now.found.now.items.now }
+    requires certificate { linking.now.certificate.now ≡ certificate.now }
+    requires policy { linking.now.policy ≡ question.now.policy.now }
+    requires roots { ArePositions (HasSubject (anchors_in question.now) certificate.now.issuer.now) roots.now }
+    requires first { HasSubject (anchors_in question.now) certificate.now.issuer.now first }
+    ensures kept { OnOk result (AreAnchorsWritten V.Vouch question.now kept.new) }
+    ensures tails { IfOk result (λ tails. AreAnchorTails V.Vouch question.now certificate.now tails.items) }
 {
-    let groups = root_groups_of(alloc, anchors, linking, roots, signers, vouch)?;
-    let tails = tails_of(alloc, &groups)?;
-    Ok(tails)
+    let others = question.found.anchors;
+    let holders = &question.signers.roots;
+    let name = certificate.issuer;
+    if let Some(named) = question.named.roots.of(name) {
+        let side = Side {
+            others,
+            holders,
+            name,
+            named,
+            first,
+        };
+        return root_tails_among(alloc, kept, question, &side, place, certificate, linking);
+    }
+    let named = Issuers::new(alloc, others, roots)?;
+    let side = Side {
+        others,
+        holders,
+        name,
+        named: &named,
+        first,
+    };
+    root_tails_among(alloc, kept, question, &side, place, certificate, linking)
 }
 
 /// Appends the lines of the links to all anchors of the issuer's name. They are worked out once for
 /// each kind.
-fn tell_anchors<V: Vouch>(
+fn tell_anchors<'a, V: Vouch>(
     text: &mut String,
     alloc: Global,
-    written: &mut BTreeMap<Vec<usize>, Vec<String>>,
-    question: &Question<'_, '_, V>,
+    written: &mut Kept<'a>,
+    question: &Question<'_, 'a, V>,
     place: usize,
     certificate: &CertificateItem<'_>,
     linking: &Linking<'_, '_>,
     roots: &[usize],
 ) -> Result<(), OutOfMemory>
     requires written { AreAnchorsWritten V.Vouch question.now written.old }
+    requires known { IsFound question.now.found.now }
     requires signed { IsSigned V.Vouch question.now }
+    requires named { IsNamed question.now }
     requires at { IsAt question.now.found.now.items.now place (λ x. x ≡ certificate_read certificate.now) }
     requires lists { HasItsLists linking.now }
     requires items { linking.now.items.now ≡ question.now.found.now.items.now }
@@ -404,15 +441,22 @@ fn tell_anchors<V: Vouch>(
         return Ok(());
     };
     let kind = anchor_kind(alloc, question, place, certificate, linking, *first)?;
-    if let Some(tails) = written.get(&kind) {
+    if let Some(tails) = written.tails.get(&kind) {
         push_tails(text, Front::Anchors(place), tails)?;
         return Ok(());
     }
-    let signers = roots_at(alloc, question, place, certificate.issuer)?;
-    let anchors = question.found.anchors;
-    let tails = tails_to_anchors(alloc, anchors, linking, roots, &signers, question.vouch)?;
+    let tails = tails_to_anchors(
+        alloc,
+        written,
+        question,
+        place,
+        certificate,
+        linking,
+        roots,
+        *first,
+    )?;
     push_tails(text, Front::Anchors(place), &tails)?;
-    written.insert(kind, tails)?;
+    written.tails.insert(kind, tails)?;
     Ok(())
 }
 
@@ -442,7 +486,7 @@ fn tell_missing(
 fn tell_all_links<'q, 'a, V: Vouch>(
     text: &mut String,
     alloc: Global,
-    written: &mut Written,
+    written: &mut Written<'a>,
     question: &Question<'q, 'a, V>,
     place: usize,
     certificate: &'q CertificateItem<'a>,
@@ -451,6 +495,7 @@ fn tell_all_links<'q, 'a, V: Vouch>(
     requires known { IsFound question.now.found.now }
     requires signed { IsSigned V.Vouch question.now }
     requires listed { IsListed question.now }
+    requires named { IsNamed question.now }
     requires at { IsAt question.now.found.now.items.now place (λ x. x ≡ certificate_read certificate.now) }
     ensures written { OnOk result (AreWritten V.Vouch question.now written.new) }
     ensures text { OnOk result (Appends (TellsLinks (rules_in V.Vouch question.now)
@@ -489,7 +534,7 @@ fn tell_all_links<'q, 'a, V: Vouch>(
 fn tell_certificate<'q, 'a, V: Vouch>(
     text: &mut String,
     alloc: Global,
-    written: &mut Written,
+    written: &mut Written<'a>,
     question: &Question<'q, 'a, V>,
     place: usize,
     certificate: &'q CertificateItem<'a>,
@@ -498,6 +543,7 @@ fn tell_certificate<'q, 'a, V: Vouch>(
     requires known { IsFound question.now.found.now }
     requires signed { IsSigned V.Vouch question.now }
     requires listed { IsListed question.now }
+    requires named { IsNamed question.now }
     requires at { IsAt question.now.found.now.items.now place (λ x. x ≡ certificate_read certificate.now) }
     requires target { question.now.sought.target.now ≡ octets_at (items_in question.now) question.now.target }
     ensures written { OnOk result (AreWritten V.Vouch question.now written.new) }
@@ -519,17 +565,18 @@ fn tell_certificate<'q, 'a, V: Vouch>(
 }
 
 /// All lines of the certificate at a position.
-pub(crate) fn tell_at<V: Vouch>(
+pub(crate) fn tell_at<'a, V: Vouch>(
     text: &mut String,
     alloc: Global,
-    written: &mut Written,
-    question: &Question<'_, '_, V>,
+    written: &mut Written<'a>,
+    question: &Question<'_, 'a, V>,
     place: usize,
 ) -> Result<(), OutOfMemory>
     requires written { AreWritten V.Vouch question.now written.old }
     requires known { IsFound question.now.found.now }
     requires signed { IsSigned V.Vouch question.now }
     requires listed { IsListed question.now }
+    requires named { IsNamed question.now }
     requires target { question.now.sought.target.now ≡ octets_at (items_in question.now) question.now.target }
     requires certificate { IsCertificateAt (items_in question.now) place }
     ensures written { OnOk result (AreWritten V.Vouch question.now written.new) }

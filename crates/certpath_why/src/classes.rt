@@ -59,6 +59,7 @@ pub(crate) fn numbers_at(
 ) -> Result<Vec<usize>, AllocError>
     ensures ascend { IfOk result (λ found. IsStrictlyIncreasing found.items) }
     ensures all { IfOk result (λ found. (v : ℕ) → Contains places.now v → v < length numbers.now → Contains found.items (slice_index_or numbers.now v 0)) }
+    ensures only { IfOk result (λ found. (n : ℕ) → Contains found.items n → (v : ℕ) × Contains places.now v × (v < length numbers.now) × (slice_index_or numbers.now v 0 ≡ n)) }
 {
     let mut found = Vec::new(alloc);
     for place in places {

@@ -8,7 +8,7 @@ ghost use Rattle.std.specs.List.Sorted.{IsStrictlyIncreasing};
 ghost use Rattle.cert_graph.specs.declared.places.Place.{Place};
 ghost use Rattle.certpath_why.specs.Classes.{AreClasses};
 ghost use Rattle.certpath_why.specs.Directories.{IsDirectory};
-ghost use Rattle.certpath_why.specs.Holders.{IsOfKey, KeysAdded, NameAdded, AreHolders, HasMember, IsInRow, IsNamedAt};
+ghost use Rattle.certpath_why.specs.Holders.{IsOfKey, KeysAdded, NameAdded, AreHolders, HasMember, IsInRow, IsInRows, IsNamedAt, IsOfRow};
 ghost use Rattle.certpath_why.specs.Kinds.{VouchesFor};
 ghost use Rattle.certpath_why.specs.Reached.{ArePositions};
 
@@ -178,6 +178,25 @@ impl<'a> Holders<'a> {
         Ok(())
     }
 
+    /// The positions of the members of a name among some holders, in ascending order: a step for
+    /// each, and one for each holder.
+    fn members_of(
+        &self,
+        alloc: Global,
+        row: &[usize],
+        name: &[u8],
+    ) -> Result<Vec<usize>, AllocError>
+        requires { (k : ℕ) → Contains row.now k → k < length self.now.all.items }
+        ensures { IfOk result (λ found. ArePositions (IsOfRow self.now row.now name.now) found.items) }
+    {
+        let mut found = Vec::new(alloc);
+        for holder in row {
+            self.add_named(&mut found, *holder, name)?;
+        }
+        put_in_order(&mut found)?;
+        Ok(found)
+    }
+
     /// The positions of the members of a name whose keys vouch for the octets of a number, in
     /// ascending order: a step for each, and one for each key.
     pub(crate) fn positions(
@@ -190,12 +209,39 @@ impl<'a> Holders<'a> {
         requires within { (k : ℕ) (r : Vec ℕ Global) → Contains (slice_index_or self.now.rows.items number r).items k → k < length self.now.all.items }
         ensures { IfOk result (λ found. ArePositions (IsInRow self.now number name.now) found.items) }
     {
-        let mut found = Vec::new(alloc);
         let row = row_at(&self.rows, number);
-        for holder in row {
-            self.add_named(&mut found, *holder, name)?;
+        let found = self.members_of(alloc, row, name)?;
+        Ok(found)
+    }
+
+    /// The holders whose keys vouch for the octets of some numbers, in ascending order.
+    fn holders_at(&self, alloc: Global, numbers: &[usize]) -> Result<Vec<usize>, AllocError>
+        requires { (c : ℕ) → Contains numbers.now c → c < length self.now.rows.items }
+        ensures { IfOk result (λ found. (k : ℕ) → Contains found.items k ↔ IsInRows self.now numbers.now k) }
+    {
+        let mut found = Vec::new(alloc);
+        for number in numbers {
+            let row = row_at(&self.rows, *number);
+            found.extend_from_slice(row)?;
         }
         put_in_order(&mut found)?;
+        Ok(found)
+    }
+
+    /// The positions of the members of a name whose keys vouch for the octets of one of some
+    /// numbers, in ascending order: a step for each, and one for each number and key.
+    pub(crate) fn positions_of_any(
+        &self,
+        alloc: Global,
+        numbers: &[usize],
+        name: &[u8],
+    ) -> Result<Vec<usize>, AllocError>
+        requires numbers { (c : ℕ) → Contains numbers.now c → c < length self.now.rows.items }
+        requires within { (c k : ℕ) (r : Vec ℕ Global) → Contains numbers.now c → Contains (slice_index_or self.now.rows.items c r).items k → k < length self.now.all.items }
+        ensures { IfOk result (λ found. ArePositions (λ w. (c : ℕ) × Contains numbers.now c × IsInRow self.now c name.now w) found.items) }
+    {
+        let row = self.holders_at(alloc, numbers)?;
+        let found = self.members_of(alloc, &row, name)?;
         Ok(found)
     }
 

@@ -3,7 +3,7 @@
 //! position of it, the holders whose keys vouch for the certificate, the lists in force that have
 //! its serial number, and the key identifier that it names.
 
-ghost use Rattle.std.specs.Prelude.{◌≡◌, ◌++◌, ◌<◌, None, map, option_map, length, IfOk, OnOk, Vec};
+ghost use Rattle.std.specs.Prelude.{◌≡◌, ◌++◌, ◌<◌, [], None, map, option_map, length, IfOk, OnOk, Vec};
 ghost use Rattle.std.specs.declared.alloc.Global.{Global};
 ghost use Rattle.cert_judge.specs.Items.{item_of};
 ghost use Rattle.cert_reasons.specs.Linking.{HasItsLists};
@@ -65,6 +65,18 @@ fn kind_of(
     Ok(kind)
 }
 
+/// A kind by the key identifier that a certificate names, and by a certificate of its issuer's name.
+pub(crate) fn id_kind(
+    alloc: Global,
+    first: usize,
+    certificate: &CertificateItem<'_>,
+) -> Result<Vec<usize>, AllocError>
+    ensures { IfOk result (λ kind. kind.items ≡ kind_numbers first [] [] (named_by certificate.now)) }
+{
+    let kind = kind_of(alloc, first, &[], &[], certificate.authority_key_id)?;
+    Ok(kind)
+}
+
 /// The kind of the certificate at a position, by its links to certificates. The first certificate
 /// of its issuer's name is given.
 pub(crate) fn item_kind<V: Vouch>(
@@ -86,6 +98,28 @@ pub(crate) fn item_kind<V: Vouch>(
     let revoking = linking.revoking();
     let named = certificate.authority_key_id;
     let kind = kind_of(alloc, first, signers, revoking, named)?;
+    Ok(kind)
+}
+
+/// Likewise whatever key identifier it names.
+pub(crate) fn group_kind<V: Vouch>(
+    alloc: Global,
+    question: &Question<'_, '_, V>,
+    place: usize,
+    certificate: &CertificateItem<'_>,
+    linking: &Linking<'_, '_>,
+    first: usize,
+) -> Result<Vec<usize>, AllocError>
+    requires signed { IsSigned V.Vouch question.now }
+    requires lists { HasItsLists linking.now }
+    requires certificate { linking.now.certificate.now ≡ certificate.now }
+    requires place { place < length question.now.found.now.items.now }
+    requires first { HasSubject (items_in question.now) certificate.now.issuer.now first }
+    ensures { IfOk result (λ kind. IsKind linking.now.items.now (items_in question.now) linking.now.policy.moment question.now.signers.now.classes question.now.signers.now.issuers None place certificate.now kind.items) }
+{
+    let row = issuers_row(question, place);
+    let revoking = linking.revoking();
+    let kind = kind_of(alloc, first, row, revoking, None)?;
     Ok(kind)
 }
 

@@ -2,22 +2,18 @@
 //! others don't, with the positions as ranges. What follows after the certificate's own position is
 //! worked out by itself, so that it serves all certificates of a kind.
 
-ghost use Rattle.std.specs.Prelude.{◌≡◌, ◌↔◌, ◌++◌, [], Contains, Some, IsTrue, IfOk, OnOk, string_bytes};
-ghost use Rattle.std.specs.List.Sorted.{IsStrictlyIncreasing};
-ghost use Rattle.cert_reasons.specs.declared.links.Unlinked.TheVariants.{RevokedBy};
-ghost use Rattle.certpath_why.specs.Fates.{AreSortedFates, OfSome};
-ghost use Rattle.certpath_why.specs.Groups.{AreInOrder, FailsIn};
-ghost use Rattle.certpath_why.specs.Kinds.{AddsTails, AreTails, lines_of};
+ghost use Rattle.std.specs.Prelude.{◌≡◌, ◌↔◌, ◌++◌, List, [], Some, IsTrue, IfOk, OnOk, string_bytes};
+ghost use Rattle.certpath_why.specs.Cuts.{IsCut};
+ghost use Rattle.certpath_why.specs.Kinds.{AddsTails, lines_of};
 ghost use Rattle.certpath_why.specs.Lines.{link_end, link_lines};
 ghost use Rattle.certpath_why.specs.Listed.{listed};
 ghost use Rattle.certpath_why.specs.LinkText.{front_text};
 ghost use Rattle.certpath_why.specs.Ranges.{range_text};
-ghost use Rattle.certpath_why.specs.Why.{AreTexts, TellsGroup};
+ghost use Rattle.certpath_why.specs.declared.ranges.Range.{Range};
 
-use crate::fates::{Fate, places_of};
-use crate::listed::{Part, push_list, push_part};
-use crate::ranges::{Range, ranges_of};
-use crate::revokers::revokers_of;
+use crate::cuts::{Cut, MOST_SHOWN};
+use crate::listed::{Part, push_more, push_others, push_part};
+use crate::ranges::Range;
 use crate::words::push_link_words;
 use asn1_core::OutOfMemory;
 use cert_reasons::Unlinked;
@@ -32,17 +28,14 @@ pub(crate) enum Front {
     Anchors(usize),
 }
 
-/// The links of one certificate to those of its issuer's name, by their positions in ascending order.
+/// The links of one certificate to those of its issuer's name that hold, and those that nobody
+/// vouches for.
 #[derive(Drop)]
 pub(crate) struct Groups {
     /// To whom it is linked.
-    pub(crate) linked: Vec<usize>,
+    pub(crate) linked: Cut,
     /// Whose keys nobody says to have signed it.
-    pub(crate) unvouched: Vec<usize>,
-    /// Whose key identifiers differ from the one that it names.
-    pub(crate) differing: Vec<usize>,
-    /// Links with the reasons that are lists; none where no list is a reason.
-    pub(crate) listed: Vec<Fate>,
+    pub(crate) unvouched: Cut,
 }
 
 /// Appends a position, or the first and the last of several.
@@ -108,83 +101,44 @@ fn has_none(ranges: &[Range]) -> bool
     ranges.is_empty()
 }
 
-/// The end of a line of some positions.
-fn tail_of(alloc: Global, what: Option<Unlinked>, ranges: &[Range]) -> Result<String, OutOfMemory>
-    ensures { IfOk result (λ tail. string_bytes tail ≡ listed range_text ranges.now ++ link_end what) }
+/// Appends some ranges, of which the first are given with their number.
+fn push_cut(text: &mut String, alloc: Global, cut: &Cut) -> Result<(), OutOfMemory>
+    ensures { OnOk result ((ranges : List Range) → IsCut ranges cut.now → string_bytes text.new ≡ string_bytes text.old ++ listed range_text ranges) }
+{
+    let Some((first, rest)) = cut.shown.as_slice().split_first() else {
+        return Ok(());
+    };
+    first.push_shown(text, alloc)?;
+    push_others(text, alloc, rest)?;
+    push_more(text, cut.count.saturating_sub(MOST_SHOWN))?;
+    Ok(())
+}
+
+/// The end of a line of ranges of which the first are given.
+fn cut_tail(alloc: Global, what: Option<Unlinked>, cut: &Cut) -> Result<String, OutOfMemory>
+    ensures { IfOk result (λ tail. (ranges : List Range) → IsCut ranges cut.now → string_bytes tail ≡ listed range_text ranges ++ link_end what) }
 {
     let mut tail = String::new(alloc);
-    push_list(&mut tail, alloc, ranges)?;
+    push_cut(&mut tail, alloc, cut)?;
     push_link_end(&mut tail, what)?;
     Ok(tail)
 }
 
-/// Adds the end of the line of some positions; nothing for none.
-fn add_links(
+/// Adds the end of the line of ranges of which the first are given; nothing for none.
+pub(crate) fn add_cut(
     tails: &mut Vec<String>,
     alloc: Global,
     what: Option<Unlinked>,
-    ranges: &[Range],
+    cut: &Cut,
 ) -> Result<(), OutOfMemory>
-    ensures { OnOk result (AddsTails (λ front text. text ≡ link_lines front what ranges.now) tails.old.items tails.new.items) }
+    ensures { OnOk result ((ranges : List Range) → IsCut ranges cut.now → AddsTails (λ front text. text ≡ link_lines front what ranges) tails.old.items tails.new.items) }
 {
-    if has_none(ranges) {
+    if has_none(&cut.shown) {
         return Ok(());
     }
-    let tail = tail_of(alloc, what, ranges)?;
+    let tail = cut_tail(alloc, what, cut)?;
     tails.push(tail)?;
     Ok(())
-}
-
-/// Adds the end of the line of some positions, given in ascending order; nothing for none.
-fn add_places(
-    tails: &mut Vec<String>,
-    alloc: Global,
-    what: Option<Unlinked>,
-    places: &[usize],
-) -> Result<(), OutOfMemory>
-    requires { IsStrictlyIncreasing places.now }
-    ensures { OnOk result (AddsTails (λ front. TellsGroup front what (Contains places.now)) tails.old.items tails.new.items) }
-{
-    let ranges = ranges_of(alloc, places)?;
-    add_links(tails, alloc, what, &ranges)?;
-    Ok(())
-}
-
-/// Adds the end of a line for each of some lists that revoke.
-fn add_revoked(
-    tails: &mut Vec<String>,
-    alloc: Global,
-    fates: &[Fate],
-    lists: &[usize],
-) -> Result<(), OutOfMemory>
-    requires { AreSortedFates fates.now }
-    ensures { OnOk result (AddsTails (λ front. AreTexts (λ p. TellsGroup front (Some (RevokedBy p)) (OfSome (Some (RevokedBy p)) fates.now)) lists.now) tails.old.items tails.new.items) }
-{
-    for list in lists {
-        let revoked = Some(Unlinked::RevokedBy(*list));
-        let places = places_of(alloc, fates, revoked)?;
-        add_places(tails, alloc, revoked, &places)?;
-    }
-    Ok(())
-}
-
-/// The ends of the lines of all links.
-pub(crate) fn tails_of(alloc: Global, groups: &Groups) -> Result<Vec<String>, OutOfMemory>
-    requires { AreInOrder groups.now }
-    ensures { IfOk result (λ tails. AreTails (Contains groups.now.linked.items) (FailsIn groups.now) tails.items) }
-{
-    let mut tails = Vec::new(alloc);
-    let lists = revokers_of(alloc, &groups.listed)?;
-    let unvouched = Some(Unlinked::NotVouched);
-    let differing = Some(Unlinked::KeyIdsDiffer);
-    add_places(&mut tails, alloc, None, &groups.linked)?;
-    add_places(&mut tails, alloc, unvouched, &groups.unvouched)?;
-    add_places(&mut tails, alloc, differing, &groups.differing)?;
-    add_revoked(&mut tails, alloc, &groups.listed, &lists)?;
-    let lacking = Some(Unlinked::NoUsedList);
-    let places = places_of(alloc, &groups.listed, lacking)?;
-    add_places(&mut tails, alloc, lacking, &places)?;
-    Ok(tails)
 }
 
 /// Appends a line with its end.

@@ -47,7 +47,7 @@ fn push_listed_octets(text: &mut String, octets: &[u8]) -> Result<(), AllocError
 }
 
 /// The first so many.
-fn front_of<T>(all: &[T], most: usize) -> &[T]
+pub(crate) fn front_of<T>(all: &[T], most: usize) -> &[T]
     ensures { result.now ≡ take most all.now }
 {
     if all.len() <= most { all } else { &all[..most] }
@@ -72,7 +72,11 @@ pub(crate) fn push_part(text: &mut String, name: &[u8]) -> Result<(), AllocError
 }
 
 /// Appends names, each after a comma.
-fn push_others<P: Part>(text: &mut String, alloc: Global, parts: &[P]) -> Result<(), OutOfMemory>
+pub(crate) fn push_others<P: Part>(
+    text: &mut String,
+    alloc: Global,
+    parts: &[P],
+) -> Result<(), OutOfMemory>
     ensures { OnOk result (string_bytes text.new ≡ string_bytes text.old ++ flat_map (λ y. codes ", " ++ shown_part (P.text_of y)) parts.now) }
 {
     for part in parts {
@@ -83,7 +87,7 @@ fn push_others<P: Part>(text: &mut String, alloc: Global, parts: &[P]) -> Result
 }
 
 /// Appends how many names are left out.
-fn push_more(text: &mut String, count: usize) -> Result<(), AllocError>
+pub(crate) fn push_more(text: &mut String, count: usize) -> Result<(), AllocError>
     ensures { OnOk result (string_bytes text.new ≡ string_bytes text.old ++ more_words count) }
 {
     if count == 0 {

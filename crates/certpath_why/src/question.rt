@@ -3,6 +3,7 @@
 use crate::by_issuer::ListsByIssuer;
 use crate::demanded::Sought;
 use crate::found::Found;
+use crate::named::Named;
 use crate::signers::Signers;
 use cert_judge::Policy;
 
@@ -21,6 +22,8 @@ pub(crate) struct Question<'q, 'a, V> {
     pub(crate) signers: &'q Signers<'a>,
     /// The lists in force of the issuers of what is reached.
     pub(crate) lists: &'q ListsByIssuer<'a>,
+    /// The certificates and anchors of the names of these issuers.
+    pub(crate) named: &'q Named<'a>,
     /// The moment, and whether revocation lists are demanded.
     pub(crate) policy: &'q Policy,
 }

@@ -2,7 +2,7 @@
 
 ghost use Rattle.std.specs.Prelude.{◌≡◌, ◌↔◌, ◌<◌, ℕ, [], ◌∷◌, length, map, Contains, IfOk, OnOk};
 ghost use Rattle.cert_judge.specs.Items.{item_of};
-ghost use Rattle.certpath_why.specs.Found.{IsFound, IsMarked, Spreads, SpreadsFrom};
+ghost use Rattle.certpath_why.specs.Found.{AreSpent, IsFound, IsMarked, Spreads, SpreadsFrom};
 ghost use Rattle.certpath_why.specs.Reached.{ArePositions, IsReached, IsFurther};
 
 use crate::found::{Found, certificate_at, is_certificate};
@@ -33,25 +33,38 @@ fn spread(marks: &mut Vec<bool>, queue: &mut Vec<usize>, places: &[usize]) -> Re
     Ok(())
 }
 
-/// Marks the certificates whose subject is the issuer of the one at a position.
+/// Marks the certificates whose subject is the issuer of the one at a position. Each name is gone
+/// over once: then the first certificate of the name is spent.
 fn spread_from(
     marks: &mut Vec<bool>,
     queue: &mut Vec<usize>,
+    spent: &mut Vec<bool>,
     found: &Found<'_, '_>,
     place: usize,
 ) -> Result<(), AllocError>
     requires known { IsFound found.now }
     requires count { length marks.now.items ≡ length found.now.items.now }
-    ensures { OnOk result (SpreadsFrom (map item_of found.now.items.now) place marks.old.items queue.old.items marks.new.items queue.new.items) }
+    requires spent { AreSpent (map item_of found.now.items.now) spent.now.items marks.now.items }
+    ensures spread { OnOk result (SpreadsFrom (map item_of found.now.items.now) place marks.old.items queue.old.items marks.new.items queue.new.items) }
+    ensures spent { OnOk result (AreSpent (map item_of found.now.items.now) spent.new.items marks.new.items) }
 {
     let Some(certificate) = certificate_at(found.items, place) else {
         return Ok(());
     };
-    spread(marks, queue, found.issuers(certificate.issuer))?;
+    let places = found.issuers(certificate.issuer);
+    let Some(first) = places.first() else {
+        return Ok(());
+    };
+    if is_marked(spent, *first) {
+        return Ok(());
+    }
+    spread(marks, queue, places)?;
+    put_mark(spent, *first);
     Ok(())
 }
 
-/// Marks of exactly the certificates that are reached. Each is in the queue once.
+/// Marks of exactly the certificates that are reached. Each is in the queue once, and its issuer's
+/// name is looked up then.
 fn reached_marks(
     alloc: Global,
     found: &Found<'_, '_>,
@@ -64,6 +77,7 @@ fn reached_marks(
     if !is_certificate(found.items, target) {
         return Ok(marks);
     }
+    let mut spent = no_marks(alloc, found.items.len())?;
     let mut queue = Vec::new(alloc);
     visit(&mut marks, &mut queue, target)?;
     for done in 0..usize::MAX {
@@ -72,7 +86,7 @@ fn reached_marks(
             return Ok(marks);
         }
         let place = waiting[done];
-        spread_from(&mut marks, &mut queue, found, place)?;
+        spread_from(&mut marks, &mut queue, &mut spent, found, place)?;
     }
     Ok(marks)
 }

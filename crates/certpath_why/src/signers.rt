@@ -10,14 +10,16 @@ ghost use Rattle.cert_judge.specs.declared.items.ReadItem.{ReadItem};
 ghost use Rattle.certpath_why.specs.Kinds.{row_at, VouchesFor};
 ghost use Rattle.certpath_why.specs.Question.{items_in, anchors_in, IsSigned};
 ghost use Rattle.certpath_why.specs.Reached.{ArePositions};
-ghost use Rattle.certpath_why.specs.Signers.{AreSignedBy, IsSignedBy, issued_place, issuer_name, member_place};
+ghost use Rattle.certpath_why.specs.Sides.{others_of, IsSide};
+ghost use Rattle.certpath_why.specs.Signers.{AreOfIssuer, AreSignedBy, IsSignedBy, SignsAny, issued_place, issuer_name, member_place};
 
-use crate::classes::{Classes, classes_of};
+use crate::classes::{Classes, classes_of, numbers_at};
 use crate::demanded::octets_of;
 use crate::directory::Directory;
 use crate::holders::{Holders, holders_of};
 use crate::question::Question;
 use crate::rows::row_at;
+use crate::side::Side;
 use cert_graph::Place;
 use cert_judge::{ReadItem, Vouch};
 use std::alloc::{AllocError, Global};
@@ -162,6 +164,41 @@ pub(crate) fn roots_at<V: Vouch>(
 {
     let number = question.signers.classes.number(place);
     let found = question.signers.roots.positions(alloc, number, name)?;
+    Ok(found)
+}
+
+/// The certificates of a name that signed the item at a position, whose issuer has the name.
+pub(crate) fn signers_at<V: Vouch>(
+    alloc: Global,
+    question: &Question<'_, '_, V>,
+    side: &Side<'_, '_>,
+    place: usize,
+) -> Result<Vec<usize>, AllocError>
+    requires side { IsSide V.Vouch question.now side.now }
+    requires place { place < length question.now.found.now.items.now }
+    ensures { (z : ReadItem) → IsAt question.now.found.now.items.now place (λ x. x ≡ z) → issuer_name (item_of z).class ≡ Some side.now.name.now
+        → IfOk result (λ found. ArePositions (IsSignedBy (V.vouches_for question.now.vouch.now).Vouches (others_of side.now) (item_of z)) found.items) }
+{
+    let number = question.signers.classes.number(place);
+    let found = side.holders.positions(alloc, number, side.name)?;
+    Ok(found)
+}
+
+/// The certificates of a name that signed one of some items, whose issuer has the name. It costs a
+/// step for each certificate, and one for each key and item that it vouches for. Equal keys and
+/// equal items count once.
+pub(crate) fn signers_of_any<V: Vouch>(
+    alloc: Global,
+    question: &Question<'_, '_, V>,
+    side: &Side<'_, '_>,
+    places: &[usize],
+) -> Result<Vec<usize>, AllocError>
+    requires side { IsSide V.Vouch question.now side.now }
+    requires places { AreOfIssuer question.now.found.now.items.now side.now.name.now places.now }
+    ensures { IfOk result (λ found. ArePositions (SignsAny (V.vouches_for question.now.vouch.now).Vouches question.now.found.now.items.now (others_of side.now) places.now) found.items) }
+{
+    let numbers = numbers_at(alloc, &question.signers.classes.numbers, places)?;
+    let found = side.holders.positions_of_any(alloc, &numbers, side.name)?;
     Ok(found)
 }
 

@@ -5,7 +5,7 @@ ghost use Rattle.std.specs.Prelude.{◌≡◌, ◌⊎◌, ℕ, List, OnOk, [], m
 ghost use Rattle.cert_judge.specs.Items.{item_of, rules_by};
 ghost use Rattle.cert_judge.specs.Vouching.{processing_too};
 ghost use Rattle.cert_purpose.specs.Restricting.{restricted_by};
-ghost use Rattle.certpath_why.specs.Question.{anchors_in, items_in, rules_in, IsListed, IsSigned};
+ghost use Rattle.certpath_why.specs.Question.{anchors_in, items_in, rules_in, IsListed, IsNamed, IsSigned};
 ghost use Rattle.certpath_why.specs.Reached.{ArePositions, IsFurther, IsCertificateAt};
 ghost use Rattle.certpath_why.specs.Why.{AreTexts, TellsAt, TellsReached, AppendsWhy, AppendsWhyFor, octets_at};
 ghost use Rattle.certpath_why.specs.Found.{IsFound};
@@ -18,6 +18,7 @@ use crate::certificates::tell_at;
 use crate::demanded::{Sought, octets_at};
 use crate::found::{Found, is_certificate};
 use crate::lists::tell_lists;
+use crate::named::Named;
 use crate::processing::Processing;
 use crate::question::Question;
 use crate::reached::further_than;
@@ -31,16 +32,17 @@ use certpath_inputs::Demand;
 use std::alloc::Global;
 
 /// The lines of the target, where it is a certificate.
-fn tell_target<V: Vouch>(
+fn tell_target<'a, V: Vouch>(
     text: &mut String,
     alloc: Global,
-    written: &mut Written,
-    question: &Question<'_, '_, V>,
+    written: &mut Written<'a>,
+    question: &Question<'_, 'a, V>,
 ) -> Result<(), OutOfMemory>
     requires written { AreWritten V.Vouch question.now written.old }
     requires known { IsFound question.now.found.now }
     requires signed { IsSigned V.Vouch question.now }
     requires listed { IsListed question.now }
+    requires named { IsNamed question.now }
     requires target { question.now.sought.target.now ≡ octets_at (items_in question.now) question.now.target }
     ensures written { OnOk result (AreWritten V.Vouch question.now written.new) }
     ensures text { OnOk result (Appends (λ own. TellsAt question.now.sought.demand.now (rules_in V.Vouch question.now)
@@ -55,17 +57,18 @@ fn tell_target<V: Vouch>(
 }
 
 /// The lines of the further certificates that are reached.
-fn tell_further<V: Vouch>(
+fn tell_further<'a, V: Vouch>(
     text: &mut String,
     alloc: Global,
-    written: &mut Written,
-    question: &Question<'_, '_, V>,
+    written: &mut Written<'a>,
+    question: &Question<'_, 'a, V>,
     further: &[usize],
 ) -> Result<(), OutOfMemory>
     requires written { AreWritten V.Vouch question.now written.old }
     requires known { IsFound question.now.found.now }
     requires signed { IsSigned V.Vouch question.now }
     requires listed { IsListed question.now }
+    requires named { IsNamed question.now }
     requires target { question.now.sought.target.now ≡ octets_at (items_in question.now) question.now.target }
     requires further { ArePositions (IsFurther (items_in question.now) question.now.target) further.now }
     ensures written { OnOk result (AreWritten V.Vouch question.now written.new) }
@@ -92,6 +95,7 @@ fn tell_reached<V: Vouch, S: Vouch>(
     requires known { IsFound question.now.found.now }
     requires signed { IsSigned V.Vouch question.now }
     requires listed { IsListed question.now }
+    requires named { IsNamed question.now }
     requires target { question.now.sought.target.now ≡ octets_at (items_in question.now) question.now.target }
     requires less { (key item : List ℕ) → (S.vouches_for search.now).Vouches key item → (V.vouches_for question.now.vouch.now).Vouches key item }
     requires further { ArePositions (IsFurther (items_in question.now) question.now.target) further.now }
@@ -129,6 +133,7 @@ fn push_why_by<'q, 'a, V: Vouch, S: Vouch>(
     let signers = Signers::new(alloc, items, anchors, vouch)?;
     let further = further_than(alloc, &found, target)?;
     let lists = ListsByIssuer::new(alloc, &found, target, &further, policy)?;
+    let named = Named::new(alloc, &found, target, &further)?;
     let question = Question {
         found: &found,
         target,
@@ -139,6 +144,7 @@ fn push_why_by<'q, 'a, V: Vouch, S: Vouch>(
         vouch,
         signers: &signers,
         lists: &lists,
+        named: &named,
         policy,
     };
     tell_reached(text, alloc, &question, answer, search, &further)?;
@@ -162,12 +168,18 @@ fn push_why_by<'q, 'a, V: Vouch, S: Vouch>(
 /// by sorted maps of names. `vouched_by_each` is called twice for each name, with the keys of its
 /// certificates among the items and then among the anchors, each key once, and the octets of the
 /// certificates and lists that it issued, each once. The entries of the lists of each issuer of what
-/// is reported are gone over and sorted once. Each certificate that is reported costs a look-up of
-/// its serial number and of its kind: its issuer's name, the keys that vouch for it, the lists in
-/// force that have its serial number, and the key identifier that it names. Each kind costs a step
-/// for each certificate and anchor of the issuer's name, and what `Linking::why_unlinked` costs for
-/// each of them whose key vouches for it; for each of the name, if lists are demanded or one that is
-/// in force has the serial number. Each list costs what `why_list_unused` costs.
+/// is reported are gone over and sorted once, and so are the key identifiers of the certificates
+/// and anchors of its name. Each certificate that is reported costs a look-up of its serial number
+/// and of its kind: its issuer's name, the keys that vouch for it, the lists in force that have its
+/// serial number, and the key identifier that it names. What kinds have in common is worked out
+/// once. Equal keys and lists cost a binary search for each certificate and anchor of the name whose
+/// key vouches for the certificate or for one of the lists, and a sort of their key identifiers. A
+/// list that revokes costs a step for each whose key vouches for it; a key identifier, a binary
+/// search for each of the name that has it. If lists are demanded, each name costs a step for each
+/// list of it, entry of these, and key that vouches for one. Besides, a kind costs a look-up for each
+/// list in force that has the serial number, and a step for each to which it is linked: none, if it
+/// names no key identifier, or one that none of these has.
+/// Each list costs what `why_list_unused` costs.
 pub fn push_why<V: Vouch>(
     text: &mut String,
     alloc: Global,

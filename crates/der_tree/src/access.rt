@@ -159,60 +159,114 @@ impl<'a> BerObject<'a> {
         self.raw()
     }
 
+    /// The objects of a SEQUENCE, in order (X.690, 8.9).
+    ///
+    /// # Errors
+    ///
+    /// `BerTypeError` for any other object.
     pub fn as_sequence(&self) -> Result<&Vec<BerObject<'a>>, Error>
         ensures { Offers (λ v. views v.now.items) result (sequence_at (view self.now)) }
     {
         self.content.as_sequence()
     }
 
+    /// The objects of a SET, in order (X.690, 8.11).
+    ///
+    /// # Errors
+    ///
+    /// `BerTypeError` for any other object.
     pub fn as_set(&self) -> Result<&Vec<BerObject<'a>>, Error>
         ensures { Offers (λ v. views v.now.items) result (set_at (view self.now)) }
     {
         self.content.as_set()
     }
 
+    /// The value of a BOOLEAN (X.690, 8.2).
+    ///
+    /// # Errors
+    ///
+    /// `BerTypeError` for any other object.
     pub fn as_bool(&self) -> Result<bool, Error>
         ensures { Offers (λ b. b) result (boolean_at (view self.now)) }
     {
         self.content.as_bool()
     }
 
+    /// The value of an OBJECT IDENTIFIER (X.690, 8.19).
+    ///
+    /// # Errors
+    ///
+    /// `BerTypeError` for any other object.
     pub fn as_oid(&self) -> Result<&Oid<'a>, Error>
         ensures { Offers (λ o. o.now) result (oid_at (view self.now)) }
     {
         self.content.as_oid()
     }
 
+    /// The number of unused bits of a BIT STRING, and the octets of its bits (X.690, 8.6).
+    ///
+    /// # Errors
+    ///
+    /// `BerTypeError` for any other object.
     pub fn as_bitstring(&self) -> Result<(u8, &'a [u8]), Error>
         ensures { Offers (λ p. (p.0, p.1.now)) result (bit_string_at (view self.now)) }
     {
         self.content.as_bitstring()
     }
 
+    /// The value of an INTEGER or ENUMERATED of at most 32 bits (X.690, 8.3 and 8.4).
+    ///
+    /// # Errors
+    ///
+    /// `IntegerNegative` below 0, `IntegerTooLarge` from 2^32 on, `BerTypeError` for any other
+    /// object.
     pub fn as_u32(&self) -> Result<u32, Error>
         ensures { result ≡ below (2 ^ 32) (number_of (content_in (view self.now))) }
     {
         self.content.as_u32()
     }
 
+    /// The value of an INTEGER or ENUMERATED of at most 64 bits (X.690, 8.3 and 8.4).
+    ///
+    /// # Errors
+    ///
+    /// `IntegerNegative` below 0, `IntegerTooLarge` from 2^64 on, `BerTypeError` for any other
+    /// object.
     pub fn as_u64(&self) -> Result<u64, Error>
         ensures { result ≡ below (2 ^ 64) (number_of (content_in (view self.now))) }
     {
         self.content.as_u64()
     }
 
+    /// The octets of an INTEGER of any size, most significant first (X.690, 8.3).
+    ///
+    /// # Errors
+    ///
+    /// `IntegerNegative` below 0, `BerTypeError` for any other object.
     pub fn as_unsigned(&self) -> Result<UnsignedBytes<'a>, Error>
         ensures { TellsUnsigned result (unsigned_of (content_in (view self.now))) }
     {
         self.content.as_unsigned()
     }
 
+    /// The text of a UTF8String, NumericString, PrintableString, IA5String or VisibleString (X.690,
+    /// 8.23).
+    ///
+    /// # Errors
+    ///
+    /// `BerTypeError` for any other object.
     pub fn as_str(&self) -> Result<&'a str, Error>
         ensures { Offers (λ s. s.now) result (text_of (content_in (view self.now))) }
     {
         self.content.as_str()
     }
 
+    /// The octets of an object that holds octets or text: of a BIT STRING those of its bits, of an
+    /// element that isn't parsed its content.
+    ///
+    /// # Errors
+    ///
+    /// `BerTypeError` for any other object.
     pub fn as_slice(&self) -> Result<&'a [u8], Error>
         ensures { Offers (λ s. s.now) result (octets_of (content_in (view self.now))) }
     {

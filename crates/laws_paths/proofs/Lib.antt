@@ -1,3 +1,5 @@
 pub mod OfTexts
 pub mod OfWhy
 pub mod OfBound
+pub mod OfItems
+pub mod OfFound

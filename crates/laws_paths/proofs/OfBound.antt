@@ -1,6 +1,6 @@
 -- An authority of b under c under d, where c's path length lets no further authority stand below it: there is no path, and there would
 -- be one without path lengths.
-use Rattle.std.proofs.Common.{◌≡◌, ◌≢◌, ◌∙◌, ap, sym, subst, refl, zero, suc, ℕ, ◌<◌, true, false, List, [], ◌∷◌, ◌++◌, map, length, length-append, get_or, arith, Some, None, inl, inr, lit<, Global}
+use Rattle.std.proofs.Common.{◌≡◌, ◌≢◌, ◌∙◌, ap, sym, subst, refl, zero, suc, ℕ, true, false, List, [], ◌∷◌, ◌++◌, map, length, length-append, get_or, arith, Some, None, inl, inr, lit<, Global}
 use Rattle.std.specs.List.{Contains}
 use Rattle.cert_graph.specs.declared.answer.Answer.TheVariants.{NoPath}
 use Rattle.cert_graph.specs.declared.reach.Reach.{Reach}
@@ -11,7 +11,7 @@ use Rattle.cert_graph.proofs.PathLaws.{valid_from}
 use Rattle.cert_model.specs.Class.{certificate}
 use Rattle.cert_model.specs.Examples.{common_name, issued_by_b, key}
 use Rattle.cert_model.specs.Extended.{EachUnder, IsWithout, SomeUnder, basic_constraints, key_usage, name_constraints, policy_constraints}
-use Rattle.cert_model.specs.Fields.{Certificate, Extension, Key, Number}
+use Rattle.cert_model.specs.Fields.{Certificate, Extension, Number}
 use Rattle.cert_model.specs.Octets.{attribute_octets, key_octets, name_octets, relative_name_octets}
 use Rattle.cert_judge.specs.Constraints.{BasicConstraints, IsBasicConstraints, basic_constraints_octets}
 use Rattle.cert_judge.specs.Examples.{anchor_named, authority, certificate_item, extension, in_june, limited_above, limited_to, unlimited}
@@ -28,27 +28,27 @@ use Rattle.certpath_why.specs.Laws.{IsUncountedPath, without_lengths}
 use Rattle.laws_judge.specs.Worked.{always}
 use Rattle.laws_paths.specs.Worked.{no_row, under_d}
 
-abbrev rules : JudgingContext
+abbrev pub rules : JudgingContext
 rules = rules_from in_june false always
 
-abbrev items : List Item
+abbrev pub items : List Item
 items = map certificate_item limited_above
 
-abbrev limited : Graph
+abbrev pub limited : Graph
 limited = graph_of_items rules items under_d
 
-abbrev plain_b : Certificate
+abbrev pub plain_b : Certificate
 plain_b = authority 0x62 0x63 key unlimited
 
-abbrev limited_c : Certificate
+abbrev pub limited_c : Certificate
 limited_c = authority 0x63 0x64 key (limited_to 0)
 
 -- ---- authorities
 
-abbrev without_limit : BasicConstraints
+abbrev pub without_limit : BasicConstraints
 without_limit = record { ca = true; path_len = None }
 
-abbrev with_limit : BasicConstraints
+abbrev pub with_limit : BasicConstraints
 with_limit = record { ca = true; path_len = Some (0 ∷ []) }
 
 unlimited_written : IsBasicConstraints unlimited without_limit
@@ -123,21 +123,24 @@ names_no_issuer subject issuer value d = λ a s names has.
     let e = ap (λ (x : Extension). x.identifier) is ∙ names.stands.under in
     absurd cc
 
+pub fit_b : limited.Fit 1
+fit_b = (lit< tt, λ d. (plain_b, refl, fit 0x62 0x63 unlimited without_limit unlimited_written refl))
+
+pub fit_c : limited.Fit 2
+fit_c = (lit< tt, λ d. (limited_c, refl, fit 0x63 0x64 (limited_to 0) with_limit zero_written refl))
+
+pub b_under_c : limited.Edge 1 2
+b_under_c = (lit< tt, λ d. (lit< tt, λ e. (plain_b, refl, (limited_c, refl, (issued plain_b limited_c refl, names_no_issuer 0x62 0x63 unlimited limited_c)))))
+
+pub c_under_anchor : limited.AnchorEdge 2 0
+c_under_anchor = (lit< tt, λ d. (lit< tt, λ e. (limited_c, refl, (anchor_named 0x64, refl, issued limited_c (anchor_named 0x64) refl))))
+
 pub uncounted : IsUncountedPath rules items under_d 0 (0 ∷ 1 ∷ 2 ∷ []) 0
 uncounted =
     valid_from (without_lengths limited) (fit_is_usable rules items under_d) 0 (1 ∷ 2 ∷ []) 0 (
       (lit< tt, λ d. (issued_by_b, refl, target_usable)),
       (lit< tt, λ d. (lit< tt, λ e. (issued_by_b, refl, (plain_b, refl, (issued issued_by_b plain_b refl, names_none plain_b))))),
-      (
-        (lit< tt, λ d. (plain_b, refl, fit 0x62 0x63 unlimited without_limit unlimited_written refl)),
-        tt,
-        (lit< tt, λ d. (lit< tt, λ e. (plain_b, refl, (limited_c, refl, (issued plain_b limited_c refl, names_no_issuer 0x62 0x63 unlimited limited_c))))),
-        (
-          (lit< tt, λ d. (limited_c, refl, fit 0x63 0x64 (limited_to 0) with_limit zero_written refl)),
-          tt,
-          (lit< tt, λ d. (lit< tt, λ e. (limited_c, refl, (anchor_named 0x64, refl, issued limited_c (anchor_named 0x64) refl)))),
-        ),
-      ),
+      (fit_b, tt, b_under_c, (fit_c, tt, c_under_anchor)),
     )
 
 -- ---- names
@@ -154,7 +157,7 @@ anchor_names c d h =
     let q = one_certificate (certificate d) h.2.0 d h.2.1 refl in
     sym (ap (λ (x : Certificate). name_octets x.issuer) p) ∙ h.2.2.issuer ∙ ap (λ (x : Certificate). name_octets x.subject) q
 
-unlike : (x y : ℕ) → x ≢ y → name_octets (common_name x) ≡ name_octets (common_name y) → ⊥
+pub unlike : (x y : ℕ) → x ≢ y → name_octets (common_name x) ≡ name_octets (common_name y) → ⊥
 unfolding name_octets relative_name_octets attribute_octets
 unlike x y apart e = apart (ap (λ (s : List ℕ). get_or s 13 0) e)
 
@@ -169,23 +172,23 @@ first_not_anchored : (a : ℕ) → limited.AnchorEdge 0 a → ⊥
 first_not_anchored zero h = no_anchor issued_by_b 0x62 refl (λ e. omega (arith, e)) ((h.1 (certificate_item plain_b)).1 (certificate_item plain_b))
 first_not_anchored (suc a) h = let lt = (h.1 (certificate_item plain_b)).0 in omega (arith, lt)
 
-second_not_anchored : (a : ℕ) → limited.AnchorEdge 1 a → ⊥
+pub second_not_anchored : (a : ℕ) → limited.AnchorEdge 1 a → ⊥
 second_not_anchored zero h = no_anchor plain_b 0x63 refl (λ e. omega (arith, e)) ((h.1 (certificate_item plain_b)).1 (certificate_item plain_b))
 second_not_anchored (suc a) h = let lt = (h.1 (certificate_item plain_b)).0 in omega (arith, lt)
 
 -- ---- no path
 
-abbrev row : List Reach
+abbrev pub row : List Reach
 row = No ∷ No ∷ UpTo 0 ∷ []
 
-anchored : HasAnchored limited row
+pub anchored : HasAnchored limited row
 unfolding HasAnchoredAt
 anchored zero a is edge = absurd (first_not_anchored a edge)
 anchored (suc zero) a is edge = absurd (second_not_anchored a edge)
 anchored (suc (suc zero)) a is edge = omega arith
 anchored (suc (suc (suc v))) a is edge = let lt = is.0 in absurd (omega (arith, lt))
 
-follows : IsSuccessor limited row row
+pub follows : IsSuccessor limited row row
 unfolding name_octets relative_name_octets attribute_octets
 follows zero w is fw edge = absurd (unfit is)
 follows (suc zero) zero is fw edge = absurd (not_empty 0x63 (link_names plain_b issued_by_b ((edge.1 (certificate_item plain_b)).1 (certificate_item plain_b))))

@@ -1,5 +1,5 @@
 -- Items, inventories and texts of worked cases: they try the laws' definitions, not the code.
-use Rattle.std.specs.Prelude.{ℕ, List, [], ◌∷◌, codes}
+use Rattle.std.specs.Prelude.{ℕ, List, [], ◌∷◌}
 use Rattle.std.specs.Global.{Global}
 use Rattle.std.proofs.Math.Dec.{lit<}
 use Rattle.cert_graph.specs.declared.reach.Reach.TheVariants.{Any, No, UpTo}

@@ -1,7 +1,9 @@
-//! Worked values that meet the premises of the laws of `certpath_evidence`, `certpath_pem` and `certpath_why`.
+//! Worked values that meet the premises of the laws of `certpath_evidence`, `certpath_find`, `certpath_pem`, `certpath_run` and
+//! `certpath_why`.
 //!
 //! Each example is a function that does nothing: its contract says that values meet premises, and the prover works it out.
 #![tactic(auto)]
 
+pub mod find;
 pub mod texts;
 pub mod why;

@@ -1,1 +1,13 @@
+pub mod Below
+pub mod CertificateSteps
+pub mod EntrySteps
+pub mod ExtensionSteps
+pub mod ListSteps
+pub mod NameSteps
 pub mod OfParts
+pub mod RefusedCertificates
+pub mod RefusedExtensions
+pub mod RefusedLists
+pub mod RefusedParts
+pub mod Steps
+pub mod TimeSteps

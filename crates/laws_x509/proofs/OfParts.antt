@@ -1,9 +1,6 @@
 -- The worked parts are in range, and the worked times are read.
-use Rattle.std.specs.Prelude.{◌&&◌}
-use Rattle.std.proofs.Common.{◌≡◌, ◌<◌, ◌^◌, ℕ, Bool, true, false, nat_lt, List, [], ◌∷◌, length, refl, arith, lit<}
+use Rattle.std.proofs.Common.{◌≡◌, ◌<◌, ◌^◌, ℕ, List, [], ◌∷◌, length, refl, arith, lit<}
 use Rattle.std.specs.Int.Digits.{AllBelowBase}
-use Rattle.std.specs.List.{list_all}
-use Rattle.std.proofs.lemmas.Bool.{ltb-true}
 use Rattle.std.proofs.lemmas.Int.{ints}
 use Rattle.asn1_oid.specs.Identifier.{IsOidContent, subidentifier_octets}
 use Rattle.der_tree.specs.Time.{IsMoment}
@@ -11,14 +8,7 @@ use Rattle.cert_model.specs.Examples.{algorithm, common_name, key, new_year, one
 use Rattle.cert_model.specs.Octets.{algorithm_octets, attribute_octets, relative_name_octets, name_octets, key_octets, moment_in}
 use Rattle.cert_model.specs.Range.{IsAlgorithm, IsKey, IsName, IsTimeField}
 use Rattle.x509_time.specs.Examples.{period_octets, start_octets}
-
-two_true : (a b : Bool) → (a && b) ≡ true → (a ≡ true) × (b ≡ true)
-two_true true b is = (refl, is)
-two_true false b is = cc
-
-below_tested : (s : List ℕ) → list_all (λ d. nat_lt d 256) s ≡ true → AllBelowBase 256 s
-below_tested [] is = tt
-below_tested (x ∷ s) is = let both = two_true (nat_lt x 256) (list_all (λ d. nat_lt d 256) s) is in (ltb-true x 256 both.0, below_tested s both.1)
+use Rattle.laws_x509.proofs.Below.{below_tested}
 
 pub start_below : AllBelowBase 256 start_octets
 start_below = below_tested start_octets refl

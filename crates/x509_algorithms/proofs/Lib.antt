@@ -3,3 +3,4 @@ pub mod Items
 pub mod Laws
 pub mod SignatureLaws
 pub mod TaggedLaws
+pub mod WantLaws

@@ -9,7 +9,7 @@ ghost use Rattle.x509_core.specs.Answers.{Gives, ElseMemory};
 ghost use Rattle.x509_core.specs.Errors.{told};
 ghost use Rattle.x509_core.specs.Fronts.{TellsMissing, one_rest};
 ghost use Rattle.x509_names.specs.View.{algorithm_view};
-ghost use Rattle.x509_algorithms.specs.Answers.{OkElseMemory};
+ghost use Rattle.x509_algorithms.specs.Answers.{OkElseMemory, Returns, IsTagError, HasPartBelow, WantsFor, WantsBelow};
 ghost use Rattle.x509_algorithms.specs.Parameters as grammar;
 ghost use Rattle.x509_algorithms.specs.Parameters.{hash_of, IsMaskGen, source_of};
 ghost use Rattle.x509_algorithms.specs.Reading.{parameters_of, oaep_parts_at, oaep_in, oaep_at};
@@ -52,6 +52,9 @@ impl<'a> RsaAesOaepParams<'a> {
     ///
     /// `OutOfMemory`, or the error of an element or an algorithm.
     pub fn try_from(alloc: Global, any: Any<'a>) -> Result<RsaAesOaepParams<'a>, X509Error>
+        ensures exact { Returns oaep_view result (parameters_of oaep_parts_at (any_of any.entry)) }
+        ensures tag { IfErr result (IsTagError (any_of any.entry)) }
+        ensures memory { IfErr result (WantsBelow 3 (any_of any.entry)) }
         ensures found { IfOk result (λ p. grammar.OaepOf (any_of any.entry) (oaep_view p)) }
         ensures only { (v : values.RsaAesOaepParams) → grammar.OaepOf (any_of any.entry) v
             → OkElseMemory result (λ p. oaep_view p ≡ v) }
@@ -116,7 +119,8 @@ impl<'a> RsaAesOaepParams<'a> {
 
 #[tactic(auto, unfolding(crate::specs::Reading::oaep_parts_at))]
 fn parts<'a>(alloc: Global, i: &'a [u8]) -> X509Result<'a, RsaAesOaepParams<'a>>
-    ensures { Gives (λ r. (oaep_view r.1, r.0.now)) result (oaep_parts_at i.now) }
+    ensures read { Gives (λ r. (oaep_view r.1, r.0.now)) result (oaep_parts_at i.now) }
+    ensures memory { IfErr result (WantsFor (HasPartBelow 3 i.now)) }
 {
     let (i, hash_alg) = next_algorithm(alloc, 0, i)?;
     let (i, mask_gen_alg) = next_algorithm(alloc, 1, i)?;
@@ -133,6 +137,8 @@ fn parts<'a>(alloc: Global, i: &'a [u8]) -> X509Result<'a, RsaAesOaepParams<'a>>
 
 /// Reads the parameters from the front of a content. Returns `(rest, parameters)`.
 fn held<'a>(alloc: Global, content: &'a [u8]) -> X509Result<'a, RsaAesOaepParams<'a>>
+    ensures exact { Gives (λ r. (oaep_view r.1, r.0.now)) result (oaep_parts_at content.now) }
+    ensures memory { IfErr result (WantsFor (HasPartBelow 3 content.now)) }
     ensures found { IfOk result (λ r. grammar.OaepParts content.now (oaep_view r.1) r.0.now) }
     ensures only { (v : values.RsaAesOaepParams) (left : List ℕ) → grammar.OaepParts content.now v left
         → ElseMemory result (λ r. (oaep_view r.1 ≡ v) × (r.0.now ≡ left)) }

@@ -9,7 +9,7 @@ ghost use Rattle.x509_core.specs.Answers.{Gives, ElseMemory};
 ghost use Rattle.x509_core.specs.Errors.{told};
 ghost use Rattle.x509_core.specs.Fronts.{TellsMissing, one_rest};
 ghost use Rattle.x509_names.specs.View.{algorithm_view};
-ghost use Rattle.x509_algorithms.specs.Answers.{OkElseMemory};
+ghost use Rattle.x509_algorithms.specs.Answers.{OkElseMemory, Returns, IsTagError, HasPartBelow, WantsFor, WantsBelow};
 ghost use Rattle.x509_algorithms.specs.Parameters as grammar;
 ghost use Rattle.x509_algorithms.specs.Parameters.{hash_of, IsMaskGen, salt_length_of, trailer_field_of};
 ghost use Rattle.x509_algorithms.specs.Reading.{parameters_of, pss_parts_at, pss_in, pss_at};
@@ -43,6 +43,9 @@ impl<'a> RsaSsaPssParams<'a> {
     ///
     /// `OutOfMemory`, or the error of an element or an algorithm.
     pub fn try_from(alloc: Global, any: Any<'a>) -> Result<RsaSsaPssParams<'a>, X509Error>
+        ensures exact { Returns pss_view result (parameters_of pss_parts_at (any_of any.entry)) }
+        ensures tag { IfErr result (IsTagError (any_of any.entry)) }
+        ensures memory { IfErr result (WantsBelow 2 (any_of any.entry)) }
         ensures found { IfOk result (λ p. grammar.PssOf (any_of any.entry) (pss_view p)) }
         ensures only { (v : values.RsaSsaPssParams) → grammar.PssOf (any_of any.entry) v
             → OkElseMemory result (λ p. pss_view p ≡ v) }
@@ -109,7 +112,8 @@ impl<'a> RsaSsaPssParams<'a> {
 
 #[tactic(auto, unfolding(crate::specs::Reading::pss_parts_at))]
 fn parts<'a>(alloc: Global, i: &'a [u8]) -> X509Result<'a, RsaSsaPssParams<'a>>
-    ensures { Gives (λ r. (pss_view r.1, r.0.now)) result (pss_parts_at i.now) }
+    ensures read { Gives (λ r. (pss_view r.1, r.0.now)) result (pss_parts_at i.now) }
+    ensures memory { IfErr result (WantsFor (HasPartBelow 2 i.now)) }
 {
     let (i, hash_alg) = next_algorithm(alloc, 0, i)?;
     let (i, mask_gen_algorithm) = next_algorithm(alloc, 1, i)?;
@@ -128,6 +132,8 @@ fn parts<'a>(alloc: Global, i: &'a [u8]) -> X509Result<'a, RsaSsaPssParams<'a>>
 
 /// Reads the parameters from the front of a content. Returns `(rest, parameters)`.
 fn held<'a>(alloc: Global, content: &'a [u8]) -> X509Result<'a, RsaSsaPssParams<'a>>
+    ensures exact { Gives (λ r. (pss_view r.1, r.0.now)) result (pss_parts_at content.now) }
+    ensures memory { IfErr result (WantsFor (HasPartBelow 2 content.now)) }
     ensures found { IfOk result (λ r. grammar.PssParts content.now (pss_view r.1) r.0.now) }
     ensures only { (v : values.RsaSsaPssParams) (left : List ℕ) → grammar.PssParts content.now v left
         → ElseMemory result (λ r. (pss_view r.1 ≡ v) × (r.0.now ≡ left)) }

@@ -1,11 +1,13 @@
 //! Optional fields of parameters, by their tag numbers.
 
-ghost use Rattle.std.specs.Prelude.{◌≡◌, option_map};
+ghost use Rattle.std.specs.Prelude.{◌≡◌, List, ℕ, Some, IfErr, option_map};
 ghost use Rattle.asn1_any.specs.Views.{any_of};
 ghost use Rattle.asn1_core.specs.Views.{head_of};
 ghost use Rattle.x509_core.specs.Answers.{Gives};
+ghost use Rattle.x509_core.specs.Fronts.{TakesNoMemory};
 ghost use Rattle.x509_names.specs.Reading.{algorithm_at};
 ghost use Rattle.x509_names.specs.View.{algorithm_view};
+ghost use Rattle.x509_algorithms.specs.Answers.{HasPart, WantsFor};
 ghost use Rattle.x509_algorithms.specs.Reading.{tagged_content, tagged_at, inner_at, explicit_in, explicit_behind, explicit_content, explicit_by, number_at};
 
 use asn1_any::Any;
@@ -21,7 +23,8 @@ use x509_names::AlgorithmIdentifier;
 /// `None` if no octet is left, or an element of another tag number is next.
 #[tactic(auto, unfolding(crate::specs::Reading::tagged_content))]
 fn content_at_front<'a>(tag: u32, i: &'a [u8]) -> X509Result<'a, Option<&'a [u8]>>
-    ensures { Gives (λ r. (option_map (λ c. c.now) r.1, r.0.now)) result (tagged_content tag i.now) }
+    ensures read { Gives (λ r. (option_map (λ c. c.now) r.1, r.0.now)) result (tagged_content tag i.now) }
+    ensures memory { IfErr result TakesNoMemory }
 {
     if i.is_empty() {
         return Ok((i, None));
@@ -41,7 +44,8 @@ fn inner_algorithm<'a>(
     alloc: Global,
     content: Option<&'a [u8]>,
 ) -> Result<Option<AlgorithmIdentifier<'a>>, Refusal<X509Error>>
-    ensures { Gives (option_map algorithm_view) result (inner_at algorithm_at (option_map (λ c. c.now) content.entry)) }
+    ensures read { Gives (option_map algorithm_view) result (inner_at algorithm_at (option_map (λ c. c.now) content.entry)) }
+    ensures memory { IfErr result (WantsFor ((c : List ℕ) × (option_map (λ c. c.now) content.entry ≡ Some c))) }
 {
     let Some(content) = content else {
         return Ok(None);
@@ -58,7 +62,8 @@ pub(crate) fn next_algorithm<'a>(
     tag: u32,
     i: &'a [u8],
 ) -> X509Result<'a, Option<AlgorithmIdentifier<'a>>>
-    ensures { Gives (λ r. (option_map algorithm_view r.1, r.0.now)) result (tagged_at tag algorithm_at i.now) }
+    ensures read { Gives (λ r. (option_map algorithm_view r.1, r.0.now)) result (tagged_at tag algorithm_at i.now) }
+    ensures memory { IfErr result (WantsFor (HasPart tag i.now)) }
 {
     let (rest, content) = content_at_front(tag, i)?;
     let algorithm = inner_algorithm(alloc, content)?;
@@ -67,7 +72,8 @@ pub(crate) fn next_algorithm<'a>(
 
 /// The content of a constructed, context-specific element of this tag number.
 fn explicit_of<'a>(tag: u32, any: Any<'a>) -> Result<&'a [u8], Refusal<X509Error>>
-    ensures { Gives (λ c. c.now) result (explicit_in tag (any_of any.entry)) }
+    ensures read { Gives (λ c. c.now) result (explicit_in tag (any_of any.entry)) }
+    ensures memory { IfErr result TakesNoMemory }
 {
     if is_of_class(any.class(), 2) && any.header.is_constructed() && any.tag().0 == tag {
         return Ok(any.content);
@@ -77,7 +83,8 @@ fn explicit_of<'a>(tag: u32, any: Any<'a>) -> Result<&'a [u8], Refusal<X509Error
 
 /// Reads the content of the element with this header; `None` if it has another tag number.
 fn content_behind<'a>(tag: u32, i: &'a [u8], header: Header) -> X509Result<'a, Option<&'a [u8]>>
-    ensures { Gives (λ r. (option_map (λ c. c.now) r.1, r.0.now)) result (explicit_behind tag i.now (head_of header)) }
+    ensures read { Gives (λ r. (option_map (λ c. c.now) r.1, r.0.now)) result (explicit_behind tag i.now (head_of header)) }
+    ensures memory { IfErr result TakesNoMemory }
 {
     if header.tag().0 != tag {
         return Ok((i, None));
@@ -90,7 +97,8 @@ fn content_behind<'a>(tag: u32, i: &'a [u8], header: Header) -> X509Result<'a, O
 
 #[tactic(auto, unfolding(crate::specs::Reading::explicit_content))]
 fn explicit_at_front<'a>(tag: u32, i: &'a [u8]) -> X509Result<'a, Option<&'a [u8]>>
-    ensures { Gives (λ r. (option_map (λ c. c.now) r.1, r.0.now)) result (explicit_content tag i.now) }
+    ensures read { Gives (λ r. (option_map (λ c. c.now) r.1, r.0.now)) result (explicit_content tag i.now) }
+    ensures memory { IfErr result TakesNoMemory }
 {
     if i.is_empty() {
         return Ok((i, None));
@@ -104,7 +112,8 @@ fn inner_number<'a>(
     alloc: Global,
     content: Option<&'a [u8]>,
 ) -> Result<Option<u32>, Refusal<X509Error>>
-    ensures { Gives (λ n. n) result (inner_at number_at (option_map (λ c. c.now) content.entry)) }
+    ensures read { Gives (λ n. n) result (inner_at number_at (option_map (λ c. c.now) content.entry)) }
+    ensures memory { IfErr result TakesNoMemory }
 {
     let Some(content) = content else {
         return Ok(None);
@@ -117,7 +126,8 @@ fn inner_number<'a>(
 
 /// Reads an optional unsigned number of 32 bits under this explicit tag. Returns `(rest, number)`.
 pub(crate) fn next_number<'a>(alloc: Global, tag: u32, i: &'a [u8]) -> X509Result<'a, Option<u32>>
-    ensures { Gives (λ r. (r.1, r.0.now)) result (explicit_by tag number_at i.now) }
+    ensures read { Gives (λ r. (r.1, r.0.now)) result (explicit_by tag number_at i.now) }
+    ensures memory { IfErr result TakesNoMemory }
 {
     let (rest, content) = explicit_at_front(tag, i)?;
     let number = inner_number(alloc, content)?;

@@ -1,11 +1,13 @@
 -- The front of octets that were cut.
 use Rattle.std.proofs.Common.{◌≡◌, ◌∙◌, refl, sym, ap, subst, ℕ, ◌+◌, ◌≤◌, List, [], ◌∷◌, ◌++◌, length, drop, arith, length-append, Option, Some, None, Ok, Err, option_map}
 use Rattle.std.specs.Result.{result_ok}
+use Rattle.std.specs.Prelude.{All}
 use Rattle.std.proofs.lemmas.List.{drop_at}
+use Rattle.std.proofs.lemmas.List.Elements.{All-head, All-tail}
 use Rattle.asn1_core.specs.Elements.{Element as Any}
 use Rattle.asn1_any.specs.declared.cut.Element.{Element}
 use Rattle.asn1_any.specs.Cutting.{Piece, IsCutting}
-use Rattle.asn1_any.specs.CutViews.{piece_of, pieces_of}
+use Rattle.asn1_any.specs.CutViews.{HasCountedContent, piece_of, pieces_of}
 use Rattle.asn1_any.specs.DerElements.{BeginsWithElement, HasElement}
 use Rattle.asn1_any.specs.Reading.{any_der}
 use Rattle.asn1_any.proofs.DerLaws.{der_only}
@@ -41,10 +43,12 @@ pub record IsNext (octets : List ℕ) (e : Element) (others : List Element) (aft
   pub cut : IsCut after others
   pub shorter : length e.octets.now + length after ≡ length octets
   pub content : length e.any.content.now + 2 ≤ length e.octets.now
+  pub counted : HasCountedContent e
 
 pub at_front : (octets after : List ℕ) (elements others : List Element) (e : Element) → IsCut octets elements → elements ≡ e ∷ others → after ≡ drop (length e.octets.now) octets → IsNext octets e others after
 at_front octets after elements others e cut here left =
     let cutting = subst (λ z. IsCutting octets (pieces_of z) cut.tail) here cut.cutting in
+    let counted = subst (All HasCountedContent) here cut.counted in
     let start = one_cut octets (piece_of e) (pieces_of others) cut.tail cutting in
     let whole = ap length start.whole in
     let rest : start.rest ≡ after = sym (left ∙ ap (drop (length e.octets.now)) start.whole ∙ drop_at e.octets.now start.rest (length e.octets.now) refl) in
@@ -52,7 +56,8 @@ at_front octets after elements others e cut here left =
       read = element_read octets start.rest e.octets.now (piece_of e).element start.begins start.whole ∙ ap (λ z. Ok (piece_of e, z)) rest;
       shorter = omega (arith, ap length rest, whole, length-append e.octets.now start.rest);
       content = content_long e.octets.now (piece_of e).element cutting.each.0;
-      cut = record { below = subst (AllBelowBase 256) rest (append_below 256 e.octets.now start.rest (subst (AllBelowBase 256) start.whole cut.below)); tail = cut.tail; cutting = subst (λ z. IsCutting z (pieces_of others) cut.tail) rest start.cutting };
+      cut = record { below = subst (AllBelowBase 256) rest (append_below 256 e.octets.now start.rest (subst (AllBelowBase 256) start.whole cut.below)); tail = cut.tail; cutting = subst (λ z. IsCutting z (pieces_of others) cut.tail) rest start.cutting; counted = All-tail HasCountedContent e others counted };
+      counted = All-head HasCountedContent e others counted;
     }
 
 -- what was told to be at the front is what is read there

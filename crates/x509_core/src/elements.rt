@@ -4,7 +4,7 @@ ghost use Rattle.std.specs.Prelude.{◌≡◌, ◌+◌, ◌^◌, ◌<◌, ◌≤
 ghost use Rattle.asn1_core.specs.Counts.{attempts};
 ghost use Rattle.asn1_core.specs.declared.error.Needed.{Needed};
 ghost use Rattle.asn1_core.specs.Views.{head_of, length_of, IsDefinite};
-ghost use Rattle.asn1_any.specs.CutViews.{piece_of};
+ghost use Rattle.asn1_any.specs.CutViews.{HasCountedContent, piece_of};
 ghost use Rattle.asn1_any.specs.Views.{any_of};
 ghost use Rattle.asn1_traits.specs.Elements.{EndsWithinElement};
 ghost use Rattle.x509_core.specs.Answers.{Gives, IsName, Named, Cuts, renamed};
@@ -55,6 +55,7 @@ pub fn front_element<'a>(
     ensures count { attempts count.new ≡ attempts count.old + 1 }
     ensures shorter { IfOk result (λ r. length r.1.octets.now + length r.0.now ≡ length i.now) }
     ensures content { IfOk result (λ r. length r.1.any.content.now + 2 ≤ length r.1.octets.now) }
+    ensures counted { IfOk result (λ r. HasCountedContent r.1) }
 {
     match Any::from_der_counted(i, count) {
         Ok((rest, any)) => {

@@ -2,7 +2,7 @@
 
 ghost use Rattle.std.specs.Prelude.{◌≡◌, ◌+◌, ◌*◌, ◌^◌, ◌<◌, ◌≤◌, ◌-◌, List, ℕ, length, IfOk, IfErr, IfSome, option_map, Some, Ok};
 ghost use Rattle.asn1_core.specs.Counts.{attempts};
-ghost use Rattle.asn1_any.specs.CutViews.{piece_of};
+ghost use Rattle.asn1_any.specs.CutViews.{HasCountedContent, piece_of};
 ghost use Rattle.asn1_any.specs.Cutting.{Piece};
 ghost use Rattle.x509_core.specs.Answers.{Gives, Fails};
 ghost use Rattle.x509_core.specs.Fronts.{TakesNoMemory};
@@ -73,6 +73,7 @@ impl<'a> Parts<'a> {
         ensures shorter { IfOk result (λ e. length e.octets.now + length self.new.octets ≡ length self.old.octets) }
         ensures ends { length self.new.octets ≤ length self.old.octets }
         ensures content { IfOk result (λ e. length e.any.content.now + 2 ≤ length e.octets.now) }
+        ensures counted { IfOk result HasCountedContent }
         ensures stays { IfErr result (λ _. self.new ≡ self.old) }
         ensures memory { IfErr result TakesNoMemory }
     {
@@ -92,6 +93,7 @@ impl<'a> Parts<'a> {
         ensures read { option_map piece_of result ≡ first_piece self.now.octets }
         ensures shorter { IfSome result (λ e. length e.octets.now ≤ length self.now.octets) }
         ensures content { IfSome result (λ e. length e.any.content.now + 2 ≤ length e.octets.now) }
+        ensures counted { IfSome result HasCountedContent }
         ensures some { IfSome result (λ _. 0 < self.now.elements) }
     {
         match self.ahead.front() {

@@ -1,5 +1,6 @@
 -- What the values of this crate's types are, as the data of `Values`.
 use Rattle.std.specs.Prelude.{List, option_map, map}
+use Rattle.asn1_any.specs.CutViews.{HasOwnLength}
 use Rattle.asn1_any.specs.Views.{any_of}
 use Rattle.x509_names.specs.View.{name_view}
 use Rattle.x509_ext_flags.specs.View.{key_identifier_view}
@@ -26,6 +27,12 @@ general_name_view (names.URI text) = values.uri text.now
 general_name_view (names.IPAddress octets) = values.ip_address octets.now
 general_name_view (names.RegisteredID id) = values.registered_id id
 general_name_view (names.Invalid tag octets) = values.invalid tag.0 octets.now
+
+-- the header of an element that isn't parsed has the length of its content
+abbrev pub HasCountedAddress : GeneralName → Type 0
+HasCountedAddress (names.X400Address any) = HasOwnLength any
+HasCountedAddress (names.EDIPartyName any) = HasOwnLength any
+HasCountedAddress name = Unit {0}
 
 abbrev pub authority_key_view : AuthorityKeyIdentifier → values.AuthorityKeyIdentifier
 authority_key_view a = record {

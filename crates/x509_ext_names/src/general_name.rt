@@ -1,7 +1,7 @@
 //! `GeneralName` (RFC 5280, 4.2.1.6).
 
 ghost use Rattle.std.specs.Prelude.{◌≡◌, ◌<◌, ℕ, List, length, IfOk, IfErr};
-ghost use Rattle.asn1_any.specs.CutViews.{piece_of};
+ghost use Rattle.asn1_any.specs.CutViews.{HasOwnLength, piece_of};
 ghost use Rattle.asn1_any.specs.Views.{any_of};
 ghost use Rattle.asn1_traits.specs.Elements.{EndsWithinElement};
 ghost use Rattle.asn1_traits.specs.Reads.{Reads};
@@ -12,7 +12,7 @@ ghost use Rattle.x509_ext_names.specs.Names.{IsGeneralName};
 ghost use Rattle.x509_ext_names.specs.Names as grammar;
 ghost use Rattle.x509_ext_names.specs.Reading.{other_name_in, text_name_in, directory_name_in, entry_in, general_name_of, general_name_at};
 ghost use Rattle.x509_ext_names.specs.Values as values;
-ghost use Rattle.x509_ext_names.specs.View.{general_name_view};
+ghost use Rattle.x509_ext_names.specs.View.{HasCountedAddress, general_name_view};
 
 use asn1_any::Any;
 use asn1_core::{Err as Refusal, Error, HeaderCount, OutOfMemory, Tag};
@@ -90,7 +90,8 @@ impl<'a> Copies for GeneralName<'a> {
 
 #[tactic(auto, unfolding(crate::specs::Reading::other_name_in))]
 fn other_name<'a>(content: &'a [u8]) -> Result<GeneralName<'a>, Refusal<X509Error>>
-    ensures { Gives general_name_view result (other_name_in content.now) }
+    ensures read { Gives general_name_view result (other_name_in content.now) }
+    ensures counted { IfOk result HasCountedAddress }
 {
     let (left, id) = first_oid(content)?;
     Ok(GeneralName::OtherName(id, left))
@@ -99,7 +100,8 @@ fn other_name<'a>(content: &'a [u8]) -> Result<GeneralName<'a>, Refusal<X509Erro
 // A text by the tag number of its kind.
 #[tactic(auto, unfolding(crate::specs::Reading::text_name_in))]
 fn text_name<'a>(tag: u32, content: &'a [u8]) -> Result<GeneralName<'a>, Refusal<X509Error>>
-    ensures { Gives general_name_view result (text_name_in tag content.now) }
+    ensures read { Gives general_name_view result (text_name_in tag content.now) }
+    ensures counted { IfOk result HasCountedAddress }
 {
     let text = text_of(content)?;
     if tag == 1 {
@@ -117,7 +119,8 @@ fn directory_name<'a>(
     alloc: Global,
     content: &'a [u8],
 ) -> Result<GeneralName<'a>, Refusal<X509Error>>
-    ensures { Gives general_name_view result (directory_name_in content.now) }
+    ensures read { Gives general_name_view result (directory_name_in content.now) }
+    ensures counted { IfOk result HasCountedAddress }
 {
     let (rest, name) = X509Name::from_der(alloc, content)?;
     if rest.is_empty() {
@@ -129,7 +132,8 @@ fn directory_name<'a>(
 
 #[tactic(auto, unfolding(crate::specs::Reading::entry_in))]
 fn entry_of<'a>(alloc: Global, any: Any<'a>) -> Result<GeneralName<'a>, Refusal<X509Error>>
-    ensures { Gives general_name_view result (entry_in (any_of any.entry)) }
+    ensures read { Gives general_name_view result (entry_in (any_of any.entry)) }
+    ensures counted { HasOwnLength any.entry → IfOk result HasCountedAddress }
 {
     let content = any.content;
     match any.tag().0 {
@@ -148,7 +152,8 @@ fn entry_of<'a>(alloc: Global, any: Any<'a>) -> Result<GeneralName<'a>, Refusal<
 
 // The name that an element of the context class is, or that it is none.
 fn name_of<'a>(alloc: Global, any: Any<'a>) -> Result<GeneralName<'a>, Refusal<X509Error>>
-    ensures { Gives general_name_view result (general_name_of (any_of any.entry)) }
+    ensures read { Gives general_name_view result (general_name_of (any_of any.entry)) }
+    ensures counted { HasOwnLength any.entry → IfOk result HasCountedAddress }
 {
     if !is_of_class(any.class(), 2) {
         return Err(Refusal::Error(X509Error::Der(Error::InvalidTag)));
@@ -187,6 +192,7 @@ impl<'a> FromDer<'a, X509Error> for GeneralName<'a> {
         ensures found { IfOk result (λ r. grammar.GeneralName bytes.now (general_name_view r.1) r.0.now) }
         ensures only { (v : values.GeneralName) (rest : List ℕ) → grammar.GeneralName bytes.now v rest
             → ElseMemory result (λ r. (general_name_view r.1 ≡ v) × (r.0.now ≡ rest)) }
+        ensures counted { IfOk result (λ r. HasCountedAddress r.1) }
     {
         general_name_at_front(alloc, bytes)
     }
@@ -197,6 +203,7 @@ pub(crate) fn general_name_at_front<'a>(
     i: &'a [u8],
 ) -> X509Result<'a, GeneralName<'a>>
     ensures exact { Gives (λ r. (general_name_view r.1, r.0.now)) result (general_name_at i.now) }
+    ensures counted { IfOk result (λ r. HasCountedAddress r.1) }
     ensures missing { TellsMissing i.now result }
     ensures shorter { IfOk result (λ r. length r.0.now < length i.now) }
 {

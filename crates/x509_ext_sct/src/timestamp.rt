@@ -90,6 +90,7 @@ pub fn parse_ct_signed_certificate_timestamp<'a>(
     ensures found { IfOk result (λ r. grammar.Timestamp i.now (timestamp_view r.1) r.0.now) }
     ensures only { (v : values.SignedCertificateTimestamp) (rest : List ℕ) → grammar.Timestamp i.now v rest
         → ElseMemory result (λ r. (timestamp_view r.1 ≡ v) × (r.0.now ≡ rest)) }
+    ensures memory { IfErr result TakesNoMemory }
 {
     timestamp_at_front(i)
 }

@@ -56,7 +56,7 @@ number_numbered = strict_is_content number.identifier (below_tested number.ident
 first_day : (year : ℕ) → 2025 ≤ year → year ≤ 2026 → IsMoment (moment_in (new_year year))
 first_day year from to = (((omega (arith, ints), omega (arith, ints)), (omega (arith, ints), omega (arith, ints)), (omega (arith, ints), omega (arith, ints))), ((omega (arith, ints), omega (arith, ints)), (omega (arith, ints), omega (arith, ints)), (omega (arith, ints), omega (arith, ints)), (omega (arith, ints), omega (arith, ints))))
 
-day_in_range : (year : ℕ) → 2025 ≤ year → year ≤ 2026 → IsTimeField (new_year year)
+pub day_in_range : (year : ℕ) → 2025 ≤ year → year ≤ 2026 → IsTimeField (new_year year)
 day_in_range year from to = record { first = omega (arith, ints); last = omega (arith, ints); real = first_day year from to; whole = refl }
 
 -- ---- objects

@@ -1,11 +1,11 @@
 //! Laws of strict encodings and lenient readers. Each is a function without an effect; its contract
 //! is the law.
 
-ghost use Rattle.std.specs.Prelude.{◌≡◌, ◌^◌, ◌<◌, ◌++◌, ℕ, Bool, List, [], length};
+ghost use Rattle.std.specs.Prelude.{◌≡◌, ◌^◌, ◌<◌, ◌++◌, ℕ, Bool, false, List, [], length};
 ghost use Rattle.std.specs.Int.Digits.{AllBelowBase};
 ghost use Rattle.cert_framing.specs.Framing.{IsItem};
 ghost use Rattle.cert_model.specs.Class.{IsCertificateItem, IsListItem};
-ghost use Rattle.cert_model.specs.Examples.{constrained, octets_of_constrained};
+ghost use Rattle.cert_model.specs.Examples.{constrained, new_year, octets_of_constrained};
 ghost use Rattle.cert_model.specs.Fields.{Algorithm, Name, Key, CivilTime, Certificate, RevocationList};
 ghost use Rattle.cert_model.specs.Octets.{algorithm_octets, name_octets, key_octets, time_octets, certificate_octets, list_octets};
 ghost use Rattle.cert_model.specs.Range.{IsAlgorithm, IsName, IsKey, IsTimeField, AreCertificateFields, AreListFields};
@@ -21,7 +21,7 @@ ghost use Rattle.x509_certs.specs.Certificates.{X509Certificate};
 ghost use Rattle.x509_certs.specs.Fields.{Certificate as ReadCertificate};
 ghost use Rattle.x509_lists.specs.Fields.{RevocationList as ReadList};
 ghost use Rattle.x509_lists.specs.Lists.{CertificateRevocationList};
-ghost use Rattle.x509_links.specs.Examples.{revoking_with_reason, octets_of_revoking_with_reason};
+ghost use Rattle.x509_links.specs.Examples.{first_of_2025, revoking_with_reason, octets_of_revoking_with_reason};
 ghost use Rattle.x509_links.specs.Lenient.{lenient_algorithm, lenient_name, lenient_key, nanoseconds_of, lenient_time, lenient_certificate, lenient_list};
 ghost use Rattle.x509_links.specs.Values.{certificate_by, list_by, parsed_certificate, parsed_list};
 
@@ -100,7 +100,14 @@ pub fn list_from_der()
 pub fn example_items()
     ensures certificate { AllBelowBase 256 octets_of_constrained × (length octets_of_constrained < 2 ^ 64) × IsCertificateItem octets_of_constrained constrained }
     ensures certificate_read { X509Certificate IsUnparsed octets_of_constrained (lenient_certificate constrained) [] }
+    ensures certificate_by_setting { AllBelowBase 256 octets_of_constrained × X509Certificate (meaning_of false) octets_of_constrained (lenient_certificate constrained) [] }
     ensures list { AllBelowBase 256 octets_of_revoking_with_reason × (length octets_of_revoking_with_reason < 2 ^ 64)
         × IsListItem octets_of_revoking_with_reason revoking_with_reason }
     ensures list_read { CertificateRevocationList IsUnparsed octets_of_revoking_with_reason (lenient_list revoking_with_reason) [] }
+    ensures list_by_setting { AllBelowBase 256 octets_of_revoking_with_reason × CertificateRevocationList (meaning_of false) octets_of_revoking_with_reason (lenient_list revoking_with_reason) [] }
+{}
+
+/// The first of January 2025 at midnight has the nanoseconds of its date and time of the calendar.
+pub fn example_of_one_time()
+    ensures { IsTimeField (new_year 2025) × (civil_nanos first_of_2025 ≡ nanoseconds_of (new_year 2025)) }
 {}

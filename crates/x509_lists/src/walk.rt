@@ -76,7 +76,7 @@ fn walk_extensions<V: ListVisits>(extensions: &[X509Extension<'_>], visits: &mut
     visits.visit(ListVisit::PostVisitExtensions(extensions));
 }
 
-/// What stands before the entries.
+/// Shows the fields before the entries (RFC 5280, 5.1.2).
 fn walk_fields<V: ListVisits>(tbs: &TbsCertList<'_>, visits: &mut V)
     ensures { FoldsTo V.sees visits.old (calls_of_fields tbs.now) visits.new }
 {
@@ -88,7 +88,8 @@ fn walk_fields<V: ListVisits>(tbs: &TbsCertList<'_>, visits: &mut V)
 }
 
 impl<'a> TbsCertList<'a> {
-    /// Shows the parts of the signed part one after the other: what stands before the entries, the entries, and the extensions.
+    /// Shows the parts of the signed part in order: the fields before the entries, the entries and
+    /// the extensions (RFC 5280, 5.1.2).
     pub fn walk_visits<V: ListVisits>(&self, visits: &mut V)
         ensures { FoldsTo V.sees visits.old (calls_of_tbs_list self.now) visits.new }
     {

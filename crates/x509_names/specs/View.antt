@@ -1,6 +1,7 @@
 -- What the values of this crate's types are, as the records of `Fields`.
-use Rattle.std.specs.Prelude.{ℕ, Bool, List, option_map, map, bytes_eq}
+use Rattle.std.specs.Prelude.{ℕ, Bool, List, option_map, map, bytes_eq, IfSome}
 use Rattle.std.specs.List.{flat_map}
+use Rattle.asn1_any.specs.CutViews.{HasOwnLength}
 use Rattle.asn1_any.specs.Views.{any_of}
 use Rattle.asn1_values.specs.declared.bitstring.BitString.{BitString}
 use Rattle.x509_names.specs.Fields.{Algorithm, Attribute, Name, Bits, Key, RsaKey, KeyValue, rsa, ec, dsa, gost, gost_2012, unknown}
@@ -15,6 +16,14 @@ use Rattle.x509_names.specs.declared.public_key.PublicKey.TheVariants as keys
 
 abbrev pub algorithm_view : AlgorithmIdentifier → Algorithm
 algorithm_view a = record { identifier = a.algorithm; parameters = option_map any_of a.parameters }
+
+-- the header of the parameters has the length of their content
+abbrev pub HasCountedParameters : AlgorithmIdentifier → Type 0
+HasCountedParameters a = IfSome a.parameters HasOwnLength
+
+-- the header of the value has the length of its content
+abbrev pub HasCountedValue : AttributeTypeAndValue → Type 0
+HasCountedValue a = HasOwnLength a.attr_value
 
 abbrev pub attribute_view : AttributeTypeAndValue → Attribute
 attribute_view a = record { identifier = a.attr_type; value = any_of a.attr_value }

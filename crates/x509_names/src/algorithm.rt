@@ -1,7 +1,8 @@
 //! `AlgorithmIdentifier` (RFC 5280, 4.1.1.2).
 
-ghost use Rattle.std.specs.Prelude.{◌≡◌, ◌+◌, ◌^◌, ◌<◌, ◌≤◌, ℕ, List, length, IfOk, option_map};
+ghost use Rattle.std.specs.Prelude.{◌≡◌, ◌+◌, ◌^◌, ◌<◌, ◌≤◌, ℕ, List, length, IfOk, IfSome, option_map};
 ghost use Rattle.asn1_core.specs.Counts.{attempts};
+ghost use Rattle.asn1_any.specs.CutViews.{HasOwnLength};
 ghost use Rattle.asn1_any.specs.Views.{any_of};
 ghost use Rattle.asn1_traits.specs.Elements.{EndsWithinElement};
 ghost use Rattle.asn1_traits.specs.Reads.{Reads};
@@ -12,7 +13,7 @@ ghost use Rattle.x509_names.specs.Fields.{Algorithm};
 ghost use Rattle.x509_core.specs.Fronts.{TellsMissing, one_rest};
 ghost use Rattle.x509_names.specs.Names as grammar;
 ghost use Rattle.x509_names.specs.Reading.{algorithm_in, algorithm_at, parameters_at};
-ghost use Rattle.x509_names.specs.View.{algorithm_view};
+ghost use Rattle.x509_names.specs.View.{HasCountedParameters, algorithm_view};
 
 use crate::leaves::next_oid;
 use asn1_any::{Any, Element};
@@ -74,7 +75,8 @@ impl<'a> AlgorithmIdentifier<'a> {
 }
 
 fn next_parameters<'a>(parts: &mut Parts<'a>) -> Result<Option<Any<'a>>, Refusal<X509Error>>
-    ensures { Gives (λ p. (option_map any_of p, parts.new.octets)) result (parameters_at parts.old.octets) }
+    ensures read { Gives (λ p. (option_map any_of p, parts.new.octets)) result (parameters_at parts.old.octets) }
+    ensures counted { IfOk result (λ p. IfSome p HasOwnLength) }
 {
     if parts.left().is_empty() {
         return Ok(None);
@@ -97,6 +99,7 @@ pub fn algorithm_of<'a>(
 ) -> Result<AlgorithmIdentifier<'a>, Refusal<X509Error>>
     requires { attempts count.old + length element.any.content.now < 2 ^ 128 }
     ensures read { Gives algorithm_view result (algorithm_in (any_of element.entry.any)) }
+    ensures counted { IfOk result HasCountedParameters }
     ensures least { IfOk result (λ _. attempts count.old + 1 ≤ attempts count.new) }
     ensures grows { attempts count.old ≤ attempts count.new }
     ensures most { attempts count.new ≤ attempts count.old + length element.entry.any.content.now }
@@ -123,6 +126,7 @@ pub fn next_algorithm<'a>(
 ) -> Result<AlgorithmIdentifier<'a>, Refusal<X509Error>>
     requires { attempts count.old + length parts.old.octets < 2 ^ 128 }
     ensures read { Gives (λ v. (algorithm_view v, parts.new.octets)) result (algorithm_at parts.old.octets) }
+    ensures counted { IfOk result HasCountedParameters }
     ensures elements { IfOk result (λ _. parts.old.elements ≡ parts.new.elements + 1) }
     ensures least { IfOk result (λ _. attempts count.old + 1 ≤ attempts count.new) }
     ensures grows { attempts count.old ≤ attempts count.new }
@@ -158,6 +162,7 @@ impl<'a> FromDer<'a, X509Error> for AlgorithmIdentifier<'a> {
         ensures found { IfOk result (λ r. grammar.AlgorithmIdentifier bytes.now (algorithm_view r.1) r.0.now) }
         ensures only { (v : Algorithm) (rest : List ℕ) → grammar.AlgorithmIdentifier bytes.now v rest
             → ElseMemory result (λ r. (algorithm_view r.1 ≡ v) × (r.0.now ≡ rest)) }
+        ensures counted { IfOk result (λ r. HasCountedParameters r.1) }
     {
         algorithm_at_front(alloc, bytes)
     }
@@ -165,6 +170,7 @@ impl<'a> FromDer<'a, X509Error> for AlgorithmIdentifier<'a> {
 
 fn algorithm_at_front<'a>(alloc: Global, i: &'a [u8]) -> X509Result<'a, AlgorithmIdentifier<'a>>
     ensures exact { Gives (λ r. (algorithm_view r.1, r.0.now)) result (algorithm_at i.now) }
+    ensures counted { IfOk result (λ r. HasCountedParameters r.1) }
     ensures missing { TellsMissing i.now result }
 {
     let mut count = HeaderCount::new();

@@ -2,7 +2,7 @@
 
 ghost use Rattle.std.specs.Prelude.{◌≡◌, ◌+◌, ◌^◌, ◌<◌, ◌≤◌, ℕ, List, length, IfOk, IfErr, IsOkAnd};
 ghost use Rattle.asn1_core.specs.Counts.{attempts};
-ghost use Rattle.asn1_any.specs.CutViews.{piece_of};
+ghost use Rattle.asn1_any.specs.CutViews.{HasCountedContent, piece_of};
 ghost use Rattle.asn1_any.specs.Views.{any_of};
 ghost use Rattle.asn1_traits.specs.Elements.{EndsWithinElement};
 ghost use Rattle.asn1_traits.specs.Reads.{Reads};
@@ -15,7 +15,7 @@ ghost use Rattle.x509_core.specs.Fronts.{TellsMissing, one_rest};
 ghost use Rattle.x509_names.specs.Names as grammar;
 ghost use Rattle.x509_names.specs.Reading.{attribute_in, attribute_at};
 ghost use Rattle.x509_names.specs.Texts.{IsText, RefusesText};
-ghost use Rattle.x509_names.specs.View.{attribute_view};
+ghost use Rattle.x509_names.specs.View.{HasCountedValue, attribute_view};
 
 use crate::leaves::next_oid;
 use asn1_any::{Any, Element};
@@ -101,7 +101,8 @@ impl<'a> AttributeTypeAndValue<'a> {
 }
 
 fn next_value<'a>(parts: &mut Parts<'a>) -> Result<Element<'a>, Refusal<X509Error>>
-    ensures { Gives (λ e. (piece_of e, parts.new.octets)) result (naming X509Error.InvalidX509Name (piece_at parts.old.octets)) }
+    ensures read { Gives (λ e. (piece_of e, parts.new.octets)) result (naming X509Error.InvalidX509Name (piece_at parts.old.octets)) }
+    ensures counted { IfOk result HasCountedContent }
 {
     named(parts.next(), X509Error::InvalidX509Name)
 }
@@ -115,6 +116,7 @@ pub fn attribute_of<'a>(
 ) -> Result<AttributeTypeAndValue<'a>, Refusal<X509Error>>
     requires { attempts count.old + length element.any.content.now < 2 ^ 128 }
     ensures read { Gives attribute_view result (attribute_in (any_of element.entry.any)) }
+    ensures counted { IfOk result HasCountedValue }
     ensures grows { attempts count.old ≤ attempts count.new }
     ensures most { attempts count.new ≤ attempts count.old + length element.entry.any.content.now }
 {
@@ -152,6 +154,7 @@ impl<'a> FromDer<'a, X509Error> for AttributeTypeAndValue<'a> {
         ensures found { IfOk result (λ r. grammar.AttributeTypeAndValue bytes.now (attribute_view r.1) r.0.now) }
         ensures only { (v : Attribute) (rest : List ℕ) → grammar.AttributeTypeAndValue bytes.now v rest
             → ElseMemory result (λ r. (attribute_view r.1 ≡ v) × (r.0.now ≡ rest)) }
+        ensures counted { IfOk result (λ r. HasCountedValue r.1) }
     {
         attribute_at_front(alloc, bytes)
     }
@@ -159,6 +162,7 @@ impl<'a> FromDer<'a, X509Error> for AttributeTypeAndValue<'a> {
 
 fn attribute_at_front<'a>(alloc: Global, i: &'a [u8]) -> X509Result<'a, AttributeTypeAndValue<'a>>
     ensures exact { Gives (λ r. (attribute_view r.1, r.0.now)) result (attribute_at i.now) }
+    ensures counted { IfOk result (λ r. HasCountedValue r.1) }
     ensures missing { TellsMissing i.now result }
 {
     let mut count = HeaderCount::new();

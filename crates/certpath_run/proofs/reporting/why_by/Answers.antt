@@ -4,7 +4,8 @@ use Rattle.cert_judge.specs.Items.{rules_by, item_of}
 use Rattle.cert_judge.specs.Vouching.{processing_too}
 use Rattle.cert_purpose.specs.Restricting.{restricted_by}
 use Rattle.certpath_inputs.specs.Inputs.{VouchesBy}
-use Rattle.certpath_run.proofs.Why.{reported}
+use Rattle.cert_model.specs.View.{time_view}
+use Rattle.certpath_run.proofs.Why.{judged_as_read, reported}
 use Rattle.certpath_run.proofs.reporting.why_by.Goals as goal
 
 pub returns : goal.returns
@@ -19,7 +20,15 @@ returns g c =
     let ys = c.requires.anchors in
     let answered = c.in_ok-answered.answered in
     let read = c.in_ok-read.read in
-    let holds = c.in_ok-answered.ensures xs.0 ys.0 xs.1 ys.1 xs.2 ys.2 in
-    reported c.args.demand.now r s inputs.items inputs.anchors settings.target xs.0 ys.0 (map item_of read.items.items) (map item_of read.anchors.items) answered.answer answered.said _ _ _
-    xs.1 ys.1 c.in_ok-read.ensures.items c.in_ok-read.ensures.anchors (rw (c.new-restricted.ensures.vouch, c.new-restricted.ensures.permit) at holds)
-    c.in_ok-text.ensures (rw (c.deref.ensures.value, c.deref-2.ensures.value) at c.in_ok-push_why_for.ensures) c.outcome-outcome.ensures
+    let m = time_view settings.policy.moment in
+    let read_items = map item_of read.items.items in
+    let read_anchors = map item_of read.anchors.items in
+    let are = c.in_ok-read.ensures.items in
+    let anchors_are = c.in_ok-read.ensures.anchors in
+    let judged = judged_as_read m inputs.items.items xs.0 read_items c.args.items.now xs.1 are xs.2 in
+    let anchors_judged = judged_as_read m inputs.anchors.items ys.0 read_anchors c.args.anchors.now ys.1 anchors_are ys.2 in
+    let answers = rw (c.deref.ensures.value, c.deref-2.ensures.value) at c.in_ok-answered.ensures in
+    let holds = answers judged anchors_judged in
+    reported c.args.demand.now r s inputs.items inputs.anchors settings.target read_items read_anchors read_items read_anchors answered.answer answered.said _ _ _
+    are anchors_are are anchors_are (rw (c.new-restricted.ensures.vouch, c.new-restricted.ensures.permit) at holds)
+    c.in_ok-text.ensures (rw (c.deref-3.ensures.value, c.deref-4.ensures.value) at c.in_ok-push_why_for.ensures) c.outcome-outcome.ensures

@@ -1,29 +1,41 @@
-use Rattle.std.proofs.Common.{map}
-use Rattle.cert_judge.specs.Items.{item_of, certificate_item}
-use Rattle.certpath_why.specs.Signers.{IsSignedBy}
-use Rattle.certpath_why.proofs.Grouped.{in_order_iff, unvouched_iff}
-use Rattle.certpath_why.proofs.Items.{positions_as}
+use Rattle.std.proofs.Common.{sym}
+use Rattle.certpath_why.specs.Issuing.{IsIssued}
+use Rattle.certpath_why.specs.Kinds.{IsGroupKind}
+use Rattle.certpath_why.specs.Question.{items_in, rules_in}
+use Rattle.certpath_why.proofs.Issues.{issued_alike}
+use Rattle.certpath_why.proofs.Tailing.{written_more}
 use Rattle.certpath_why.proofs.certificates.groups_of.Goals as goal
 
-pub linked_among-requires-clause-ascend : goal.linked_among-requires-clause-ascend
-linked_among-requires-clause-ascend g c = rw c.deref.ensures.value c.in_ok-signers.ensures.ascends
+pub group_kind-requires-clause-place : goal.group_kind-requires-clause-place
+group_kind-requires-clause-place g c = c.requires.at.0
 
-pub linked_among-requires-clause-signers : goal.linked_among-requires-clause-signers
-linked_among-requires-clause-signers g c =
-    let x = c.args.linking.now.certificate.now in
-    rw c.deref.ensures.value (in_order_iff (IsSignedBy (g.V.Vouch.vouches_for c.args.vouch.now).Vouches (map item_of c.args.linking.now.items.now) (certificate_item x)) c.args.signers.now c.in_ok-signers.signers.items c.in_ok-signers.ensures c.requires.signers)
+pub group_kind-requires-clause-first : goal.group_kind-requires-clause-first
+group_kind-requires-clause-first g c = rw (c.requires.others, c.requires.name) at c.requires.side.first
 
-pub positions_but-requires-clause-left_out : goal.positions_but-requires-clause-left_out
-positions_but-requires-clause-left_out g c = rw c.deref-2.ensures.value c.in_ok-signers.ensures.ascends
+pub groups_from-requires : goal.groups_from-requires
+groups_from-requires g c =
+    let kind = rw (c.requires.items, c.requires.policy) at c.in_ok-kind.ensures in
+    c.requires.kept.issued c.in_ok-kind.kind c.in-Some.issued.now (sym c.in-Some.ensures.value) c.args.place c.args.certificate.now c.requires.at kind
 
-pub returns : goal.returns
-returns g c =
-    let x = c.args.linking.now.certificate.now in
-    let V = (g.V.Vouch.vouches_for c.args.vouch.now).Vouches in
-    let signed = in_order_iff (IsSignedBy V (map item_of c.args.linking.now.items.now) (certificate_item x)) c.args.signers.now c.in_ok-signers.signers.items c.in_ok-signers.ensures c.requires.signers in
+pub new-requires-clause-used : goal.new-requires-clause-used
+new-requires-clause-used g c = rw c.requires.others c.requires.kept.used
+
+pub groups_from-requires-2 : goal.groups_from-requires-2
+groups_from-requires-2 g c = rw c.requires.others at c.in_ok-issued.ensures.issued
+
+pub returns-clause-kept : goal.returns-clause-kept
+returns-clause-kept g c =
+    let q = c.args.question.now in
+    let x = c.args.certificate.now in
+    let V = g.V.Vouch.vouches_for q.vouch.now in
+    let xs = q.found.now.items.now in
+    let kind = rw (c.requires.items, c.requires.policy) at c.in_ok-kind.ensures in
+    let issued = rw c.requires.others at c.in_ok-issued.ensures.issued in
     record {
-      linked = c.in_ok-linked.ensures;
-      unvouched = positions_as c.in_ok-unvouched.unvouched.items (unvouched_iff V (map item_of c.args.linking.now.items.now) x c.args.issuers.now c.in_ok-signers.signers.items c.requires.issuers signed) (rw c.deref-2.ensures.value at c.in_ok-unvouched.ensures);
-      differing = c.in_ok-differing.ensures;
-      listed = c.in_ok-listed.ensures;
+      tails = c.requires.kept.tails;
+      issued = written_more xs (IsGroupKind q) (IsIssued (rules_in g.V.Vouch q) (items_in q) xs) c.args.kept.now.issued c.insert.new.self c.in_ok-kind.kind c.in_ok-issued.issued c.requires.kept.issued
+          (λ p y at k. issued_alike V q.policy.now.moment q.policy.now.demand_lists xs xs q.signers.now.classes q.signers.now.issuers c.args.place p x y c.in_ok-kind.kind c.in_ok-issued.issued c.requires.signed.issuers c.requires.at at kind k issued) (λ z. c.in_ok-insert.ensures.updates.0 z);
+      used = rw c.requires.others at c.in_ok-issued.ensures.used;
+      lists = c.requires.kept.lists;
+      differing = c.requires.kept.differing;
     }

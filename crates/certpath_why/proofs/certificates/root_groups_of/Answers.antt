@@ -1,29 +1,31 @@
-use Rattle.std.proofs.Common.{map}
-use Rattle.cert_judge.specs.Items.{item_of, certificate_of, certificate_item}
-use Rattle.certpath_why.specs.Signers.{IsSignedBy}
-use Rattle.certpath_why.proofs.Grouped.{in_order_iff, unvouched_iff, none_differing_there}
-use Rattle.certpath_why.proofs.Items.{positions_as}
+use Rattle.cert_judge.specs.Items.{certificate_item}
+use Rattle.certpath_why.specs.Question.{anchors_in, items_in, rules_in}
+use Rattle.certpath_why.specs.Why.{IsLinkedToAnchor}
+use Rattle.certpath_why.proofs.Fating.{ranges_as}
+use Rattle.certpath_why.proofs.Issues.{linked_anchor_iff}
 use Rattle.certpath_why.proofs.certificates.root_groups_of.Goals as goal
 
-pub linked_anchors-requires-clause-ascend : goal.linked_anchors-requires-clause-ascend
-linked_anchors-requires-clause-ascend g c = rw c.deref.ensures.value c.in_ok-signers.ensures.ascends
+pub new-requires-clause-used : goal.new-requires-clause-used
+new-requires-clause-used g c = rw c.requires.others c.requires.used
 
-pub linked_anchors-requires-clause-signers : goal.linked_anchors-requires-clause-signers
-linked_anchors-requires-clause-signers g c =
-    let x = c.args.linking.now.certificate.now in
-    rw c.deref.ensures.value (in_order_iff (IsSignedBy (g.V.Vouch.vouches_for c.args.vouch.now).Vouches (map item_of c.args.anchors.now) (certificate_item x)) c.args.signers.now c.in_ok-signers.signers.items c.in_ok-signers.ensures c.requires.signers)
+pub returns-clause-used : goal.returns-clause-used
+returns-clause-used g c = rw c.requires.others at c.in_ok-issued.ensures.used
 
-pub positions_but-requires-clause-left_out : goal.positions_but-requires-clause-left_out
-positions_but-requires-clause-left_out g c = rw c.deref-2.ensures.value c.in_ok-signers.ensures.ascends
-
-pub returns : goal.returns
-returns g c =
-    let x = c.args.linking.now.certificate.now in
-    let V = (g.V.Vouch.vouches_for c.args.vouch.now).Vouches in
-    let signed = in_order_iff (IsSignedBy V (map item_of c.args.anchors.now) (certificate_item x)) c.args.signers.now c.in_ok-signers.signers.items c.in_ok-signers.ensures c.requires.signers in
+pub returns-clause-groups : goal.returns-clause-groups
+returns-clause-groups g c =
+    let q = c.args.question.now in
+    let x = c.args.certificate.now in
+    let V = g.V.Vouch.vouches_for q.vouch.now in
+    let issued = rw c.requires.others at c.in_ok-issued.ensures.issued in
+    let all = c.in_ok-issued.issued.under.all.items in
+    let exact = issued.under.places.exact in
     record {
-      linked = c.in_ok-linked.ensures;
-      unvouched = positions_as c.in_ok-unvouched.unvouched.items (unvouched_iff V (map item_of c.args.anchors.now) x c.args.roots.now c.in_ok-signers.signers.items c.requires.roots signed) (rw c.deref-2.ensures.value at c.in_ok-unvouched.ensures);
-      differing = rw c.new.ensures.items (none_differing_there (map item_of c.args.anchors.now) (certificate_of x));
-      listed = c.in_ok-listed.ensures;
+      linked = (
+        all,
+        ranges_as all
+            (λ w. let iff = linked_anchor_iff V q.policy.now.moment q.policy.now.demand_lists q.found.now.items.now q.found.now.anchors.now x w in (λ c. iff.0 ((exact w).0 c), λ l. (exact w).1 (iff.1 l)))
+            issued.under.all,
+        rw c.deref.ensures.value at c.in_ok-linked.ensures,
+      );
+      unvouched = let u = issued.unvouched in (u.0, u.1, c.in_ok-unvouched.ensures u.0 u.2);
     }

@@ -1,25 +1,23 @@
-use Rattle.std.proofs.Common.{map}
-use Rattle.cert_judge.specs.Items.{item_of, certificate_of, certificate_item, rules_by}
-use Rattle.certpath_why.specs.Kinds.{lines_of}
-use Rattle.certpath_why.specs.Why.{IsLinkedTo, FailsTo}
-use Rattle.certpath_why.proofs.Fating.{groups_as}
-use Rattle.certpath_why.proofs.Grouped.{groups_ordered, fails_in}
+use Rattle.std.specs.List.{Contains}
+use Rattle.certpath_why.specs.Question.{items_in}
+use Rattle.certpath_why.specs.Reached.{HasSubject}
+use Rattle.certpath_why.proofs.Naming.{gathered_as}
 use Rattle.certpath_why.proofs.certificates.tails_to_items.Goals as goal
 
-pub tails_of-requires : goal.tails_of-requires
-tails_of-requires g c =
-    let l = c.args.linking.now in
-    let x = l.certificate.now in
-    let r = rules_by l.policy.moment l.policy.demand_lists (g.V.Vouch.vouches_for c.args.vouch.now) in
-    let items = map item_of l.items.now in
-    groups_ordered (IsLinkedTo r items (certificate_item x)) (FailsTo r items (certificate_item x) (certificate_of x)) c.in_ok-groups.groups c.in_ok-groups.ensures
+pub tails_among-requires-clause-side : goal.tails_among-requires-clause-side
+tails_among-requires-clause-side g c = record {
+  signed = c.requires.signed.issuers;
+  named = c.in-Some.ensures c.args.question.now.found.now.items.now c.requires.named.issuers;
+  first = c.requires.first;
+}
 
-pub returns : goal.returns
-returns g c = λ front.
-    let l = c.args.linking.now in
-    let x = l.certificate.now in
-    let r = rules_by l.policy.moment l.policy.demand_lists (g.V.Vouch.vouches_for c.args.vouch.now) in
-    let items = map item_of l.items.now in
-    let are = c.in_ok-groups.ensures in
-    groups_as front _ (IsLinkedTo r items (certificate_item x)) _ (FailsTo r items (certificate_item x) (certificate_of x)) (lines_of front c.in_ok-tails.tails.items) are.linked.exact
-    (fails_in (IsLinkedTo r items (certificate_item x)) (FailsTo r items (certificate_item x) (certificate_of x)) c.in_ok-groups.groups are) (c.in_ok-tails.ensures front)
+pub new-requires : goal.new-requires
+new-requires g c = c.requires.issuers.ascends
+
+pub tails_among-requires-2-clause-side : goal.tails_among-requires-2-clause-side
+tails_among-requires-2-clause-side g c =
+    let q = c.args.question.now in record {
+      signed = c.requires.signed.issuers;
+      named = gathered_as q.found.now.items.now (Contains c.args.issuers.now) (HasSubject (items_in q) c.args.certificate.now.issuer.now) c.in_ok-named.named c.requires.issuers.exact c.in_ok-named.ensures;
+      first = c.requires.first;
+    }

@@ -1,5 +1,4 @@
-use Rattle.std.proofs.Common.{[], ap, sym, append-nil, ℕ, Some}
-use Rattle.cert_judge.specs.declared.items.ReadItem.TheVariants.{Certificate as certificate_read}
+use Rattle.std.proofs.Common.{[], sym, append-nil, ℕ, Vec, Global, String}
 use Rattle.cert_judge.specs.Items.{certificate_of, certificate_item}
 use Rattle.cert_model.specs.Fields.{Certificate}
 use Rattle.certpath_why.specs.Kinds.{IsAnchorKind, AreAnchorTails, lines_of}
@@ -30,23 +29,15 @@ anchor_kind-requires-clause-place g c = c.requires.at.0
 pub anchor_kind-requires-clause-first : goal.anchor_kind-requires-clause-first
 anchor_kind-requires-clause-first g c = (c.requires.roots.exact c.in-Some.first.now).0 (some_first c.args.roots.now c.in-Some.first.now c.in-Some.ensures.value)
 
-pub roots_at-requires-clause-place : goal.roots_at-requires-clause-place
-roots_at-requires-clause-place g c = c.requires.at.0
-
-pub tails_to_anchors-requires-clause-roots : goal.tails_to_anchors-requires-clause-roots
-tails_to_anchors-requires-clause-roots g c = rw c.requires.certificate c.requires.roots
-
-pub tails_to_anchors-requires-clause-signers : goal.tails_to_anchors-requires-clause-signers
-tails_to_anchors-requires-clause-signers g c =
-    let x = c.args.certificate.now in
-    rw (c.deref-2.ensures.value, c.requires.certificate) ((c.in_ok-signers.ensures (certificate_read x) c.requires.at (ap Some (sym x.issuer_is))).exact)
+pub tails_to_anchors-requires-clause-first : goal.tails_to_anchors-requires-clause-first
+tails_to_anchors-requires-clause-first g c = (c.requires.roots.exact c.in-Some.first.now).0 (some_first c.args.roots.now c.in-Some.first.now c.in-Some.ensures.value)
 
 pub returns-in-Some-get-clause-text : goal.returns-in-Some-get-clause-text
 returns-in-Some-get-clause-text g c =
     let front = to_anchors c.args.place in
     let tails = c.in-Some-get.tails.now in
     let kind = rw (c.requires.items, c.requires.policy) at c.in_ok-kind.ensures in
-    (lines_of front tails.items, rw c.deref.ensures.value at c.in_ok-push_tails.ensures, c.requires.written c.in_ok-kind.kind tails (sym c.in-Some-get.ensures.value) c.args.place c.args.certificate.now c.requires.at kind front)
+    (lines_of front tails.items, rw c.deref.ensures.value at c.in_ok-push_tails.ensures, c.requires.written.tails c.in_ok-kind.kind tails (sym c.in-Some-get.ensures.value) c.args.place c.args.certificate.now c.requires.at kind front)
 
 pub returns-clause-written : goal.returns-clause-written
 returns-clause-written g c =
@@ -54,12 +45,16 @@ returns-clause-written g c =
     let x = c.args.certificate.now in
     let V = g.V.Vouch.vouches_for q.vouch.now in
     let kind = rw (c.requires.items, c.requires.policy) at c.in_ok-kind.ensures in
-    let are = rw (c.requires.items, c.requires.certificate, c.requires.policy) at c.in_ok-tails.ensures in
-    written_more q.found.now.items.now (IsAnchorKind q) (AreAnchorTails g.V.Vouch q) c.args.written.now c.insert.new.self c.in_ok-kind.kind c.in_ok-tails.tails c.requires.written
-    (λ p y at k. anchors_alike V q.policy.now.moment q.policy.now.demand_lists q.found.now.items.now q.found.now.anchors.now q.signers.now.classes q.signers.now.roots c.args.place p x y c.in_ok-kind.kind c.in_ok-tails.tails.items c.requires.signed.roots c.requires.at at kind k are) (λ z. c.in_ok-insert.ensures.updates.0 z)
+    let are = c.in_ok-tails.ensures.tails in
+    record {
+      tails = written_more q.found.now.items.now (IsAnchorKind q) (λ x (tails : Vec (String Global) Global). AreAnchorTails g.V.Vouch q x tails.items) c.tails_to_anchors.new.kept.tails c.insert.new.self c.in_ok-kind.kind c.in_ok-tails.tails c.in_ok-tails.ensures.kept.tails
+          (λ p y at k. anchors_alike V q.policy.now.moment q.policy.now.demand_lists q.found.now.items.now q.found.now.anchors.now q.signers.now.classes q.signers.now.roots c.args.place p x y c.in_ok-kind.kind c.in_ok-tails.tails.items c.requires.signed.roots c.requires.at at kind k are) (λ z. c.in_ok-insert.ensures.updates.0 z);
+      used = c.in_ok-tails.ensures.kept.used;
+      lists = c.in_ok-tails.ensures.kept.lists;
+    }
 
 pub returns-clause-text : goal.returns-clause-text
 returns-clause-text g c =
     let front = to_anchors c.args.place in
-    let are = rw (c.requires.items, c.requires.certificate, c.requires.policy) at c.in_ok-tails.ensures in
-    (lines_of front c.in_ok-tails.tails.items, rw c.deref-3.ensures.value at c.in_ok-push_tails-2.ensures, are front)
+    let are = c.in_ok-tails.ensures.tails in
+    (lines_of front c.in_ok-tails.tails.items, rw c.deref-2.ensures.value at c.in_ok-push_tails-2.ensures, are front)

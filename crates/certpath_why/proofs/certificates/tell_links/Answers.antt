@@ -1,5 +1,4 @@
-use Rattle.std.proofs.Common.{[], ap, sym, append-nil, ℕ, Some}
-use Rattle.cert_judge.specs.declared.items.ReadItem.TheVariants.{Certificate as certificate_read}
+use Rattle.std.proofs.Common.{[], sym, append-nil, ℕ, Vec, Global, String}
 use Rattle.cert_judge.specs.ItemGraph.{KeyIdsAgree}
 use Rattle.cert_judge.specs.Items.{certificate_of, certificate_item}
 use Rattle.cert_model.specs.Fields.{Certificate}
@@ -31,23 +30,15 @@ item_kind-requires-clause-place g c = c.requires.at.0
 pub item_kind-requires-clause-first : goal.item_kind-requires-clause-first
 item_kind-requires-clause-first g c = (c.requires.issuers.exact c.in-Some.first.now).0 (some_first c.args.issuers.now c.in-Some.first.now c.in-Some.ensures.value)
 
-pub issuers_at-requires-clause-place : goal.issuers_at-requires-clause-place
-issuers_at-requires-clause-place g c = c.requires.at.0
-
-pub tails_to_items-requires-clause-issuers : goal.tails_to_items-requires-clause-issuers
-tails_to_items-requires-clause-issuers g c = rw (c.requires.items, c.requires.certificate) c.requires.issuers
-
-pub tails_to_items-requires-clause-signers : goal.tails_to_items-requires-clause-signers
-tails_to_items-requires-clause-signers g c =
-    let x = c.args.certificate.now in
-    rw (c.deref-2.ensures.value, c.requires.items, c.requires.certificate) ((c.in_ok-signers.ensures (certificate_read x) c.requires.at (ap Some (sym x.issuer_is))).exact)
+pub tails_to_items-requires-clause-first : goal.tails_to_items-requires-clause-first
+tails_to_items-requires-clause-first g c = (c.requires.issuers.exact c.in-Some.first.now).0 (some_first c.args.issuers.now c.in-Some.first.now c.in-Some.ensures.value)
 
 pub returns-in-Some-get-clause-text : goal.returns-in-Some-get-clause-text
 returns-in-Some-get-clause-text g c =
     let front = to_items c.args.place in
     let tails = c.in-Some-get.tails.now in
     let kind = rw (c.requires.items, c.requires.policy) at c.in_ok-kind.ensures in
-    (lines_of front tails.items, rw c.deref.ensures.value at c.in_ok-push_tails.ensures, c.requires.written c.in_ok-kind.kind tails (sym c.in-Some-get.ensures.value) c.args.place c.args.certificate.now c.requires.at kind front)
+    (lines_of front tails.items, rw c.deref.ensures.value at c.in_ok-push_tails.ensures, c.requires.written.tails c.in_ok-kind.kind tails (sym c.in-Some-get.ensures.value) c.args.place c.args.certificate.now c.requires.at kind front)
 
 pub returns-clause-written : goal.returns-clause-written
 returns-clause-written g c =
@@ -55,12 +46,18 @@ returns-clause-written g c =
     let x = c.args.certificate.now in
     let V = g.V.Vouch.vouches_for q.vouch.now in
     let kind = rw (c.requires.items, c.requires.policy) at c.in_ok-kind.ensures in
-    let are = rw (c.requires.items, c.requires.certificate, c.requires.policy) at c.in_ok-tails.ensures in
-    written_more q.found.now.items.now (IsItemKind q) (AreItemTails g.V.Vouch q) c.args.written.now c.insert.new.self c.in_ok-kind.kind c.in_ok-tails.tails c.requires.written
-    (λ p y at k. items_alike V q.policy.now.moment q.policy.now.demand_lists q.found.now.items.now q.signers.now.classes q.signers.now.issuers c.args.place p x y c.in_ok-kind.kind c.in_ok-tails.tails.items c.requires.signed.issuers c.requires.at at kind k are) (λ z. c.in_ok-insert.ensures.updates.0 z)
+    let are = c.in_ok-tails.ensures.tails in
+    record {
+      tails = written_more q.found.now.items.now (IsItemKind q) (λ x (tails : Vec (String Global) Global). AreItemTails g.V.Vouch q x tails.items) c.tails_to_items.new.kept.tails c.insert.new.self c.in_ok-kind.kind c.in_ok-tails.tails c.in_ok-tails.ensures.kept.tails
+          (λ p y at k. items_alike V q.policy.now.moment q.policy.now.demand_lists q.found.now.items.now q.signers.now.classes q.signers.now.issuers c.args.place p x y c.in_ok-kind.kind c.in_ok-tails.tails.items c.requires.signed.issuers c.requires.at at kind k are) (λ z. c.in_ok-insert.ensures.updates.0 z);
+      issued = c.in_ok-tails.ensures.kept.issued;
+      used = c.in_ok-tails.ensures.kept.used;
+      lists = c.in_ok-tails.ensures.kept.lists;
+      differing = c.in_ok-tails.ensures.kept.differing;
+    }
 
 pub returns-clause-text : goal.returns-clause-text
 returns-clause-text g c =
     let front = to_items c.args.place in
-    let are = rw (c.requires.items, c.requires.certificate, c.requires.policy) at c.in_ok-tails.ensures in
-    (lines_of front c.in_ok-tails.tails.items, rw c.deref-3.ensures.value at c.in_ok-push_tails-2.ensures, are front)
+    let are = c.in_ok-tails.ensures.tails in
+    (lines_of front c.in_ok-tails.tails.items, rw c.deref-2.ensures.value at c.in_ok-push_tails-2.ensures, are front)

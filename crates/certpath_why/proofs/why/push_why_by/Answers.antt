@@ -11,8 +11,11 @@ tell_reached-requires-clause-signed g c = record {
 pub tell_reached-requires-clause-listed : goal.tell_reached-requires-clause-listed
 tell_reached-requires-clause-listed g c = c.in_ok-lists.ensures
 
+pub tell_reached-requires-clause-named : goal.tell_reached-requires-clause-named
+tell_reached-requires-clause-named g c = c.in_ok-named.ensures
+
 pub tell_reached-requires-clause-further : goal.tell_reached-requires-clause-further
-tell_reached-requires-clause-further g c = rw c.deref-2.ensures.value c.in_ok-further.ensures
+tell_reached-requires-clause-further g c = rw c.deref-3.ensures.value c.in_ok-further.ensures
 
 pub tell_reached-requires-clause-less : goal.tell_reached-requires-clause-less
 tell_reached-requires-clause-less g c = c.requires

@@ -1,6 +1,6 @@
 use Rattle.std.proofs.Common.{refl}
 use Rattle.certpath_why.proofs.Joined.{then_appended, then_joined}
-use Rattle.certpath_why.proofs.Tailing.{none_written}
+use Rattle.certpath_why.proofs.Writing.{none_written}
 use Rattle.certpath_why.proofs.why.tell_reached.Goals as goal
 
 pub tell_target-requires-clause-written : goal.tell_target-requires-clause-written

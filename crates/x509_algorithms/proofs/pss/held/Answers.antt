@@ -10,9 +10,9 @@ use Rattle.x509_algorithms.proofs.pss.held.Goals as goal
 pub returns-clause-found : goal.returns-clause-found
 returns-clause-found c =
     gives_found PssParts pss_parts_at pss_reading pss_view c.args.content.now c.parts.result
-    (octets_below c.args.content.now (λ k. omega (arith, c.type_inv.content k))) c.parts.ensures
+    (octets_below c.args.content.now (λ k. omega (arith, c.type_inv.content k))) c.parts.ensures.read
 
 pub returns-clause-only : goal.returns-clause-only
 returns-clause-only c =
     gives_only PssParts pss_parts_at pss_reading pss_view c.args.content.now c.parts.result
-    (octets_below c.args.content.now (λ k. omega (arith, c.type_inv.content k))) c.parts.ensures
+    (octets_below c.args.content.now (λ k. omega (arith, c.type_inv.content k))) c.parts.ensures.read

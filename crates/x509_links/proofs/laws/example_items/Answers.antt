@@ -16,3 +16,9 @@ returns-clause-list c = (revoking_below, lit< tt, revoking_item)
 
 pub returns-clause-list_read : goal.returns-clause-list_read
 returns-clause-list_read c = list_item_unparsed octets_of_revoking_with_reason revoking_with_reason revoking_item (lit< tt)
+
+pub returns-clause-certificate_by_setting : goal.returns-clause-certificate_by_setting
+returns-clause-certificate_by_setting c = (constrained_below, certificate_item_unparsed octets_of_constrained constrained constrained_item (lit< tt))
+
+pub returns-clause-list_by_setting : goal.returns-clause-list_by_setting
+returns-clause-list_by_setting c = (revoking_below, list_item_unparsed octets_of_revoking_with_reason revoking_with_reason revoking_item (lit< tt))

@@ -30,7 +30,7 @@ returns-in_default-first_element_counted-clause-cut c =
     let few = c.few-in_default-first_element_counted in
     let rest = below_rest content front.octets.now tail below c.in-Some.ensures.whole in
     subst (IsCut content) (sym (few_one few.result front few.ensures.front few.ensures.second few.ensures.at few.ensures.others))
-    (one_left content tail front _ below c.in-Some.ensures.found c.in-Some.ensures.whole (none_left tail rest c.in_default-first_element_counted.ensures.none))
+    (one_left content tail front _ below c.in-Some.ensures.found c.in-Some.ensures.length c.in-Some.ensures.whole (none_left tail rest c.in_default-first_element_counted.ensures.none))
 
 pub returns-in_default-first_element_counted-2-clause-cut : goal.returns-in_default-first_element_counted-2-clause-cut
 returns-in_default-first_element_counted-2-clause-cut c =
@@ -44,8 +44,8 @@ returns-in_default-first_element_counted-2-clause-cut c =
     let rest = below_rest content front.octets.now tail below c.in-Some.ensures.whole in
     let last = below_rest tail second.octets.now behind rest c.in-Some-first_element_counted.ensures.whole in
     subst (IsCut content) (sym (few_two few.result front second few.ensures.front few.ensures.second few.ensures.third few.ensures.at few.ensures.others))
-    (one_left content tail front _ below c.in-Some.ensures.found c.in-Some.ensures.whole
-    (one_left tail behind second _ rest c.in-Some-first_element_counted.ensures.found c.in-Some-first_element_counted.ensures.whole
+    (one_left content tail front _ below c.in-Some.ensures.found c.in-Some.ensures.length c.in-Some.ensures.whole
+    (one_left tail behind second _ rest c.in-Some-first_element_counted.ensures.found c.in-Some-first_element_counted.ensures.length c.in-Some-first_element_counted.ensures.whole
     (none_left behind last c.in_default-first_element_counted-2.ensures.none)))
 
 pub returns-clause-cut : goal.returns-clause-cut
@@ -63,7 +63,7 @@ returns-clause-cut c =
     let rest = below_rest content front.octets.now tail below c.in-Some.ensures.whole in
     let left = below_rest tail second.octets.now behind rest c.in-Some-first_element_counted.ensures.whole in
     let end = below_rest behind third.octets.now last left c.in-Some-first_element_counted-2.ensures.whole in
-    one_left content tail front _ below c.in-Some.ensures.found c.in-Some.ensures.whole
-    (one_left tail behind second _ rest c.in-Some-first_element_counted.ensures.found c.in-Some-first_element_counted.ensures.whole
-    (one_left behind last third _ left c.in-Some-first_element_counted-2.ensures.found c.in-Some-first_element_counted-2.ensures.whole
-    (record { below = end; tail = others.tail.now; cutting = c.in_ok-others.ensures.cut })))
+    one_left content tail front _ below c.in-Some.ensures.found c.in-Some.ensures.length c.in-Some.ensures.whole
+    (one_left tail behind second _ rest c.in-Some-first_element_counted.ensures.found c.in-Some-first_element_counted.ensures.length c.in-Some-first_element_counted.ensures.whole
+    (one_left behind last third _ left c.in-Some-first_element_counted-2.ensures.found c.in-Some-first_element_counted-2.ensures.length c.in-Some-first_element_counted-2.ensures.whole
+    (record { below = end; tail = others.tail.now; cutting = c.in_ok-others.ensures.cut; counted = c.in_ok-others.ensures.lengths })))

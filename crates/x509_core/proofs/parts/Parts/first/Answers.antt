@@ -20,3 +20,10 @@ returns-in-Some-clause-read c =
     let front = at_front left (drop (length e.octets.now) left) (ahead_of c.self.inside.ahead) some.0 e c.self.invariant some.1 refl in
     subst (λ (p : Left). Some (piece_of e) ≡ first_piece p.octets) c.self.view_is
     (sym (ap (λ z. option_map (λ p. p.0) (result_ok z)) front.read))
+
+pub returns-in-Some-clause-counted : goal.returns-in-Some-clause-counted
+returns-in-Some-clause-counted c =
+    let e = c.in-Some.element in
+    let some = c.in-Some.ensures.some in
+    let left = c.self.inside.left.now in
+    (at_front left (drop (length e.octets.now) left) (ahead_of c.self.inside.ahead) some.0 e c.self.invariant some.1 refl).counted

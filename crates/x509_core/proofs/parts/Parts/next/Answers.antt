@@ -28,3 +28,10 @@ invariant_of-self c =
     let some = c.in-Some.ensures.some in
     let here = before_front _ (ahead_of c.pass.new.self) some.0 e some.1 (c.pass.ensures e some.0 some.1) in
     (at_front c.self.inside.left.now c.split_at.result.1.now (ahead_of c.self.inside.ahead) (ahead_of c.pass.new.self) e c.self.invariant here c.split_at.ensures.back).cut
+
+pub returns-clause-counted : goal.returns-clause-counted
+returns-clause-counted c =
+    let e = c.in-Some.element in
+    let some = c.in-Some.ensures.some in
+    let here = before_front _ (ahead_of c.pass.new.self) some.0 e some.1 (c.pass.ensures e some.0 some.1) in
+    (at_front c.self.inside.left.now c.split_at.result.1.now (ahead_of c.self.inside.ahead) (ahead_of c.pass.new.self) e c.self.invariant here c.split_at.ensures.back).counted

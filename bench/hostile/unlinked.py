@@ -1,0 +1,115 @@
+"""Families of `why` over links that don't hold: lists that revoke, copies, and what is demanded."""
+from family import FAMILIES, Files, family
+from graphs import ANCHOR, COMMON_KEY, LEAF, ROOT, X, ids_never, lists, own_keys, self_serials
+from kinds import COPIES, CUBE, PAIRS, SQUARE
+from parts import certificate, element, entry, extension, integer, key, name, revocation_list, voucher
+
+# Sizes at which a square shows, and a cube.
+OF_SQUARE = {"sizes": (1_000, 2_000, 4_000, 8_000), "small": (1_000, 4_000), "known": SQUARE}
+OF_CUBE = {"sizes": (50, 100, 200, 400), "small": (75, 300), "known": CUBE}
+DEMANDING = ("--demand-lists",)
+Y = name("y")
+# The serial number of all certificates that the lists here revoke, and one that no certificate has.
+REVOKED, OF_NONE = 7, 1_000_000
+# Identifiers of extensions and purposes (RFC 5280, 4.2.1.6 and 4.2.1.12).
+NAMES, PURPOSES = bytes.fromhex("551d11"), bytes.fromhex("551d25")
+MANY = {"sizes": (125_000, 250_000, 500_000, 1_000_000), "small": (40_000, 160_000), "unit": "parts"}
+
+
+def revoking(count):
+    """Different lists of one issuer, each with an entry of one serial number."""
+    first = entry(integer(REVOKED))
+    return [revocation_list(X, first + entry(integer(OF_NONE + it))) for it in range(count)]
+
+
+def by_common_key(items):
+    """The files of items that one key vouches for."""
+    return Files(items, [ANCHOR], [voucher(COMMON_KEY, it) for it in items])
+
+
+@family("why-pairs-lists", "n/2 certificates of one name, key and serial number, and n/2 used lists "
+        "that have it", "why", sizes=(250, 500, 1_000, 2_000), small=(500, 2_000), known=PAIRS)
+def pairs_lists(count):
+    half = count // 2
+    items = [certificate(X, X, COMMON_KEY, REVOKED, own=it.to_bytes(4, "big")) for it in range(half)]
+    return by_common_key([*items, *revoking(half)])
+
+
+@family("why-kinds-lists", "n/2 certificates of one name, key and serial number, which name a key "
+        "identifier each, and n/2 used lists that have it", "why", **OF_CUBE)
+def kinds_lists(count):
+    half = count // 2
+    items = [certificate(X, X, COMMON_KEY, REVOKED, named=it.to_bytes(4, "big")) for it in range(half)]
+    return by_common_key([*items, *revoking(half)])
+
+
+@family("why-signers-lists", "a leaf, n/2 keys of its issuer's name that all vouch for it, and n/2 "
+        "used lists that have its serial number", "why", **OF_SQUARE)
+def signers_lists(count):
+    half = count // 2
+    leaf, found = certificate(LEAF, X, COMMON_KEY, REVOKED), revoking(half)
+    lines = [voucher(key(it), leaf) for it in range(half)] + [voucher(key(0), it) for it in found]
+    return Files([leaf, *found, *own_keys(half, X, ROOT)], [ANCHOR], lines)
+
+
+@family("why-ids-linked", "n certificates of one name and key, all linked, which name a key "
+        "identifier each that none has", "why", **OF_SQUARE)
+def ids_linked(count):
+    return by_common_key([certificate(X, X, COMMON_KEY, it, named=it.to_bytes(4, "big"))
+                          for it in range(count)])
+
+
+@family("why-copies-reached", "a leaf, n/2 copies of a certificate of its issuer's name, and n/2 keys "
+        "of that one's issuer that all vouch for it", "why", **{**OF_SQUARE, "known": COPIES})
+def copies_reached(count):
+    half = count // 2
+    leaf, item = certificate(LEAF, X, COMMON_KEY), certificate(X, Y, COMMON_KEY)
+    lines = [voucher(COMMON_KEY, leaf)] + [voucher(key(it), item) for it in range(half)]
+    return Files([leaf, *[item] * half, *own_keys(half, Y, ROOT)], [ANCHOR], lines)
+
+
+@family("why-demand-ids", "n certificates \"x from x\", keys in a row, key identifiers that never "
+        "match; lists demanded", "why", words=DEMANDING, sizes=(250, 500, 1_000, 2_000),
+        small=(500, 2_000), known=SQUARE)
+def demand_ids(count):
+    return ids_never(count)
+
+
+@family("why-demand-lists", "n/2 such certificates and n/2 lists of their issuer that nobody vouches "
+        "for; lists demanded", "why", words=DEMANDING, **OF_CUBE)
+def demand_lists(count):
+    made = ids_never(count // 2)
+    return made._replace(bundle=[*made.bundle, *lists(count // 2)])
+
+
+@family("why-demand-links", "n self-issued certificates of one key; lists demanded", "why",
+        words=DEMANDING, known=FAMILIES["why-self-serials"].known)
+def demand_links(count):
+    return self_serials(count)
+
+
+@family("demanded", "n lists of one issuer, its one key vouches for all; lists demanded",
+        words=DEMANDING)
+def demanded(count):
+    return FAMILIES["lists-vouched"].make(count)._replace(answer="none")
+
+
+def target(further):
+    """A certificate with a further extension."""
+    item = certificate(LEAF, X, COMMON_KEY, further=further)
+    return Files([item], [ANCHOR], [voucher(COMMON_KEY, item)])
+
+
+@family("hosts", "a certificate of n names of hosts, asked for another", words=("--host", "a.example"),
+        **MANY)
+def hosts(count):
+    names = b"".join(element(0x82, f"n{it:06}.example".encode()) for it in range(count))
+    return target(extension(NAMES, element(0x30, names)))
+
+
+@family("purposes", "a certificate of n purposes, asked for another", words=("--purpose", "1.2.3.4"),
+        **MANY)
+def purposes(count):
+    found = (element(0x06, b"\x2b" + bytes([0x80 | it >> 14, 0x80 | it >> 7 & 0x7F, it & 0x7F]))
+             for it in range(1 << 14, (1 << 14) + count))
+    return target(extension(PURPOSES, element(0x30, b"".join(found))))

@@ -1,7 +1,0 @@
--- The text has the lines of the items so far.
-use Rattle.std.proofs.Common.{string_bytes}
-use Rattle.certpath_run.proofs.FrameFacts.{Writes}
-use Rattle.certpath_run.proofs.frame_text.text_of.Given as goal
-
-abbrev pub invariant-loop-k : goal.invariant-loop-k
-invariant-loop-k l = Writes (string_bytes l.text) l.items.items l.k l.offset

@@ -1,0 +1,48 @@
+use Rattle.std.proofs.Common.{subst, List, ℕ, Some, None, [], refl}
+use Rattle.cert_judge.specs.Items.{certificate_of, certificate_item}
+use Rattle.cert_model.specs.Fields.{Certificate}
+use Rattle.cert_reasons.specs.declared.links.Unlinked.TheVariants.{KeyIdsDiffer, NotVouched, NoUsedList}
+use Rattle.certpath_why.specs.Kinds.{AddsTails}
+use Rattle.certpath_why.specs.Question.{anchors_in, items_in, rules_in}
+use Rattle.certpath_why.specs.Used.{LacksListAt}
+use Rattle.certpath_why.specs.Why.{IsLinkedToAnchor, FailsToAnchor, TellsGroup}
+use Rattle.certpath_why.proofs.Against.{revoked_listed}
+use Rattle.certpath_why.proofs.Grouped.{none_differing_there}
+use Rattle.certpath_why.proofs.Tailing.{cut_tails, no_group, no_tail, tails_told}
+use Rattle.certpath_why.proofs.certificates.root_tails_among.Goals as goal
+
+pub add_root_revoked-requires-clause-lists : goal.add_root_revoked-requires-clause-lists
+add_root_revoked-requires-clause-lists g c =
+    let are = rw (c.requires.items, c.requires.certificate, c.requires.policy) at c.revoking-lists.ensures in
+    λ p at. (are.exact p).0 at
+
+pub add_lacking-requires-clause-kept : goal.add_lacking-requires-clause-kept
+add_lacking-requires-clause-kept g c = rw c.requires.others c.in_ok-groups.ensures.used
+
+pub returns-clause-kept : goal.returns-clause-kept
+returns-clause-kept g c = record {
+  tails = c.requires.kept.tails;
+  used = rw c.requires.others at c.in_ok-add_lacking.ensures.kept;
+  lists = c.in_ok-add_root_revoked.ensures.kept;
+}
+
+pub returns-clause-tails : goal.returns-clause-tails
+returns-clause-tails g c =
+    let q = c.args.question.now in
+    let x = c.args.certificate.now in
+    let r = rules_in g.V.Vouch q in
+    let items = items_in q in
+    let anchors = anchors_in q in
+    let L = IsLinkedToAnchor r items anchors (certificate_item x) in
+    let F = FailsToAnchor r items anchors (certificate_item x) (certificate_of x) in
+    let groups = c.in_ok-groups.groups in
+    let are = c.in_ok-groups.ensures.groups in
+    let lists = rw (c.requires.items, c.requires.certificate, c.requires.policy) at c.revoking-lists.ensures in
+    let lacking = rw (c.requires.others, c.requires.name) at c.in_ok-add_lacking.ensures.tails in
+    tails_told L F c.revoking-lists.result.now _ _ _ _ _ lists.ascends
+    (λ p w f. (lists.exact p).1 (revoked_listed (g.V.Vouch.vouches_for q.vouch.now) q.policy.now.moment q.policy.now.demand_lists q.found.now.items.now anchors x (λ (d : Certificate). Unit {0}) p w f))
+    (cut_tails None L groups.linked [] _ are.linked (rw c.new-tails.ensures.items at c.in_ok-add_cut.ensures))
+    (cut_tails (Some NotVouched) (F NotVouched) groups.unvouched _ _ are.unvouched c.in_ok-add_cut-2.ensures)
+    (no_tail (λ front. TellsGroup front (Some KeyIdsDiffer) (F KeyIdsDiffer)) c.add_cut-2.new.tails.items (λ front. no_group front (Some KeyIdsDiffer) (F KeyIdsDiffer) (none_differing_there anchors (certificate_of x))))
+    c.in_ok-add_root_revoked.ensures.tails
+    (subst (λ (n : List ℕ). AddsTails (λ front. TellsGroup front (Some NoUsedList) (LacksListAt r items anchors n)) c.add_root_revoked.new.tails.items c.add_lacking.new.tails.items) x.issuer_is lacking)

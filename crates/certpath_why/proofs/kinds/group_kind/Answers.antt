@@ -1,0 +1,12 @@
+use Rattle.std.proofs.Common.{ap, ◌∙◌, None}
+use Rattle.certpath_why.specs.Kinds.{kind_numbers}
+use Rattle.certpath_why.proofs.kinds.group_kind.Goals as goal
+
+pub returns : goal.returns
+returns g c = record {
+  first = c.args.first;
+  first_is = c.requires.first;
+  revoking = c.revoking-revoking.result.now;
+  revoking_are = rw c.requires.certificate at c.revoking-revoking.ensures;
+  kind_is = λ r. c.in_ok-kind.ensures ∙ ap (λ l. kind_numbers c.args.first l c.revoking-revoking.result.now None) (c.issuers_row-row.ensures r);
+}

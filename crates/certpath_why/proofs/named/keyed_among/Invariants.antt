@@ -1,0 +1,6 @@
+use Rattle.cert_graph.proofs.Sifted.{Sifted}
+use Rattle.certpath_why.specs.Named.{HasId}
+use Rattle.certpath_why.proofs.named.keyed_among.Given as goal
+
+abbrev pub invariant-loop-place : goal.invariant-loop-place
+invariant-loop-place l = Sifted 0 (HasId l.items) l.places l.place-index l.found.items

@@ -1,0 +1,7 @@
+use Rattle.std.proofs.Common.{ℕ}
+use Rattle.cert_graph.proofs.Sifted.{Sifted}
+use Rattle.certpath_why.specs.Ranges.{IsInRanges}
+use Rattle.certpath_why.proofs.sifting.outside.Given as goal
+
+abbrev pub invariant-loop-place : goal.invariant-loop-place
+invariant-loop-place l = Sifted 0 (λ w. IsInRanges l.ranges w → ⊥) l.places l.place-index l.found.items
