@@ -15,6 +15,8 @@ SECONDS = 600
 NAMES = ("from_der, extensions parsed", "from_der, envelope", "names", "lists", "read_tree, envelope",
          "read_typed, envelope", "path in a cross-signed web")
 COLUMN = 5
+# The lines of a table in Markdown before its first row.
+HEADS = 2
 
 
 class Peers(Trial):
@@ -25,7 +27,8 @@ class Peers(Trial):
         if not os.path.exists(HEADER):
             self.skipTest("libssl-dev isn't installed")
         ran = subprocess.run(WORDS, stdin=subprocess.DEVNULL, stdout=subprocess.PIPE,
-                             stderr=subprocess.STDOUT, text=True, timeout=SECONDS)
-        rows = [[part.strip() for part in line.split("|")] for line in ran.stdout.splitlines()]
-        filled = [row[1] for row in rows[2:] if len(row) > COLUMN and row[COLUMN]]
-        self.same(f"the table: {ran.stdout}", (ran.returncode, filled), (0, [*NAMES]))
+                             stderr=subprocess.PIPE, text=True, timeout=SECONDS)
+        lines = [line for line in ran.stdout.splitlines() if line.startswith("|")]
+        rows = [[part.strip() for part in line.split("|")] for line in lines[HEADS:]]
+        filled = [row[1] for row in rows if row[COLUMN]]
+        self.same(f"the table: {ran.stdout}{ran.stderr}", (ran.returncode, filled), (0, [*NAMES]))
