@@ -17,19 +17,16 @@ pub record IsHead (h : Head) : Type 0 where
   pub tag : h.tag < 2 ^ 32
   pub size : h.size < 2 ^ 64
 
--- the first octet: the class in bits 8 and 7, the constructed bit 6, and the low five bits
--- (X.690, 8.1.2.2 to 8.1.2.5)
+-- the class in bits 8 and 7, the constructed bit 6, the low five bits (X.690, 8.1.2.2 to 8.1.2.5)
 abbrev pub lead : ℕ → Bool → ℕ → ℕ
 lead class constructed low = 64 * class + (if constructed then 32 else 0) + low
 
--- numbers to 30 are in the first octet (X.690, 8.1.2.2), others in the fewest octets after 31 there
--- (X.690, 8.1.2.4)
+-- numbers to 30 in the first octet, others in the fewest after 31 there (X.690, 8.1.2.2, 8.1.2.4)
 abbrev pub strict_identifier : ℕ → Bool → ℕ → List ℕ
 strict_identifier class constructed tag =
     if nat_lt tag 31 then lead class constructed tag ∷ [] else lead class constructed 31 ∷ continued (digits_of 128 tag)
 
--- lengths to 127 are one octet (X.690, 8.1.3.4), others the fewest octets, counted in the first
--- (X.690, 8.1.3.5 and 10.1)
+-- lengths to 127 in one octet, others in the fewest, counted in the first (X.690, 8.1.3 and 10.1)
 abbrev pub strict_length : ℕ → List ℕ
 strict_length n = if nat_lt n 128 then n ∷ [] else (128 + length (digits_of 256 n)) ∷ digits_of 256 n
 

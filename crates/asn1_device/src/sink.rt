@@ -8,8 +8,7 @@ use crate::fault::DeviceFault;
 use crate::tally::Tally;
 use std::io::{ErrorKind, Write};
 
-/// What octets are written to. A call fails if it returns an error, or if a write takes 0 of one or
-/// more octets.
+/// What octets are written to. A call fails by an error, or if a write takes 0 of some octets.
 pub trait Sink {
     /// How many calls failed.
     ghost failures: { Self → ℕ };

@@ -25,8 +25,7 @@ pub trait Source {
     /// The octets that reads will give from here on, if they are known.
     ghost remaining: { Self → Option (List ℕ) } = { λ _. None };
 
-    /// Reads into the front of `buf`, and returns the number of octets. 0 for a buffer that isn't
-    /// empty is the end.
+    /// Reads into the front of `buf`, and returns how many octets. 0 is the end, if `buf` has room.
     fn read(&mut self, buf: &mut [u8]) -> Result<usize, DeviceFault>
         ensures bound { IfOk result (λ n. n ≤ length buf.new) }
         ensures octets { ReadConsumes (remaining self.old) (remaining self.new) result buf.new }

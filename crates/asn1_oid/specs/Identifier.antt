@@ -9,8 +9,7 @@ use Rattle.asn1_core.specs.Digits.{continued}
 abbrev pub shortest_digits : ℕ → List ℕ
 shortest_digits n = if n == 0 then 0 ∷ [] else digits_of 128 n
 
--- a subidentifier in the fewest octets: seven bits in each, bit 8 set in each but the last
--- (X.690, 8.19.2)
+-- a subidentifier in the fewest octets of seven bits, bit 8 set in all but the last (X.690, 8.19.2)
 unfoldable pub subidentifier_octets : ℕ → List ℕ
 subidentifier_octets n = continued (shortest_digits n)
 

@@ -6,13 +6,11 @@ use Rattle.asn1_core.specs.Elements.{element_octets}
 use Rattle.cert_framing.specs.declared.ending.End.{End}
 use Rattle.cert_framing.specs.declared.ending.End.TheVariants.{Clean, Cut, Fault}
 
--- a SEQUENCE with these content octets in its strict spelling: universal class, constructed, tag
--- number 16, and the length in its one shortest form (X.690, 8.9.1 and 10.1)
+-- a SEQUENCE with these content octets, its length in the one shortest form (X.690, 8.9.1 and 10.1)
 abbrev pub sequence_of : List ℕ → List ℕ
 sequence_of content = element_octets (record { class = 0; constructed = true; tag = 16; content = content })
 
--- an item under a limit on its content octets: one SEQUENCE and nothing after it, as certificates
--- and revocation lists are (RFC 5280, 4.1 and 5.1). Of the content nothing is required.
+-- one SEQUENCE, as certificates and lists are (RFC 5280, 4.1 and 5.1), of any content up to a limit
 pub record IsItem (limit : ℕ) (octets : List ℕ) : Type 0 where
   pub content : List ℕ
   pub small : length content ≤ limit
@@ -38,8 +36,7 @@ EndsAs limit rest offset Clean = rest ≡ []
 EndsAs limit rest offset (Cut at) = (rest ≢ []) × IsCutShort limit rest × (at ≡ offset)
 EndsAs limit rest offset (Fault at) = (rest ≢ []) × ¬ (IsCutShort limit rest) × (at ≡ offset)
 
--- the items of a stream are the longest list of items that begins it, and its end says what comes
--- after them
+-- the items of a stream are the longest list of items that begins it; its end says what comes next
 pub record IsFraming (limit : ℕ) (stream : List ℕ) (items : List (List ℕ)) (end : End) : Type 0 where
   pub rest : List ℕ
   pub longest : IsLongest limit stream items rest

@@ -5,8 +5,7 @@
 pub enum End {
     /// Nothing is left after the last item.
     Clean,
-    /// The octets from this position on begin an item and end before it does: the stream was cut
-    /// off.
+    /// The stream was cut off: the octets from this position on begin an item that they don't end.
     Cut(usize),
     /// The octets from this position on neither are nor begin an item.
     Fault(usize),

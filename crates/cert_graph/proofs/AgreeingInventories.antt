@@ -6,8 +6,7 @@ use Rattle.cert_graph.specs.declared.reach.Reach.TheVariants.{No}
 use Rattle.cert_graph.specs.declared.inventory.Verdict.{Verdict}
 use Rattle.cert_graph.specs.declared.inventory.Verdict.TheVariants.{FirstPath, Pathless, NoCertificate}
 use Rattle.cert_graph.specs.declared.inventory.Inventory.{Inventory}
-use Rattle.cert_graph.specs.Adequate.{row_of}
-use Rattle.cert_graph.specs.Changes.{rows_by}
+use Rattle.cert_graph.specs.Adequate.{row_of, rows_by}
 use Rattle.cert_graph.specs.Graph.{Graph}
 use Rattle.cert_graph.specs.Inventory.{IsAdequateVerdict, StandsAtLast, OfEach, IsAdequateInventory}
 use Rattle.cert_graph.specs.Laws.{FitIsUsable, Agrees}

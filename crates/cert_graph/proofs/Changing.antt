@@ -3,9 +3,9 @@ use Rattle.std.proofs.Common.{◌≡◌, ℕ, zero, suc, ◌+◌, ◌<◌, ◌�
 use Rattle.std.proofs.lemmas.List.{take_more, drop_more, length-map, length-set, length-take-le, set_past, set_at, map_push, get_or-set_same, get_or-set_other, get_or_past}
 use Rattle.cert_graph.specs.declared.reach.Reach.{Reach}
 use Rattle.cert_graph.specs.declared.reach.Reach.TheVariants.{No}
-use Rattle.cert_graph.specs.Adequate.{at_row}
+use Rattle.cert_graph.specs.Adequate.{at_row, changed, rows_by}
 use Rattle.cert_graph.specs.declared.changes.Change.{Change}
-use Rattle.cert_graph.specs.Changes.{changed, rows_by, last_by}
+use Rattle.cert_graph.specs.Changes.{last_by}
 
 -- one change more
 pub changed_push : (row : List Reach) (xs : List Change) (x : Change) → changed row (xs ++ x ∷ []) ≡ set (changed row xs) x.position x.reach

@@ -8,8 +8,8 @@ use Rattle.cert_graph.specs.declared.changes.Change.{Change}
 use Rattle.cert_graph.specs.declared.nodes.Group.{Group}
 use Rattle.cert_graph.specs.declared.stairs.Stair.{Stair}
 use Rattle.cert_graph.specs.declared.stairs.Flight.{Flight}
-use Rattle.cert_graph.specs.Adequate.{row_of}
-use Rattle.cert_graph.specs.Changes.{changed, rows_by, last_by}
+use Rattle.cert_graph.specs.Adequate.{row_of, changed, rows_by}
+use Rattle.cert_graph.specs.Changes.{last_by}
 use Rattle.cert_graph.specs.Graph.{Graph}
 use Rattle.cert_graph.specs.Stairs.{AreStairs, AreFlights, AreFlightsSoFar, OfEachGroup}
 use Rattle.cert_graph.proofs.Changing.{items_by, items_more, rows_push, length-rows}

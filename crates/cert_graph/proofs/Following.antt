@@ -10,8 +10,8 @@ use Rattle.cert_graph.specs.declared.changes.Change.{Change}
 use Rattle.cert_graph.specs.declared.nodes.Group.{Group}
 use Rattle.cert_graph.specs.declared.nodes.Nodes.{Nodes}
 use Rattle.cert_graph.specs.Reach.{IsAtMost, lesser}
-use Rattle.cert_graph.specs.Adequate.{at_row, row_of, passed_by}
-use Rattle.cert_graph.specs.Changes.{changed, touched, last_by}
+use Rattle.cert_graph.specs.Adequate.{at_row, row_of, passed_by, changed}
+use Rattle.cert_graph.specs.Changes.{touched, last_by}
 use Rattle.cert_graph.specs.Groups.{HoldsLimit, HoldsLimits, HoldsEachLimit, HoldsPassed, HoldsAllPassed, FollowsRow, FollowsAt}
 use Rattle.cert_graph.specs.Issuing.{AreMemberships}
 use Rattle.cert_graph.specs.Nodes.{graph_of}

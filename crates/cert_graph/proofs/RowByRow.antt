@@ -10,8 +10,8 @@ use Rattle.cert_graph.specs.declared.changes.Change.{Change}
 use Rattle.cert_graph.specs.declared.nodes.Nodes.{Nodes}
 use Rattle.cert_graph.specs.Reach.{lesser}
 use Rattle.cert_graph.specs.Graph.{Graph}
-use Rattle.cert_graph.specs.Adequate.{at_row, row_of, passed_by, HasAnchored, IsSuccessor}
-use Rattle.cert_graph.specs.Changes.{changed, rows_by, last_by}
+use Rattle.cert_graph.specs.Adequate.{at_row, row_of, passed_by, HasAnchored, IsSuccessor, changed, rows_by}
+use Rattle.cert_graph.specs.Changes.{last_by}
 use Rattle.cert_graph.specs.Groups.{HoldsEachLimit, FollowsRow}
 use Rattle.cert_graph.specs.Inventory.{StandsAtLast}
 use Rattle.cert_graph.specs.Nodes.{graph_of}

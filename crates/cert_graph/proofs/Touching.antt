@@ -11,8 +11,8 @@ use Rattle.cert_graph.specs.declared.nodes.Group.{Group}
 use Rattle.cert_graph.specs.declared.nodes.Nodes.{Nodes}
 use Rattle.cert_graph.specs.declared.stairs.Flight.{Flight}
 use Rattle.cert_graph.specs.Reach.{Takes}
-use Rattle.cert_graph.specs.Adequate.{at_row, row_of}
-use Rattle.cert_graph.specs.Changes.{changed, touched}
+use Rattle.cert_graph.specs.Adequate.{at_row, row_of, changed}
+use Rattle.cert_graph.specs.Changes.{touched}
 use Rattle.cert_graph.specs.Graph.{Graph}
 use Rattle.cert_graph.specs.Issuing.{AreMemberships}
 use Rattle.cert_graph.specs.Nodes.{graph_of}

@@ -1,5 +1,5 @@
 -- True answers, and answers that show by inequalities that they are true.
-use Rattle.std.specs.Prelude.{◌≡◌, ℕ, ◌+◌, ◌<◌, ◌≤◌, cond, List, [], ◌∷◌, ◌++◌, length, map, replicate, ◌⊎◌, All, slice_index_or}
+use Rattle.std.specs.Prelude.{◌≡◌, ℕ, ◌+◌, ◌<◌, ◌≤◌, cond, List, [], ◌∷◌, ◌++◌, length, map, replicate, ◌⊎◌, All, slice_index_or, slice_set}
 use Rattle.cert_graph.specs.declared.reach.Reach.{Reach}
 use Rattle.cert_graph.specs.declared.reach.Reach.TheVariants.{No}
 use Rattle.cert_graph.specs.declared.answer.Table.{Table}
@@ -7,7 +7,7 @@ use Rattle.cert_graph.specs.declared.answer.Table.TheVariants.{Row, Rows}
 use Rattle.cert_graph.specs.declared.answer.Answer.{Answer}
 use Rattle.cert_graph.specs.declared.answer.Answer.TheVariants.{Path, NoPath, NoTarget}
 use Rattle.cert_graph.specs.Reach.{Takes, IsAtMost, lesser, less_one}
-use Rattle.cert_graph.specs.Changes.{rows_by}
+use Rattle.cert_graph.specs.declared.changes.Change.{Change}
 use Rattle.cert_graph.specs.Graph.{Graph, counted, EndsIn, IsValidPath, IsFirstPath, HasNoPath}
 
 -- what an answer says is so; its table is no part of this
@@ -24,8 +24,7 @@ at_row row v = slice_index_or row v No
 abbrev pub row_of : List (List Reach) → ℕ → List Reach
 row_of rows k = slice_index_or rows k []
 
--- what is left of an issuer's reach for one that it issued: one less, unless that one is
--- self-issued
+-- what is left of an issuer's reach for one that it issued: one less if that isn't self-issued
 abbrev pub passed_by : Graph → ℕ → Reach → Reach
 passed_by g v r = cond (g.self_issued v) r (less_one r)
 
@@ -36,11 +35,9 @@ HasAnchoredAt g row v = (a : ℕ) → g.Fit v → g.AnchorEdge v a → IsAtMost 
 abbrev pub HasAnchored : Graph → List Reach → Type 0
 HasAnchored g row = (v : ℕ) → HasAnchoredAt g row v
 
--- where a fit position has a link to a fit one, the next row holds what the link lets through at
--- least
+-- where a fit position links to a fit one, the next row holds at least what the link lets through
 abbrev pub IsSuccessor : Graph → List Reach → List Reach → Type 0
-IsSuccessor g r s =
-    (v w : ℕ) → g.Fit v → g.Fit w → g.Edge v w → IsAtMost (lesser (g.limit v) (passed_by g v (at_row r w))) (at_row s v)
+IsSuccessor g r s = (v w : ℕ) → g.Fit v → g.Fit w → g.Edge v w → IsAtMost (lesser (g.limit v) (passed_by g v (at_row r w))) (at_row s v)
 
 abbrev pub issuers_of : List ℕ → List ℕ
 issuers_of [] = []
@@ -57,11 +54,9 @@ pub record IsAdequatePath (g : Graph) (target : ℕ) (ps : List ℕ) (anchor : �
   pub least_anchor : EndsIn (λ v. (b : ℕ) → b < anchor → g.AnchorEdge v b → ⊥) ps
   -- the target alone is no path
   pub not_alone : 2 ≤ length ps → (b : ℕ) → g.AnchorEdge target b → ⊥
-  -- with one issuer fewer there is no path: the last row but one holds nothing at the target's
-  -- issuers
+  -- no path has one issuer fewer: the last row but one holds nothing at the target's issuers
   pub not_shorter : (k w : ℕ) → k + 3 ≡ length ps → g.Fit w → g.Edge target w → at_row (row_of rows k) w ≡ No
-  -- nowhere would a smaller position do: the row for what is left of the path does not take the
-  -- count at it
+  -- nowhere would a smaller position do: the row for what follows doesn't take the count at it
   pub not_smaller : (front back : List ℕ) (v p w : ℕ) → ps ≡ front ++ v ∷ p ∷ back → w < p → g.Fit w → g.Edge v w → Takes (at_row (row_of rows (length back)) w) (counted g (issuers_of (front ++ v ∷ []))) → ⊥
 
 -- A row that shows that there is no path.
@@ -73,6 +68,16 @@ pub record IsAdequateNone (g : Graph) (target : ℕ) (rows : List (List Reach)) 
   pub anchored : HasAnchored g row
   pub fixed : IsSuccessor g row row
   pub closed : (g.Usable target → ⊥) ⊎ (((b : ℕ) → g.AnchorEdge target b → ⊥) × ((w : ℕ) → g.Fit w → g.Edge target w → at_row row w ≡ No))
+
+-- a row after some changes, one by one; a change past its end is none
+abbrev pub changed : List Reach → List Change → List Reach
+changed row [] = row
+changed row (x ∷ xs) = changed (slice_set row x.position x.reach) xs
+
+-- the rows that come of a row by the changes of each
+abbrev pub rows_by : List Reach → List (List Change) → List (List Reach)
+rows_by row [] = []
+rows_by row (step ∷ steps) = changed row step ∷ rows_by (changed row step) steps
 
 -- the rows of a table: the one, or those that come of a row of `No` by the changes of each
 abbrev pub rows_of : Table → List (List Reach)

@@ -4,9 +4,8 @@ use Rattle.cert_graph.specs.declared.reach.Reach.{Reach}
 use Rattle.cert_graph.specs.declared.reach.Reach.TheVariants.{No, UpTo}
 use Rattle.cert_graph.specs.declared.changes.Change.{Change}
 use Rattle.cert_graph.specs.Graph.{Graph}
-use Rattle.cert_graph.specs.Adequate.{IsAdequatePath, IsAdequateNone}
+use Rattle.cert_graph.specs.Adequate.{IsAdequatePath, IsAdequateNone, rows_by}
 use Rattle.cert_graph.specs.Tables.{IsTable}
-use Rattle.cert_graph.specs.Changes.{rows_by}
 use Rattle.cert_graph.specs.Inventory.{StandsAtLast}
 
 -- an issuer under the anchor, with path length 0; a certificate under it; one under nobody; an item

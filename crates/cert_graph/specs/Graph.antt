@@ -32,13 +32,11 @@ AreNeighbours R ps = (front back : List ℕ) (v w : ℕ) → ps ≡ front ++ v �
 abbrev pub EndsIn : (ℕ → Type 0) → List ℕ → Type 0
 EndsIn P ps = (front : List ℕ) (v : ℕ) → ps ≡ front ++ v ∷ [] → P v
 
--- each limit takes the count before the first, with what is between that is not self-issued
--- (RFC 5280, 6.1.4, l and m)
+-- each limit takes a count and those before it that aren't self-issued (RFC 5280, 6.1.4, l and m)
 abbrev pub KeepsLimits : Graph → ℕ → List ℕ → Type 0
 KeepsLimits g c ps = (front back : List ℕ) (v : ℕ) → ps ≡ front ++ v ∷ back → Takes (g.limit v) (c + counted g front)
 
--- A valid path from a target to an anchor, its positions and the anchor (RFC 5280, 6.1). The target
--- is not counted.
+-- A valid path, its positions, and the anchor at its end (RFC 5280, 6.1). The target isn't counted.
 pub record IsValidPath (g : Graph) (target : ℕ) (ps : List ℕ) (anchor : ℕ) : Type 0 where
   pub issuers : List ℕ
   pub starts : ps ≡ target ∷ issuers
@@ -56,8 +54,7 @@ pub record IsChain (g : Graph) (c : ℕ) (qs : List ℕ) (anchor : ℕ) : Type 0
   pub anchored : EndsIn (λ v. g.AnchorEdge v anchor) qs
   pub limits : KeepsLimits g c qs
 
--- an issuer leads to an anchor over at most a number of certificates, itself among them, where it
--- is met at a count
+-- an issuer, met at a count, leads to an anchor over at most a number of certificates, itself one
 abbrev pub IsReached : Graph → ℕ → ℕ → ℕ → Type 0
 IsReached g number v c =
     (rest : List ℕ) × (a : ℕ) × (length (v ∷ rest) ≤ number) × IsChain g c (v ∷ rest) a
@@ -68,8 +65,7 @@ IsBefore ps qs =
     (front : List ℕ) × (p : ℕ) × (q : ℕ) × (prest : List ℕ) × (qrest : List ℕ)
     × (ps ≡ front ++ p ∷ prest) × (qs ≡ front ++ q ∷ qrest) × (p < q)
 
--- one path comes before another: fewer certificates, then smaller positions, then the smaller
--- anchor
+-- a path comes before another: fewer certificates, then smaller positions, then the smaller anchor
 abbrev pub ComesBefore : List ℕ → ℕ → List ℕ → ℕ → Type 0
 ComesBefore ps a qs b =
     (length ps < length qs) ⊎ ((length ps ≡ length qs) × IsBefore ps qs) ⊎ ((ps ≡ qs) × (a < b))

@@ -7,9 +7,8 @@ use Rattle.cert_graph.specs.declared.inventory.Verdict.{Verdict}
 use Rattle.cert_graph.specs.declared.inventory.Verdict.TheVariants.{FirstPath, Pathless, NoCertificate}
 use Rattle.cert_graph.specs.declared.inventory.Inventory.{Inventory}
 use Rattle.cert_graph.specs.Graph.{Graph, IsFirstPath, HasNoPath}
-use Rattle.cert_graph.specs.Adequate.{row_of, IsSuccessor, IsAdequatePath, IsAdequateNone}
+use Rattle.cert_graph.specs.Adequate.{row_of, IsSuccessor, IsAdequatePath, IsAdequateNone, rows_by}
 use Rattle.cert_graph.specs.Tables.{IsTable}
-use Rattle.cert_graph.specs.Changes.{rows_by}
 
 -- what a verdict says of a target is so
 abbrev pub IsTrueVerdict : Graph → ℕ → Verdict → Type 0

@@ -6,15 +6,13 @@ ghost use Rattle.cert_graph.specs.Adequate.{at_row, row_of, rows_of};
 use crate::changes::reach_by;
 use crate::{Change, Reach, reach_at};
 
-/// Rows of reaches, each with one entry per item, by its position. The first row is for one issuer,
-/// each further one for one issuer more.
+/// Rows of reaches, one entry per item, by position: the first for one issuer, each next one more.
 #[derive(Debug, Drop)]
 pub enum Table {
     /// One row.
     Row(Vec<Reach>),
 
-    /// Rows of `width` entries, each as its changes from the row before it, the first from a row of
-    /// `No`.
+    /// Rows of `width` entries, each as its changes from the one before, the first from all `No`.
     Rows {
         width: usize,
         steps: Vec<Vec<Change>>,
@@ -24,9 +22,8 @@ pub enum Table {
 /// What is answered on a target, with the table that shows it.
 #[derive(Debug, Drop)]
 pub enum Answer {
-    /// The first valid path: the target's position, then its issuers' positions up to the last,
-    /// whose own issuer is the anchor at position `anchor` among the anchors. All positions count
-    /// from 0. The table has one row fewer than there are certificates.
+    /// The first valid path: the target's position, then its issuers', the last of them issued by
+    /// the anchor at `anchor`. Positions count from 0. The table has one row fewer than the path.
     Path {
         positions: Vec<usize>,
         anchor: usize,

@@ -2,8 +2,8 @@
 
 ghost use Rattle.std.specs.Prelude.{◌≡◌, ◌↔◌, [], ◌∷◌, length, map, replicate, All, IfOk, IsTrue};
 ghost use Rattle.cert_graph.specs.declared.reach.Reach.TheVariants.{No};
-ghost use Rattle.cert_graph.specs.Adequate.{at_row};
-ghost use Rattle.cert_graph.specs.Changes.{changed, rows_by, last_by};
+ghost use Rattle.cert_graph.specs.Adequate.{at_row, changed, rows_by};
+ghost use Rattle.cert_graph.specs.Changes.{last_by};
 
 use crate::Reach;
 use std::alloc::{AllocError, Global};

@@ -5,8 +5,7 @@
 
 ghost use Rattle.std.specs.Prelude.{◌↔◌, [], ◌∷◌, length, map, replicate, IsTrue, IfOk};
 ghost use Rattle.cert_graph.specs.declared.reach.Reach.TheVariants.{No};
-ghost use Rattle.cert_graph.specs.Adequate.{rows_of, IsAdequatePath, IsAdequateNone, IsAdequate, IsTrueAnswer};
-ghost use Rattle.cert_graph.specs.Changes.{rows_by};
+ghost use Rattle.cert_graph.specs.Adequate.{rows_of, IsAdequatePath, IsAdequateNone, IsAdequate, IsTrueAnswer, rows_by};
 ghost use Rattle.cert_graph.specs.Nodes.{graph_of};
 
 use crate::changes::{make, row_of_none, steps_of};

@@ -3,9 +3,9 @@
 ghost use Rattle.std.specs.Prelude.{◌≡◌, ℕ, ◌+◌, ◌<◌, ◌↔◌, [], List, length, map, replicate, slice_index_or, All, IsTrue, IfOk, IfSome, IfNone};
 ghost use Rattle.cert_graph.specs.declared.reach.Reach.{Reach};
 ghost use Rattle.cert_graph.specs.declared.reach.Reach.TheVariants.{No};
-ghost use Rattle.cert_graph.specs.Changes.{changed, rows_by, last_by, touched};
+ghost use Rattle.cert_graph.specs.Changes.{last_by, touched};
 ghost use Rattle.cert_graph.specs.Reach.{IsAtMost};
-ghost use Rattle.cert_graph.specs.Adequate.{at_row};
+ghost use Rattle.cert_graph.specs.Adequate.{at_row, changed, rows_by};
 ghost use Rattle.cert_graph.specs.Groups.{HoldsEachLimit, FollowsRow, FollowsAt};
 ghost use Rattle.cert_graph.specs.Issuing.{AreMemberships};
 ghost use Rattle.cert_graph.specs.Inventory.{StandsAtLast};

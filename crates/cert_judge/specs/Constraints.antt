@@ -5,8 +5,7 @@ use Rattle.cert_model.specs.Fields.{Number}
 use Rattle.cert_model.specs.Octets.{sequence_octets, number_octets, optional_octets, flag_octets}
 use Rattle.cert_model.specs.Range.{IfThere, IsNumber}
 
--- what a number that is not negative counts: its octets are digits, the first the highest
--- (X.690, 8.3.3)
+-- what a number that isn't negative counts: its octets as digits, the highest first (X.690, 8.3.3)
 abbrev pub value_of : Number → ℕ
 value_of n = number_from_digits 256 n
 
@@ -14,8 +13,7 @@ pub record BasicConstraints : Type 0 where
   pub ca : Bool
   pub path_len : Option Number
 
--- BasicConstraints ::= SEQUENCE { cA BOOLEAN DEFAULT FALSE, pathLenConstraint INTEGER (0..MAX)
--- OPTIONAL }
+-- SEQUENCE { cA BOOLEAN DEFAULT FALSE, pathLenConstraint INTEGER (0..MAX) OPTIONAL }
 unfoldable pub basic_constraints_octets : BasicConstraints → List ℕ
 basic_constraints_octets b = sequence_octets (flag_octets b.ca ++ optional_octets number_octets b.path_len)
 

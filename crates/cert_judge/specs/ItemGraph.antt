@@ -17,8 +17,7 @@ use Rattle.cert_judge.specs.Revoking.{Item, JudgingContext, IsSatisfied}
 abbrev pub IsCertificateWith : (Certificate → Type 0) → Item → Type 0
 IsCertificateWith P x = (c : Certificate) × (x.class ≡ certificate c) × P c
 
--- A certificate was issued under a name and key: its issuer is the name, the key vouches for it,
--- and it is satisfied.
+-- Issued under a name and key: its issuer is the name, the key vouches for it, and it is satisfied.
 pub record IsIssuedUnder (r : JudgingContext) (items : List Item) (x : Item) (c : Certificate) (name key : List ℕ) : Type 0 where
   pub issuer : name_octets c.issuer ≡ name
   pub vouched : r.Vouches key x.octets

@@ -18,13 +18,11 @@ HasUsage value = (b : Bits) × IsKeyUsage value b
 abbrev pub IsJudgedHere : Identifier → Type 0
 IsJudgedHere identifier = (identifier ≡ basic_constraints) ⊎ (identifier ≡ key_usage)
 
--- a critical extension is one that is judged here, or one that the caller processes
--- (RFC 5280, 6.1.4, o)
+-- a critical extension is judged here, or processed by the caller (RFC 5280, 6.1.4, o)
 unfoldable pub IsProcessed : (Identifier → Type 0) → Extension → Type 0
 IsProcessed P e = e.critical ≡ true → (IsJudgedHere e.identifier ⊎ P e.identifier)
 
--- Extensions with which a certificate may be in a path, where the caller processes those of some
--- identifiers.
+-- Extensions of a certificate that may be in a path. The caller processes some identifiers' own.
 pub record AreUsable (P : Identifier → Type 0) (es : List Extension) : Type 0 where
   -- RFC 5280, 4.2
   pub distinct : AreDistinct es

@@ -12,9 +12,6 @@ abbrev pub first_value : Identifier → List Extension → List ℕ
 first_value identifier [] = []
 first_value identifier (e ∷ es) = if pointwise nat_eq e.identifier identifier then e.value else first_value identifier es
 
--- The constraint of a fit issuer: its number comes after 30 L 01 01 ff 02 k, and without one the
--- value ends after ff (RFC 5280, 4.2.1.9).
+-- the constraint of a fit issuer: a number after 30 L 01 01 ff 02 k, or none (RFC 5280, 4.2.1.9)
 abbrev pub path_limit : Certificate → Reach
-path_limit c =
-    let value = first_value basic_constraints c.extensions in
-    if nat_lt 5 (length value) then UpTo (value_of (drop 7 value)) else Any
+path_limit c = let value = first_value basic_constraints c.extensions in if nat_lt 5 (length value) then UpTo (value_of (drop 7 value)) else Any

@@ -26,8 +26,7 @@ pub record IsPlain (l : RevocationList) : Type 0 where
   pub extensions : AreUncritical l.extensions
   pub entries : All (λ (n : Entry). AreUncritical n.extensions) l.entries
 
--- What is judged by: a moment, whether lists are demanded, for which key and item the keys vouch,
--- and which extensions of an item the caller processes.
+-- What is judged by: a moment, whether lists are demanded, and what is vouched for and processed.
 pub record JudgingContext : Type 1 where
   pub moment : CivilTime
   pub demand_lists : Bool

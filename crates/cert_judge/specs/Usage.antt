@@ -8,8 +8,7 @@ use Rattle.cert_model.specs.Range.{AreBits}
 abbrev pub bit_at : Bits → ℕ → ℕ
 bit_at b k = slice_index b.octets (k / 8) / 2 ^ (7 - k % 8) % 2
 
--- the last bit that is not unused is 1: a named bit list is written without trailing 0 bits, so
--- there is a bit
+-- the last bit that isn't unused is 1: a named bit list has no trailing 0 bits, so there is a bit
 abbrev pub EndsInOne : Bits → Type 0
 EndsInOne b = (front : List ℕ) × (last : ℕ) × (b.octets ≡ front ++ last ∷ []) × (last / 2 ^ b.unused % 2 ≡ 1)
 

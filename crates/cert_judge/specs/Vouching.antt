@@ -4,9 +4,7 @@ use Rattle.std.specs.Prelude.{◌⊎◌, ℕ, List}
 pub record Vouching : Type 1 where
   -- a key vouches for an item: the octets of a key element and of a whole item
   pub Vouches : List ℕ → List ℕ → Type 0
-  -- the caller processes an extension in an item, so that it may be critical there
-  -- (RFC 5280, 6.1.4, o, and 6.1.5, f): the octets of the item and the content octets of the
-  -- extension's identifier
+  -- the caller processes an item's extensions under an identifier (RFC 5280, 6.1.4, o; 6.1.5, f)
   pub Processes : List ℕ → List ℕ → Type 0
 
 abbrev pub nothing : List ℕ → List ℕ → Type 0

@@ -13,21 +13,17 @@ pub trait Vouch {
     /// What the value vouches for, and what it processes. Fixed relations of the value.
     ghost vouches_for: { Self → Vouching };
 
-    /// Whether a key vouches for an item: the octets of a key element (SubjectPublicKeyInfo) and of
-    /// a whole certificate or list.
+    /// Whether a key, octets of a SubjectPublicKeyInfo, vouches for a whole certificate or list.
     fn vouches(&self, key: &[u8], item: &[u8]) -> bool
         ensures { IsTrue result ↔ (vouches_for self.now).Vouches key.now item.now };
 
-    /// Whether the caller processes the extensions of an identifier in an item, so that they may be
-    /// critical there (RFC 5280, 6.1.4, o, and 6.1.5, f): the octets of a whole certificate and the
-    /// content octets of the identifier. Whoever says so has to judge the value: nothing here does.
-    /// basicConstraints and keyUsage are judged here, whatever is answered. `false` is right for
-    /// whoever processes no extension.
+    /// Whether the caller processes extensions with an identifier, its content octets, in a whole
+    /// item, so that they may be critical there (RFC 5280, 6.1.4, o, and 6.1.5, f): it has to judge
+    /// their values. basicConstraints and keyUsage are judged here, whatever is answered.
     fn processes(&self, item: &[u8], identifier: &[u8]) -> bool
         ensures { IsTrue result ↔ (vouches_for self.now).Processes item.now identifier.now };
 
-    /// Whether a key vouches for the item at a place among items. `false` where no item has this
-    /// place.
+    /// Whether a key vouches for the item at a place among items. `false` past their end.
     fn vouches_at(&self, key: &[u8], items: &[&[u8]], place: usize) -> bool
         ensures { IsTrue result ↔ VouchesAt (vouches_for self.now).Vouches items.now key.now place }
     {
@@ -58,10 +54,8 @@ pub trait Vouch {
         Ok(row)
     }
 
-    /// For each key, in the keys' order, the places of the items that it vouches for, in ascending
-    /// order, of those at the chosen places. By default `vouches` is asked for each key and item. A
-    /// type that can look the keys of an item up overrides this method. The only error is out of
-    /// memory.
+    /// For each key, in the keys' order, the chosen places of items that it vouches for, ascending.
+    /// By default each pair is asked for; override this to look keys up. Fails if out of memory.
     fn vouched_by_each(
         &self,
         alloc: Global,

@@ -20,13 +20,11 @@ pub record IsFirstUnder (identifier : Identifier) (es : List Extension) (value :
 abbrev pub key_identifier_octets : List ℕ → List ℕ
 key_identifier_octets id = element_octets (record { class = 2; constructed = false; tag = 0; content = id })
 
--- the key identifier that begins the one sequence which the octets are; of what follows it nothing
--- is asked
+-- the key identifier that begins the one sequence which the octets are, whatever follows it
 abbrev pub BeginsWithKeyId : List ℕ → List ℕ → Type 0
 BeginsWithKeyId value id = (others : List ℕ) × (value ≡ sequence_octets (key_identifier_octets id ++ others))
 
--- AuthorityKeyIdentifier ::= SEQUENCE { keyIdentifier [0] IMPLICIT OCTET STRING, .. }
--- (RFC 5280, 4.2.1.1), a DER object of at most 50 levels
+-- SEQUENCE { keyIdentifier [0] IMPLICIT OCTET STRING, .. } (RFC 5280, 4.2.1.1), at most 50 levels
 pub record IsAuthorityKeyId (c : Certificate) (id : List ℕ) : Type 0 where
   pub value : List ℕ
   pub stands : IsFirstUnder authority_key_identifier c.extensions value

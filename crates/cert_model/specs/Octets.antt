@@ -56,8 +56,7 @@ implicit_bits_octets tag b = element_octets (record { class = 2; constructed = f
 abbrev pub moment_in : CivilTime → Moment
 moment_in t = record { year = unsigned_abs t.year; month = t.month; day = t.day; hour = t.hour; minute = t.minute; second = t.second }
 
--- UTCTime (YYMMDDHHMMSSZ) for the years to 2049, GeneralizedTime (YYYYMMDDHHMMSSZ) from 2050 on
--- (RFC 5280, 4.1.2.5; X.690, 11.7 and 11.8)
+-- UTCTime to the year 2049, GeneralizedTime from 2050 on (RFC 5280, 4.1.2.5; X.690, 11.7 and 11.8)
 abbrev pub time_octets : CivilTime → List ℕ
 time_octets t =
     let m = moment_in t in
@@ -65,8 +64,7 @@ time_octets t =
     then primitive_octets 23 (two_digits (m.year % 100) ++ after_year m ++ 90 ∷ [])
     else primitive_octets 24 (two_digits (m.year / 100) ++ two_digits (m.year % 100) ++ after_year m ++ 90 ∷ [])
 
--- AlgorithmIdentifier ::= SEQUENCE { algorithm OBJECT IDENTIFIER, parameters ANY DEFINED BY
--- algorithm OPTIONAL } (RFC 5280, 4.1.1.2)
+-- SEQUENCE { algorithm OBJECT IDENTIFIER, parameters ANY OPTIONAL } (RFC 5280, 4.1.1.2)
 unfoldable pub algorithm_octets : Algorithm → List ℕ
 algorithm_octets a = sequence_octets (identifier_octets a.identifier ++ optional_octets element_octets a.parameters)
 
@@ -82,8 +80,7 @@ relative_name_octets attributes = set_octets (flat_map attribute_octets attribut
 unfoldable pub name_octets : Name → List ℕ
 name_octets sets = sequence_octets (flat_map relative_name_octets sets)
 
--- SubjectPublicKeyInfo ::= SEQUENCE { algorithm AlgorithmIdentifier, subjectPublicKey BIT STRING }
--- (RFC 5280, 4.1)
+-- SEQUENCE { algorithm AlgorithmIdentifier, subjectPublicKey BIT STRING } (RFC 5280, 4.1)
 unfoldable pub key_octets : Key → List ℕ
 key_octets k = sequence_octets (algorithm_octets k.algorithm ++ bit_field_octets k.key)
 
@@ -91,8 +88,7 @@ key_octets k = sequence_octets (algorithm_octets k.algorithm ++ bit_field_octets
 abbrev pub flag_octets : Bool → List ℕ
 flag_octets flag = if flag then primitive_octets 1 (255 ∷ []) else []
 
--- Extension ::= SEQUENCE { extnID OBJECT IDENTIFIER, critical BOOLEAN DEFAULT FALSE, extnValue
--- OCTET STRING } (RFC 5280, 4.1)
+-- SEQUENCE { extnID, critical BOOLEAN DEFAULT FALSE, extnValue OCTET STRING } (RFC 5280, 4.1)
 unfoldable pub extension_octets : Extension → List ℕ
 extension_octets e = sequence_octets (concat (identifier_octets e.identifier ∷ flag_octets e.critical ∷ primitive_octets 4 e.value ∷ []))
 
@@ -112,11 +108,9 @@ version_octets version = if nat_lt 0 version then explicit_octets 0 (number_octe
 abbrev pub validity_octets : CivilTime → CivilTime → List ℕ
 validity_octets not_before not_after = sequence_octets (time_octets not_before ++ time_octets not_after)
 
--- TBSCertificate ::= SEQUENCE {
---     version [0] EXPLICIT Version DEFAULT v1, serialNumber CertificateSerialNumber, signature AlgorithmIdentifier,
---     issuer Name, validity Validity, subject Name, subjectPublicKeyInfo SubjectPublicKeyInfo,
---     issuerUniqueID [1] IMPLICIT UniqueIdentifier OPTIONAL, subjectUniqueID [2] IMPLICIT UniqueIdentifier OPTIONAL,
---     extensions [3] EXPLICIT Extensions OPTIONAL } (RFC 5280, 4.1)
+-- SEQUENCE { version [0] EXPLICIT DEFAULT v1, serialNumber, signature AlgorithmIdentifier,
+--     issuer, validity, subject, subjectPublicKeyInfo, issuerUniqueID [1] IMPLICIT OPTIONAL,
+--     subjectUniqueID [2] IMPLICIT OPTIONAL, extensions [3] EXPLICIT OPTIONAL } (RFC 5280, 4.1)
 unfoldable pub tbs_certificate_octets : Certificate → List ℕ
 tbs_certificate_octets c =
     sequence_octets (concat (version_octets c.version ∷ number_octets c.serial ∷ algorithm_octets c.signature
@@ -124,14 +118,12 @@ tbs_certificate_octets c =
     ∷ optional_octets (implicit_bits_octets 1) c.issuer_id ∷ optional_octets (implicit_bits_octets 2) c.subject_id
     ∷ tagged_extensions_octets 3 c.extensions ∷ []))
 
--- Certificate ::= SEQUENCE { tbsCertificate, signatureAlgorithm AlgorithmIdentifier, signatureValue
--- BIT STRING } (RFC 5280, 4.1)
+-- SEQUENCE { tbsCertificate, signatureAlgorithm, signatureValue BIT STRING } (RFC 5280, 4.1)
 unfoldable pub certificate_octets : Certificate → List ℕ
 certificate_octets c =
     sequence_octets (concat (tbs_certificate_octets c ∷ algorithm_octets c.algorithm ∷ bit_field_octets c.signature_value ∷ []))
 
--- SEQUENCE { userCertificate CertificateSerialNumber, revocationDate Time, crlEntryExtensions
--- Extensions OPTIONAL } (RFC 5280, 5.1)
+-- SEQUENCE { userCertificate, revocationDate, crlEntryExtensions OPTIONAL } (RFC 5280, 5.1)
 unfoldable pub entry_octets : Entry → List ℕ
 entry_octets e = sequence_octets (concat (number_octets e.serial ∷ time_octets e.date ∷ several_octets extensions_octets e.extensions ∷ []))
 
@@ -139,17 +131,15 @@ entry_octets e = sequence_octets (concat (number_octets e.serial ∷ time_octets
 abbrev pub entries_octets : List Entry → List ℕ
 entries_octets = several_octets (λ entries. sequence_octets (flat_map entry_octets entries))
 
--- TBSCertList ::= SEQUENCE {
---     version Version OPTIONAL, signature AlgorithmIdentifier, issuer Name, thisUpdate Time, nextUpdate Time OPTIONAL,
---     revokedCertificates SEQUENCE OF .. OPTIONAL, crlExtensions [0] EXPLICIT Extensions OPTIONAL } (RFC 5280, 5.1)
+-- SEQUENCE { version OPTIONAL, signature, issuer, thisUpdate, nextUpdate OPTIONAL,
+--     revokedCertificates OPTIONAL, crlExtensions [0] EXPLICIT OPTIONAL } (RFC 5280, 5.1)
 unfoldable pub tbs_cert_list_octets : RevocationList → List ℕ
 tbs_cert_list_octets l =
     sequence_octets (concat (optional_octets (λ version. number_octets (version ∷ [])) l.version ∷ algorithm_octets l.signature
     ∷ name_octets l.issuer ∷ time_octets l.this_update ∷ optional_octets time_octets l.next_update
     ∷ entries_octets l.entries ∷ tagged_extensions_octets 0 l.extensions ∷ []))
 
--- CertificateList ::= SEQUENCE { tbsCertList, signatureAlgorithm AlgorithmIdentifier,
--- signatureValue BIT STRING } (RFC 5280, 5.1)
+-- SEQUENCE { tbsCertList, signatureAlgorithm, signatureValue BIT STRING } (RFC 5280, 5.1)
 unfoldable pub list_octets : RevocationList → List ℕ
 list_octets l =
     sequence_octets (concat (tbs_cert_list_octets l ∷ algorithm_octets l.algorithm ∷ bit_field_octets l.signature_value ∷ []))

@@ -15,8 +15,7 @@ abbrev pub IfThere : {A : Type 0} → (A → Type 0) → Option A → Type 0
 IfThere P None = Unit {0}
 IfThere P (Some x) = P x
 
--- not negative, in the fewest octets (RFC 5280, 4.1.2.2; X.690, 8.3.2). 0 and numbers of any length
--- are taken.
+-- not negative, 0 too, of any length, in the fewest octets (RFC 5280, 4.1.2.2; X.690, 8.3.2)
 pub record IsNumber (n : Number) : Type 0 where
   pub shortest : IsTrue (is_shortest n)
   pub sign : is_negative n ≡ false

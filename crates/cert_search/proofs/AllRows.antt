@@ -10,11 +10,11 @@ use Rattle.cert_graph.specs.declared.nodes.Nodes.{Nodes}
 use Rattle.cert_graph.specs.declared.inventory.Verdict.{Verdict}
 use Rattle.cert_graph.specs.declared.inventory.Verdict.TheVariants.{FirstPath, Pathless, NoCertificate}
 use Rattle.cert_graph.specs.Graph.{Graph}
-use Rattle.cert_graph.specs.Adequate.{row_of, HasAnchored, IsAdequatePath, IsAdequateNone}
+use Rattle.cert_graph.specs.Adequate.{row_of, HasAnchored, IsAdequatePath, IsAdequateNone, changed, rows_by}
 use Rattle.cert_graph.specs.Least.{IsLeast}
 use Rattle.cert_graph.specs.Nodes.{graph_of}
 use Rattle.cert_graph.specs.Tables.{IsTable}
-use Rattle.cert_graph.specs.Changes.{changed, rows_by, last_by}
+use Rattle.cert_graph.specs.Changes.{last_by}
 use Rattle.cert_graph.specs.Inventory.{IsAdequateVerdict, StandsAtLast, OfEach}
 use Rattle.cert_graph.proofs.Changing.{items_by, rows_grow, length-rows, rows_front}
 use Rattle.cert_graph.proofs.Sharing.{last_alone}

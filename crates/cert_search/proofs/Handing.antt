@@ -11,11 +11,10 @@ use Rattle.cert_graph.specs.declared.nodes.Group.{Group}
 use Rattle.cert_graph.specs.declared.nodes.Nodes.{Nodes}
 use Rattle.cert_graph.specs.Reach.{Takes, IsAtMost}
 use Rattle.cert_graph.specs.Graph.{Graph}
-use Rattle.cert_graph.specs.Adequate.{at_row}
+use Rattle.cert_graph.specs.Adequate.{at_row, changed}
 use Rattle.cert_graph.specs.Nodes.{graph_of}
 use Rattle.cert_graph.proofs.ReachFacts.{more_takes, at_most_from_takes}
 use Rattle.cert_graph.specs.declared.changes.Change.{Change}
-use Rattle.cert_graph.specs.Changes.{changed}
 use Rattle.cert_search.specs.Rows.{AreOffers, IsRaisedBy, GroupOffers}
 use Rattle.cert_search.specs.Rising.{IsGroup, AreAnchored, ArePlaces, AreRaised, HaveRisen, ChangeTakes, MemberTakes, LetsThrough, AreHanded, AreBests}
 use Rattle.cert_graph.proofs.Anything.{any_push, any_more}

@@ -6,13 +6,12 @@ use Rattle.cert_graph.specs.declared.reach.Reach.{Reach}
 use Rattle.cert_graph.specs.declared.reach.Reach.TheVariants.{No}
 use Rattle.cert_graph.specs.declared.nodes.Nodes.{Nodes}
 use Rattle.cert_graph.specs.Reach.{Takes, IsAtMost}
-use Rattle.cert_graph.specs.Adequate.{at_row}
+use Rattle.cert_graph.specs.Adequate.{at_row, changed}
 use Rattle.cert_graph.specs.Steps.{one_of}
 use Rattle.cert_graph.specs.Nodes.{graph_of}
 use Rattle.cert_graph.proofs.ReachFacts.{at_most_self}
 use Rattle.cert_graph.specs.declared.changes.Change.{Change}
 use Rattle.cert_search.specs.declared.rising.Rising.{Rising}
-use Rattle.cert_graph.specs.Changes.{changed}
 use Rattle.cert_search.specs.Rows.{IsRaisedBy, StandsUnder}
 use Rattle.cert_search.specs.Rising.{HaveRisen, AreHanded, AreBests, IsRising, IsRound, IsBegun}
 use Rattle.cert_search.proofs.Placing.{nothing_in}

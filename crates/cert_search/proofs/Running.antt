@@ -6,11 +6,11 @@ use Rattle.std.proofs.lemmas.List.Elements.{All-push, All-nil}
 use Rattle.std.proofs.lemmas.Bool.{cases_lt}
 use Rattle.cert_graph.specs.declared.reach.Reach.{Reach}
 use Rattle.cert_graph.specs.Graph.{Graph}
-use Rattle.cert_graph.specs.Adequate.{row_of}
+use Rattle.cert_graph.specs.Adequate.{row_of, changed, rows_by}
 use Rattle.cert_search.specs.Exact.{HoldsExactly}
 use Rattle.cert_search.specs.Rows.{IsRun, Opens}
 use Rattle.cert_graph.specs.declared.changes.Change.{Change}
-use Rattle.cert_graph.specs.Changes.{changed, rows_by, last_by}
+use Rattle.cert_graph.specs.Changes.{last_by}
 use Rattle.cert_graph.proofs.Changing.{items_by, rows_grow, length-rows}
 
 -- the rows so far, none of which opens the target

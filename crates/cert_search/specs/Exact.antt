@@ -9,13 +9,11 @@ use Rattle.cert_graph.specs.Graph.{Graph, IsReached}
 use Rattle.cert_graph.specs.Adequate.{at_row, row_of, rows_of}
 use Rattle.cert_graph.specs.Laws.{NamesNoneTwice}
 
--- a row takes exactly the counts at which an issuer leads to an anchor over at most so many
--- certificates
+-- a row takes exactly the counts at which an issuer leads to an anchor over so many certificates
 abbrev pub HoldsExactly : Graph → ℕ → List Reach → Type 0
 HoldsExactly g number row = (v c : ℕ) → Takes (at_row row v) c ↔ IsReached g number v c
 
--- a row takes exactly the counts at which an issuer leads to an anchor over any number of
--- certificates
+-- a row takes exactly the counts at which an issuer leads to an anchor over any number of them
 abbrev pub HoldsAll : Graph → List Reach → Type 0
 HoldsAll g row = (v c : ℕ) → Takes (at_row row v) c ↔ ((number : ℕ) × IsReached g number v c)
 
@@ -23,8 +21,7 @@ HoldsAll g row = (v c : ℕ) → Takes (at_row row v) c ↔ ((number : ℕ) × I
 abbrev pub HoldsNoElsewhere : Graph → List Reach → Type 0
 HoldsNoElsewhere g row = (v : ℕ) → (g.Fit v → ⊥) → at_row row v ≡ No
 
--- each row of a path's table is exact for its number of certificates, the one row without a path
--- for any number
+-- each row of a path's table is exact for its number, the one row without a path for any number
 abbrev pub HasExactRows : Graph → Answer → Type 0
 HasExactRows g (Path ps a table) =
     (k : ℕ) → k < length (rows_of table) → HoldsExactly g (k + 1) (row_of (rows_of table) k) × HoldsNoElsewhere g (row_of (rows_of table) k)

@@ -6,9 +6,8 @@ use Rattle.cert_graph.specs.declared.reach.Reach.TheVariants.{No}
 use Rattle.cert_graph.specs.declared.changes.Change.{Change}
 use Rattle.cert_graph.specs.declared.answer.Answer.{Answer}
 use Rattle.cert_graph.specs.declared.answer.Answer.TheVariants.{Path, NoPath, NoTarget}
-use Rattle.cert_graph.specs.Changes.{rows_by}
 use Rattle.cert_graph.specs.Graph.{Graph}
-use Rattle.cert_graph.specs.Adequate.{row_of, rows_of}
+use Rattle.cert_graph.specs.Adequate.{row_of, rows_of, rows_by}
 use Rattle.cert_search.specs.declared.rounds.Found.{Found}
 use Rattle.cert_search.specs.declared.rounds.Found.TheVariants.{Opening, Standing}
 use Rattle.cert_search.specs.Exact.{HoldsExactly}

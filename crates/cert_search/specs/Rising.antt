@@ -6,12 +6,11 @@ use Rattle.cert_graph.specs.declared.nodes.Group.{Group}
 use Rattle.cert_graph.specs.declared.nodes.Nodes.{Nodes}
 use Rattle.cert_graph.specs.Reach.{Takes, IsAtMost}
 use Rattle.cert_graph.specs.Graph.{Graph}
-use Rattle.cert_graph.specs.Adequate.{at_row}
+use Rattle.cert_graph.specs.Adequate.{at_row, changed}
 use Rattle.cert_graph.specs.Steps.{one_of}
 use Rattle.cert_graph.specs.Nodes.{graph_of}
 use Rattle.cert_graph.specs.declared.changes.Change.{Change}
 use Rattle.cert_search.specs.declared.rising.Rising.{Rising}
-use Rattle.cert_graph.specs.Changes.{changed}
 use Rattle.cert_search.specs.Rows.{AreOffers, IsRaisedBy, GroupOffers}
 
 -- a group is at a place

@@ -2,7 +2,7 @@
 
 ghost use Rattle.std.specs.Prelude.{length, map, replicate, IfOk};
 ghost use Rattle.cert_graph.specs.declared.reach.Reach.TheVariants.{No};
-ghost use Rattle.cert_graph.specs.Changes.{rows_by};
+ghost use Rattle.cert_graph.specs.Adequate.{rows_by};
 ghost use Rattle.cert_graph.specs.Nodes.{graph_of};
 ghost use Rattle.cert_search.specs.Inventory.{AreAllRows};
 

@@ -3,9 +3,8 @@
 ghost use Rattle.std.specs.Prelude.{◌≡◌, ℕ, ◌<◌, ◌⊎◌, ◌↔◌, [], length, map, replicate, All, Contains, IfOk, IfSome, IsTrue, OnOk, List};
 ghost use Rattle.cert_graph.specs.declared.reach.Reach.TheVariants.{No};
 ghost use Rattle.cert_graph.specs.Reach.{Takes};
-ghost use Rattle.cert_graph.specs.Adequate.{at_row};
+ghost use Rattle.cert_graph.specs.Adequate.{at_row, changed};
 ghost use Rattle.cert_graph.specs.Nodes.{graph_of};
-ghost use Rattle.cert_graph.specs.Changes.{changed};
 ghost use Rattle.cert_search.specs.Rows.{IsRaisedBy, GroupOffers};
 ghost use Rattle.cert_graph.specs.declared.nodes.Group.{Group};
 ghost use Rattle.cert_search.specs.Rising.{IsGroup, ArePlaces, AreRaised, HaveRisen, ChangeTakes, MemberTakes, LetsThrough, AreHanded, AreBests, IsRising, IsRound, IsBegun};

@@ -4,8 +4,7 @@ ghost use Rattle.std.specs.Prelude.{◌≡◌, ◌↔◌, ◌<◌, ℕ, ◌+◌,
 ghost use Rattle.cert_graph.specs.declared.reach.Reach.{Reach};
 ghost use Rattle.cert_graph.specs.declared.reach.Reach.TheVariants.{No};
 ghost use Rattle.cert_graph.specs.declared.nodes.Nodes.{Nodes};
-ghost use Rattle.cert_graph.specs.Adequate.{row_of};
-ghost use Rattle.cert_graph.specs.Changes.{rows_by};
+ghost use Rattle.cert_graph.specs.Adequate.{row_of, rows_by};
 ghost use Rattle.cert_graph.specs.Inventory.{IsAdequateVerdict};
 ghost use Rattle.cert_graph.specs.Least.{IsLeast, IsLeastOption};
 ghost use Rattle.cert_graph.specs.Lookup.{IsLookup};

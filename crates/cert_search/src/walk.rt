@@ -3,8 +3,7 @@
 
 ghost use Rattle.std.specs.Prelude.{◌≡◌, ℕ, ◌+◌, length, map, replicate, IfOk};
 ghost use Rattle.cert_graph.specs.declared.reach.Reach.TheVariants.{No};
-ghost use Rattle.cert_graph.specs.Adequate.{row_of, IsAdequate};
-ghost use Rattle.cert_graph.specs.Changes.{rows_by};
+ghost use Rattle.cert_graph.specs.Adequate.{row_of, IsAdequate, rows_by};
 ghost use Rattle.cert_graph.specs.Lookup.{IsLookup};
 ghost use Rattle.cert_graph.specs.Nodes.{graph_of};
 ghost use Rattle.cert_search.specs.Exact.{HasExactRows};

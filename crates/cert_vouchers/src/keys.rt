@@ -9,8 +9,7 @@ ghost use Rattle.cert_vouchers.specs.Vouching.{HoldsKey};
 use std::alloc::{AllocError, Global};
 use std::collections::BTreeSet;
 
-/// The digests of the keys that vouch for one item, one at least. Most items have one key, which is
-/// in the item's entry and takes no memory of its own.
+/// The digests of the keys that vouch for an item. The first is in the entry, without memory.
 #[derive(Drop)]
 pub(crate) enum Keys {
     One([u8; 32]),

@@ -8,8 +8,7 @@ use Rattle.cert_graph.specs.declared.answer.Answer.{Answer}
 use Rattle.cert_graph.specs.declared.inventory.Inventory.{Inventory}
 use Rattle.cert_graph.specs.declared.inventory.Verdict.{Verdict}
 use Rattle.cert_graph.specs.declared.inventory.Verdict.TheVariants.{FirstPath, Pathless, NoCertificate}
-use Rattle.cert_graph.specs.Adequate.{row_of, IsTrueAnswer}
-use Rattle.cert_graph.specs.Changes.{rows_by}
+use Rattle.cert_graph.specs.Adequate.{row_of, IsTrueAnswer, rows_by}
 use Rattle.cert_graph.specs.Graph.{Graph}
 use Rattle.cert_graph.specs.Inventory.{shared_rows, IsTrueVerdict, OfEach, IsAdequateInventory, IsTrueInventory}
 use Rattle.cert_graph.specs.Laws.{Agrees, FitIsUsable, UsableIsCertificate}

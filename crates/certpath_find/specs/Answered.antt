@@ -17,8 +17,7 @@ abbrev pub HoldsOfItems : JudgingContext → List (List ℕ) → List (List ℕ)
 HoldsOfItems r items anchors P =
     (classed classed_anchors : List Item) × AreClassed items classed × AreClassed anchors classed_anchors × P (graph_of_items r classed classed_anchors)
 
--- an answer that a search found: adequate, so true; its rows hold exactly how far each issuer
--- leads, and its path is short
+-- an answer that a search found: adequate, so true; its rows are exact, and its path is short
 pub record IsFound (g : Graph) (target : ℕ) (answer : Answer) : Type 0 where
   pub adequate : IsAdequate g target answer
   pub holds : IsTrueAnswer g target answer

@@ -2,7 +2,7 @@
 use Rattle.std.specs.Prelude.{◌↔◌}
 use Rattle.std.proofs.Common.{◌≡◌, ◌∙◌, refl, ap, sym, ℕ, suc, ◌-◌, List, [], ◌∷◌, ◌++◌, length, take, codes, arith}
 use Rattle.std.specs.List.{flat_map}
-use Rattle.certpath_why.specs.Cuts.{IsCut, IsCutOf}
+use Rattle.certpath_why.specs.Cuts.{CutsTo, IsCutOf}
 use Rattle.certpath_why.specs.Listed.{listed, more_words, most_names, shown_part}
 use Rattle.certpath_why.specs.Ranges.{range_text}
 use Rattle.certpath_why.specs.declared.cuts.Cut.{Cut}
@@ -38,11 +38,11 @@ listed_cut (y ∷ ys) x rest n e num =
     ∙ ap (λ r. shown_part (range_text r) ++ (flat_map f rest ++ more_words n)) (sym (first_same 19 x y rest ys e))
 
 -- nothing is shown of no ranges alone
-pub none_shown : (rs : List Range) (cut : Cut) → IsCut rs cut → cut.shown.items ≡ [] → rs ≡ []
+pub none_shown : (rs : List Range) (cut : Cut) → CutsTo rs cut → cut.shown.items ≡ [] → rs ≡ []
 none_shown [] cut h e = refl
 none_shown (y ∷ ys) cut h e = absurd (some_taken 19 y ys (sym h.shown_is ∙ e))
 
-pub shown_none : (rs : List Range) (cut : Cut) → IsCut rs cut → rs ≡ [] → cut.shown.items ≡ []
+pub shown_none : (rs : List Range) (cut : Cut) → CutsTo rs cut → rs ≡ [] → cut.shown.items ≡ []
 shown_none rs cut h e = h.shown_is ∙ ap (take most_names) e
 
 -- ---- the positions of a cut
@@ -50,5 +50,5 @@ shown_none rs cut h e = h.shown_is ∙ ap (take most_names) e
 pub cut_as : (P Q : ℕ → Type 0) (cut : Cut) → ((w : ℕ) → P w ↔ Q w) → IsCutOf P cut → IsCutOf Q cut
 cut_as P Q cut iff h = (h.0, ranges_as h.0 iff h.1, h.2)
 
-pub cut_none : (P : ℕ → Type 0) (cut : Cut) → ((w : ℕ) → P w → ⊥) → IsCut [] cut → IsCutOf P cut
+pub cut_none : (P : ℕ → Type 0) (cut : Cut) → ((w : ℕ) → P w → ⊥) → CutsTo [] cut → IsCutOf P cut
 cut_none P cut none h = ([], no_ranges P none, h)

@@ -20,7 +20,7 @@ use Rattle.cert_reasons.specs.Links.{Revokes}
 use Rattle.cert_reasons.specs.Listed.{ArePlaces, IsInForceAt, HasSerialAt}
 use Rattle.cert_reasons.proofs.Marks.{both_named, none_named, none_own}
 use Rattle.cert_reasons.proofs.OfLinks.{no_reason}
-use Rattle.certpath_why.specs.Cuts.{IsCut, IsCutOf}
+use Rattle.certpath_why.specs.Cuts.{CutsTo, IsCutOf}
 use Rattle.certpath_why.specs.Issuing.{AgreesAt, IsIssued, IsIssuedAt, IsUnvouchedAt}
 use Rattle.certpath_why.specs.Kinds.{IsKind}
 use Rattle.certpath_why.specs.Named.{AreGathered, HasId, IsOwnId, own_id}
@@ -193,7 +193,7 @@ module _ (items : List ReadItem) (x : CertificateItem) (under : Issuers) (are : 
   Linked w = Contains under.places.items w × AgreesAt (map item_of items) x w
 
   -- where no key is named, all agree
-  pub all_agree : (cut : Cut) → x.authority_key_id ≡ None → IsCut under.all.items cut → IsCutOf Linked cut
+  pub all_agree : (cut : Cut) → x.authority_key_id ≡ None → CutsTo under.all.items cut → IsCutOf Linked cut
   all_agree cut none h =
       let iff : (w : ℕ) → Contains under.places.items w ↔ Linked w = λ w. (
         λ c.
@@ -204,7 +204,7 @@ module _ (items : List ReadItem) (x : CertificateItem) (under : Issuers) (are : 
       (under.all.items, ranges_as under.all.items iff are.all, h)
 
   -- where nobody has the one that is named, those agree that have none
-  pub bare_agree : (id : Bor (List ℕ)) (agreeing : List ℕ) (cut : Cut) → x.authority_key_id ≡ Some id → ArePositions (λ w. Contains under.places.items w × IsOwnId items id.now w) agreeing → agreeing ≡ [] → IsCut under.bare_ranges.items cut → IsCutOf Linked cut
+  pub bare_agree : (id : Bor (List ℕ)) (agreeing : List ℕ) (cut : Cut) → x.authority_key_id ≡ Some id → ArePositions (λ w. Contains under.places.items w × IsOwnId items id.now w) agreeing → agreeing ≡ [] → CutsTo under.bare_ranges.items cut → IsCutOf Linked cut
   bare_agree id agreeing cut names own empty h =
       let iff : (w : ℕ) → Contains under.bare.items w ↔ Linked w = λ w. (
         λ c. let b = (are.bare.exact w).0 c in (b.0, (agreeing_iff items x id w names (certs w b.0)).0 (inl b.1)),

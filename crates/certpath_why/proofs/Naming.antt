@@ -24,7 +24,7 @@ use Rattle.cert_judge.specs.declared.items.ReadItem.TheVariants.{Certificate as 
 use Rattle.cert_judge.proofs.Grouping.{element}
 use Rattle.cert_reasons.proofs.Certain.{viewed_by}
 use Rattle.cert_reasons.proofs.Marks.{both_named, none_named, none_own}
-use Rattle.certpath_why.specs.Cuts.{IsCut, IsCutOf}
+use Rattle.certpath_why.specs.Cuts.{CutsTo, IsCutOf}
 use Rattle.certpath_why.specs.Groups.{IsDiffering}
 use Rattle.certpath_why.specs.Named.{AreGathered, AreIssuers, HasId, id_in, id_place, IsOwnId, own_id}
 use Rattle.certpath_why.specs.Directories.{IsDirectory}
@@ -122,7 +122,7 @@ differing_cut items x id issuers found cut names are agreeing h =
     )) h
 
 -- where no key is named, none differs
-pub none_differing : (items : List ReadItem) (x : CertificateItem) (cut : Cut) → x.authority_key_id ≡ None → IsCut [] cut → IsCutOf (IsDiffering (map item_of items) (certificate_of x)) cut
+pub none_differing : (items : List ReadItem) (x : CertificateItem) (cut : Cut) → x.authority_key_id ≡ None → CutsTo [] cut → IsCutOf (IsDiffering (map item_of items) (certificate_of x)) cut
 none_differing items x cut is h =
     cut_none (IsDiffering (map item_of items) (certificate_of x)) cut
     (λ w d.

@@ -9,7 +9,7 @@ use Rattle.std.proofs.lemmas.List.Elements.{Contains-append_left, Contains-appen
 use Rattle.std.proofs.lemmas.List.Kept.{AllPairs-from_increasing}
 use Rattle.std.proofs.Math.Seq.{drop-cons}
 use Rattle.certpath_why.specs.Ranges.{AreRanges, IsInRanges}
-use Rattle.certpath_why.specs.Cuts.{ahead, opened, AreBelow, AreSpaced, IsBack, IsCut, IsCutOf, IsFront, IsReadied, IsReady, IsTaken}
+use Rattle.certpath_why.specs.Cuts.{ahead, opened, AreBelow, AreSpaced, IsBack, CutsTo, IsCutOf, IsFront, IsReadied, IsReady, IsTaken}
 use Rattle.certpath_why.specs.declared.cuts.Cut.{Cut}
 use Rattle.certpath_why.specs.declared.cuts.Walk.{Walk}
 use Rattle.certpath_why.specs.declared.ranges.Range.{Range}
@@ -267,7 +267,7 @@ nowhere p done walk ready none i = elim ((in_both done (ahead walk) p).0 i) [
 ]
 
 -- nothing is left out where the position isn't there
-pub not_taken : (p : ℕ) (done : List Range) (walk : Walk) → IsCut done walk.cut → AreSpaced 0 (done ++ ahead walk) → IsReady p done walk → (IsInRanges (opened walk.begun) p → ⊥) → IsTaken p (done ++ ahead walk) walk
+pub not_taken : (p : ℕ) (done : List Range) (walk : Walk) → CutsTo done walk.cut → AreSpaced 0 (done ++ ahead walk) → IsReady p done walk → (IsInRanges (opened walk.begun) p → ⊥) → IsTaken p (done ++ ahead walk) walk
 not_taken p done walk cut spaced ready none = record {
   done = done;
   cut = cut;
@@ -281,7 +281,7 @@ not_taken p done walk cut spaced ready none = record {
 
 -- a position of the range that was begun
 pub taken : (p : ℕ) (done : List Range) (walk new : Walk) (x : Range) (a : Option Range) → AreSpaced 0 (done ++ ahead walk) → IsReady p done walk → walk.begun ≡ Some x → x.first ≤ p → p ≤ x.last → new.rest.now ≡ walk.rest.now
-    → IsFront x p a → IsBack x p new.begun → IsCut (done ++ opened a) new.cut → IsTaken p (done ++ ahead walk) new
+    → IsFront x p a → IsBack x p new.begun → CutsTo (done ++ opened a) new.cut → IsTaken p (done ++ ahead walk) new
 taken p done walk new x a spaced ready is low up rest f g cut =
     let left = walk.rest.now in
     let c = new.begun in
@@ -301,7 +301,7 @@ taken p done walk new x a spaced ready is low up rest f g cut =
     }
 
 -- ready where the range that was begun has the position
-pub ready_begun : (p : ℕ) (done : List Range) (walk : Walk) → IsCut done walk.cut → AreSpaced 0 (done ++ ahead walk) → AreBelow p done → IsInRanges (opened walk.begun) p → IsReadied p (done ++ ahead walk) walk
+pub ready_begun : (p : ℕ) (done : List Range) (walk : Walk) → CutsTo done walk.cut → AreSpaced 0 (done ++ ahead walk) → AreBelow p done → IsInRanges (opened walk.begun) p → IsReadied p (done ++ ahead walk) walk
 ready_begun p done walk cut spaced below here = record {
   done = done;
   cut = cut;
@@ -313,7 +313,7 @@ ready_begun p done walk cut spaced below here = record {
 }
 
 -- or where none of those that were not begun has it
-pub ready_past : (p : ℕ) (done : List Range) (walk : Walk) → IsCut done walk.cut → AreSpaced 0 (done ++ ahead walk) → AreBelow p done → (AreSpaced 0 walk.rest.now → IsInRanges walk.rest.now p → ⊥) → IsReadied p (done ++ ahead walk) walk
+pub ready_past : (p : ℕ) (done : List Range) (walk : Walk) → CutsTo done walk.cut → AreSpaced 0 (done ++ ahead walk) → AreBelow p done → (AreSpaced 0 walk.rest.now → IsInRanges walk.rest.now p → ⊥) → IsReadied p (done ++ ahead walk) walk
 ready_past p done walk cut spaced below none = record {
   done = done;
   cut = cut;
@@ -326,7 +326,7 @@ ready_past p done walk cut spaced below none = record {
 
 -- or where the range is begun that has it
 pub ready_at : (p : ℕ) (done : List Range) (walk new : Walk) (at : ℕ) (x : Range) → AreSpaced 0 (done ++ ahead walk) → at < length walk.rest.now → get_or walk.rest.now at x ≡ x → x.first ≤ p → p ≤ x.last
-    → IsCut ((done ++ opened walk.begun) ++ take at walk.rest.now) new.cut → new.begun ≡ Some x → new.rest.now ≡ drop (at + 1) walk.rest.now → IsReadied p (done ++ ahead walk) new
+    → CutsTo ((done ++ opened walk.begun) ++ take at walk.rest.now) new.cut → new.begun ≡ Some x → new.rest.now ≡ drop (at + 1) walk.rest.now → IsReadied p (done ++ ahead walk) new
 ready_at p done walk new at x spaced lt is low up cut begun rest =
     let left = walk.rest.now in
     let o = opened walk.begun in
@@ -350,12 +350,12 @@ ready_at p done walk new at x spaced lt is low up cut begun rest =
 
 pub record IsOver (all : List Range) (left : List ℕ) (k : ℕ) (walk : Walk) : Type 0 where
   pub done : List Range
-  pub cut : IsCut done walk.cut
+  pub cut : CutsTo done walk.cut
   pub spaced : AreSpaced 0 (done ++ ahead walk)
   pub exact : (w : ℕ) → IsInRanges (done ++ ahead walk) w ↔ (IsInRanges all w × (Contains (take k left) w → ⊥))
   pub below : (w j : ℕ) → IsInRanges done w → k ≤ j → j < length left → w < get_or left j 0
 
-pub over_none : (all : List Range) (left : List ℕ) (walk : Walk) → AreSpaced 0 all → IsCut [] walk.cut → walk.begun ≡ None → walk.rest.now ≡ all → IsOver all left 0 walk
+pub over_none : (all : List Range) (left : List ℕ) (walk : Walk) → AreSpaced 0 all → CutsTo [] walk.cut → walk.begun ≡ None → walk.rest.now ≡ all → IsOver all left 0 walk
 over_none all left walk spaced cut begun rest =
     let is : all ≡ ahead walk = sym (ap (λ b. opened b ++ walk.rest.now) begun ∙ rest) in
     record {
@@ -390,11 +390,11 @@ over_more all left k walk new up lt h t =
           omega arith;
     }
 
-pub over_all : (all : List Range) (left : List ℕ) (k : ℕ) (walk : Walk) (new : Cut) → length left ≤ k → (h : IsOver all left k walk) → IsCut ((h.done ++ opened walk.begun) ++ walk.rest.now) new
+pub over_all : (all : List Range) (left : List ℕ) (k : ℕ) (walk : Walk) (new : Cut) → length left ≤ k → (h : IsOver all left k walk) → CutsTo ((h.done ++ opened walk.begun) ++ walk.rest.now) new
     → IsCutOf (λ w. IsInRanges all w × (Contains left w → ⊥)) new
 over_all all left k walk new le h cut = (
   h.done ++ ahead walk,
   spaced_ranges (λ w. IsInRanges all w × (Contains left w → ⊥)) (h.done ++ ahead walk) h.spaced
       (λ w. subst (λ l. IsInRanges (h.done ++ ahead walk) w ↔ (IsInRanges all w × (Contains l w → ⊥))) (take_all k left le) (h.exact w)),
-  subst (λ l. IsCut l new) (append_assoc h.done (opened walk.begun) walk.rest.now) cut,
+  subst (λ l. CutsTo l new) (append_assoc h.done (opened walk.begun) walk.rest.now) cut,
 )

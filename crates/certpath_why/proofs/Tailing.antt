@@ -15,7 +15,7 @@ use Rattle.cert_judge.specs.declared.items.ReadItem.{ReadItem}
 use Rattle.cert_judge.specs.declared.items.ReadItem.TheVariants.{Certificate as certificate_read}
 use Rattle.cert_reasons.specs.declared.links.Unlinked.{Unlinked}
 use Rattle.cert_reasons.specs.declared.links.Unlinked.TheVariants.{NotVouched, KeyIdsDiffer, RevokedBy, NoUsedList}
-use Rattle.certpath_why.specs.Cuts.{IsCut, IsCutOf}
+use Rattle.certpath_why.specs.Cuts.{CutsTo, IsCutOf}
 use Rattle.certpath_why.specs.declared.cuts.Cut.{Cut}
 use Rattle.certpath_why.specs.Kinds.{AddsTails, AreTails, AreWrittenBy, kind_cmp, line_of, lines_of}
 use Rattle.certpath_why.specs.Lines.{link_end, link_lines}
@@ -50,7 +50,7 @@ pub tails_as : (P Q : List ℕ → List ℕ → Type 0) (old new : List (String 
 tails_as P Q old new f h = (h.0, h.1, λ front. f front (lines_of front h.0) (h.2 front))
 
 -- a line of ranges of which the first are given
-pub cut_tails : (what : Option Unlinked) (P : ℕ → Type 0) (cut : Cut) (old new : List (String Global)) → IsCutOf P cut → ((rs : List Range) → IsCut rs cut → AddsTails (λ front text. text ≡ link_lines front what rs) old new)
+pub cut_tails : (what : Option Unlinked) (P : ℕ → Type 0) (cut : Cut) (old new : List (String Global)) → IsCutOf P cut → ((rs : List Range) → CutsTo rs cut → AddsTails (λ front text. text ≡ link_lines front what rs) old new)
     → AddsTails (λ front. TellsGroup front what P) old new
 cut_tails what P cut old new h f = tails_as (λ front text. text ≡ link_lines front what h.0) (λ front. TellsGroup front what P) old new (λ front text is. (h.0, h.1, is)) (f h.0 h.2)
 

@@ -12,13 +12,13 @@ AreSpaced b [] = Unit {0}
 AreSpaced b (r ∷ rs) = (b ≤ r.first) × (r.first ≤ r.last) × AreSpaced (r.last + 2) rs
 
 -- the first of some ranges, as many as a line shows, and how many there are
-pub record IsCut (rs : List Range) (cut : Cut) : Type 0 where
+pub record CutsTo (rs : List Range) (cut : Cut) : Type 0 where
   pub shown_is : cut.shown.items ≡ take most_names rs
   pub count_is : cut.count ≡ length rs
 
 -- of exactly the positions with a property
 abbrev pub IsCutOf : (ℕ → Type 0) → Cut → Type 0
-IsCutOf P cut = (rs : List Range) × AreRanges P rs × IsCut rs cut
+IsCutOf P cut = (rs : List Range) × AreRanges P rs × CutsTo rs cut
 
 -- a range, if there is one
 abbrev pub opened : Option Range → List Range
@@ -50,14 +50,14 @@ pub record IsReady (p : ℕ) (done : List Range) (walk : Walk) : Type 0 where
 -- the same ranges, ready for a position
 pub record IsReadied (p : ℕ) (old : List Range) (walk : Walk) : Type 0 where
   pub done : List Range
-  pub cut : IsCut done walk.cut
+  pub cut : CutsTo done walk.cut
   pub same : done ++ ahead walk ≡ old
   pub ready : IsReady p done walk
 
 -- ranges without a position
 pub record IsTaken (p : ℕ) (old : List Range) (walk : Walk) : Type 0 where
   pub done : List Range
-  pub cut : IsCut done walk.cut
+  pub cut : CutsTo done walk.cut
   pub below : AreBelow p done
   pub spaced : AreSpaced 0 (done ++ ahead walk)
   pub exact : (w : ℕ) → IsInRanges (done ++ ahead walk) w ↔ (IsInRanges old w × (w ≢ p))

@@ -3,7 +3,7 @@
 
 ghost use Rattle.std.specs.Prelude.{◌≡◌, ◌↔◌, ◌++◌, ◌+◌, ◌<◌, ◌≤◌, ℕ, List, [], Contains, IfOk, IfSome, IsNone, IsTrue, OnOk, None, Some, drop, length, slice_index_or, take};
 ghost use Rattle.std.specs.List.Sorted.{IsStrictlyIncreasing};
-ghost use Rattle.certpath_why.specs.Cuts.{ahead, opened, AreBelow, AreSpaced, IsBack, IsCut, IsCutOf, IsFront, IsReadied, IsReady, IsTaken};
+ghost use Rattle.certpath_why.specs.Cuts.{ahead, opened, AreBelow, AreSpaced, IsBack, CutsTo, IsCutOf, IsFront, IsReadied, IsReady, IsTaken};
 ghost use Rattle.certpath_why.specs.Ranges.{IsInRanges};
 ghost use Rattle.certpath_why.specs.declared.ranges.Range.{Range};
 
@@ -24,7 +24,7 @@ pub(crate) struct Cut {
 impl Cut {
     /// Of no ranges.
     pub(crate) fn new(alloc: Global) -> Cut
-        ensures { IsCut [] result }
+        ensures { CutsTo [] result }
     {
         Cut {
             shown: Vec::new(alloc),
@@ -34,16 +34,16 @@ impl Cut {
 
     /// Of these ranges.
     pub(crate) fn of(alloc: Global, ranges: &[Range]) -> Result<Cut, AllocError>
-        ensures { IfOk result (IsCut ranges.now) }
+        ensures { IfOk result (CutsTo ranges.now) }
     {
         let mut cut = Cut::new(alloc);
         cut.extend(ranges)?;
         Ok(cut)
     }
 
-    /// The same ranges again.
+    /// A cut of these ranges with memory of its own.
     pub(crate) fn copied(&self, alloc: Global) -> Result<Cut, AllocError>
-        ensures { IfOk result (λ cut. (rs : List Range) → IsCut rs self.now → IsCut rs cut) }
+        ensures { IfOk result (λ cut. (rs : List Range) → CutsTo rs self.now → CutsTo rs cut) }
     {
         let mut shown = Vec::new(alloc);
         shown.extend_from_slice(&self.shown)?;
@@ -55,7 +55,7 @@ impl Cut {
 
     /// Adds ranges after the others. That there are more than can be counted is out of memory.
     fn extend(&mut self, ranges: &[Range]) -> Result<(), AllocError>
-        ensures { OnOk result ((rs : List Range) → IsCut rs self.old → IsCut (rs ++ ranges.now) self.new) }
+        ensures { OnOk result ((rs : List Range) → CutsTo rs self.old → CutsTo (rs ++ ranges.now) self.new) }
     {
         let Some(count) = self.count.checked_add(ranges.len()) else {
             return Err(AllocError);
@@ -68,7 +68,7 @@ impl Cut {
 
     /// Adds a range, if there is one.
     fn push(&mut self, range: Option<Range>) -> Result<(), AllocError>
-        ensures { OnOk result ((rs : List Range) → IsCut rs self.old → IsCut (rs ++ opened range) self.new) }
+        ensures { OnOk result ((rs : List Range) → CutsTo rs self.old → CutsTo (rs ++ opened range) self.new) }
     {
         match range {
             Some(range) => self.extend(&[range]),
@@ -168,7 +168,7 @@ impl Walk<'_> {
     /// Begins a range. All before it are done then.
     fn begin(&mut self, at: usize) -> Result<(), AllocError>
         requires { at < length self.now.rest.now }
-        ensures cut { OnOk result ((done : List Range) → IsCut done self.old.cut → IsCut ((done ++ opened self.old.begun) ++ take at self.old.rest.now) self.new.cut) }
+        ensures cut { OnOk result ((done : List Range) → CutsTo done self.old.cut → CutsTo ((done ++ opened self.old.begun) ++ take at self.old.rest.now) self.new.cut) }
         ensures begun { OnOk result ((d : Range) → self.new.begun ≡ Some (slice_index_or self.old.rest.now at d)) }
         ensures rest { OnOk result (self.new.rest.now ≡ drop (at + 1) self.old.rest.now) }
     {
@@ -181,7 +181,7 @@ impl Walk<'_> {
 
     /// Begins the range that has a position, if there is one.
     fn go_to(&mut self, place: usize) -> Result<(), AllocError>
-        ensures { OnOk result ((done : List Range) → IsCut done self.old.cut → AreSpaced 0 (done ++ ahead self.old) → AreBelow place done → IsReadied place (done ++ ahead self.old) self.new) }
+        ensures { OnOk result ((done : List Range) → CutsTo done self.old.cut → AreSpaced 0 (done ++ ahead self.old) → AreBelow place done → IsReadied place (done ++ ahead self.old) self.new) }
     {
         if self.has_open(place) {
             return Ok(());
@@ -195,7 +195,7 @@ impl Walk<'_> {
 
     /// Leaves a position out of the range that was begun, if it is there.
     fn split(&mut self, place: usize) -> Result<(), AllocError>
-        ensures { OnOk result ((done : List Range) → IsCut done self.old.cut → AreSpaced 0 (done ++ ahead self.old) → IsReady place done self.old → IsTaken place (done ++ ahead self.old) self.new) }
+        ensures { OnOk result ((done : List Range) → CutsTo done self.old.cut → AreSpaced 0 (done ++ ahead self.old) → IsReady place done self.old → IsTaken place (done ++ ahead self.old) self.new) }
     {
         let Some(range) = self.begun else {
             return Ok(());
@@ -210,7 +210,7 @@ impl Walk<'_> {
 
     /// Leaves a position out, which comes after all that is done.
     fn take_out(&mut self, place: usize) -> Result<(), AllocError>
-        ensures { OnOk result ((done : List Range) → IsCut done self.old.cut → AreSpaced 0 (done ++ ahead self.old) → AreBelow place done → IsTaken place (done ++ ahead self.old) self.new) }
+        ensures { OnOk result ((done : List Range) → CutsTo done self.old.cut → AreSpaced 0 (done ++ ahead self.old) → AreBelow place done → IsTaken place (done ++ ahead self.old) self.new) }
     {
         self.go_to(place)?;
         self.split(place)?;

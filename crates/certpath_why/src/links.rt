@@ -3,7 +3,7 @@
 //! worked out by itself, so that it serves all certificates of a kind.
 
 ghost use Rattle.std.specs.Prelude.{◌≡◌, ◌↔◌, ◌++◌, List, [], Some, IsTrue, IfOk, OnOk, string_bytes};
-ghost use Rattle.certpath_why.specs.Cuts.{IsCut};
+ghost use Rattle.certpath_why.specs.Cuts.{CutsTo};
 ghost use Rattle.certpath_why.specs.Kinds.{AddsTails, lines_of};
 ghost use Rattle.certpath_why.specs.Lines.{link_end, link_lines};
 ghost use Rattle.certpath_why.specs.Listed.{listed};
@@ -103,7 +103,7 @@ fn has_none(ranges: &[Range]) -> bool
 
 /// Appends some ranges, of which the first are given with their number.
 fn push_cut(text: &mut String, alloc: Global, cut: &Cut) -> Result<(), OutOfMemory>
-    ensures { OnOk result ((ranges : List Range) → IsCut ranges cut.now → string_bytes text.new ≡ string_bytes text.old ++ listed range_text ranges) }
+    ensures { OnOk result ((ranges : List Range) → CutsTo ranges cut.now → string_bytes text.new ≡ string_bytes text.old ++ listed range_text ranges) }
 {
     let Some((first, rest)) = cut.shown.as_slice().split_first() else {
         return Ok(());
@@ -116,7 +116,7 @@ fn push_cut(text: &mut String, alloc: Global, cut: &Cut) -> Result<(), OutOfMemo
 
 /// The end of a line of ranges of which the first are given.
 fn cut_tail(alloc: Global, what: Option<Unlinked>, cut: &Cut) -> Result<String, OutOfMemory>
-    ensures { IfOk result (λ tail. (ranges : List Range) → IsCut ranges cut.now → string_bytes tail ≡ listed range_text ranges ++ link_end what) }
+    ensures { IfOk result (λ tail. (ranges : List Range) → CutsTo ranges cut.now → string_bytes tail ≡ listed range_text ranges ++ link_end what) }
 {
     let mut tail = String::new(alloc);
     push_cut(&mut tail, alloc, cut)?;
@@ -131,7 +131,7 @@ pub(crate) fn add_cut(
     what: Option<Unlinked>,
     cut: &Cut,
 ) -> Result<(), OutOfMemory>
-    ensures { OnOk result ((ranges : List Range) → IsCut ranges cut.now → AddsTails (λ front text. text ≡ link_lines front what ranges) tails.old.items tails.new.items) }
+    ensures { OnOk result ((ranges : List Range) → CutsTo ranges cut.now → AddsTails (λ front text. text ≡ link_lines front what ranges) tails.old.items tails.new.items) }
 {
     if has_none(&cut.shown) {
         return Ok(());

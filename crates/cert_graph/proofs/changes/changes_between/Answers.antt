@@ -2,7 +2,7 @@
 use Rattle.std.proofs.Common.{◌≡◌, ◌∙◌, ◌<◌, ◌++◌, ◌∷◌, [], ap, arith, get_or, length, Vec, Global}
 use Rattle.cert_graph.specs.declared.reach.Reach.TheVariants.{No}
 use Rattle.cert_graph.specs.declared.changes.Change.{Change}
-use Rattle.cert_graph.specs.Changes.{changed}
+use Rattle.cert_graph.specs.Adequate.{changed}
 use Rattle.cert_graph.proofs.Changing.{change_noted, same_passed}
 use Rattle.cert_graph.proofs.changes.changes_between.Goals as goal
 use Rattle.cert_graph.proofs.changes.changes_between.Goals.{then-not-is_same+in_ok-push, else-not-is_same}

@@ -1,5 +1,5 @@
 use Rattle.std.proofs.Common.{◌≡◌, ◌++◌, take, drop}
-use Rattle.cert_graph.specs.Changes.{changed}
+use Rattle.cert_graph.specs.Adequate.{changed}
 use Rattle.cert_graph.proofs.changes.changes_between.Given as goal
 
 abbrev pub invariant-loop-position : goal.invariant-loop-position

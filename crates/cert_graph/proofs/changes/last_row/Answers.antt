@@ -4,7 +4,8 @@ use Rattle.std.proofs.lemmas.List.{take_all, with_items_is}
 use Rattle.cert_graph.specs.declared.reach.Reach.{Reach}
 use Rattle.cert_graph.specs.declared.reach.Reach.TheVariants.{No}
 use Rattle.cert_graph.specs.declared.changes.Change.{Change}
-use Rattle.cert_graph.specs.Changes.{changed, last_by}
+use Rattle.cert_graph.specs.Adequate.{changed}
+use Rattle.cert_graph.specs.Changes.{last_by}
 use Rattle.cert_graph.proofs.Changing.{items_by, last_more}
 use Rattle.cert_graph.proofs.changes.last_row.Goals as goal
 

@@ -3,7 +3,7 @@ use Rattle.std.proofs.Common.{◌∙◌, ap, List}
 use Rattle.std.proofs.lemmas.List.{take_all}
 use Rattle.cert_graph.specs.declared.reach.Reach.TheVariants.{No}
 use Rattle.cert_graph.specs.declared.changes.Change.{Change}
-use Rattle.cert_graph.specs.Changes.{changed}
+use Rattle.cert_graph.specs.Adequate.{changed}
 use Rattle.cert_graph.proofs.Changing.{changed_more, unchanged_more}
 use Rattle.cert_graph.proofs.changes.make.Goals as goal
 use Rattle.cert_graph.proofs.changes.make.Goals.{then-change-row, else-change-row}

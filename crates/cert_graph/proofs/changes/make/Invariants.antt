@@ -1,5 +1,5 @@
 use Rattle.std.proofs.Common.{◌≡◌, take}
-use Rattle.cert_graph.specs.Changes.{changed}
+use Rattle.cert_graph.specs.Adequate.{changed}
 use Rattle.cert_graph.proofs.changes.make.Given as goal
 
 abbrev pub invariant-loop-change : goal.invariant-loop-change

@@ -1,7 +1,6 @@
 use Rattle.std.proofs.Common.{◌≡◌, replicate, take}
 use Rattle.cert_graph.specs.declared.reach.Reach.TheVariants.{No}
-use Rattle.cert_graph.specs.Adequate.{at_row}
-use Rattle.cert_graph.specs.Changes.{changed}
+use Rattle.cert_graph.specs.Adequate.{at_row, changed}
 use Rattle.cert_graph.proofs.changes.reach_by.Given as goal
 
 abbrev pub invariant-loop-change : goal.invariant-loop-change

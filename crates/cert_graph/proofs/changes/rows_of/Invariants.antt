@@ -1,6 +1,7 @@
 use Rattle.std.proofs.Common.{◌≡◌, map, replicate, take}
 use Rattle.cert_graph.specs.declared.reach.Reach.TheVariants.{No}
-use Rattle.cert_graph.specs.Changes.{rows_by, last_by}
+use Rattle.cert_graph.specs.Adequate.{rows_by}
+use Rattle.cert_graph.specs.Changes.{last_by}
 use Rattle.cert_graph.proofs.changes.rows_of.Given as goal
 
 abbrev pub invariant-loop-step : goal.invariant-loop-step

@@ -4,7 +4,7 @@ use Rattle.std.proofs.lemmas.List.{take_all, take_more, map_push, length-replica
 use Rattle.cert_graph.specs.declared.reach.Reach.{Reach}
 use Rattle.cert_graph.specs.declared.reach.Reach.TheVariants.{No}
 use Rattle.cert_graph.specs.declared.changes.Change.{Change}
-use Rattle.cert_graph.specs.Changes.{changed}
+use Rattle.cert_graph.specs.Adequate.{changed}
 use Rattle.cert_graph.proofs.Changing.{items_by, last_grows, rows_grow}
 use Rattle.cert_graph.proofs.RowByRow.{length-last}
 use Rattle.cert_graph.proofs.changes.steps_of_rows.Goals as goal

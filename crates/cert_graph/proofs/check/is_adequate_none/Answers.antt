@@ -2,8 +2,7 @@
 use Rattle.std.proofs.Common.{◌≡◌, length, replicate, ap, subst, arith}
 use Rattle.cert_graph.specs.declared.answer.Table.{Table}
 use Rattle.cert_graph.specs.declared.reach.Reach.TheVariants.{No}
-use Rattle.cert_graph.specs.Adequate.{rows_of, IsAdequateNone}
-use Rattle.cert_graph.specs.Changes.{rows_by}
+use Rattle.cert_graph.specs.Adequate.{rows_of, IsAdequateNone, rows_by}
 use Rattle.cert_graph.specs.Nodes.{graph_of}
 use Rattle.cert_graph.proofs.Changing.{items_by, length-rows}
 use Rattle.cert_graph.proofs.TableFacts.{refuted}

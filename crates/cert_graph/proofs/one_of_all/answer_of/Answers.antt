@@ -5,8 +5,8 @@ use Rattle.cert_graph.specs.declared.reach.Reach.{Reach}
 use Rattle.cert_graph.specs.declared.reach.Reach.TheVariants.{No}
 use Rattle.cert_graph.specs.declared.changes.Change.{Change}
 use Rattle.cert_graph.specs.declared.inventory.Verdict.TheVariants.{FirstPath, Pathless}
-use Rattle.cert_graph.specs.Adequate.{IsAdequatePath, IsAdequateNone}
-use Rattle.cert_graph.specs.Changes.{rows_by, last_by}
+use Rattle.cert_graph.specs.Adequate.{IsAdequatePath, IsAdequateNone, rows_by}
+use Rattle.cert_graph.specs.Changes.{last_by}
 use Rattle.cert_graph.specs.Inventory.{IsAdequateVerdict, shared_rows}
 use Rattle.cert_graph.specs.Nodes.{graph_of}
 use Rattle.cert_graph.proofs.Changing.{items_by, length-rows, rows_front}

@@ -6,10 +6,9 @@ use Rattle.cert_graph.specs.declared.changes.Change.{Change}
 use Rattle.cert_graph.specs.declared.reach.Reach.{Reach}
 use Rattle.cert_graph.specs.declared.reach.Reach.TheVariants.{No}
 use Rattle.cert_graph.specs.declared.stairs.Flight.{Flight}
-use Rattle.cert_graph.specs.Changes.{changed, rows_by}
 use Rattle.cert_graph.specs.Nodes.{graph_of}
 use Rattle.cert_graph.specs.Stairs.{AreFlightsSoFar, OfEachGroup}
-use Rattle.cert_graph.specs.Adequate.{row_of}
+use Rattle.cert_graph.specs.Adequate.{row_of, changed, rows_by}
 use Rattle.cert_graph.proofs.Changing.{items_by, last_more, length-rows_by}
 use Rattle.cert_graph.proofs.RowByRow.{last_at}
 use Rattle.cert_graph.proofs.Flights.{flights_in, no_rows, rows_next, rows_counted, all_flights}

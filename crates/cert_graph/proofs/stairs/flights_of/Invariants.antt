@@ -1,6 +1,7 @@
 use Rattle.std.proofs.Common.{◌≡◌, length, replicate, take}
 use Rattle.cert_graph.specs.declared.reach.Reach.TheVariants.{No}
-use Rattle.cert_graph.specs.Changes.{rows_by, last_by}
+use Rattle.cert_graph.specs.Adequate.{rows_by}
+use Rattle.cert_graph.specs.Changes.{last_by}
 use Rattle.cert_graph.specs.Nodes.{graph_of}
 use Rattle.cert_graph.specs.Stairs.{AreFlightsSoFar, OfEachGroup}
 use Rattle.cert_graph.proofs.Changing.{items_by}

@@ -1,7 +1,7 @@
 -- The groups of what rose last, where nothing falls.
 use Rattle.std.proofs.Common.{◌≡◌, ℕ, ◌+◌, ◌-◌, ◌<◌, ◌∙◌, [], List, get_or, length, map, Vec, Global, ap, arith, sym}
 use Rattle.cert_graph.specs.declared.changes.Change.{Change}
-use Rattle.cert_graph.specs.Changes.{changed}
+use Rattle.cert_graph.specs.Adequate.{changed}
 use Rattle.cert_graph.proofs.Changing.{items_by}
 use Rattle.cert_graph.proofs.Following.{goes_on_iff, step_items}
 use Rattle.cert_graph.proofs.Touching.{memberships_within}

@@ -1,6 +1,7 @@
 use Rattle.std.proofs.Common.{◌≡◌, ℕ, ◌+◌, ◌<◌, List, [], get_or, take}
 use Rattle.cert_graph.specs.declared.reach.Reach.{Reach}
-use Rattle.cert_graph.specs.Changes.{changed, last_by}
+use Rattle.cert_graph.specs.Adequate.{changed}
+use Rattle.cert_graph.specs.Changes.{last_by}
 use Rattle.cert_graph.specs.Groups.{HoldsEachLimit, FollowsRow}
 use Rattle.cert_graph.specs.Nodes.{graph_of}
 use Rattle.cert_graph.specs.Tables.{IsTable}

@@ -3,7 +3,7 @@ use Rattle.std.proofs.Common.{◌≡◌, ℕ, ◌+◌, ◌∙◌, List, length, 
 use Rattle.std.proofs.lemmas.List.{length_push}
 use Rattle.cert_graph.specs.declared.reach.Reach.TheVariants.{No}
 use Rattle.cert_graph.specs.declared.changes.Change.{Change}
-use Rattle.cert_graph.specs.Changes.{rows_by}
+use Rattle.cert_graph.specs.Adequate.{rows_by}
 use Rattle.cert_graph.specs.Inventory.{IsAdequateVerdict}
 use Rattle.cert_graph.specs.Lookup.{IsLookup}
 use Rattle.cert_graph.specs.Nodes.{graph_of}

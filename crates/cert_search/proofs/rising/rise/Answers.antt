@@ -4,10 +4,9 @@ use Rattle.std.specs.Vec.{with_items}
 use Rattle.std.proofs.lemmas.List.{with_items_is}
 use Rattle.cert_graph.specs.declared.reach.Reach.{Reach}
 use Rattle.cert_graph.specs.Reach.{Takes}
-use Rattle.cert_graph.specs.Adequate.{at_row}
+use Rattle.cert_graph.specs.Adequate.{at_row, changed}
 use Rattle.cert_graph.specs.Nodes.{graph_of}
 use Rattle.cert_graph.specs.declared.changes.Change.{Change}
-use Rattle.cert_graph.specs.Changes.{changed}
 use Rattle.cert_search.specs.Rows.{IsRaisedBy}
 use Rattle.cert_search.specs.Rising.{AreRaised, HaveRisen, ChangeTakes, LetsThrough, AreHanded, AreBests}
 use Rattle.cert_search.proofs.Handing.{all_within, risen_within}

@@ -2,7 +2,8 @@ use Rattle.std.proofs.Common.{◌≡◌, ◌+◌, ◌-◌, ◌*◌, length, repl
 use Rattle.std.specs.Prelude.{IfSome}
 use Rattle.cert_graph.specs.declared.reach.Reach.TheVariants.{No}
 use Rattle.cert_graph.specs.Nodes.{graph_of}
-use Rattle.cert_graph.specs.Changes.{rows_by, last_by}
+use Rattle.cert_graph.specs.Adequate.{rows_by}
+use Rattle.cert_graph.specs.Changes.{last_by}
 use Rattle.cert_search.specs.Rising.{IsRising, ArePlaces}
 use Rattle.cert_search.proofs.Placing.{lists_of}
 use Rattle.cert_graph.proofs.Changing.{items_by}

@@ -4,8 +4,7 @@ use Rattle.std.proofs.lemmas.List.{length-take-le}
 use Rattle.std.proofs.lemmas.Result.{IfOk-weaker}
 use Rattle.cert_graph.specs.declared.reach.Reach.{Reach}
 use Rattle.cert_graph.specs.declared.reach.Reach.TheVariants.{No}
-use Rattle.cert_graph.specs.Adequate.{row_of}
-use Rattle.cert_graph.specs.Changes.{rows_by}
+use Rattle.cert_graph.specs.Adequate.{row_of, rows_by}
 use Rattle.cert_graph.specs.Inventory.{IsAdequateVerdict}
 use Rattle.cert_graph.specs.Lookup.{IsLookup}
 use Rattle.cert_graph.specs.Nodes.{graph_of}

@@ -2,8 +2,7 @@
 use Rattle.std.proofs.Common.{◌≡◌, ℕ, ◌+◌, ◌<◌, List, length, replicate, Vec, Global, subst, sym, arith}
 use Rattle.cert_graph.specs.declared.reach.Reach.TheVariants.{No}
 use Rattle.cert_graph.specs.declared.changes.Change.{Change}
-use Rattle.cert_graph.specs.Adequate.{row_of, IsAdequatePath}
-use Rattle.cert_graph.specs.Changes.{rows_by}
+use Rattle.cert_graph.specs.Adequate.{row_of, IsAdequatePath, rows_by}
 use Rattle.cert_graph.specs.Nodes.{graph_of}
 use Rattle.cert_graph.proofs.Changing.{items_by}
 use Rattle.cert_search.specs.Exact.{HoldsExactly, HoldsNoElsewhere}

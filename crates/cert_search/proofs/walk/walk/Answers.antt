@@ -1,8 +1,7 @@
 -- The walk, where the rows are looked up by their numbers.
 use Rattle.std.proofs.Common.{◌≡◌, ℕ, ◌+◌, List, [], ◌∷◌, ◌++◌, ◌-◌, ◌<◌, Bool, not, cond, length, replicate, add-zero, ap, sym, ◌∙◌, refl, arith}
 use Rattle.cert_graph.specs.declared.reach.Reach.TheVariants.{No}
-use Rattle.cert_graph.specs.Adequate.{row_of}
-use Rattle.cert_graph.specs.Changes.{rows_by}
+use Rattle.cert_graph.specs.Adequate.{row_of, rows_by}
 use Rattle.cert_graph.specs.Nodes.{graph_of}
 use Rattle.cert_graph.proofs.Changing.{items_by, length-rows}
 use Rattle.cert_graph.proofs.NodeFacts.{fit_is_usable}
