@@ -18,24 +18,17 @@ PATHS = square("paths")
 QUESTIONS = square("questions", 5_000)
 EVIDENCE = square("evidence")
 LISTS = Known("lists", growth=3.4)
-# Of `why`: steps from name to name; equal key identifiers; two that are looked up; a certificate and
-# a list that are printed; copies with many keys; what is done for each certificate, issuer and
-# list; an entry that many lists have; and the lines of many issuers. Runs of ./verify that ask it
-# until their seconds are over.
-ONE_NAME = Known("why", growth=4, times=20)
-EQUAL_IDS = Known("why", growth=5, seconds=4.0)
-SQUARE = Known("why", growth=5.5, times=16, seconds=10.0)
-PAIRS = Known("why", growth=7, times=500, seconds=10.0)
-COPIES = Known("why", growth=5.5, seconds=4.0)
-CUBE = Known("why", growth=11)
-ENTRIES = Known("why", growth=3.5, times=16, seconds=4.0)
+# Of `why`: a certificate and a list that revokes it, which are printed; copies with many keys; and
+# the lines of many issuers. Runs of ./verify that ask it until their seconds are over.
+PAIRS = Known("why", growth=5.5, times=700, seconds=4.0)
+COPIES = Known("why", growth=5.5)
 OF_ISSUERS = Known("why", times=21)
-WHY_OF_VERIFY = Known("why", growth=5.5, times=30, seconds=11.0, least=250_000_000)
+WHY_OF_VERIFY = Known("why", growth=5.5, times=30, seconds=12.0, least=320_000_000)
 # Items of two octets, small certificates, and elements of two octets within an item.
 ITEMS = Known("items", times=280)
-ITEMS_OF_WHY = ITEMS._replace(times=420)
+ITEMS_OF_WHY = ITEMS._replace(times=500)
 CERTIFICATES_OF_WHY = ITEMS._replace(times=21)
-ELEMENTS = Known("elements", times=93)
+ELEMENTS = Known("elements", times=50)
 # What ./bundle says of each item that it leaves out.
 LEFT_OUT = Known("left out", times=110)
 # How often OpenSSL is asked to verify a signature.

@@ -4,7 +4,7 @@ from math import isqrt
 from family import Files, also, family, of_octets
 from graphs import (ANCHOR, COMMON_KEY, LEAF, NOWHERE, ROOT, ROOT_KEY, X, chain_path, lists,
                     own_keys, rising)
-from kinds import ENTRIES, EVIDENCE, ITEMS, ITEMS_OF_WHY, LISTS, LOOKED_UP, OF_ISSUERS
+from kinds import EVIDENCE, ITEMS, ITEMS_OF_WHY, LISTS, LOOKED_UP, OF_ISSUERS
 from parts import (certificate, element, entry, extension, integer, key, name, revocation_list,
                    voucher, vouchers_by_all)
 from reports import LONG_PATHS, OF_ONE_NAME
@@ -26,7 +26,7 @@ def linked(count):
 
 
 @family("why-links-lists", "n certificates of one name and key, and n used lists that have them all",
-        "why", **OF_LISTS, known=ENTRIES)
+        "why", **OF_LISTS)
 def why_links_lists(count):
     items, lines = linked(count)
     rows = b"".join(entry(integer(it + 1)) for it in range(count))

@@ -51,12 +51,12 @@ def attribute(number):
     return element(0x30, bytes.fromhex("0603550403"), element(0x0C, letters))
 
 
-@family("attributes", "one certificate with n attributes in one set of its subject", **MANY, known=ELEMENTS)
+@family("attributes", "one certificate with n attributes in one set of its subject", **MANY)
 def attributes(count):
     return target(with_subject(element(0x31, *map(attribute, range(count)))))
 
 
-@family("attribute-sets", "one certificate with n sets of one attribute in its subject", **MANY, known=ELEMENTS)
+@family("attribute-sets", "one certificate with n sets of one attribute in its subject", **MANY)
 def attribute_sets(count):
     return target(with_subject(*(element(0x31, attribute(it)) for it in range(count))))
 
@@ -85,21 +85,21 @@ def identifiers_alike(count):
     return target(with_extensions(extension(front + identifier(it)[1:], b"") for it in range(count // 512)))
 
 
-@family("entries", "one list with n entries", **MANY, words=UNLIMITED, known=ELEMENTS)
+@family("entries", "one list with n entries", **MANY, words=UNLIMITED)
 def entries(count):
     found = revocation_list(X, b"".join(entry(integer(it)) for it in range(count)))
     leaf = certificate(name("leaf"), X, KEY, 2**40)
     return Files([leaf, found], [ANCHOR], [voucher(KEY, leaf), voucher(KEY, found)], "path 0 anchor 0")
 
 
-@family("entries-equal", "one list with n equal entries", **MANY, words=UNLIMITED, known=ELEMENTS)
+@family("entries-equal", "one list with n equal entries", **MANY, words=UNLIMITED)
 def entries_equal(count):
     found = revocation_list(X, entry(integer(7)) * count)
     leaf = certificate(name("leaf"), X, KEY, 2**40)
     return Files([leaf, found], [ANCHOR], [voucher(KEY, leaf), voucher(KEY, found)], "path 0 anchor 0")
 
 
-@family("entries-reasons", "one list with n entries, each with a reason", **MANY, words=UNLIMITED, known=ELEMENTS)
+@family("entries-reasons", "one list with n entries, each with a reason", **MANY, words=UNLIMITED)
 def entries_reasons(count):
     reason = element(0x30, extension(b"\x55\x1d\x15", b"\x0a\x01\x04"))
     found = revocation_list(X, b"".join(entry(integer(it), reason) for it in range(count)), version=b"\x02\x01\x01")
@@ -171,8 +171,7 @@ def parts(size):
     return Files([element(0x30, b"\x05\x00" * ((size - FRAME) // 2))], [ANCHOR], [], "no target")
 
 
-@of_octets("parts-33", "an item of SEQUENCEs of 33 NULLs each, one more than a vector of 32 holds", other=None, sizes=ONE_ITEM,
-           known=ELEMENTS)
+@of_octets("parts-33", "an item of SEQUENCEs of 33 NULLs each, one more than a vector of 32 holds", other=None, sizes=ONE_ITEM)
 def parts_33(size):
     return Files([sequences_of_33(size)], [ANCHOR], [], "no target")
 
@@ -183,7 +182,7 @@ def sequences_of_33(size):
     return element(0x30, one * ((size - FRAME) // len(one)))
 
 
-@of_octets("parts-within", "a certificate with NULLs alone in an attribute's value", sizes=ONE_ITEM, known=ELEMENTS)
+@of_octets("parts-within", "a certificate with NULLs alone in an attribute's value", sizes=ONE_ITEM)
 def parts_within(size):
     return target(with_value(element(0x30, b"\x05\x00" * ((size - 2 * FRAME) // 2))))
 

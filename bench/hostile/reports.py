@@ -1,7 +1,7 @@
 """Families for `why`, `paths` and ./verify: over files that were made for `path`, and over certificates with signatures in their form."""
 from family import FAMILIES, Files, also, family
-from kinds import (CERTIFICATES_OF_WHY, ELEMENTS, EQUAL_IDS, LOOKED_UP, OBJECTS, OF_ISSUERS, ONE_NAME, PATHS, QUESTIONS,
-                   STAIRS, WHY_OF_VERIFY)
+from kinds import (CERTIFICATES_OF_WHY, ELEMENTS, LOOKED_UP, OBJECTS, OF_ISSUERS, PATHS, QUESTIONS, STAIRS,
+                   WHY_OF_VERIFY)
 from parts import name, p256_keys
 from signed import KEY, ROOT, X, issuers, signed_by_none
 
@@ -12,15 +12,16 @@ SQUARE = {"sizes": (250, 500, 1_000, 2_000), "small": (500, 2_000)}
 LONG_PATHS = {"sizes": (1_000, 2_000, 4_000, 8_000), "small": (1_000, 4_000), "known": PATHS}
 
 # Sizes of certificates of one name: at the largest a step for each pair of them shows.
-OF_ONE_NAME = {"sizes": (4_000, 8_000, 16_000, 32_000), "small": (8_000, 32_000), "known": ONE_NAME}
+OF_ONE_NAME = {"sizes": (4_000, 8_000, 16_000, 32_000), "small": (8_000, 32_000)}
 
-also("why", "keys-none", "ids-never", "self-serials", **OF_ONE_NAME)
-also("why", "ids-equal", sizes=(1_000, 2_000, 4_000, 8_000), small=(2_000, 8_000), known=EQUAL_IDS)
+also("why", "keys-none", "ids-never", **OF_ONE_NAME, known=OF_ISSUERS)
+also("why", "self-serials", "ids-equal", **OF_ONE_NAME)
 also("why", "lists-none", known=OF_ISSUERS)
 also("why", "chain-path", "lists-vouched")
 also("why", "no-issuers", known=CERTIFICATES_OF_WHY)
 also("why", "copies-keys", "chain-none", "list-long", "list-keys", "names-alike")
-also("why", "extensions", "attributes", "entries", known=ELEMENTS)
+also("why", "extensions", "attributes", known=ELEMENTS)
+also("why", "entries")
 
 also("paths", "chain-path", "chain-beside", **LONG_PATHS)
 also("paths", "rises", "rises-ids", sizes=(750, 1_500, 3_000, 6_000), small=(1_500, 6_000), known=LOOKED_UP)

@@ -15,8 +15,9 @@ greatest peak memory for each octet read, and a verdict. `pass` wants three thin
 `known` is a miss of a kind that docs/COST.md bounds, by its name there, and that isn't larger than what is stated with the family.
 Exit status 1 if a family fails, or an answer isn't the one that is right. After the rows each known family has a line that says how
 much of its mark it takes, or that nothing is missed, so that marks can be set; and the last line says how long the run took.
+What misses its growth alone is measured up to three times more, and the best of each size counts: a machine's pace changes.
 `--small` takes two sizes, the second four times the first, at which a square would show, and is for a machine that does other
-work: a growth of up to 2.8 passes, and what misses it is measured up to three times more. `--brief` prints the rows of
+work: a growth of up to 2.8 passes. `--brief` prints the rows of
 families that fail. `--every` takes one family of each N. `--write` keeps the files of the least size.
 `--seconds` is after how many a run is ended. `--program` is the
 program for all but the scripts; ./bundle, ./vouch and ./verify are those of the checkout.
@@ -59,7 +60,7 @@ MAY_PRINT_MORE = ("paths", "questions")
 # time at a doubling makes four, the logarithm somewhat more, and a square sixteen.
 MOST_SMALL_GROWTH = 2.8
 # How often a family is measured anew that misses its growth alone.
-MORE_TIMES, MORE_SMALL_TIMES = 1, 3
+MORE_TIMES = 3
 # If sizes aren't small a run is repeated up to so often, while all of its runs together took less than so many seconds.
 MOST_RUNS, ENOUGH_SECONDS = 3, 3.0
 # A family whose runs take longer isn't measured anew.
@@ -267,7 +268,7 @@ def confirmed(family, bench, room):
     a machine's pace changes."""
     points, of_megabyte = measure(family, bench, room)
     most = allowed(family, bench.is_small)
-    for _ in range(MORE_SMALL_TIMES if bench.is_small else MORE_TIMES):
+    for _ in range(MORE_TIMES):
         beyond = missed(points, of_megabyte, most)
         is_slow = sum(it.seconds for it in points) > ENOUGH_TO_KNOW
         if not beyond.growths or beyond.wrong or beyond.costs or is_slow:

@@ -79,7 +79,7 @@ def vouch_no_keys(count):
     return Files([signed_by_none(LEAF, name("nowhere"), KEY, it) for it in range(count)])
 
 
-@family("vouch-entries", "one list with n entries, signed by none", "vouch", **MANY, words=UNLIMITED, known=ELEMENTS)
+@family("vouch-entries", "one list with n entries, signed by none", "vouch", **MANY, words=UNLIMITED)
 def vouch_entries(count):
     rows = element(0x30, b"".join(entry(integer(it)) for it in range(count)))
     signed = element(0x30, ECDSA_SHA256, X, FIRST, LAST, rows)
@@ -92,7 +92,7 @@ def vouch_extensions(count):
     return Files([item], [signed_by_none(X, X, KEY, 1)])
 
 
-@family("vouch-attributes", "one certificate with n attributes in one set of its subject", "vouch", **MANY, known=ELEMENTS)
+@family("vouch-attributes", "one certificate with n attributes in one set of its subject", "vouch", **MANY)
 def vouch_attributes(count):
     subject = element(0x30, element(0x31, *map(attribute, range(count))))
     return Files([signed_by_none(subject, X, KEY, 1)], [signed_by_none(X, X, KEY, 1)])
@@ -109,7 +109,7 @@ def vouch_2(size):
     return Files([b"\x30\x00" * (size // 2)])
 
 
-@of_octets("vouch-parts", "an item of NULLs alone", "vouch", sizes=ONE_ITEM, known=ELEMENTS)
+@of_octets("vouch-parts", "an item of NULLs alone", "vouch", sizes=ONE_ITEM)
 def vouch_parts(size):
     return Files([element(0x30, b"\x05\x00" * (size // 2 - 100))])
 

@@ -1,12 +1,11 @@
 """Families of `why` over links that don't hold: lists that revoke, copies, and what is demanded."""
 from family import FAMILIES, Files, family
 from graphs import ANCHOR, COMMON_KEY, LEAF, ROOT, X, ids_never, lists, own_keys, self_serials
-from kinds import COPIES, CUBE, PAIRS, SQUARE
+from kinds import COPIES, PAIRS
 from parts import certificate, element, entry, extension, integer, key, name, revocation_list, voucher
 
-# Sizes at which a square shows, and a cube.
-OF_SQUARE = {"sizes": (1_000, 2_000, 4_000, 8_000), "small": (1_000, 4_000), "known": SQUARE}
-OF_CUBE = {"sizes": (50, 100, 200, 400), "small": (75, 300), "known": CUBE}
+# Sizes at which a square shows.
+OF_SQUARE = {"sizes": (1_000, 2_000, 4_000, 8_000), "small": (1_000, 4_000)}
 DEMANDING = ("--demand-lists",)
 Y = name("y")
 # The serial number of all certificates that the lists here revoke, and one that no certificate has.
@@ -36,7 +35,8 @@ def pairs_lists(count):
 
 
 @family("why-kinds-lists", "n/2 certificates of one name, key and serial number, which name a key "
-        "identifier each, and n/2 used lists that have it", "why", **OF_CUBE)
+        "identifier each, and n/2 used lists that have it", "why", sizes=(400, 800, 1_600, 3_200),
+        small=(300, 1_200), known=PAIRS)
 def kinds_lists(count):
     half = count // 2
     items = [certificate(X, X, COMMON_KEY, REVOKED, named=it.to_bytes(4, "big")) for it in range(half)]
@@ -60,7 +60,7 @@ def ids_linked(count):
 
 
 @family("why-copies-reached", "a leaf, n/2 copies of a certificate of its issuer's name, and n/2 keys "
-        "of that one's issuer that all vouch for it", "why", **{**OF_SQUARE, "known": COPIES})
+        "of that one's issuer that all vouch for it", "why", **OF_SQUARE, known=COPIES)
 def copies_reached(count):
     half = count // 2
     leaf, item = certificate(LEAF, X, COMMON_KEY), certificate(X, Y, COMMON_KEY)
@@ -69,21 +69,20 @@ def copies_reached(count):
 
 
 @family("why-demand-ids", "n certificates \"x from x\", keys in a row, key identifiers that never "
-        "match; lists demanded", "why", words=DEMANDING, sizes=(250, 500, 1_000, 2_000),
-        small=(500, 2_000), known=SQUARE)
+        "match; lists demanded", "why", words=DEMANDING, **OF_SQUARE)
 def demand_ids(count):
     return ids_never(count)
 
 
 @family("why-demand-lists", "n/2 such certificates and n/2 lists of their issuer that nobody vouches "
-        "for; lists demanded", "why", words=DEMANDING, **OF_CUBE)
+        "for; lists demanded", "why", words=DEMANDING, **OF_SQUARE)
 def demand_lists(count):
     made = ids_never(count // 2)
     return made._replace(bundle=[*made.bundle, *lists(count // 2)])
 
 
 @family("why-demand-links", "n self-issued certificates of one key; lists demanded", "why",
-        words=DEMANDING, known=FAMILIES["why-self-serials"].known)
+        words=DEMANDING)
 def demand_links(count):
     return self_serials(count)
 
@@ -101,7 +100,7 @@ def target(further):
 
 
 @family("hosts", "a certificate of n names of hosts, asked for another", words=("--host", "a.example"),
-        **MANY)
+        **{**MANY, "sizes": (100_000, 200_000, 400_000, 800_000)})
 def hosts(count):
     names = b"".join(element(0x82, f"n{it:06}.example".encode()) for it in range(count))
     return target(extension(NAMES, element(0x30, names)))
