@@ -23,6 +23,13 @@ def frame_why_flat(size):
     return [ending_broken(size)]
 
 
+@of_octets("frame-why-33", "an item of SEQUENCEs of 33 NULLs each, one more than a vector of 32 holds, the last element broken", "frame",
+           words=WHY, sizes=ONE_ITEM, known=ELEMENTS)
+def frame_why_33(size):
+    one = element(0x30, NULL * 33)
+    return [element(0x30, one * ((size - FRAME) // len(one)), BROKEN)]
+
+
 @of_octets("frame-why-deep", "an item of NULLs at the fiftieth level, the last element broken", "frame", words=WHY, sizes=ONE_ITEM, known=ELEMENTS)
 def frame_why_deep(size):
     return [nested(LEVELS, ending_broken(size))]

@@ -28,7 +28,7 @@ WHY_OF_VERIFY = Known("why", growth=5.5, times=30, seconds=12.0, least=320_000_0
 ITEMS = Known("items", times=280)
 ITEMS_OF_WHY = ITEMS._replace(times=500)
 CERTIFICATES_OF_WHY = ITEMS._replace(times=21)
-ELEMENTS = Known("elements", times=50)
+ELEMENTS = Known("elements", times=93)
 # What ./bundle says of each item that it leaves out.
 LEFT_OUT = Known("left out", times=110)
 # How often OpenSSL is asked to verify a signature.
