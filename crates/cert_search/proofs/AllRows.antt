@@ -1,6 +1,6 @@
 -- The rows of a search to its end, and what they say of each target.
 use Rattle.std.proofs.Common.{◌≡◌, ℕ, ◌+◌, ◌-◌, ◌<◌, ◌≤◌, List, [], ◌∷◌, ◌++◌, length, take, get_or, Vec, Global, arith, ap, sym, ◌∙◌, subst, refl, inl, inr, length-append}
-use Rattle.std.specs.Prelude.{All, ◌⊎◌}
+use Rattle.std.specs.Prelude.{All, ◌⊎◌, max}
 use Rattle.std.proofs.lemmas.Bool.{cases_lt}
 use Rattle.std.proofs.lemmas.List.{get_or-take, get_or_default, get_or_push, get_or_append_left, length-take-le, take-map}
 use Rattle.std.proofs.lemmas.List.Elements.{All-push, All-nil, All-take}
@@ -49,18 +49,21 @@ raised_more g none steps pushed x last row push e made h whole exact =
 
 -- the last row, raised from itself
 pub all_raised : (g : Graph) (none : List Reach) (steps pushed : List (Vec Change Global)) (x : Vec Change Global) (last row : List Reach) → pushed ≡ steps ++ x ∷ [] → last ≡ last_by none (items_by steps) → changed last x.items ≡ row
-    → Raised g (rows_by none (items_by steps)) → length row ≡ g.items → HoldsExactly g (length steps + 1) row → IsFixed g row → AreAllRows g (rows_by none (items_by pushed))
-all_raised g none steps pushed x last row push e made h whole exact fixed =
+    → Raised g (rows_by none (items_by steps)) → length row ≡ g.items → HoldsExactly g (length steps + 1) row → IsFixed g row → length steps < max 1 g.items
+    → AreAllRows g (rows_by none (items_by pushed))
+all_raised g none steps pushed x last row push e made h whole exact fixed few =
     let same = rows_grow none steps pushed x last row push e made in
     let all = raised_more g none steps pushed x last row push e made h whole exact in
     let rows = rows_by none (items_by steps) in
     let l = length-append rows (row ∷ []) in
-    let long : length rows + 1 ≡ length (rows_by none (items_by pushed)) = sym (ap length same ∙ l) in record {
+    let long : length rows + 1 ≡ length (rows_by none (items_by pushed)) = sym (ap length same ∙ l) in
+    let size : length rows ≡ length steps = length-rows none steps in record {
       whole = all.whole;
       exact = all.exact;
       last = length rows;
       ends = long;
       fixed = subst (λ (rs : List (List Reach)). IsFixed g (row_of rs (length rows))) (sym same) (subst (IsFixed g) (sym (get_or_push rows row [] (length rows) refl)) fixed);
+      bounded = omega arith;
     }
 
 -- all rows are a table whose last row stands, and exact

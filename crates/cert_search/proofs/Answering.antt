@@ -77,7 +77,7 @@ apart x (y ∷ ys) h = (
   apart x ys (λ between back e. h (y ∷ between) back (ap (λ zs. y ∷ zs) e)),
 )
 
-distinct_of : (ps : List ℕ) → NamesNoneTwice ps → IsDistinct eqb ps
+pub distinct_of : (ps : List ℕ) → NamesNoneTwice ps → IsDistinct eqb ps
 unfolding IsDistinct
 distinct_of [] h = tt
 distinct_of (x ∷ ps) h = (

@@ -8,4 +8,5 @@ pub mod Carried
 pub mod Placing
 pub mod Handing
 pub mod Rounding
+pub mod Bounding
 pub mod AllRows

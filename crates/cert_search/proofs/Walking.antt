@@ -96,7 +96,7 @@ usable_from : (g : Graph) (target : ℕ) (ps : List ℕ) (a : ℕ) → FromTarge
 usable_from g target [] a t = t.0
 usable_from g target (w ∷ ps) a t = t.0
 
-tail_next : (g : Graph) (c w : ℕ) (rest : List ℕ) (a : ℕ) → g.Fit w → Takes (g.limit w) c → Next g w (c + one_of g w) rest a → Tail g c w rest a
+pub tail_next : (g : Graph) (c w : ℕ) (rest : List ℕ) (a : ℕ) → g.Fit w → Takes (g.limit w) c → Next g w (c + one_of g w) rest a → Tail g c w rest a
 tail_next g c w [] a fit t n = (fit, t, n)
 tail_next g c w (u ∷ rest) a fit t n = (fit, t, n.0, n.1)
 

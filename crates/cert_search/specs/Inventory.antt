@@ -1,5 +1,5 @@
 -- The rows of a search to its end, and what it says of each target by them.
-use Rattle.std.specs.Prelude.{◌≡◌, ℕ, ◌+◌, ◌<◌, ◌≤◌, List, length, All}
+use Rattle.std.specs.Prelude.{◌≡◌, ℕ, ◌+◌, ◌<◌, ◌≤◌, max, List, length, All}
 use Rattle.cert_graph.specs.declared.reach.Reach.{Reach}
 use Rattle.cert_graph.specs.declared.inventory.Verdict.{Verdict}
 use Rattle.cert_graph.specs.declared.inventory.Verdict.TheVariants.{FirstPath, Pathless, NoCertificate}
@@ -10,13 +10,15 @@ use Rattle.cert_graph.specs.Steps.{MayTake}
 use Rattle.cert_search.specs.Exact.{HoldsExactly, HoldsAll, HoldsNoElsewhere}
 use Rattle.cert_search.specs.Rows.{IsFixed}
 
--- The rows of a search to its end: each exact, the last raised from itself.
+-- The rows of a search to its end: each exact, the last raised from itself. No more rows than
+-- items, where there are items; else one row.
 pub record AreAllRows (g : Graph) (rows : List (List Reach)) : Type 0 where
   pub whole : All (λ row. length row ≡ g.items) rows
   pub exact : (k : ℕ) → k < length rows → HoldsExactly g (k + 1) (row_of rows k)
   pub last : ℕ
   pub ends : last + 1 ≡ length rows
   pub fixed : IsFixed g (row_of rows last)
+  pub bounded : length rows ≤ max 1 g.items
 
 -- A table whose rows hold exactly how far each issuer leads: over as many certificates as a row's
 -- number, in the last row over any number.

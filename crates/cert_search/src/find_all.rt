@@ -1,6 +1,6 @@
 //! The search for the first valid path of each item.
 
-ghost use Rattle.std.specs.Prelude.{All, IfOk};
+ghost use Rattle.std.specs.Prelude.{◌≤◌, max, length, All, IfOk};
 ghost use Rattle.cert_graph.specs.Inventory.{shared_rows, IsAdequateInventory, IsTrueInventory};
 ghost use Rattle.cert_graph.specs.Nodes.{graph_of};
 ghost use Rattle.cert_search.specs.Inventory.{HasExactTable, IsShortVerdict};
@@ -19,6 +19,8 @@ pub fn find_all_nodes(alloc: Global, nodes: &Nodes) -> Result<Inventory, AllocEr
     ensures holds { IfOk result (IsTrueInventory (graph_of nodes.now)) }
     ensures exact { IfOk result (λ inventory. HasExactTable (graph_of nodes.now) (shared_rows (graph_of nodes.now) inventory)) }
     ensures short { IfOk result (λ inventory. All (IsShortVerdict (graph_of nodes.now)) inventory.verdicts.items) }
+    // at least one row, and no more rows than items where there are items
+    ensures bounded { IfOk result (λ inventory. (1 ≤ length inventory.steps.items) × (length inventory.steps.items ≤ max 1 (graph_of nodes.now).items)) }
 {
     let steps = all_rows(alloc, nodes)?;
     let lookup = lookup_of(alloc, nodes, &steps)?;

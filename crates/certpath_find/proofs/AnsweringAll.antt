@@ -1,5 +1,5 @@
 -- What is found of all nodes holds of all items, and says what is found of each.
-use Rattle.std.specs.Prelude.{◌↔◌}
+use Rattle.std.specs.Prelude.{◌↔◌, max}
 use Rattle.std.proofs.Common.{◌≡◌, ◌∙◌, ap, sym, subst, ℕ, ◌+◌, ◌<◌, ◌≤◌, Bool, List, length, map, replicate, arith, get_or, IsTrue}
 use Rattle.std.specs.List.{All, HoldsAt}
 use Rattle.cert_graph.specs.declared.reach.Reach.{Reach}
@@ -46,13 +46,14 @@ short_same g h e NoCertificate s = tt
 
 -- what a search of all nodes found, over a graph that agrees
 pub found_of_all : (g h : Graph) → Agrees g h → FitIsUsable g → (inventory : Inventory) → IsAdequateInventory g inventory → HasExactTable g (shared_rows g inventory) → All (IsShortVerdict g) inventory.verdicts.items
-    → IsFoundOfAll h inventory
-found_of_all g h e fit inventory adequate exact short =
+    → (1 ≤ length inventory.steps.items) × (length inventory.steps.items ≤ max 1 g.items) → IsFoundOfAll h inventory
+found_of_all g h e fit inventory adequate exact short bounded =
     let there = (agreed_inventory g h e fit inventory).0 adequate in record {
       adequate = there;
       holds = inventory_true h inventory there;
       exact = exact_table_same g h e inventory exact;
       short = λ k d lt. short_same g h e (get_or inventory.verdicts.items k d) (short k d lt);
+      bounded = (bounded.0, subst (λ n. length inventory.steps.items ≤ max 1 n) e.items bounded.1);
     }
 
 names_certificates_at : (r : JudgingContext) (octets : List (List ℕ)) (items anchors : List Item) (target : ℕ) (verdict : Verdict) → AreClassed octets items → IsTrueVerdict (graph_of_items r items anchors) target verdict

@@ -1,5 +1,5 @@
 -- Inventories of octets: what they say of the graph of the classed items.
-use Rattle.std.specs.Prelude.{ℕ, List, All}
+use Rattle.std.specs.Prelude.{ℕ, ◌≤◌, max, List, length, All}
 use Rattle.cert_graph.specs.declared.inventory.Inventory.{Inventory}
 use Rattle.cert_graph.specs.declared.inventory.Verdict.{Verdict}
 use Rattle.cert_graph.specs.declared.inventory.Verdict.TheVariants.{FirstPath, Pathless, NoCertificate}
@@ -11,12 +11,13 @@ use Rattle.cert_model.specs.Class.{IsCertificateItem}
 use Rattle.cert_search.specs.Inventory.{HasExactTable, IsShortVerdict}
 
 -- an inventory that a search found: adequate, so true; its rows hold exactly how far each issuer
--- leads, and its paths are short
+-- leads, its paths are short, and it has no more rows than items where there are items
 pub record IsFoundOfAll (g : Graph) (inventory : Inventory) : Type 0 where
   pub adequate : IsAdequateInventory g inventory
   pub holds : IsTrueInventory g inventory
   pub exact : HasExactTable g (shared_rows g inventory)
   pub short : All (IsShortVerdict g) inventory.verdicts.items
+  pub bounded : (1 ≤ length inventory.steps.items) × (length inventory.steps.items ≤ max 1 g.items)
 
 -- each position of a path names an item that is a certificate in its one spelling
 abbrev pub VerdictNamesCertificates : List (List ℕ) → Verdict → Type 0

@@ -1,5 +1,5 @@
-use Rattle.std.proofs.Common.{◌≡◌, ◌+◌, ◌-◌, ◌*◌, length, replicate}
-use Rattle.std.specs.Prelude.{IfSome}
+use Rattle.std.proofs.Common.{◌≡◌, ◌+◌, ◌-◌, ◌*◌, ◌<◌, length, replicate}
+use Rattle.std.specs.Prelude.{IfSome, max}
 use Rattle.cert_graph.specs.declared.reach.Reach.TheVariants.{No}
 use Rattle.cert_graph.specs.Nodes.{graph_of}
 use Rattle.cert_graph.specs.Adequate.{rows_by}
@@ -19,6 +19,7 @@ invariant-round l = record {
   last : l.search.row.items ≡ last_by (replicate (length l.nodes.items.items) No) (items_by l.steps.items);
   exact : OffersExactly (graph_of l.nodes) (length l.steps.items) l.search.offers.items;
   raised : Raised (graph_of l.nodes) (rows_by (replicate (length l.nodes.items.items) No) (items_by l.steps.items));
+  few : length l.steps.items < max 1 (length l.nodes.items.items);
 }
 
 abbrev pub decreases-round : goal.decreases-round

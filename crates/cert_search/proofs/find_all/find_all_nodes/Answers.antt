@@ -7,7 +7,7 @@ use Rattle.cert_graph.specs.Adequate.{rows_by}
 use Rattle.cert_graph.specs.Inventory.{IsAdequateVerdict}
 use Rattle.cert_graph.specs.Lookup.{IsLookup}
 use Rattle.cert_graph.specs.Nodes.{graph_of}
-use Rattle.cert_graph.proofs.Changing.{items_by}
+use Rattle.cert_graph.proofs.Changing.{items_by, length-rows}
 use Rattle.cert_graph.proofs.Sharing.{inventory_true}
 use Rattle.cert_search.specs.Inventory.{AreAllRows}
 use Rattle.cert_search.proofs.AllRows.{all_table, all_stands, all_exact, all_short, each_push}
@@ -59,3 +59,11 @@ pub returns-clause-short : goal.returns-clause-short
 returns-clause-short c =
     let nodes = c.args.nodes.now in
     all_short nodes (rows_by (replicate (length nodes.items.items) No) (items_by c.in_ok-steps.steps.items)) c.loop-target.verdicts.items c.loop-target.invariant.each
+
+pub returns-clause-bounded : goal.returns-clause-bounded
+returns-clause-bounded c =
+    let all = c.in_ok-steps.ensures in
+    let ends = all.ends in
+    let few = all.bounded in
+    let size = length-rows (replicate (length c.args.nodes.now.items.items) No) c.in_ok-steps.steps.items in
+    (omega arith, omega arith)

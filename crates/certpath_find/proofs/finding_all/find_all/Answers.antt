@@ -25,5 +25,6 @@ returns g c =
       holds = (xs, ys, items.1, anchors.1, found.holds);
       exact = (xs, ys, items.1, anchors.1, found.exact);
       short = (xs, ys, items.1, anchors.1, found.short);
+      bounded = (xs, ys, items.1, anchors.1, found.bounded);
       spelled = all_name_certificates r c.args.items.now.items xs ys inventory items.1 found.holds;
     }

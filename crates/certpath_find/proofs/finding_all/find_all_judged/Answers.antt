@@ -12,4 +12,4 @@ returns g c = λ moment xs ys a b.
     let found = c.in_ok-inventory.ensures in
     let graph = graph_of_items (rules_at moment c.args.demand_lists (g.V.Vouch.vouches_for c.args.vouch.now)) xs ys in
     let agrees : Agrees (graph_of nodes) graph = c.in_ok-nodes.ensures moment xs ys a b in
-    found_of_all (graph_of nodes) graph agrees (fit_is_usable nodes) c.in_ok-inventory.inventory found.adequate found.exact found.short
+    found_of_all (graph_of nodes) graph agrees (fit_is_usable nodes) c.in_ok-inventory.inventory found.adequate found.exact found.short found.bounded
