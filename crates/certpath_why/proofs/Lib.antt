@@ -36,3 +36,9 @@ mod Using
 mod Writing
 mod Issues
 mod Unlike
+mod Deciding
+mod DecidedValues
+pub mod DecidedRules
+mod Untold
+pub mod WorkedLines
+mod NameLines

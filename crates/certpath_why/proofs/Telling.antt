@@ -20,7 +20,7 @@ use Rattle.certpath_why.proofs.Texts.{texts_append, texts_one}
 use Rattle.cert_reasons.specs.Order.{AreAll}
 use Rattle.certpath_inputs.specs.declared.demand.Demand.{Demand}
 use Rattle.certpath_why.specs.Demanded.{AreDemandLines}
-use Rattle.certpath_why.specs.Why.{TellsGroups, IsLinkedTo, FailsTo, IsLinkedToAnchor, FailsToAnchor, AreTexts, missing_lines, TellsLinks, TellsUnusable, TellsNoIssuer, TellsCertificate, TellsAt, TellsItem, TellsItemAt, TellsList, AreKeysOf, positions, octets_at}
+use Rattle.certpath_why.specs.Why.{TellsGroups, IsLinkedTo, FailsTo, IsLinkedToAnchor, FailsToAnchor, AreTexts, missing_lines, TellsLinks, AreUnusableLines, AreNoIssuerLines, TellsCertificate, TellsAt, TellsItem, TellsItemAt, TellsList, AreKeysOf, positions, octets_at}
 use Rattle.certpath_why.specs.Lines.{subject_line}
 use Rattle.certpath_why.specs.Appended.{Appends}
 use Rattle.certpath_why.specs.Reached.{HasSubject, ArePositions}
@@ -62,8 +62,8 @@ tells_links r items anchors v x ws hs first one two last w h a b is =
 
 pub tells_certificate : (demand : Demand) (r : JudgingContext) (items anchors : List Item) (own : List ℕ) (target v : ℕ) (x : CertificateItem) (first one two three four last : List ℕ)
     → own ≡ octets_at items target
-    → one ≡ first ++ subject_line v x.subject.now → Appends (TellsUnusable r v (certificate_item x) (certificate_of x)) one two → Appends (AreDemandLines demand own v (certificate_item x) (certificate_of x)) two three
-    → Appends (TellsNoIssuer (nat_eq v target) v (certificate_of x)) three four
+    → one ≡ first ++ subject_line v x.subject.now → Appends (AreUnusableLines r v (certificate_item x) (certificate_of x)) one two → Appends (AreDemandLines demand own v (certificate_item x) (certificate_of x)) two three
+    → Appends (AreNoIssuerLines (nat_eq v target) v (certificate_of x)) three four
     → Appends (TellsLinks r items anchors v (certificate_item x) (certificate_of x)) four last → Appends (TellsCertificate demand r items anchors target v (certificate_item x) (certificate_of x)) first last
 tells_certificate demand r items anchors own target v x first one two three four last at is a u b l =
     let c = certificate_of x in

@@ -12,6 +12,7 @@ pub mod Signers
 pub mod Bounds
 pub mod Why
 pub mod Laws
+pub mod LawsOfLines
 pub mod Examples
 pub mod Appended
 pub mod LinkText

@@ -36,12 +36,12 @@ AreTexts IsText [] text = text ≡ []
 AreTexts IsText (x ∷ xs) text = (first : List ℕ) × (rest : List ℕ) × IsText x first × AreTexts IsText xs rest × (text ≡ first ++ rest)
 
 -- a line for each reason why the certificate at a position is not usable
-abbrev pub TellsUnusable : JudgingContext → ℕ → Item → Certificate → List ℕ → Type 0
-TellsUnusable r v x c text = (reasons : List Unusable) × AreAll order_of (HasReason (r.Processes x.octets) r.moment c) reasons × (text ≡ flat_map (unusable_line v c) reasons)
+abbrev pub AreUnusableLines : JudgingContext → ℕ → Item → Certificate → List ℕ → Type 0
+AreUnusableLines r v x c text = (reasons : List Unusable) × AreAll order_of (HasReason (r.Processes x.octets) r.moment c) reasons × (text ≡ flat_map (unusable_line v c) reasons)
 
 -- a line for each reason why it may not issue others; none of the target, which needs to issue nothing
-abbrev pub TellsNoIssuer : Bool → ℕ → Certificate → List ℕ → Type 0
-TellsNoIssuer is_target v c text =
+abbrev pub AreNoIssuerLines : Bool → ℕ → Certificate → List ℕ → Type 0
+AreNoIssuerLines is_target v c text =
     (reasons : List NoIssuer) × AreAll issuer_order (HasIssuerReason c) reasons × (text ≡ (if is_target then [] else flat_map (issuer_line v) reasons))
 
 -- A line of exactly the positions that are linked, or that a reason is against.
@@ -113,11 +113,11 @@ octets_at items v = target_octets (map (λ x. x.octets) items) v
 -- All lines of a certificate.
 pub record TellsCertificate (demand : Demand) (r : JudgingContext) (items anchors : List Item) (target v : ℕ) (x : Item) (c : Certificate) (text : List ℕ) : Type 0 where
   pub unusable : List ℕ
-  pub unusable_is : TellsUnusable r v x c unusable
+  pub unusable_is : AreUnusableLines r v x c unusable
   pub unmet : List ℕ
   pub unmet_is : AreDemandLines demand (octets_at items target) v x c unmet
   pub no_issuer : List ℕ
-  pub no_issuer_is : TellsNoIssuer (nat_eq v target) v c no_issuer
+  pub no_issuer_is : AreNoIssuerLines (nat_eq v target) v c no_issuer
   pub links : List ℕ
   pub links_are : TellsLinks r items anchors v x c links
   pub text_is : text ≡ subject_line v (name_octets c.subject) ++ (unusable ++ (unmet ++ (no_issuer ++ links)))

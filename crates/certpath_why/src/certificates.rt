@@ -10,7 +10,7 @@ ghost use Rattle.cert_reasons.specs.Linking.{HasItsLists};
 ghost use Rattle.certpath_why.specs.Reached.{ArePositions, HasSubject, IsCertificateAt};
 ghost use Rattle.certpath_why.specs.Lines.{missing_line, to_items, to_anchors};
 ghost use Rattle.certpath_why.specs.Question.{anchors_in, items_in, rules_in, IsListed, IsNamed, IsSigned};
-ghost use Rattle.certpath_why.specs.Why.{TellsUnusable, TellsNoIssuer, TellsGroups, IsLinkedTo, FailsTo, IsLinkedToAnchor, FailsToAnchor, missing_lines, TellsLinks, TellsCertificate, TellsAt, octets_at};
+ghost use Rattle.certpath_why.specs.Why.{AreUnusableLines, AreNoIssuerLines, TellsGroups, IsLinkedTo, FailsTo, IsLinkedToAnchor, FailsToAnchor, missing_lines, TellsLinks, TellsCertificate, TellsAt, octets_at};
 ghost use Rattle.certpath_why.specs.Found.{IsFound};
 ghost use Rattle.certpath_why.specs.Groups.{AreGroups};
 ghost use Rattle.certpath_why.specs.Appended.{Appends};
@@ -48,7 +48,7 @@ fn tell_unusable<V: Vouch>(
     place: usize,
     certificate: &CertificateItem<'_>,
 ) -> Result<(), AllocError>
-    ensures { OnOk result (Appends (TellsUnusable (rules_in V.Vouch question.now) place (certificate_item certificate.now) (certificate_of certificate.now))
+    ensures { OnOk result (Appends (AreUnusableLines (rules_in V.Vouch question.now) place (certificate_item certificate.now) (certificate_of certificate.now))
         (string_bytes text.old) (string_bytes text.new)) }
 {
     let moment = question.policy.moment();
@@ -71,7 +71,7 @@ fn tell_no_issuer(
     place: usize,
     certificate: &CertificateItem<'_>,
 ) -> Result<(), AllocError>
-    ensures { OnOk result (Appends (TellsNoIssuer (nat_eq place target) place (certificate_of certificate.now)) (string_bytes text.old) (string_bytes text.new)) }
+    ensures { OnOk result (Appends (AreNoIssuerLines (nat_eq place target) place (certificate_of certificate.now)) (string_bytes text.old) (string_bytes text.new)) }
 {
     let reasons = why_no_issuer(alloc, &certificate.fields)?;
     if place == target {

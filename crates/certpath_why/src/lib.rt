@@ -6,8 +6,8 @@
 //! that nobody uses. Each line is a reason of `cert_reasons`: none is missing, and none is there
 //! that does not apply.
 //!
-//! [`push_why`] is the report without a demand, [`push_why_for`] the one with it. [`laws`] and
-//! [`laws_by`] have what follows from their contracts.
+//! [`push_why`] is the report without a demand, [`push_why_for`] the one with it. [`laws`],
+//! [`laws_by`] and [`laws_of_lines`] have what follows from their contracts.
 //!
 //! Items come read, as `cert_judge::read_items` reads them; nothing here reads one.
 #![tactic(auto)]
@@ -27,6 +27,7 @@ mod issuing;
 mod kinds;
 pub mod laws;
 pub mod laws_by;
+pub mod laws_of_lines;
 mod lines;
 mod links;
 mod listed;
