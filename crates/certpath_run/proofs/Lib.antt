@@ -1,6 +1,8 @@
 pub mod Searched
+mod EmptyReports
 mod FrameFacts
 mod InventoryFacts
+mod OneReport
 mod PieceFacts
 mod Reaching
 mod ReportFacts

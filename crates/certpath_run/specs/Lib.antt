@@ -1,6 +1,7 @@
 pub mod AllReport
 pub mod Answered
 pub mod Asking
+pub mod EmptyReports
 pub mod FrameText
 pub mod Frames
 pub mod Items

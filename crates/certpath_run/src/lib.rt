@@ -17,6 +17,7 @@ mod framing;
 mod items;
 mod judging;
 pub mod laws;
+pub mod laws_of_reports;
 mod remembering;
 mod report;
 mod report_all;
