@@ -1,5 +1,5 @@
 -- Reports on no items are right.
-use Rattle.std.proofs.Common.{◌≡◌, ◌<◌, ◌^◌, ◌↔◌, refl, ℕ, true, List, [], ◌∷◌, length, arith, inl, inr, lit<, le_refl, Some, None}
+use Rattle.std.proofs.Common.{◌≡◌, refl, ℕ, true, List, [], arith, inl, inr, lit<, le_refl, Some, None}
 use Rattle.std.specs.Fmt.{digits}
 use Rattle.std.specs.Global.{Global, Vec}
 use denote.RawPtr.{null_ptr}

@@ -31,7 +31,7 @@ use Rattle.certpath_inputs.specs.Demands.{ArePermitsOf, IfNeither, VouchesWhere,
 use Rattle.certpath_inputs.specs.Inputs.{VouchesBy}
 use Rattle.certpath_inputs.specs.declared.demand.Demand.{Demand}
 use Rattle.certpath_inputs.specs.declared.settings.AllSettings.{AllSettings}
-use Rattle.certpath_run.specs.AllReport.{verdict_end, verdict_lines, all_report_with, is_pathless, has_pathless, outcome_of_all, IsAllReportWith, IsAllReportFor}
+use Rattle.certpath_run.specs.AllReport.{verdict_end, verdict_lines, all_report_with, is_pathless, has_pathless, IsAllReportWith, IsAllReportFor}
 use Rattle.certpath_run.specs.Report.{item_lines, end_line, anchors_line, position_words, answer_line, report_with}
 use Rattle.certpath_run.specs.Runs.{kind_of, IsReportWith, IsReportFor}
 use Rattle.certpath_run.specs.declared.settings.AllOutcome.{AllOutcome}
