@@ -8,7 +8,7 @@ and of the law's arguments, each the same value everywhere. A name counts as wha
 A clause that is the name of a definition says what the definition does; of a record each field is a part. What is denied
 (`.. → ⊥`) is one part. A premise that an example meets in the words of another definition isn't seen.
 
-LEFT is how many clauses have no example; it may only fall. `python3 tools/gate/quick.py laws` prints them.
+LEFT is how many clauses may have no example: none. `python3 tools/gate/quick.py laws` prints them.
 """
 import functools
 import re
@@ -16,7 +16,7 @@ import re
 from dev import believe
 from gate import calls, syntax
 
-LEFT = 1
+LEFT = 0
 OPEN, CLOSE = "({⟦", ")}⟧"
 ARROW, TIMES, COLON, FALSE = "→", "×", ":", "⊥"
 TOKEN = re.compile(r"""[(){}⟦⟧]|[^\s(){}⟦⟧;,"]+|[;,]""")

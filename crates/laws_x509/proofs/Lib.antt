@@ -2,6 +2,7 @@ pub mod Below
 pub mod CertificateSteps
 pub mod EntrySteps
 pub mod ExtensionSteps
+pub mod ListItems
 pub mod ListSteps
 pub mod NameSteps
 pub mod OfParts

@@ -1,28 +1,27 @@
 -- Revocation lists written out by hand are refused as the tables say.
-use Rattle.std.proofs.Common.{◌≡◌, ◌⊎◌, refl, inl, inr, ℕ, ◌<◌, List, [], ◌∷◌, ◌++◌, true, None, Some, lit<, lit≤}
-use Rattle.x509_core.specs.Grammar.{NoneBegins, One, Holds, HoldsWindow, ToEnd, Maybe}
+use Rattle.std.proofs.Common.{◌⊎◌, refl, inl, ℕ, List, [], ◌∷◌, ◌++◌, true, None, lit<, lit≤}
+use Rattle.x509_core.specs.Grammar.{NoneBegins, One, Holds, ToEnd, Maybe}
 use Rattle.x509_core.specs.declared.error.X509Error.TheVariants as errors
 use Rattle.x509_core.proofs.Grammars.{none_at_end}
-use Rattle.x509_core.proofs.Items.{piece, spelled, one, none_here, header_is}
+use Rattle.x509_core.proofs.Items.{piece, spelled, none_here, header_is}
 use Rattle.x509_names.specs.Examples.{algorithm, algorithm_octets, empty_name, empty_octets}
 use Rattle.x509_names.specs.Leaves.{IsBits}
-use Rattle.x509_names.specs.Names.{AlgorithmIdentifier, X509Name}
 use Rattle.x509_names.proofs.Items.{algorithm_is, empty_name_is}
 use Rattle.x509_time.specs.Examples.{start, start_octets}
 use Rattle.x509_time.specs.Times.{IsTime, ASN1Time}
-use Rattle.x509_time.specs.Updates.{NextUpdate, at_end, no_time}
+use Rattle.x509_time.specs.Updates.{NextUpdate, no_time}
 use Rattle.x509_time.proofs.Items.{start_is}
-use Rattle.x509_ext.specs.Extensions.{absent}
 use Rattle.x509_ext.specs.Fields.{IsUnparsed}
 use Rattle.x509_ext.specs.Parts.{IsVersion, IsSerial}
-use Rattle.x509_lists.specs.Fields.{TbsList}
-use Rattle.x509_lists.specs.Lists.{RevokedCertificate, RevokedCertificates, TbsParts, TbsCertList}
+use Rattle.x509_lists.specs.Lists.{RevokedCertificate, RevokedCertificates}
 use Rattle.laws_x509.specs.Refused.{Then, NoWrapper}
 use Rattle.laws_x509.specs.ListRefusals.{EntryPartsRefused, EntryRefused, AfterIssuer, TbsPartsRefused, TbsListRefused, ListPartsRefused, ListRefused}
 use Rattle.laws_x509.specs.RefusedOctets as refused
+use Rattle.laws_x509.specs.WorkedLists as worked
 use Rattle.laws_x509.proofs.RefusedParts.{sequence, no_identifier}
 use Rattle.laws_x509.proofs.RefusedExtensions.{head, no_wrapper_there}
 use Rattle.laws_x509.proofs.RefusedCertificates.{serial_is}
+use Rattle.laws_x509.proofs.ListItems.{none_before, ended_signed_is}
 
 -- ---- an entry
 
@@ -37,9 +36,6 @@ no_entry_date = sequence (EntryPartsRefused errors.InvalidDate) refused.before_s
 -- a SEQUENCE is no version
 no_version : (rest : List ℕ) → NoneBegins (One IsVersion) (refused.empty ++ rest)
 no_version rest = none_here IsVersion (piece 0 true 16 []) rest (spelled 0 true 16 [] (lit< tt) (lit< tt) (lit< tt)) (λ v is. cc is.leaf.tag_is)
-
-none_before : (rest : List ℕ) → NoneBegins (One IsVersion) (algorithm_octets ++ rest)
-none_before rest = none_here IsVersion (piece 0 true 16 (0x06 ∷ 0x02 ∷ 0x2a ∷ 0x03 ∷ [])) rest (spelled 0 true 16 (0x06 ∷ 0x02 ∷ 0x2a ∷ 0x03 ∷ []) (lit< tt) (lit< tt) (lit< tt)) (λ v is. cc is.leaf.tag_is)
 
 after_issuer : (Q : List ℕ → Type 0) (rest : List ℕ) → Q rest → AfterIssuer Q (refused.before_dates ++ rest)
 after_issuer Q rest is = record {
@@ -90,36 +86,10 @@ no_list_extensions = sequence (TbsPartsRefused IsUnparsed errors.InvalidExtensio
 
 -- ---- the list
 
-abbrev signed : TbsList
-signed = record { version = None; signature = algorithm; issuer = empty_name; this_update = start; next_update = None; entries = []; extensions = []; raw = refused.signed_list }
-
-signed_parts : TbsParts IsUnparsed (refused.before_dates ++ start_octets) signed []
-signed_parts = record {
-  after_version = refused.before_dates ++ start_octets;
-  version = (refl, none_before (empty_octets ++ start_octets));
-  after_signature = empty_octets ++ start_octets;
-  signature = algorithm_is (empty_octets ++ start_octets);
-  after_issuer = start_octets;
-  issuer = empty_name_is start_octets;
-  after_this_update = [];
-  this_update = start_is [];
-  after_next_update = [];
-  next_update = at_end refl refl refl;
-  written = None;
-  after_entries = [];
-  revoked_certificates = (refl, none_at_end (Holds 16 (ToEnd (RevokedCertificate IsUnparsed))));
-  are_entries = refl;
-  crl_extensions = absent refl refl refl;
-}
-
-signed_is : (rest : List ℕ) → TbsCertList IsUnparsed (refused.signed_list ++ rest) signed rest
-signed_is rest = one (HoldsWindow 16 (TbsParts IsUnparsed) (λ t. t.raw)) 0 true 16 (refused.before_dates ++ start_octets) signed rest (lit< tt) (lit< tt) (lit< tt)
-    (record { left = []; inside = record { tag = refl; inner = signed_parts }; window = refl })
-
 pub no_list_bits : ListRefused IsUnparsed errors.InvalidSignatureValue refused.no_list_bits
 no_list_bits = sequence (ListPartsRefused IsUnparsed errors.InvalidSignatureValue) (refused.signed_list ++ algorithm_octets) [] (lit< tt) (record {
-  value = signed;
+  value = worked.ended_tbs;
   after = algorithm_octets;
-  begins = signed_is algorithm_octets;
+  begins = ended_signed_is algorithm_octets;
   next = record { value = algorithm; after = []; begins = algorithm_is []; next = none_at_end IsBits };
 })

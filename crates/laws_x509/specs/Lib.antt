@@ -6,3 +6,4 @@ pub mod PartRefusals
 pub mod Refused
 pub mod RefusedOctets
 pub mod Registry
+pub mod WorkedLists
