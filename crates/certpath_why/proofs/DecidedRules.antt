@@ -1,4 +1,5 @@
--- What the definitions of judging say of certificates, lists and links holds where it isn't refuted.
+-- What the definitions of judging say of certificates, lists and links holds where it isn't
+-- refuted.
 use Rattle.std.proofs.Common.{◌≡◌, ◌∙◌, sym, subst, refl, ℕ, ℤ, ◌<ℤ◌, ◌≤ℤ◌, Bool, false, List, get_or, arith, Option, Some, None, int_eq, inl, inr}
 use Rattle.std.proofs.lemmas.Bool.Decides.{Decides-int_eq}
 use Rattle.std.proofs.lemmas.Int.{by_lt_z, ints}

@@ -62,8 +62,8 @@ pub fn no_line_exactly_where_it_may_issue()
     ensures { (target v : ℕ) (c : Certificate) (text : List ℕ) → AreNoIssuerLines (nat_eq v target) v c text → (text ≡ []) ↔ ((v ≡ target) ⊎ MayIssue c.extensions) }
 {}
 
-/// A certificate is linked to one of its issuer's name exactly where no reason is against it, and so
-/// to an anchor of that name.
+/// A certificate is linked to one of its issuer's name exactly where no reason is against it, and
+/// so to an anchor of that name.
 pub fn linked_exactly_where_no_reason_is()
     ensures item { (moment : CivilTime) (demand : Bool) (vouches : List ℕ → List ℕ → Bool) (items : List Item) (x : Item) (c : Certificate) (w : ℕ)
         → x.class ≡ certificate c → HasSubject items (name_octets c.issuer) w
@@ -88,8 +88,8 @@ pub fn tests_decide()
     ensures { (moment : CivilTime) (demand : Bool) (vouches : List ℕ → List ℕ → Bool) → IsDecided (rules_from moment demand vouches) }
 {}
 
-/// Lines of certificates and a path by them: a usable certificate, one that expired, one that is no
-/// authority, as an issuer and as the target, and a certificate of b with b's own under the anchor c.
+/// Lines of a usable certificate, of one that expired, and of one that is no authority, as an
+/// issuer and as the target; and a path: a certificate of b, and b's own under the anchor c.
 pub fn examples_of_lines()
     ensures usable { AreUnusableLines (rules_from in_june false (vouching_for_both 1 2)) 0 (numbered 1 issued_by_b) issued_by_b [] }
     ensures expired { AreUnusableLines (rules_from too_late false (vouching_for_both 1 2)) 3 (certificate_item plain) plain (at_words 3 ++ codes " not usable: expired 2026-01-01T00:00:00\n") }
