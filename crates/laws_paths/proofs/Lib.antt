@@ -3,3 +3,4 @@ pub mod OfWhy
 pub mod OfBound
 pub mod OfItems
 pub mod OfFound
+pub mod OfLines

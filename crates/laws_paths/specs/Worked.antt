@@ -8,7 +8,8 @@ use Rattle.cert_graph.specs.declared.answer.Table.TheVariants.{Row}
 use Rattle.cert_graph.specs.declared.inventory.Inventory.{Inventory}
 use Rattle.cert_graph.specs.declared.inventory.Verdict.TheVariants.{FirstPath, NoCertificate, Pathless}
 use Rattle.cert_model.specs.Class.{other}
-use Rattle.cert_judge.specs.Examples.{anchor_named, certificate_item}
+use Rattle.cert_model.specs.Examples.{authority_b, issued_by_b}
+use Rattle.cert_judge.specs.Examples.{anchor_named, certificate_item, numbered}
 use Rattle.cert_judge.specs.Revoking.{Item}
 use Rattle.laws_graph.specs.Vectors.{vec_of}
 
@@ -26,6 +27,13 @@ bad_text = 120 ∷ 10 ∷ []
 -- the positions of a path
 abbrev pub two_positions : List ℕ
 two_positions = 0 ∷ 1 ∷ []
+
+-- a certificate of b and b's own, and these two in the other order
+abbrev pub issuer_last : List Item
+issuer_last = numbered 1 issued_by_b ∷ numbered 2 authority_b ∷ []
+
+abbrev pub issuer_first : List Item
+issuer_first = numbered 2 authority_b ∷ numbered 1 issued_by_b ∷ []
 
 -- the anchor d
 abbrev pub under_d : List Item

@@ -5,5 +5,6 @@
 #![tactic(auto)]
 
 pub mod find;
+pub mod lines;
 pub mod texts;
 pub mod why;
