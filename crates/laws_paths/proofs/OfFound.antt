@@ -56,7 +56,7 @@ over_c =
 alone : IsValidPath limited 2 (2 ∷ []) 0
 alone = valid_from limited (fit_is_usable rules items under_d) 2 [] 0 (fit_is_usable rules items under_d 2 fit_c, c_under_anchor)
 
--- of the two positions the second is 2, and nothing is behind it
+-- of the two positions the second is 2, and nothing follows it
 second_is : (front back : List ℕ) (v p : ℕ) → 1 ∷ 2 ∷ [] ≡ front ++ v ∷ p ∷ back → (p ≡ 2) × (back ≡ [])
 second_is [] back v p e = (sym (ap (λ (s : List ℕ). get_or s 1 0) e), sym (ap (λ (s : List ℕ). drop 2 s) e))
 second_is (x ∷ front) back v p e = let long = ap (λ (s : List ℕ). length s) e ∙ ap suc (length-append front (v ∷ p ∷ back)) in absurd (omega (arith, long))

@@ -126,7 +126,7 @@ there_are Means parse law i vs r below is =
     let tag : (s1.0.0.element.tag == 16) ≡ true = tag_of parse s1.0.0.element (s1.0.0.element.tag == 16) s2.0 refl s2.1 in
     rw (s1.1, tag, s2.1) s2.2
 
--- ---- entries, and extensions behind them
+-- ---- entries, and extensions after them
 
 -- no wrapper begins an element of tag number 16
 no_wrapper_here : (i : List ℕ) (p : Piece × List ℕ) → AllBelowBase 256 i → piece_at i ≡ Ok p → p.0.element.tag ≡ 16 → NoWrapper 0 i
@@ -159,7 +159,7 @@ entries_refused Means parse law i e (Ok p) below read given =
       | inr other ↦ let wrong = other.1 in cc
     ]
 
--- entries and the extensions behind them
+-- entries and the extensions after them
 unfoldable pub revoked_by : {B : Type 0} → ValueReading → (List Entry → List Extension → B) → List ℕ → Answer B
 revoked_by parse put i = do
   entries ← entries_at parse i

@@ -46,7 +46,7 @@ version_only : (i : List ℕ) (v : Option ℕ) (r : List ℕ) → AllBelowBase 2
 unfolding version_at
 version_only i v r below is = maybe_only (One IsVersion) number_at numbers i v r below is
 
--- what is left behind a version
+-- what is left after a version
 version_left : (i : List ℕ) (v : Option ℕ) (r : List ℕ) → AllBelowBase 256 i → Maybe (One IsVersion) i v r → AllBelowBase 256 r
 version_left i v r below is = subst (AllBelowBase 256) (ap (λ (z : Option ℕ × List ℕ). z.1) (version_only i v r below is)) (version_found i below).below
 

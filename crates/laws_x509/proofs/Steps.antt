@@ -72,7 +72,7 @@ told_none P p reading x i e below given =
     let told = told_by x (p i) (named e) given in
     (name_is e x told.0, not_there P p reading i told.1.0 below told.1.1)
 
--- the same of a part that is refused by a name
+-- a part that is refused by a name
 pub named_step : {A B : Type 0} (P : Grammar A) (p : Reader A) → IsReading P p → (x : X509Error) (i : List ℕ) (f : A × List ℕ → Answer B) (e : X509Error) → AllBelowBase 256 i → naming x (p i) >>= f ≡ Err (named e)
     → ((e ≡ x) × NoneBegins P i) ⊎ Passed P i f e
 named_step P p reading x i f e below given =

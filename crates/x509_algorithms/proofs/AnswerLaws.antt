@@ -1,4 +1,4 @@
--- Want of memory, told by a refusal and by its error; errors of refusals.
+-- Want of memory, by a refusal and by its error; errors of refusals.
 use Rattle.std.proofs.Common.{◌≡◌, ◌∙◌, refl, sym, ap, subst, ◌⊎◌, inl, inr, Result, Ok, Err, IfErr}
 use Rattle.std.specs.Result.{IsErrAnd}
 use Rattle.asn1_core.specs.Elements.{Element}
