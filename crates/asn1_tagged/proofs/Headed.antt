@@ -1,4 +1,4 @@
--- Elements tell the tag number of their header, and an optional value is read as the value is.
+-- Elements have the tag number of their header, and an optional value is read as the value is.
 use Rattle.std.proofs.Common.{◌≡◌, ◌↔◌, ◌-◌, ◌∙◌, refl, ap, subst, ℕ, Option, Some, None, List, ◌++◌, append_assoc}
 use Rattle.asn1_core.specs.Elements.{Element, head_of_element}
 use Rattle.asn1_any.specs.DerElements.{BeginsWithElement}

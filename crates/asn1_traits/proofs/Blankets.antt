@@ -21,7 +21,7 @@ use Rattle.asn1_traits.specs.Reads.{Refuses, ReadsOf, NoValue, NoneReads, Lacks,
 use Rattle.asn1_traits.specs.Elements.{ReadsElement, ReadsBerElement}
 use Rattle.asn1_traits.proofs.Outcomes.{refused_too}
 
--- an element whose header tells its content's length
+-- an element whose header gives its content's length
 pub definite_any : (a : Any) → length_of a.header ≡ Definite (length a.content.now) → ber_any_of a ≡ definite_element (any_of a)
 definite_any a tells = ap (λ (l : Length). record { head = record { class = class_number a.header.class; constructed = a.header.constructed; tag = a.header.tag.0; size = definite_size l }; content = a.content.now }) tells
 
@@ -53,7 +53,7 @@ lacks_ber_element means octets given (needed.Size n) missing is =
     let told = subst P is missing in
     (told.0, λ more short v rest r. told.1 more short (r.element, rest, r.begins))
 
--- what a reading refused isn't what it answers
+-- what a reading refused isn't what it returns
 pub not_refused : {A E : Type 0} (r : Result A E) (x : A) (e : E) → r ≡ Ok x → r ≡ Err e → ⊥
 not_refused r x e p q = cc
 

@@ -10,7 +10,7 @@ use Rattle.asn1_traits.specs.Writes.{Writes, Stops, IsLong, written}
 use Rattle.asn1_traits.specs.Lists.{AllRead, all_written, EachIs, OneIs}
 use Rattle.asn1_traits.proofs.Writing.{appends_two, appends_none, front_first, front_second, front_all, stops_from, stops_too}
 
--- how far the values of the octets are read: `rest` is left behind `items`
+-- how far the values of the octets are read: `rest` is left after `items`
 pub record HasRead {V : Type 0} (reads : List ℕ → V → List ℕ → Type 0) (octets rest : List ℕ) (items : List V) : Type 0 where
   pub kept : (vs : List V) → AllRead reads rest vs → AllRead reads octets (items ++ vs)
   pub only : (vs : List V) → AllRead reads octets vs → (ws : List V) × AllRead reads rest ws

@@ -36,7 +36,7 @@ element_size n h i rest s r e size p m q f =
 pub element_tag : (n : ℕ) (h : Head) (i rest s r : List ℕ) (e : Element) → HeaderAt i h rest → IsTagged n s e → i ≡ s ++ r → h.tag ≡ n
 element_tag n h i rest s r e p q f = ap (λ z. z.tag) (element_head n h i rest s r e p q f).0 ∙ q.tag_is
 
--- behind a header that wants more octets, no element begins the list with fewer of them
+-- after a header that wants more octets, no element begins the list with fewer of them
 pub element_missing : (n : ℕ) (h : Head) (i rest : List ℕ) (size : ℕ) → HeaderAt i h rest → size ≡ h.size →
     (more : List ℕ) → length more < size - length rest → HasTagged n (i ++ more) → ⊥
 element_missing n h i rest size p m more few has =

@@ -72,6 +72,7 @@ no_number limit i rest t e read refused v after p =
     let there = below_small limit (number_of (content_in t)) v number p.3 in
     cc
 
--- one object begins the octets: whether and why it holds no number below the limit is told of any that does
+-- one object begins the octets: whether and why it holds no number below the limit is known for any
+-- octets that one begins
 pub number_once : (limit : ℕ) (i after rest : List ℕ) (t u : Tree) (r : Result ℕ Error) (e : Error) → ReadsDer 2 i u after → r ≡ below limit (number_of (content_in u)) → ReadsDer 2 i t rest → below limit (number_of (content_in t)) ≡ Err e → r ≡ Err e
 number_once limit i after rest t u r e read is other refused = let same : u ≡ t = (reads_once 2 i after rest u t read other).0 in is ∙ ap (λ z. below limit (number_of (content_in z))) same ∙ refused

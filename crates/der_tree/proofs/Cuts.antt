@@ -57,7 +57,7 @@ cut_size h i rest s r e size p n q f =
     let long = length-append e.content r in
     (omega (arith, q.size), omega (arith, ap length m.1, long))
 
--- behind a header that wants more octets, no cut begins the list with fewer of them
+-- after a header that wants more octets, no cut begins the list with fewer of them
 pub cut_missing : (h : Head) (i rest : List ℕ) (size : ℕ) → IsHead h × (i ≡ strict_header h ++ rest) → size ≡ h.size →
     (more : List ℕ) → length more < size - length rest → HasCut (i ++ more) → ⊥
 cut_missing h i rest size p n more few has =

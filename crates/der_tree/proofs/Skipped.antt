@@ -31,7 +31,7 @@ no_parts e (leaf v) p n = omega arith
 no_parts e (sequence ts) p n = absurd p
 no_parts e (set ts) p n = absurd p
 
--- where an object begins the octets, they are one where nothing is behind it
+-- if an object begins the octets, they are one if nothing comes after it
 pub alone : (k : ℕ) (s rest : List ℕ) (t : Tree) (b : Bool) → IsObject k t → s ≡ octets t ++ rest → b ≡ (length rest == 0) → IsTrue b ↔ IsDerObject k s
 alone k s rest t b is split empty = (
   λ yes.

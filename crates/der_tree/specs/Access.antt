@@ -35,7 +35,7 @@ abbrev pub bit_string_of : Content → Option (ℕ × List ℕ)
 bit_string_of (leaf (bit_string unused s)) = Some (unused, s)
 bit_string_of _ = None
 
--- the octets that stand under a kind's tag
+-- the octets under a kind's tag
 abbrev pub plain_of : Kind → Content → Option (List ℕ)
 plain_of k (leaf (plain j s)) = if tag_of j == tag_of k then Some s else None
 plain_of k _ = None
@@ -112,7 +112,7 @@ plain_at k t = plain_of k (content_in t)
 abbrev pub universal : Bool → ℕ → List ℕ → Element
 universal b n s = record { class = 0; constructed = b; tag = n; content = s }
 
--- the element itself, whatever it holds: what its header says, and the octets behind it
+-- the element itself, whatever it holds: what its header says, and the octets after it
 abbrev pub element_at : Tree → Element
 element_at (node h s c) = record { class = h.class; constructed = h.constructed; tag = h.tag; content = drop (length s - h.size) s }
 

@@ -1,4 +1,5 @@
--- What may stand in the content of a DER element, one line for each universal tag (X.690, 8, 10 and 11).
+-- What may be in the content of a DER element, one line for each universal tag (X.690, 8, 10 and
+-- 11).
 use Rattle.std.specs.Prelude.{◌≡◌, ℕ, ◌^◌, ◌%◌, ◌<◌, ◌==◌, ◌&&◌, ◌||◌, not, nat_lt, nat_le, Bool, true, false, IsTrue, List, [], ◌∷◌, IsUtf8}
 use Rattle.std.specs.Int.Digits.{number_from_digits, AllBelowBase}
 use Rattle.std.specs.List.{list_all}
@@ -55,7 +56,7 @@ is_printable c =
 abbrev pub is_visible : ℕ → Bool
 is_visible c = nat_le 32 c && nat_le c 126
 
--- the universal types that are read as the octets that stand there
+-- the universal types that are read as the octets that are there
 pub data Kind : Type 0 where
   integer : Kind
   octet_string : Kind
@@ -135,7 +136,7 @@ is_listed n = nat_le n 7 || n == 10 || n == 12 || n == 13 || (nat_le 16 n && nat
 abbrev pub IsRaw : Element → Type 0
 IsRaw e = e.class ≡ 0 → is_listed e.tag ≡ false
 
--- The table: what may stand under a header, the parts of a sequence or set being `Parts`.
+-- The table: what may be under a header, the parts of a sequence or set being `Parts`.
 pub data Stands (Parts : List ℕ → Type 0) (e : Element) : Type 0 where
   boolean : IsPrimitive e 1 → IsTrue (is_boolean e.content) → Stands Parts e
   bit_string : IsPrimitive e 3 → IsTrue (is_bit_string e.content) → Stands Parts e

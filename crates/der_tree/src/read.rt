@@ -59,7 +59,8 @@ pub fn parse_der_recursive<'a>(alloc: Global, i: &'a [u8], levels: usize) -> Ber
 }
 
 /// `parse_der_recursive`, which raises the count by one for each header that it tries: for each element of the tree that
-/// it answers, and never by more than one for each octet of `i`. The count never falls, also where the octets are refused.
+/// it returns, and never by more than one for each octet of `i`. The count never falls, also if the
+/// octets are refused.
 #[cycle(reading)]
 pub fn parse_der_recursive_counted<'a>(
     alloc: Global,
@@ -123,8 +124,9 @@ pub(crate) fn content_of<'a>(
 /// For how many objects room is taken at most with the first one of a content.
 const FIRST_ROOM: usize = 4;
 
-/// Takes room for the first object of a content that has so many octets behind it: for as many objects as fit there, each
-/// being of two octets at least, and for no more than `FIRST_ROOM`. Later ones take theirs as they are pushed.
+/// Takes room for the first object of a content after which so many octets are left: for as many
+/// objects as fit there, each being of two octets at least, and for no more than `FIRST_ROOM`.
+/// Later ones take theirs as they are pushed.
 #[inline(always)]
 fn take_room(objects: &mut Vec<BerObject<'_>>, behind: usize) -> Result<(), AllocError>
     ensures items { objects.new.items ≡ objects.old.items }

@@ -1,5 +1,5 @@
--- Parameters of RSASSA-PSS and RSAES-OAEP, as they are read leniently (RFC 8017, A.2). A part is told by its tag number; what is left
--- of the content of an element is ignored.
+-- Parameters of RSASSA-PSS and RSAES-OAEP, as they are read leniently (RFC 8017, A.2). A part is
+-- known by its tag number; what is left of the content of an element is ignored.
 use Rattle.std.specs.Prelude.{◌≡◌, ◌≢◌, ◌⊎◌, ℕ, true, List, [], Option, Some, None}
 use Rattle.asn1_core.specs.Elements.{Element}
 use Rattle.asn1_core.specs.Strict.{Head}
@@ -118,7 +118,8 @@ abbrev pub hash_of : Option Algorithm → List ℕ
 hash_of None = sha1
 hash_of (Some a) = a.identifier
 
--- MGF1 with SHA-1 where none is told; else the identifier that begins the content of the parameters is the hash
+-- MGF1 with SHA-1 if there is none; else the identifier that begins the content of the parameters
+-- is the hash
 abbrev pub IsMaskGen : Option Algorithm → values.MaskGenAlgorithm → Type 0
 IsMaskGen None m = m ≡ record { mgf = mgf1; hash = sha1 }
 IsMaskGen (Some a) m = (m.mgf ≡ a.identifier) × (e : Element) × (left : List ℕ) × (a.parameters ≡ Some e) × One IsOid e.content m.hash left

@@ -1,4 +1,4 @@
--- What the calls on certificates tell of the only extension of an identifier (RFC 5280, 4.2.1).
+-- What the calls on certificates return of the only extension of an identifier (RFC 5280, 4.2.1).
 use Rattle.std.specs.Prelude.{ℕ, Bool, false, List, Option, Some, None, Result, Ok, Err}
 use Rattle.std.specs.Borrow.{Bor}
 use Rattle.x509_core.specs.declared.error.X509Error.{X509Error}

@@ -60,7 +60,7 @@ at_front octets after elements others e cut here left =
       counted = All-head HasCountedContent e others counted;
     }
 
--- what was told to be at the front is what is read there
+-- what is said to be at the front is what is read there
 pub record IsPassed (octets : List ℕ) (x : Piece) (after : List ℕ) : Type 0 where
   pub read : piece_at octets ≡ Ok (x, after)
   pub shorter : length x.octets + length after ≡ length octets

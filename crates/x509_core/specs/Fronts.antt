@@ -31,7 +31,7 @@ IsWithin (refusals.Incomplete n) r = r ≡ refusals.Error (errors.Der (der.Incom
 IsWithin (refusals.Error e) r = r ≡ refusals.Error e
 IsWithin (refusals.Failure e) r = r ≡ refusals.Failure e
 
--- no refusal for want of memory
+-- no refusal for lack of memory
 abbrev pub TakesNoMemory : Refusal X509Error → Type 0
 TakesNoMemory (refusals.Incomplete n) = Unit {0}
 TakesNoMemory (refusals.Error e) = Unit {0}
@@ -41,7 +41,7 @@ TakesNoMemory (refusals.Failure e) = ⊥
 abbrev pub IsWindow : List ℕ → List ℕ → List ℕ → Type 0
 IsWindow octets raw rest = (ignored : List ℕ) × (octets ≡ raw ++ (ignored ++ rest))
 
--- refused by this error, or for want of memory
+-- refused by this error, or for lack of memory
 abbrev pub IsOnly : X509Error → Refusal X509Error → Type 0
 IsOnly name (refusals.Incomplete n) = ⊥
 IsOnly name (refusals.Error e) = e ≡ name

@@ -1,5 +1,5 @@
 -- Lenient grammars, as relations between a front of octets, a value and the octets after it. What ASN.1 type a grammar reads
--- stands beside it where it is used; how content is cut plays no part.
+-- is said beside it at its use; how content is cut plays no part.
 use Rattle.std.specs.Prelude.{◌≡◌, ℕ, List, [], ◌∷◌, ◌++◌, Option, Some, None}
 use Rattle.asn1_core.specs.Strict.{Head, IsHead}
 use Rattle.asn1_core.specs.Lenient.{SpellsHeader}

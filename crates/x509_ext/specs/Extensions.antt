@@ -1,4 +1,5 @@
--- Extensions (RFC 5280, 4.1 and 4.2), and where they stand in certificates and lists. How a value is parsed is an argument.
+-- Extensions (RFC 5280, 4.1 and 4.2), and where they are in certificates and lists. How a value is
+-- parsed is an argument.
 use Rattle.std.specs.Prelude.{◌≡◌, ℕ, Bool, false, List, [], Option, Some, None}
 use Rattle.asn1_any.specs.Cutting.{Piece}
 use Rattle.asn1_core.specs.Strict.{Head}

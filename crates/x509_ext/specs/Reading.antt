@@ -1,5 +1,5 @@
--- The readers of this crate as functions on octets, with the refusals that are promised, in their order. What they read stands
--- in `Extensions` and `Parts`; laws tie each function to it.
+-- The readers of this crate as functions on octets, with the refusals that are promised, in their
+-- order. What they read is defined in `Extensions` and `Parts`; laws tie each function to it.
 use Rattle.std.specs.Prelude.{ℕ, ◌==◌, ◌||◌, not, Bool, false, if◌then◌else◌, List, [], ◌∷◌, Option, Some, None, Ok, Err}
 use Rattle.asn1_core.specs.Elements.{Element}
 use Rattle.asn1_core.specs.Strict.{Head}
@@ -66,7 +66,7 @@ extension_list_at parse i = do
   v ← next (λ p. extension_list_in parse p.element) i
   to_end v
 
--- behind the wrapper's header, whose length isn't used
+-- after the wrapper's header, whose length isn't used
 abbrev pub wrapped_at : ValueReading → ℕ → Head × List ℕ → Answer (List Extension)
 wrapped_at parse n h = if h.0.tag == n then extension_list_at parse h.1 else Err (named errors.InvalidExtensions)
 

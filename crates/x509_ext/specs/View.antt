@@ -17,7 +17,7 @@ extension_view e = record { identifier = e.oid; critical = e.critical; value = e
 abbrev pub extension_error : X509Extension → Option (Refusal Error)
 extension_error e = error_of e.parsed_extension
 
--- where its value is none of its type, why isn't want of memory
+-- if its value is none of its type, the error isn't `OutOfMemory`
 abbrev pub WantsNoMemory : X509Extension → Type 0
 WantsNoMemory e = HoldsNoMemory e.parsed_extension
 

@@ -67,7 +67,7 @@ abbrev pub flag_octets : Bool → List ℕ
 flag_octets ca = 0x01 ∷ 0x01 ∷ (if ca then 0xff else 0x00) ∷ []
 
 -- pathLenConstraint INTEGER of DER (X.690, 8.3), below 2^32, with its header: so its content has at most five octets, and its
--- length stands in one. An ENUMERATED (X.690, 8.4) counts as well.
+-- length is one octet. An ENUMERATED (X.690, 8.4) counts as well.
 pub record IsLimit (octets : List ℕ) (n : ℕ) : Type 0 where
   pub tag : ℕ
   pub content : List ℕ

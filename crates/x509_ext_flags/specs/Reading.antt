@@ -1,5 +1,5 @@
--- The readers of this crate as functions on octets, with the refusals that are promised, in their order. What they read stands
--- in `Extensions`; laws tie each function to it.
+-- The readers of this crate as functions on octets, with the refusals that are promised, in their
+-- order. What they read is defined in `Extensions`; laws tie each function to it.
 use Rattle.std.specs.Prelude.{ℕ, zero, suc, ◌+◌, ◌*◌, ◌==◌, Bool, if◌then◌else◌, List, [], ◌∷◌, length, Option, None, Ok, Err}
 use Rattle.std.specs.Result.{result_ok}
 use Rattle.asn1_core.specs.Elements.{Element}

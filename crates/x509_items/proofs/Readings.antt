@@ -34,7 +34,7 @@ held_meaning n P p reading = record {
       rw (content_only n q.element is.1.tag, read) refl;
 }
 
--- the octets behind as many values are octets
+-- the octets after as many values are octets
 pub many_below : {A : Type 0} (M : Piece → A → Type 0) (vs : List A) (i r : List ℕ) → AllBelowBase 256 i → AsMany (One M) i vs r → AllBelowBase 256 r
 unfolding AsMany
 many_below M [] i r below is = subst (AllBelowBase 256) is.0 below

@@ -1,4 +1,4 @@
--- Answers of parts that may be absent, and answers that tell no error.
+-- Results of parts that may be absent, and results without an error.
 use Rattle.std.specs.Prelude.{◌≡◌, ℕ, List, Option, Some, None, Result, Ok, Err}
 use Rattle.std.specs.Borrow.{Bor}
 use Rattle.asn1_core.specs.declared.memory.OutOfMemory.{OutOfMemory}
@@ -9,7 +9,8 @@ use Rattle.x509_core.specs.Answers.{Answer, Why}
 use Rattle.x509_core.specs.declared.error.X509Error.{X509Error}
 use Rattle.x509_core.specs.declared.error.X509Error.TheVariants as errors
 
--- a part's answer, and the same where it may be absent: every refusal but want of memory is none, these octets being left
+-- a part's result, made that of a part that may be absent: every refusal but `OutOfMemory` is none,
+-- these octets being left
 abbrev pub IsOptional : {X : Type 0} → Bor (List ℕ) → Result (Bor (List ℕ) × X) (Refusal X509Error) → Result (Bor (List ℕ) × Option X) (Refusal X509Error) → Type 0
 IsOptional i (Ok r) result = result ≡ Ok (r.0, Some r.1)
 IsOptional i (Err (refusals.Failure e)) result = result ≡ Err (refusals.Failure e)

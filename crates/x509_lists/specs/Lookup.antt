@@ -1,4 +1,5 @@
--- What the calls on lists and entries tell of the first extension of an identifier (RFC 5280, 5.2.3, 5.3.1 and 5.3.2).
+-- What the calls on lists and entries return of the first extension of an identifier (RFC 5280,
+-- 5.2.3, 5.3.1 and 5.3.2).
 use Rattle.std.specs.Prelude.{ℕ, Bool, List, [], ◌∷◌, Option, Some, None}
 use Rattle.asn1_unsigned.specs.declared.unsigned.UnsignedBytes.{UnsignedBytes}
 use Rattle.x509_time.specs.declared.time.ASN1Time.{ASN1Time}

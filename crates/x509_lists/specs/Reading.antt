@@ -1,5 +1,5 @@
 -- The readers of revocation lists as functions on octets, with the refusals that are promised, in their order. What they read
--- stands in `Lists`; laws tie each function to it.
+-- is defined in `Lists`; laws tie each function to it.
 use Rattle.std.specs.Prelude.{ℕ, ◌==◌, if◌then◌else◌, List, [], Option, Some, None, Ok, Err}
 use Rattle.asn1_core.specs.Elements.{Element}
 use Rattle.asn1_any.specs.Cutting.{Piece}

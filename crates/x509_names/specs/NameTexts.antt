@@ -1,4 +1,4 @@
--- The text of a name, as `C=FR, O=Some + CN=Other`. Texts stand as their octets.
+-- The text of a name, as `C=FR, O=Some + CN=Other`. Texts are given as their octets.
 use Rattle.std.specs.Prelude.{ℕ, ◌+◌, ◌*◌, ◌/◌, ◌%◌, ◌==◌, ◌||◌, ◌&&◌, nat_le, Bool, true, if◌then◌else◌, List, [], ◌∷◌, ◌++◌, map, codes, Option, Some, None, option_map, bytes_eq}
 use Rattle.std.specs.Char.Utf16.{utf16_lossy_chars}
 use Rattle.std.specs.Fmt.{digit_glyph}
@@ -67,7 +67,7 @@ abbrev pub each_of : {A : Type 0} → List (Option A) → Option (List A)
 each_of [] = Some []
 each_of (x ∷ xs) = also x (each_of xs)
 
--- texts one behind the other; a separator stands only behind a text that isn't empty
+-- texts one after another; a separator comes only after a text that isn't empty
 abbrev pub joined : List ℕ → List (List ℕ) → List ℕ
 joined separator [] = []
 joined separator ([] ∷ texts) = joined separator texts
@@ -80,7 +80,7 @@ set_text label attributes = option_map (joined (codes " + ")) (each_of (map (att
 abbrev pub name_text : (List ℕ → Option (List ℕ)) → Name → Option (List ℕ)
 name_text label name = option_map (joined (codes ", ")) (each_of (map (set_text label) name.sets))
 
--- the abbreviation of an attribute type, or else the short name that the registry that is handed out tells
+-- the abbreviation of an attribute type, or else the short name in the registry that is handed out
 abbrev pub known_label : List ℕ → Option (List ℕ)
 known_label identifier = name_or (abbreviation_of identifier) (known_entry identifier)
 

@@ -1,5 +1,6 @@
--- The readers of this crate as functions on octets, with the refusals that are promised, in their order. What they read stands
--- in `Leaves`, `Names` and `PublicKeys`; laws tie each function to it.
+-- The readers of this crate as functions on octets, with the refusals that are promised, in their
+-- order. What they read is defined in `Leaves`, `Names` and `PublicKeys`; laws tie each function to
+-- it.
 use Rattle.std.specs.Prelude.{ℕ, ◌-◌, ◌||◌, if◌then◌else◌, List, [], ◌∷◌, length, take, Option, Some, None, option_map, Ok, Err, bytes_eq}
 use Rattle.std.specs.Result.{result_ok}
 use Rattle.asn1_core.specs.Elements.{Element}

@@ -44,7 +44,7 @@ fn set_is_shown(attributes: &[AttributeTypeAndValue<'_>]) -> bool
     true
 }
 
-// The sets, a comma behind each that isn't empty, but the last.
+// The sets, a comma after each that isn't empty, but the last.
 fn write_sets<W: fmt::Write>(
     sets: &[RelativeDistinguishedName<'_>],
     labels: Labels<'_>,

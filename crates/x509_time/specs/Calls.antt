@@ -49,7 +49,7 @@ IsAtMost a b = (a.nanoseconds <ℤ b.nanoseconds) ⊎ ((a.nanoseconds ≡ b.nano
 abbrev pub IsWithin : Period → Time → Type 0
 IsWithin v t = IsAtMost v.not_before t × IsAtMost t v.not_after
 
--- how long a validity goes on behind a time that lies in it, the last moment left out
+-- how long a validity goes on after a time that lies in it, the last moment left out
 abbrev pub GivesLeft : Period → Time → Option SignedDuration → Type 0
 GivesLeft v t (Some d) = IsWithin v t × (t.nanoseconds <ℤ v.not_after.nanoseconds) × (signed_nanos d ≡ v.not_after.nanoseconds -ℤ t.nanoseconds)
 GivesLeft v t None = (IsWithin v t × (t.nanoseconds <ℤ v.not_after.nanoseconds)) → ⊥

@@ -1,4 +1,5 @@
--- Functions that answer as the readers do. The meaning stands in `Times` and `Updates`; laws tie each function to it.
+-- Functions that return what the readers do. The meaning is defined in `Times` and `Updates`; laws
+-- tie each function to it.
 use Rattle.std.specs.Prelude.{◌≡◌, ℕ, ℤ, ◌%◌, ◌==◌, ◌&&◌, ◌||◌, not, nat_le, Bool, true, false, if◌then◌else◌, List, [], ◌∷◌, length, Option, Some, None, option_map, option_and_then, is_some, Ok, Err}
 use Rattle.std.specs.List.{list_all}
 use Rattle.asn1_core.specs.Elements.{Element}

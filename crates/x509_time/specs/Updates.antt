@@ -1,4 +1,4 @@
--- The time of a list's next update, or that none stands there (RFC 5280, 5.1.2.5).
+-- The time of a list's next update, or that there is none (RFC 5280, 5.1.2.5).
 use Rattle.std.specs.Prelude.{◌≡◌, ◌≢◌, ℕ, ◌+◌, ◌<◌, ◌≤◌, Bool, List, [], ◌∷◌, map, Option, Some, None}
 use Rattle.std.specs.Int.Digits.{AllBelowBase}
 use Rattle.asn1_any.specs.Cutting.{Piece}
@@ -12,7 +12,8 @@ use Rattle.x509_time.specs.Times.{Time, GeneralContent, ASN1Time}
 abbrev pub IsGeneralTime : Piece → ASN1DateTime → Type 0
 IsGeneralTime piece t = Leaf 24 GeneralContent piece t
 
--- the octets end within a tag number of the high form: none behind the first is below 128 (X.690, 8.1.2.4)
+-- the octets end within a tag number of the high form: none after the first is below 128 (X.690,
+-- 8.1.2.4)
 pub record IsCutTag (octets : List ℕ) : Type 0 where
   pub class : ℕ
   pub constructed : Bool
