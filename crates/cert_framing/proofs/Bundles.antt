@@ -89,7 +89,7 @@ kept_faulted : (limit : ℕ) (rest kept : List ℕ) (fault : Bool) → fault ≡
 kept_faulted limit rest kept false is held = absurd cc
 kept_faulted limit rest kept true is held = held
 
--- a piece after which the octets behind the items begin an item
+-- a piece after which the octets after the items begin an item
 pub fed_part : (limit : ℕ) (octets piece ends ends' : List ℕ) (at at' : ℕ) (fault failed fault' failed' : Bool) (stream : List ℕ) → RunsTo 0 ends at
     → at ≤ length octets → fault ≡ false → fault' ≡ false → failed' ≡ false → Advances limit (octets ++ piece) at ends ends' at' true
     → StandsFor (record { limit = limit; items = pieces 0 ends octets; kept = drop at octets; has_fault = fault; has_failed = failed }) stream

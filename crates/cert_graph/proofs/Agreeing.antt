@@ -1,4 +1,4 @@
--- Graphs that agree have the same adequate answers.
+-- Graphs that agree have equal adequate answers.
 use Rattle.std.specs.Prelude.{◌↔◌}
 use Rattle.std.proofs.Common.{◌≡◌, ℕ, ◌+◌, Bool, not, cond, List, [], ◌∷◌, ◌++◌, length, arith, ap, sym, ◌∙◌, subst, refl, inl, inr}
 use Rattle.cert_graph.specs.declared.reach.Reach.{Reach}

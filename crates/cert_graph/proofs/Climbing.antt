@@ -57,7 +57,7 @@ none_taking g row members stairs i count d h past before n o =
     let inside = x.1.0 in
     before x.0 (omega arith) (x.1.1 d).1
 
--- the flight that is found from behind tells the row's stairs
+-- the flight that is found from the end on gives the row's stairs
 -- each flight begins above those before it
 abbrev pub Ascend : List Flight → Type 0
 Ascend flights = (i j : ℕ) (d : Flight) → i < j → j < length flights → (get_or flights i d).row < (get_or flights j d).row

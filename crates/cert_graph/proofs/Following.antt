@@ -28,7 +28,7 @@ at_most_trans r s t a b = at_most_from_takes r t (λ c x. more_takes s t c b (mo
 abbrev pub StandsOver : List Reach → List Reach → Type 0
 StandsOver row before = (v : ℕ) → IsAtMost (at_row before v) (at_row row v)
 
--- a change to what is no less, in a row that stands over another
+-- a change to what is no less, in a row that is above another
 over_set : (first row : List Reach) (p : ℕ) (reach : Reach) → StandsOver row first → IsAtMost (at_row first p) reach → StandsOver (set row p reach) first
 over_set first row p reach over rise v = elim (cases_lt v p) [
   | inl below ↦ subst (IsAtMost (at_row first v)) (sym (get_or-set_other row p v reach No (λ e. absurd (omega (arith, e, below))))) (over v)

@@ -32,7 +32,7 @@ table_take g rows n t = record {
       (subst (λ (s : List Reach). IsSuccessor g (row_of rows k) s) (sym (get_or-take n rows (k + 1) [] next)) (t.successors k within));
 }
 
--- the last row is told by its place
+-- the last row is known by its place
 pub last_iff : (g : Graph) (rows : List (List Reach)) (row : List Reach) (k : ℕ) → k + 1 ≡ length rows → row ≡ row_of rows k → {P : Type 0} → (P ↔ IsSuccessor g row row) → P ↔ StandsAtLast g rows
 last_iff g rows row k last is h = (
   λ p j e. let same : k ≡ j = omega arith in

@@ -18,7 +18,7 @@ use Rattle.cert_graph.proofs.ReachFacts.{no_takes, none_taken}
 use Rattle.cert_graph.proofs.GroupFacts.{anchored_iff, successor_iff, open_below}
 use Rattle.cert_graph.proofs.Checks.{lowest_to_clause, lowest_from_clause}
 
--- a test that answers false, or true, of what is not so, or so
+-- a test that returns false, or true, of what is not so, or so
 pub refuted : {P : Type 0} → (P → ⊥) → (false ≡ true) ↔ P
 refuted h = (λ e. absurd (false≢true e), λ p. absurd (h p))
 

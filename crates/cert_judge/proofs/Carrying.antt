@@ -125,7 +125,7 @@ same_items items = record { certificates = λ v x c at is. at; lists = λ x l is
 never_both : (l : RevocationList) (d : Certificate) → list l ≡ certificate d → ⊥
 never_both l d e = cc
 
--- a further certificate behind the others
+-- a further certificate after the others
 pub one_item_more : (items : List Item) (y : Item) (d : Certificate) → y.class ≡ certificate d → Keeps (λ v. v) items (items ++ y ∷ [])
 one_item_more items y d is_y =
     let long = length-append items (y ∷ []) in record {

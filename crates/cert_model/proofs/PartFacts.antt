@@ -24,7 +24,7 @@ element_head class constructed tag content rest s small fits e =
     let below = class_below class in
     (record { class = below; tag = small; size = omega arith }, spelled)
 
--- what is behind a header of a size holds the content
+-- what comes after a header of a size holds the content
 pub content_at : (n : ℕ) (after content rest : List ℕ) → n ≡ length content → after ≡ content ++ rest
     → (n ≤ length after) × (take n after ≡ content) × (take (length after - n) (drop n after) ≡ rest)
 content_at n after content rest size e =

@@ -176,7 +176,7 @@ pub(crate) fn why_unlinked_under<V: Vouch>(
     Ok(found)
 }
 
-/// The same by all items, among which the lists of that name are looked for.
+/// The reasons by all items, among which the lists of that name are looked for.
 fn why_unlinked_among<V: Vouch>(
     alloc: Global,
     items: &[ReadItem<'_>],

@@ -72,7 +72,7 @@ begun nodes search e bests handed all risen rl ol bl hl =
       nothing = e;
     }
 
--- where an offer rose the offers do not stand
+-- if an offer rose the offers are not stable
 pub moves : (old new : List Reach) (risen : List ℕ) → HaveRisen old new [] risen → 0 < length risen → StandsUnder new old → ⊥
 moves old new risen h some under = elim (h.rose (get_or risen 0 0) (Contains-get_or risen 0 0 some)) [ inl b ↦ nothing_in (get_or risen 0 0) b | inr n ↦ n (under (get_or risen 0 0)) ]
 

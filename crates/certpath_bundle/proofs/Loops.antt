@@ -16,7 +16,7 @@ lines_more f xs k d first text more lt before is =
 pub lines_all : {X : Type 0} (f : X → List ℕ) (xs : List X) (k : ℕ) (first text : List ℕ) → length xs ≤ k → text ≡ first ++ flat_map f (take k xs) → text ≡ first ++ flat_map f xs
 lines_all f xs k first text le before = before ∙ ap (λ l. first ++ flat_map f l) (take_all k xs le)
 
--- texts of what values tell
+-- texts of what values hold
 pub lines_of_map : {X Y : Type 0} (f : Y → List ℕ) (v : X → Y) (xs : List X) → flat_map (λ x. f (v x)) xs ≡ flat_map f (map v xs)
 lines_of_map f v [] = refl
 lines_of_map f v (x ∷ xs) = ap (λ z. f (v x) ++ z) (lines_of_map f v xs)

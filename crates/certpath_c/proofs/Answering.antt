@@ -89,7 +89,7 @@ one_table width (x ∷ xs) (y ∷ ys) some v w f g e =
     let tail : xs ≡ ys = one_table width xs ys some v.1 w.1 f.1 g.1 (same_backs _ _ _ _ h long) in
     ap (λ r. r ∷ xs) head ∙ ap (λ rs. y ∷ rs) tail
 
--- two answers that are the same numbers are adequate alike
+-- two answers of equal numbers are adequate alike
 same_adequate : (g : Graph) (target width : ℕ) (row : AnswerRow) (positions entries : List ℕ) (answer other : Answer) → (IsAdequate g target answer → answer ≡ NoTarget ⊎ (0 < width)) → IsAnswerOf width row positions entries answer
     → IsAnswerOf width row positions entries other → IsAdequate g target answer → IsAdequate g target other
 same_adequate g target width row positions entries (Path ps a t) (Path qs b u) some is is' h =

@@ -1,4 +1,4 @@
--- What `certpath_questions` answers.
+-- What `certpath_questions` returns.
 use Rattle.std.specs.Prelude.{◌≡◌, ◌⊎◌, ℕ, ℤ, Bool, true, false, List, map, length}
 use Rattle.cert_framing.specs.declared.ending.End.{End}
 use Rattle.cert_framing.specs.Framing.{IsFraming}

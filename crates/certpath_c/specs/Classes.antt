@@ -1,4 +1,4 @@
--- What `certpath_classes` answers.
+-- What `certpath_classes` returns.
 use Rattle.std.specs.Prelude.{◌≡◌, ◌⊎◌, ℕ, ℤ, Bool, true, false, List, [], ◌∷◌, length}
 use Rattle.cert_framing.specs.declared.ending.End.{End}
 use Rattle.cert_framing.specs.Framing.{IsFraming}

@@ -1,4 +1,4 @@
--- What `certpath_item` answers.
+-- What `certpath_item` returns.
 use Rattle.std.specs.Prelude.{◌≡◌, ◌⊎◌, ◌++◌, ℕ, ℤ, pos, Bool, true, false, List, [], length, Option, Some, None, option_copied, replicate}
 use Rattle.cert_model.specs.Class.{Class, certificate, list, other, IsClassOf}
 use Rattle.cert_model.specs.KeyIds.{IsAuthorityKeyId, IsSubjectKeyId}

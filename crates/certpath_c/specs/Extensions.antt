@@ -1,4 +1,4 @@
--- What `certpath_extensions` answers.
+-- What `certpath_extensions` returns.
 use Rattle.std.specs.Prelude.{◌≡◌, ◌⊎◌, ◌++◌, ℕ, ℤ, Bool, true, false, cond, List, length, map, Option, Some, None, Vec}
 use Rattle.std.specs.List.{flat_map}
 use Rattle.std.specs.declared.alloc.Global.{Global}

@@ -1,4 +1,4 @@
--- What `certpath_field` answers.
+-- What `certpath_field` returns.
 use Rattle.std.specs.Prelude.{◌≡◌, ◌⊎◌, ℕ, ℤ, Bool, true, false, List, length, Option, Some, None, nat_eq, if◌then◌else◌}
 use Rattle.cert_model.specs.Class.{Class, certificate, list, other, IsClassOf}
 use Rattle.cert_model.specs.Fields.{Certificate, RevocationList}

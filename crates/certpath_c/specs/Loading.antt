@@ -1,4 +1,4 @@
--- What `certpath_load` answers.
+-- What `certpath_load` returns.
 use Rattle.std.specs.Prelude.{◌≡◌, ◌⊎◌, ◌+◌, ℕ, ℤ, Bool, true, false, ◌||◌, if◌then◌else◌, List, [], ◌∷◌, length, count_by, Option, Some, None, is_some}
 use Rattle.std.specs.List.{list_any}
 use Rattle.certpath_pem.specs.Sources as sources
@@ -127,7 +127,7 @@ abbrev pub is_no_members : Reason → Bool
 is_no_members rows.no_members = true
 is_no_members _ = false
 
--- what stands in SignedData, or that it holds nothing
+-- what is in SignedData, or that it holds nothing
 abbrev pub is_signed : Shown → Bool
 is_signed (shown_item place kind size) = is_some place.member
 is_signed (shown_left_out place reason) = is_no_members reason || is_some place.member

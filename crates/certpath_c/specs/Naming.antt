@@ -1,4 +1,4 @@
--- What `certpath_name` answers.
+-- What `certpath_name` returns.
 use Rattle.std.specs.Prelude.{◌≡◌, ◌⊎◌, ℕ, ℤ, Bool, true, false, List, [], length}
 use Rattle.x509_names.specs.Fields.{Name}
 use Rattle.x509_names.specs.Names as grammar

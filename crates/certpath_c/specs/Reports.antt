@@ -23,7 +23,8 @@ use Rattle.certpath_c.specs.Status.{done, out_of_memory, too_small, bad_moment, 
 use Rattle.certpath_c.specs.Wanted.{IsNoHost}
 use Rattle.certpath_c.specs.Writing.{Puts}
 
--- what the program prints on a target, on what stands in its way, and on all items, where this is demanded
+-- what the program prints on a target, on what prevents its path, and on all items, if this is
+-- demanded
 abbrev pub IsPathReport : run.Settings → Demand → Framed → Framed → Vouchers → List ℕ → Type 0
 IsPathReport settings demand items anchors pairs text = (outcome : Outcome) × IsReportFor settings demand outcome items anchors pairs text
 

@@ -1,4 +1,4 @@
--- What `certpath_tbs` answers.
+-- What `certpath_tbs` returns.
 use Rattle.std.specs.Prelude.{◌≡◌, ◌⊎◌, ℕ, ℤ, Bool, true, false, List, [], ◌∷◌, length, bytes_eq, if◌then◌else◌}
 use Rattle.std.specs.List.{flat_map}
 use Rattle.cert_model.specs.Class.{IsCertificateItem}

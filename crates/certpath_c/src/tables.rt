@@ -8,7 +8,7 @@ use crate::answers::AnswerRow;
 use cert_graph::{Answer, Reach, Table, steps_of_rows};
 use std::alloc::{AllocError, Global};
 
-/// The reach of a number; none where it stands for none.
+/// The reach of a number; none if it stands for none.
 fn reach_of(number: u64) -> Option<Reach>
     ensures found { IfSome result (λ r. (reach_number r ≡ number) × FitsReach r) }
     ensures none { IfNone result (IsNoReach number) }

@@ -23,7 +23,7 @@ fn main(rt: HostRuntime) -> ExitCode {
     ExitCode::from(status_of(&rt))
 }
 
-/// Does what the words ask for, and answers the exit status.
+/// Does what the words ask for, and returns the exit status.
 fn status_of<R: Runtime + AllocGlobal>(rt: &R) -> u8 {
     let words = match words_given(rt) {
         Ok(words) => words,
@@ -440,7 +440,7 @@ fn opened<'a, R: Runtime + AllocGlobal, T: Drop>(
     }
 }
 
-/// Says on standard error what there is to say, and answers the exit status.
+/// Says on standard error what there is to say, and returns the exit status.
 fn say<R: Eprint>(rt: &R, exit: Exit<'_>) -> u8
     ensures { result ≡ exit.entry.status }
 {

@@ -145,7 +145,7 @@ TellsQuestion rows (Err (Host reason)) = ⊥
 TellsQuestion rows (Err (PurposeFault reason)) = ⊥
 TellsQuestion rows (Err OutOfMemory) = LacksOneOf path_arguments rows
 
--- the files, and how all items are judged; likewise
+-- the words of a question on all items; none only if one of its arguments has no value
 abbrev pub TellsAll : List Row → Result AllTexts WordFault → Type 0
 TellsAll rows (Ok texts) = AreAllTexts rows texts
 TellsAll rows (Err (Refused said)) = ⊥
@@ -248,7 +248,7 @@ RefusesPurposeOf (Some text) (PurposeFault reason) = RefusesPurpose text.now rea
 RefusesPurposeOf (Some text) OutOfMemory = Unit {0}
 RefusesPurposeOf (Some text) fault = ⊥
 
--- what is answered to the words behind `path`, and behind `why`
+-- what is returned for the words after `path`, and after `why`
 abbrev pub AsksQuestion : PathTexts → Question → Type 0
 AsksQuestion t question = NamesFiles t.all question.files × WritesTarget t question.settings × WritesHost t.host question.host × WritesPurposeOf t.all.purpose question.purpose
 
@@ -288,7 +288,7 @@ ReadsWhy t (Ok (Why question)) = AsksQuestion t question
 ReadsWhy t (Ok _) = ⊥
 ReadsWhy t (Err fault) = RefusesDemands t fault
 
--- and behind `questions`
+-- what is returned for the words after `questions`
 abbrev pub ReadsQuestions : QuestionsTexts → Result Command WordFault → Type 0
 ReadsQuestions t (Ok (Questions files limit)) = (files.bundle.now ≡ t.bundle.now) × (files.anchors.now ≡ t.anchors.now) × WritesNumber t.limit.now limit
 ReadsQuestions t (Ok _) = ⊥
@@ -299,14 +299,14 @@ ReadsQuestions t (Err (Host reason)) = ⊥
 ReadsQuestions t (Err (PurposeFault reason)) = ⊥
 ReadsQuestions t (Err OutOfMemory) = ⊥
 
--- and behind `paths`
+-- what is returned for the words after `paths`
 abbrev pub ReadsPaths : PathsTexts → Result Command WordFault → Type 0
 ReadsPaths t (Ok (Paths files evidence settings purpose)) =
     NamesFiles t.all files × (option_map (λ s. s.now) evidence ≡ option_map (λ s. s.now) t.evidence) × WritesSettings t.all settings × WritesPurposeOf t.all.purpose purpose
 ReadsPaths t (Ok _) = ⊥
 ReadsPaths t (Err fault) = RefusesAll t.all fault
 
--- and behind `recheck`
+-- what is returned for the words after `recheck`
 abbrev pub ReadsRecheck : RecheckTexts → Result Command WordFault → Type 0
 ReadsRecheck t (Ok (Recheck files settings purpose)) =
     NamesFiles t.all files.searched × (files.evidence.now ≡ t.evidence.now) × WritesSettings t.all settings × WritesPurposeOf t.all.purpose purpose

@@ -33,7 +33,7 @@ impl<'a> PathFiles<'a> {
     }
 }
 
-/// How far a command over three files came that answers by a T.
+/// How far a command over three files came that returns a T.
 #[derive(Debug, Drop)]
 pub enum PathOutcome<'a, T> {
     /// This file can't be opened.

@@ -24,7 +24,7 @@ fn digits_of(octets: &[u8]) -> Option<&str>
     str::from_utf8(octets).ok()
 }
 
-/// Whether a zero stands in front of other octets.
+/// Whether a zero comes before other octets.
 fn has_zero_in_front(octets: &[u8]) -> bool
     ensures { IsTrue result ↔ ((1 < length octets.now) × (slice_index octets.now 0 ≡ 48)) }
 {

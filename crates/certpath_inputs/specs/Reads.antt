@@ -1,4 +1,5 @@
--- What the reading of a whole input does to its reader. Where a device tells no octets, the relations say of some stream.
+-- What the reading of a whole input does to its reader. If a device's octets are unknown, the
+-- relations hold for some stream.
 use Rattle.std.specs.Prelude.{◌≡◌, ℕ, ◌+◌, List, Option, Result, Ok, Err}
 use Rattle.std.specs.Io.KnownBytes.{Consumes, IsAtEnd}
 use Rattle.cert_framing.specs.declared.ending.End.{End}

@@ -1,4 +1,5 @@
--- What a run that checks evidence does to its readers and its writer. Where a device tells no octets, the relations say of some stream. This page is to be believed.
+-- What a run that checks evidence does to its readers and its writer. If a device's octets are
+-- unknown, the relations hold for some stream. This page is to be believed.
 use Rattle.std.specs.Prelude.{◌≡◌, ◌≢◌, ◌↔◌, ℕ, ◌+◌, Bool, List, ◌++◌, length, codes, Option, Some, None, IsTrue}
 use Rattle.std.specs.Io.KnownBytes.{Appends}
 use Rattle.asn1_device.specs.Counts.{AppendsFront}

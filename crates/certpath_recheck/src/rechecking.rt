@@ -112,8 +112,9 @@ pub fn run_recheck<B: Source, A: Source, V: Source, E: Source, W: Sink>(
     )
 }
 
-/// Likewise where a purpose may be demanded of each certificate of the paths. `OtherPurpose` where the evidence doesn't begin with the
-/// line of that purpose; the number of a bad line counts it. With `None` it is `run_recheck`.
+/// `run_recheck`, with a purpose that may be demanded of each certificate of the paths.
+/// `OtherPurpose` if the evidence doesn't begin with the line of that purpose; the number of a bad
+/// line counts it. With `None` no purpose is demanded.
 #[tactic(auto, using(crate::proofs::RecheckFacts::no_failed_write, crate::proofs::RecheckFacts::unwritten_uses, crate::proofs::RecheckFacts::refused_uses))]
 pub fn run_recheck_for<B: Source, A: Source, V: Source, E: Source, W: Sink>(
     alloc: Global,

@@ -45,7 +45,7 @@ path_line positions anchor = codes "path" ++ (position_words positions ++ (codes
 same_path : (ps qs : List ℕ) (a b : ℕ) → ps ≡ qs → a ≡ b → path_line ps a ≡ path_line qs b
 same_path ps qs a b p q = ap (λ (l : List ℕ). path_line l a) p ∙ ap (λ (n : ℕ). path_line qs n) q
 
--- answers that say the same have one line and one kind
+-- answers that agree have one line and one kind
 same_answer : (answer other : Answer) → SayTheSame answer other → (answer_line answer ≡ answer_line other) × (kind_of answer ≡ kind_of other)
 same_answer (Path ps a table) (Path qs b second) s = (same_path ps.items qs.items a b s.0 s.1, refl)
 same_answer (Path ps a table) (NoPath second) s = absurd s

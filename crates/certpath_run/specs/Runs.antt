@@ -1,4 +1,5 @@
--- What a run does to its readers and its writer. Where a device tells no octets, the relations say of some stream.
+-- What a run does to its readers and its writer. If a device's octets are unknown, the relations
+-- hold for some stream.
 use Rattle.std.specs.Prelude.{◌≡◌, ℕ, true, List, [], ◌++◌, Option, None}
 use Rattle.std.specs.Io.KnownBytes.{Appends}
 use Rattle.asn1_device.specs.Counts.{AppendsFront}

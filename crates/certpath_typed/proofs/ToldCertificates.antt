@@ -1,4 +1,4 @@
--- A strict certificate that was read leniently tells its own fields.
+-- A strict certificate that was read leniently has its own fields.
 use Rattle.std.proofs.Common.{◌≡◌, ◌∙◌, refl, ap, subst, ℕ, zero, suc, ◌≤◌, min, true, List, [], ◌++◌, option_map, arith}
 use Rattle.asn1_core.specs.Elements.{Element}
 use Rattle.cert_model.specs.Fields.{Certificate}

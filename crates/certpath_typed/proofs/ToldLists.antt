@@ -1,4 +1,4 @@
--- A strict revocation list that was read leniently tells its own fields.
+-- A strict revocation list that was read leniently has its own fields.
 use Rattle.std.proofs.Common.{◌≡◌, ◌∙◌, refl, sym, ap, subst, ℕ, min, true, List, [], ◌∷◌, ◌++◌, map, flat_map, Option, Some, None, option_map}
 use Rattle.std.specs.List.{AllByRecursion, AllZip}
 use Rattle.asn1_core.specs.Elements.{Element}

@@ -234,7 +234,7 @@ some_none e = cc
 one_held : {X : Type 0} {x y : X} → Some x ≡ Some y → x ≡ y
 one_held e = cc
 
--- what stands in a map under a name are the certificates of the name
+-- what is in a map under a name are the certificates of the name
 abbrev AreHeld : List ReadItem → BTreeMap (Bor (List ℕ)) Issuers → Type 0
 AreHeld items m = (q : Bor (List ℕ)) (issuers : Issuers) → mapped.get R m q ≡ Some issuers → AreIssuers items q.now issuers
 

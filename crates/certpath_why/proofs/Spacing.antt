@@ -142,7 +142,7 @@ lasts_rise rs h i j d le lt = elim (cases_lt i j) [
   | inr past ↦ let same : i ≡ j = omega arith in subst (λ k. (get_or rs i d).last ≤ (get_or rs k d).last) same (omega arith)
 ]
 
--- a position that is before the range that ends at it or behind it
+-- a position that is before the range that ends at it or after it
 pub in_at : (rs : List Range) (p at : ℕ) → at < length rs → ((d : Range) → ((get_or rs at d).first ≤ p) × (p ≤ (get_or rs at d).last)) → IsInRanges rs p
 in_at rs p at lt h =
     let d : Range = record { first = 0; last = 0 } in

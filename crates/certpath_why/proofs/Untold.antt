@@ -1,4 +1,4 @@
--- What follows where no line is told: of certificates, links and paths.
+-- What follows if there is no line: of certificates, links and paths.
 use Rattle.std.specs.Prelude.{◌↔◌, ◌⊎◌}
 use Rattle.std.proofs.Common.{◌≡◌, ◌∙◌, ap, sym, subst, refl, ℕ, ◌<◌, Bool, true, false, nat_eq, eq-eqb, eqb-true, List, [], ◌∷◌, length, flat_map, get_or, arith, inl, inr}
 use Rattle.std.specs.List.{All}

@@ -1,4 +1,4 @@
-//! What stands in the way of a certification path, as lines of text (RFC 5280, 6.1 and 6.3).
+//! What prevents a certification path, as lines of text (RFC 5280, 6.1 and 6.3).
 //!
 //! The lines say, for each certificate that is reached from the target by the names of issuers, why
 //! it is not usable, which purpose it isn't for and which host it doesn't serve, where these are

@@ -51,7 +51,7 @@ pub(crate) fn push_pair(text: &mut String, octet: u8) -> Result<(), AllocError>
     write!(text, "{octet:02X}")
 }
 
-/// Appends an octet, escaped where it doesn't stand for itself.
+/// Appends an octet, escaped if it doesn't stand for itself.
 pub(crate) fn push_octet(text: &mut String, octet: u8) -> Result<(), AllocError>
     ensures { OnOk result (string_bytes text.new ≡ string_bytes text.old ++ escaped_octet octet) }
 {
@@ -63,7 +63,7 @@ pub(crate) fn push_octet(text: &mut String, octet: u8) -> Result<(), AllocError>
     }
 }
 
-/// Appends octets likewise.
+/// Appends octets, each escaped if it doesn't stand for itself.
 fn push_escaped(text: &mut String, octets: &[u8]) -> Result<(), AllocError>
     ensures { OnOk result (string_bytes text.new ≡ string_bytes text.old ++ escaped octets.now) }
 {
