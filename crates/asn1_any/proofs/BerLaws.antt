@@ -240,7 +240,7 @@ ends_header (suc levels) octets after (piece ∷ pieces) each whole =
     let l = leads levels piece octets tail each.0 (whole ∙ append_assoc piece (concat pieces) (end_of_contents ++ after)) in
     (l.e.head, (l.body ++ tail, l.read))
 
--- a walk that lacks octets only where no fewer make it end
+-- a walk that lacks octets only if no fewer make it end
 abbrev Lacks : (ℕ → ℕ → List ℕ → Rest) → ℕ → List ℕ → List ℕ → ℕ → Type 0
 Lacks go steps rest more n = (levels nested : ℕ) (octets : List ℕ) → AllBelowBase 256 octets → length octets ≤ steps → go levels nested octets ≡ Err (refusals.Incomplete (needed.Size n)) →
     AllEnd levels nested rest (octets ++ more) → ⊥

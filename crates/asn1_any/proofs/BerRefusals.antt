@@ -23,7 +23,7 @@ use Rattle.asn1_any.proofs.Refusals.{refused_steps, part_refused}
 use Rattle.asn1_any.proofs.BerLaws.{AllEnd, end_is, ends_lack}
 use Rattle.asn1_any.proofs.BerReading.{header_first}
 
--- a refusal of a reading that takes no memory; where octets are missing, some are
+-- a refusal of a reading that takes no memory; if octets are missing, some are
 abbrev IsPlain : Refusal Error → Type 0
 IsPlain (refusals.Incomplete needed.Unknown) = ⊥
 IsPlain (refusals.Incomplete (needed.Size n)) = 0 < n

@@ -17,7 +17,7 @@ pub high-push : (ds : List ℕ) (d : ℕ) → high (ds ++ d ∷ []) ≡ high ds 
 high-push [] d = refl
 high-push (a ∷ ds) d = ap (λ (l : List ℕ). (128 + a) ∷ l) (high-push ds d)
 
--- one more digit, where the number is not 0
+-- one more digit, if the number is not 0
 pub digits_of-push : (n d : ℕ) → d < 128 → 0 < n * 128 + d → digits_of 128 (n * 128 + d) ≡ digits_of 128 n ++ d ∷ []
 digits_of-push n d below some =
     let step = digits_of_step 128 (n * 128 + d) (omega arith) some in

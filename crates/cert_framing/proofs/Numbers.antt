@@ -158,7 +158,7 @@ pub least_of_known : FewestDigits → (known : List ℕ) (count k : ℕ) → 0 <
 least_of_known fewest [] count k some first below size high = absurd (omega arith)
 least_of_known fewest (d ∷ ds) count k some first below size high = least_behind fewest d ds count k (omega arith) below size high
 
--- where none is known
+-- if none is known
 pub least_of_lone : (known : List ℕ) (count : ℕ) → length known < 1 → count ≡ 1 → IsLeastLength known count (Some 128)
 least_of_lone [] count none one = subst (λ (n : ℕ). IsLeastLength [] n (Some 128)) (sym one) least_of_one
 least_of_lone (d ∷ ds) count none one = absurd (omega arith)

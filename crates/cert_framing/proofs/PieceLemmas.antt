@@ -87,7 +87,7 @@ part_is from [] octets k within = absurd (omega arith)
 part_is from (end ∷ ends) octets zero within = refl
 part_is from (end ∷ ends) octets (suc k) within = part_is end ends octets k (omega arith)
 
--- there is no part where there is no place
+-- there is no part if there is no place
 pub none_from_places : (b : Bool) (n : ℕ) (ends octets : List ℕ) → b ≡ eqb n 0 → n ≡ length ends
     → (IsTrue b → pieces 0 ends octets ≡ []) × (pieces 0 ends octets ≡ [] → IsTrue b)
 none_from_places b n [] octets test size = (λ _. refl, λ _. test ∙ eq-eqb n 0 size)

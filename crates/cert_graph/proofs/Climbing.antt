@@ -49,7 +49,7 @@ none_below g row members stairs i count d h within last k below t =
       | inr above ↦ let e : k ≡ i - 1 = omega arith in last some (subst (λ (j : ℕ). Takes (get_or stairs j d).reach count) e t)
     ]
 
--- where no stair takes a count, no member is open
+-- if no stair takes a count, no member is open
 pub none_taking : (g : Graph) (row : List Reach) (members : List ℕ) (stairs : List Stair) (i count : ℕ) (d : Stair) → AreStairs g row members stairs → length stairs ≤ i
     → ((k : ℕ) → k < i → Takes (get_or stairs k d).reach count → ⊥) → IsLeastOption (OpenIn g row members count) None
 none_taking g row members stairs i count d h past before n o =

@@ -209,7 +209,7 @@ rows_counted none steps i within = length-rows none (take i steps) ∙ length-ta
 pub all_flights : (g : Graph) (rows : List (List Reach)) (groups : List Group) (flights : List (List Flight)) → OfEachGroup (AreFlightsSoFar g rows) groups flights → OfEachGroup (AreFlights g rows) groups flights
 all_flights g rows groups flights h = (h.0, λ k group own lt. (h.1 k group own lt).0)
 
--- stairs are one where their positions and reaches are
+-- stairs are one if their positions and reaches are
 abbrev stair_at : ℕ → Reach → Stair
 stair_at position reach = record { position = position; reach = reach }
 

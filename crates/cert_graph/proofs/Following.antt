@@ -60,7 +60,7 @@ pub limits_kept : (nodes : Nodes) (before row : List Reach) → StandsOver row b
 unfolding HoldsEachLimit HoldsLimits HoldsLimit
 limits_kept nodes before row over h = λ k d lt some j e inside fit. at_most_trans _ _ _ (h k d lt some j e inside fit) (over _)
 
--- where the groups of what changed before are followed, all are
+-- if the groups of what changed before are followed, all are
 pub followed : (nodes : Nodes) (places : List (List ℕ)) (last : List Change) (older before row : List Reach) → AreMemberships nodes places → before ≡ changed older last → StandsOver row before → FollowsRow nodes older before
     → FollowsAt nodes before row (touched places last) → FollowsRow nodes before row
 unfolding FollowsRow HoldsAllPassed HoldsPassed

@@ -82,7 +82,7 @@ inventory_true g inventory h = record {
   each = λ t within d. verdict_true g (shared_rows g inventory) t (get_or inventory.verdicts.items t d) (h.each t within d);
 }
 
--- an inventory's parts, where its rows are written out
+-- an inventory's parts, if its rows are written out
 pub inventory_iff : (g : Graph) (inventory : Inventory) (rows : List (List Reach)) → rows ≡ shared_rows g inventory → length inventory.verdicts.items ≡ g.items → IsTable g rows → StandsAtLast g rows
     → {P : Type 0} → (P ↔ OfEach (IsAdequateVerdict g rows) inventory.verdicts.items) → P ↔ IsAdequateInventory g inventory
 inventory_iff g inventory rows same count table stands h = (

@@ -56,7 +56,7 @@ shut_iff nodes row v true k =
     refuted (λ h. none_taken (at_row row x.0) 0 (h x.0 x.2.0 x.2.1) x.2.2)
 shut_iff nodes row v false k = granted (λ w fit e. no_takes (at_row row w) (λ t. false≢true (k.1 ((open_below nodes row v 0 (length nodes.items.items)).1 (w, fit.0, (fit, e, t))))))
 
--- no anchor, where the test finds none
+-- no anchor, if the test finds none
 pub no_anchor : (nodes : Nodes) (v : ℕ) (r : Bool) → ((r ≡ true) ↔ ((a : ℕ) × LinksToAnchor nodes v a)) → r ≡ false → (b : ℕ) → (graph_of nodes).AnchorEdge v b → ⊥
 no_anchor nodes v r k e b edge = false≢true (sym e ∙ k.1 (b, edge))
 

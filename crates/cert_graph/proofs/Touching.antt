@@ -180,7 +180,7 @@ listed nodes places k group w filled lt c =
     let within : w < length nodes.items.items = All-contains (λ (u : ℕ). u < length nodes.items.items) (get_or nodes.groups.items k group).members.items w (nodes.members_within k group lt) c in
     ((filled.each w within).exact k lt).1 (lt, λ d. subst (λ (g : Group). Contains g.members.items w) (get_or_default nodes.groups.items k group d lt) c)
 
--- where all that changed was gone over, all flights go on
+-- if all that changed was gone over, all flights go on
 pub all_climbed : (nodes : Nodes) (rows : List (List Reach)) (places : List (List ℕ)) (step : List Change) (row now : List Reach) (flights : List (List Flight)) → 0 < length rows → AreMemberships nodes places
     → row ≡ row_of rows (length rows - 1) → now ≡ changed row step → AreClimbing (graph_of nodes) rows now (touched places step) nodes.groups.items flights
     → OfEachGroup (AreFlightsSoFar (graph_of nodes) (rows ++ now ∷ [])) nodes.groups.items flights

@@ -30,7 +30,7 @@ pub fn processed_by_nobody_else<V: Vouch>(_vouch: &V)
 {}
 
 /// Whether a certificate is usable depends on what is processed in its further critical extensions
-/// alone: it is usable exactly where it is if the caller processes each extension, and each is
+/// alone: it is usable exactly if it is if the caller processes each extension, and each is
 /// processed.
 pub fn usable_by<V: Vouch>(_vouch: &V)
     ensures { (moment : CivilTime) (item : List ℕ) (c : Certificate) → let P = (V.vouches_for _vouch.now).Processes item in

@@ -13,7 +13,7 @@ use cert_graph::lists::{empty_lists, put};
 use cert_graph::{Group, Place, link_places};
 use std::alloc::{AllocError, Global};
 
-/// Adds a list of this number, where there is one.
+/// Adds a list of this number, if there is one.
 fn append(all: &mut Vec<usize>, lists: &[Vec<usize>], number: usize) -> Result<(), AllocError>
     ensures { OnOk result ((v : ℕ) → Contains all.new.items v ↔ (Contains all.old.items v ⊎ IsIn (map (λ l. l.items) lists.now) number v)) }
 {

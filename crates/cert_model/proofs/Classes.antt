@@ -271,7 +271,7 @@ class_once s other (certificate c) p q = absurd (p.0 c q)
 class_once s other (list l) p q = absurd (p.1 l q)
 class_once s other other p q = refl
 
--- equal fields where equal octets, and the other way round
+-- equal fields if equal octets, and the other way round
 
 pub one_certificate : (s r : List ℕ) (c d : Certificate) → IsCertificateItem s c → IsCertificateItem r d → (c ≡ d) ↔ (s ≡ r)
 one_certificate s r c d p q =

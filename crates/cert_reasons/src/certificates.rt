@@ -129,7 +129,7 @@ pub fn has_reason<V: Vouch>(
     }
 }
 
-/// Adds a reason, where it applies.
+/// Adds a reason, if it applies.
 fn add_if<V: Vouch>(
     found: &mut Vec<Unusable>,
     fields: &CertFields<'_>,
@@ -149,7 +149,7 @@ fn add_if<V: Vouch>(
     Ok(())
 }
 
-/// Adds a reason, where it is found to apply.
+/// Adds a reason, if it is found to apply.
 fn add<V: Vouch>(
     found: &mut Vec<Unusable>,
     fields: &CertFields<'_>,
@@ -298,7 +298,7 @@ fn is_usable<V: Vouch>(
 }
 
 /// The reasons why a certificate may not be in a path at a moment, by what is processed in the item
-/// that it is, given by its octets. Exactly those that apply, in their order; none where it is usable.
+/// that it is, given by its octets. Exactly those that apply, in their order; none if it is usable.
 ///
 /// The only error is out of memory. A certificate that isn't usable costs as many comparisons of
 /// identifiers as a sorted set of those of its extensions, and three passes over them.

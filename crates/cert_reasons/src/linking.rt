@@ -23,7 +23,7 @@ use std::alloc::{AllocError, Global};
 ///
 /// Made once, it returns of each issuer and anchor of its issuer's name why the certificate is not
 /// linked to it, at the cost of a look-up of vouchers for it, and one for each list that has such
-/// an entry; where lists are demanded, also for lists that are in force, up to the first with a
+/// an entry; if lists are demanded, also for lists that are in force, up to the first with a
 /// voucher.
 #[derive(Drop)]
 pub struct Linking<'b, 'a> {

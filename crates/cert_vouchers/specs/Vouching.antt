@@ -31,7 +31,7 @@ VouchesBy pairs key item = HasPair pairs (sha256 key) (sha256 item)
 abbrev pub ArePlaced : List (Bor (List ℕ)) → ℕ → BTreeMap (List ℕ) ℕ → Type 0
 ArePlaced keys k m = (d : List ℕ) (n : ℕ) → (mapped.get (slice_cmp nat_cmp) m d ≡ Some n) ↔ ((n < k) × ((key : Bor (List ℕ)) → sha256 (slice_index_or keys n key).now ≡ d))
 
--- A row with one place more where something holds.
+-- A row with one place more if something holds.
 pub record IsMore (old new : List ℕ) (P : Type 0) (v : ℕ) : Type 0 where
   pub exact : (u : ℕ) → Contains new u ↔ (Contains old u ⊎ ((u ≡ v) × P))
   pub ascends : IsStrictlyIncreasing old → ((u : ℕ) → Contains old u → u ≤ v) → IsStrictlyIncreasing new

@@ -27,8 +27,8 @@ pub enum VoucherError {
 /// the digest of a key element and the digest of an item (SHA-256, 64 hex digits each, in either case of letters) with a space between
 /// them.
 ///
-/// `BadLine` with the number of the first line that is of neither form, counted from 1; `OutOfMemory` where a pair found no room, which
-/// a bad line after it doesn't change.
+/// `BadLine` with the number of the first line that is of neither form, counted from 1;
+/// `OutOfMemory` if a pair found no room, which a bad line after it doesn't change.
 pub fn read_vouchers(alloc: Global, text: &[u8]) -> Result<Vouchers, VoucherError>
     ensures { AnswersVouchers text.now result }
 {

@@ -78,7 +78,7 @@ impl<'a> Memory<'a> {
         }
     }
 
-    /// The digest of a text, where it is the one at a place.
+    /// The digest of a text, if it is the one at a place.
     fn digest_at(&mut self, place: usize, text: &[u8]) -> Option<[u8; 32]>
         ensures { IfSome result (λ d. d ≡ sha256 text.now) }
     {
@@ -106,7 +106,7 @@ impl<'a> Memory<'a> {
         self.last = place;
     }
 
-    /// The digest of a known text, where it is the one that was found last or the one that was
+    /// The digest of a known text, if it is the one that was found last or the one that was
     /// asked for after that.
     fn guess(&mut self, text: &[u8]) -> Option<[u8; 32]>
         ensures { IfSome result (λ d. d ≡ sha256 text.now) }
@@ -160,7 +160,7 @@ fn digest_in(memory: &RefCell<Memory<'_>>, text: &[u8]) -> [u8; 32]
 /// once, once it is asked for, if all texts are expected before the first question.
 ///
 /// The first question after a text was expected sorts all expected texts, compared whole. Each
-/// question takes as many comparisons of texts as a look-up in a sorted map, and two where it goes
+/// question takes as many comparisons of texts as a look-up in a sorted map, and two if it goes
 /// over the same items as before, in their order. A text that wasn't expected is hashed each time;
 /// nothing else depends on which texts were expected. `vouched_by_each` asks by each item's digest
 /// if its keys are different, and otherwise for each pair of a key and a chosen item.

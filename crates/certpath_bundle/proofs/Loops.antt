@@ -74,7 +74,7 @@ pub five_appended : (first a b c d e one two three four five : List ℕ) → one
 five_appended first a b c d e one two three four five p q r s t =
     t ∙ ap (λ z. z ++ e) s ∙ append_assoc three d e ∙ three_appended first a b (c ++ (d ++ e)) one two (three ++ (d ++ e)) p q (ap (λ z. z ++ (d ++ e)) r ∙ append_assoc two c (d ++ e))
 
--- what `push_str` says, where it returns `Ok`
+-- what `push_str` says, if it returns `Ok`
 pub on_push : {T E : Type 0} (r : Result T E) (new done left : List ℕ) → new ≡ (if is_ok r then done else left) → OnOk r (new ≡ done)
 on_push (Ok x) new done left e = e
 on_push (Err x) new done left e = tt

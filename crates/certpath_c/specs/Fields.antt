@@ -26,7 +26,7 @@ field_in number (certificate c) = certificate_field number c
 field_in number (list l) = list_field number l
 field_in number other = None
 
--- the item has the field, whose octets were put into the buffer, or not, where they don't fit
+-- the item has the field, whose octets were put into the buffer, or not, if they don't fit
 pub record HasField (item : List ℕ) (number : ℕ) (buffer buffer' : List ℕ) (length' : ℕ) (fits : Bool) : Type 0 where
   pub class : Class
   pub is_class : IsClassOf item class

@@ -25,7 +25,7 @@ end_place octets Clean = octets
 end_place octets (Cut at) = at
 end_place octets (Fault at) = at
 
--- the octets were cut into items, and their spans put into the buffer, or not, where they don't fit
+-- the octets were cut into items, and their spans put into the buffer, or not, if they don't fit
 pub record IsFramed (octets : List ℕ) (limit : ℕ) (spans spans' : List Span) (framed' : Framed) (fits : Bool) : Type 0 where
   pub items : List (List ℕ)
   pub end : End

@@ -44,7 +44,7 @@ pub record HasReport (IsRight : Framed → Framed → Vouchers → List ℕ → 
   pub pairs_are : AreVouchersOf vouchers pairs
   pub is_right : IsRight items anchor_items pairs text
 
--- the text was put into the buffer, or not, where it doesn't fit
+-- the text was put into the buffer, or not, if it doesn't fit
 pub record IsPut (text buffer buffer' : List ℕ) (report report' : Report) (fits : Bool) : Type 0 where
   pub length_is : report'.length ≡ length text
   pub line_kept : report'.bad_line ≡ report.bad_line
@@ -80,7 +80,7 @@ pub record Reports (IsAsked : Demand → Type 0) (IsRight : Policy → Demand �
   pub has_report : HasReport (IsRight policy demand) bundle anchors vouchers settings.limit text
   pub is_put : IsPut text buffer buffer' report report' fits
 
--- what is answered where the settings have a moment and a demand, by what is right
+-- what is answered if the settings have a moment and a demand, by what is right
 abbrev pub ReportAnswer : (Demand → Type 0) → (Policy → Demand → Framed → Framed → Vouchers → List ℕ → Type 0) → List ℕ → List ℕ → List ℕ → Settings → List ℕ → List ℕ → Report → Report → ℤ → Type 0
 ReportAnswer IsAsked IsRight bundle anchors vouchers settings buffer buffer' report report' status =
     ((status ≡ done) × Reports IsAsked IsRight bundle anchors vouchers settings buffer buffer' report report' true)

@@ -39,7 +39,7 @@ abbrev pub IsRebuilt : List ℕ → Identifier → List ℕ → Type 0
 IsRebuilt item identifier octets = (c : Certificate) × IsCertificateItem item c × (octets ≡ certificate_octets (certificate_without identifier c))
 
 -- the item is a certificate, and its TBSCertificate without these extensions was put into the buffer,
--- or not, where it doesn't fit
+-- or not, if it doesn't fit
 pub record HasTbs (item identifier buffer buffer' : List ℕ) (length' : ℕ) (fits : Bool) : Type 0 where
   pub certificate : Certificate
   pub is_certificate : IsCertificateItem item certificate

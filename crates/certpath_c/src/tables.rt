@@ -47,7 +47,7 @@ fn is_short(entries: &[u64], width: usize) -> bool
     width == 0 || entries.len() < width
 }
 
-/// The table of entries; none where they aren't whole rows of this width.
+/// The table of entries; none if they aren't whole rows of this width.
 fn table_of(alloc: Global, entries: &[u64], width: usize) -> Result<Option<Table>, AllocError>
     ensures found { IfOk result (λ o. IfSome o (IsTableOf width entries.now)) }
     ensures none { IfOk result (λ o. IfNone o (AreNoRows width entries.now)) }
@@ -85,7 +85,7 @@ fn path_of(
     })
 }
 
-/// The answer of a row, positions and entries; none where they aren't one.
+/// The answer of a row, positions and entries; none if they aren't one.
 pub(crate) fn given_answer(
     alloc: Global,
     row: &AnswerRow,

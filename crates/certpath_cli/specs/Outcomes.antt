@@ -60,7 +60,7 @@ IsOfSearch files evidence (searched.Found outcome) = IsOfFiles files outcome
 IsOfSearch files evidence (searched.Uncreated file) = file.now ≡ evidence
 IsOfSearch files evidence (searched.Unwritten file) = file.now ≡ evidence
 
--- it is of these files, or of that of the evidence, where there is one
+-- it is of these files, or of that of the evidence, if there is one
 abbrev pub IsOfPaths : PathFiles → Option (Bor (List ℕ)) → PathsOutcome → Type 0
 IsOfPaths files None (searched.Found outcome) = IsOfFiles files outcome
 IsOfPaths files None (searched.Uncreated file) = ⊥

@@ -227,7 +227,7 @@ fn explain<'a, R: Runtime + AllocGlobal>(
     report_on(rt, question.files, &asked)
 }
 
-/// Finds the paths of all items, to standard output, and writes the evidence to a file, where one
+/// Finds the paths of all items, to standard output, and writes the evidence to a file, if one
 /// is named.
 fn find_paths<'a, R: Runtime + AllocGlobal>(
     rt: &R,
@@ -445,7 +445,7 @@ fn say<R: Eprint>(rt: &R, exit: Exit<'_>) -> u8
     ensures { result ≡ exit.entry.status }
 {
     if let Some(message) = &exit.message {
-        // The status says it too, where standard error fails.
+        // The status says it too, if standard error fails.
         let _ = rt.eprint(message);
     }
     exit.status

@@ -115,7 +115,7 @@ pub record LacksOneOf (arguments : List Text) (rows : List Row) : Type 0 where
   pub listed : Contains arguments argument
   pub lacks : first_of argument rows ≡ None
 
--- the words of the command of this name; none only where one of its arguments has no value
+-- the words of the command of this name; none only if one of its arguments has no value
 abbrev pub TellsTexts : Text → List Text → List Row → Result Asked WordFault → Type 0
 TellsTexts name arguments rows (Ok asked) = (name_of asked ≡ name) × AsksOf rows asked
 TellsTexts name arguments rows (Err (Refused said)) = ⊥
@@ -125,7 +125,7 @@ TellsTexts name arguments rows (Err (Host reason)) = ⊥
 TellsTexts name arguments rows (Err (PurposeFault reason)) = ⊥
 TellsTexts name arguments rows (Err OutOfMemory) = LacksOneOf arguments rows
 
--- the words of `bundle`; none where they can't be kept
+-- the words of `bundle`; none if they can't be kept
 abbrev pub GivesBundle : List Row → Result Asked WordFault → Type 0
 GivesBundle rows (Ok asked) = (name_of asked ≡ codes "bundle") × AsksOf rows asked
 GivesBundle rows (Err (Refused said)) = ⊥
@@ -135,7 +135,7 @@ GivesBundle rows (Err (Host reason)) = ⊥
 GivesBundle rows (Err (PurposeFault reason)) = ⊥
 GivesBundle rows (Err OutOfMemory) = Unit {0}
 
--- the words of a question on one target; none only where one of its arguments has no value
+-- the words of a question on one target; none only if one of its arguments has no value
 abbrev pub TellsQuestion : List Row → Result PathTexts WordFault → Type 0
 TellsQuestion rows (Ok texts) = ArePathTexts rows texts
 TellsQuestion rows (Err (Refused said)) = ⊥
@@ -221,7 +221,8 @@ RefusesQuestion t (Host reason) = ⊥
 RefusesQuestion t (PurposeFault reason) = ⊥
 RefusesQuestion t OutOfMemory = ⊥
 
--- the word of --host asks for this host, which is shown as it is written; there is none where there is no word
+-- the word of --host asks for this host, which is shown as it is written; there is none if there is
+-- no word
 abbrev pub WritesHost : Option (Bor Text) → Option AskedHost → Type 0
 WritesHost None None = Unit {0}
 WritesHost None (Some asked) = ⊥
@@ -262,7 +263,7 @@ AsksPurpose (Some purpose) (Some asked) = (asked.identifier.now ≡ purpose.iden
 abbrev pub AsksDemand : Question → Demand → Type 0
 AsksDemand question demand = (demand.host ≡ question.host) × AsksPurpose question.purpose demand.purpose
 
--- the words of a question write some settings, and a host where they have the word
+-- the words of a question write some settings, and a host if they have the word
 abbrev pub IsTargeted : PathTexts → Type 0
 IsTargeted t = (settings : Settings) × WritesTarget t settings
 
@@ -323,7 +324,8 @@ Reads (asks.Questions t) r = ReadsQuestions t r
 Reads (asks.Paths t) r = ReadsPaths t r
 Reads (asks.Recheck t) r = ReadsRecheck t r
 
--- What is answered to the words: what their command's values write. They are refused only where clap does not take them.
+-- What is answered to the words: what their command's values write. They are refused only if clap
+-- does not take them.
 abbrev pub AnswersWords : List Text → Result Command WordFault → Type 0
 AnswersWords words (Ok command) = (asked : Asked) × Asks words asked × Reads asked (Ok command)
 AnswersWords words (Err (Refused said)) = ¬ (takes certpath_app words ≡ true)
@@ -343,7 +345,7 @@ AnswersTexts words (Err (Host reason)) = ⊥
 AnswersTexts words (Err (PurposeFault reason)) = ⊥
 AnswersTexts words (Err OutOfMemory) = Unit {0}
 
--- what is answered where clap's error has this kind
+-- what is answered if clap's error has this kind
 abbrev pub IsRefusal : ErrorKind → WordFault → Type 0
 IsRefusal kind (Refused said) = kind ≢ NoMemory
 IsRefusal kind Number = ⊥

@@ -87,7 +87,7 @@ fn pair_of(i: &[u8]) -> Option<(u8, &[u8])>
     }
 }
 
-/// The date and time, where the calendar has the date and a clock shows the time.
+/// The date and time, if the calendar has the date and a clock shows the time.
 fn civil_of(clock: Clock) -> Option<DateTime>
     requires { IsWritable (moment_of clock) }
     ensures { option_map time_view result ≡ (if is_real (moment_of clock) then Some (civil_of (moment_of clock)) else None) }

@@ -58,7 +58,7 @@ pub stripped_only : {X : Type 0} (now : X → List ℕ) (text word : List ℕ) (
 stripped_only now text word None h rest e = absurd (other_text (take (length word) text) word (sym h) (ap (take (length word)) e ∙ take-append_seam word rest))
 stripped_only now text word (Some x) h rest e = h.1 ∙ ap (drop (length word)) e ∙ drop-append_seam word rest
 
--- where the word doesn't begin the text
+-- if the word doesn't begin the text
 pub none_begins : {X : Type 0} (now : X → List ℕ) (text word : List ℕ) (r : Option X) → ((rest : List ℕ) → text ≡ word ++ rest → IsSomeAnd r (λ x. now x ≡ rest)) → IfNone r ((rest : List ℕ) → text ≡ word ++ rest → ⊥)
 none_begins now text word None only = λ rest e. only rest e
 none_begins now text word (Some x) only = tt

@@ -42,7 +42,7 @@ pub record MeetsBadLine (bundle bundle' anchors anchors' vouchers vouchers' : Op
   pub text_read : ReadsAll vouchers vouchers' text
   pub first : HasFirstBad text number
 
--- a refusal of a bad line comes where the vouchers have it; of the others nothing is said here
+-- a refusal of a bad line comes if the vouchers have it; of the others nothing is said here
 abbrev pub MeetsRefusal : Option (List ℕ) → Option (List ℕ) → Option (List ℕ) → Option (List ℕ) → Option (List ℕ) → Option (List ℕ) → ℕ → RunError → Type 0
 MeetsRefusal bundle bundle' anchors anchors' vouchers vouchers' limit (Read i) = Unit {0}
 MeetsRefusal bundle bundle' anchors anchors' vouchers vouchers' limit (TooLong i) = Unit {0}

@@ -186,7 +186,7 @@ permits_alike moment lists d octets p q pairs a b classed = record {
   );
 }
 
--- what follows of two that hold where nothing is demanded, and where something is
+-- what follows of two that hold if nothing is demanded, and if something is
 of_both : {A B : Type 0} {P Q P' Q' Z : Type 0} (a : Option A) (b : Option B) → IfNeither a b P Q → IfNeither a b P' Q' → (P → P' → Z) → (Q → Q' → Z) → Z
 of_both None None h k f g = f h k
 of_both None (Some b) h k f g = g h k

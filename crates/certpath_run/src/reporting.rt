@@ -81,7 +81,7 @@ fn report_within<'a>(
     report_by(alloc, inputs, items, anchors, &restricted, settings, demand)
 }
 
-/// Finds the answer where something may be demanded, checks it, and builds the report.
+/// Finds the answer if something may be demanded, checks it, and builds the report.
 pub(crate) fn report_on(
     alloc: Global,
     inputs: &Inputs,

@@ -33,7 +33,7 @@ apart whole item m none octets empty is =
 drop_after : (at : ℕ) (front rest whole : List ℕ) → length front ≡ at → whole ≡ front ++ rest → drop at whole ≡ rest
 drop_after at front rest whole size is = ap (λ (n : ℕ). drop n whole) (sym size) ∙ ap (drop (length front)) is ∙ drop-append_seam front rest
 
--- where an octet differs, what was written doesn't begin the octets
+-- if an octet differs, what was written doesn't begin the octets
 pub never : (item : List ℕ) (at : ℕ) (differs : Bool) (other : ℕ) (left : List ℕ) → differs ≡ true → at ≤ length item → starts_with nat_eq (drop at item) (other ∷ []) ≡ false →
     item ≡ met item at differs other ++ left → ⊥
 never item at differs other left is within test whole =

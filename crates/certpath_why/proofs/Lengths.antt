@@ -236,7 +236,7 @@ module _ (r : JudgingContext) (items anchors : List Item) where
               (f.0, subst (λ l. Contains l f.0) (sym p.starts) f.1, f.2)
         ]
 
-    -- ---- exactly where
+    -- ---- exactly if
 
     -- a valid path is one but for path lengths
     uncounted : (ps : List ℕ) (a : ℕ) → IsValidPath G target ps a → IsUncountedPath r items anchors target ps a

@@ -121,7 +121,7 @@ differing_cut items x id issuers found cut names are agreeing h =
       λ d. let y = iff.1 d in ((are.keyed.exact w).1 y.0, λ c. y.1 ((agreeing.exact w).0 c)),
     )) h
 
--- where no key is named, none differs
+-- if no key is named, none differs
 pub none_differing : (items : List ReadItem) (x : CertificateItem) (cut : Cut) → x.authority_key_id ≡ None → CutsTo [] cut → IsCutOf (IsDiffering (map item_of items) (certificate_of x)) cut
 none_differing items x cut is h =
     cut_none (IsDiffering (map item_of items) (certificate_of x)) cut

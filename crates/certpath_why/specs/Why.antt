@@ -88,7 +88,7 @@ abbrev pub FailsToAnchor : JudgingContext → List Item → List Item → Item �
 FailsToAnchor r items anchors x c reason a = IsAt anchors a (IsCertificateWith (λ d. (name_octets d.subject ≡ name_octets c.issuer)
     × HasLinkReason r items x c (name_octets d.subject) (key_octets d.key) (Unit {0}) reason))
 
--- a line where no certificate and no anchor has its issuer's name
+-- a line if no certificate and no anchor has its issuer's name
 abbrev pub missing_lines : ℕ → List ℕ → List ℕ → List ℕ → List ℕ
 missing_lines v issuer [] [] = missing_line v issuer
 missing_lines v issuer (w ∷ ws) roots = []
@@ -106,7 +106,7 @@ pub record TellsLinks (r : JudgingContext) (items anchors : List Item) (v : ℕ)
   pub to_roots_is : TellsGroups (to_anchors v) (IsLinkedToAnchor r items anchors x) (FailsToAnchor r items anchors x c) to_roots
   pub text_is : text ≡ to_issuers ++ (to_roots ++ missing_lines v (name_octets c.issuer) issuers roots)
 
--- the octets of the item at a position; none where there is none
+-- the octets of the item at a position; none if there is none
 abbrev pub octets_at : List Item → ℕ → List ℕ
 octets_at items v = target_octets (map (λ x. x.octets) items) v
 
@@ -153,10 +153,10 @@ abbrev pub positions : ℕ → List ℕ
 positions zero = []
 positions (suc k) = positions k ++ k ∷ []
 
--- The lines of the target, where it is a certificate, and then of each further one that is reached from it; then how
--- far each of those leads whose path length, or that of an issuer above it, prevents a path. The
--- lines of certificates are by the first rules, and the answer is by the second: these vouch for
--- less where something is demanded.
+-- The lines of the target, if it is a certificate, and then of each further one that is reached
+-- from it; then how far each of those leads whose path length, or that of an issuer above it,
+-- prevents a path. The lines of certificates are by the first rules, and the answer is by the
+-- second: these vouch for less if something is demanded.
 pub record TellsReached (demand : Demand) (r search : JudgingContext) (items anchors : List Item) (target : ℕ) (answer : Answer) (text : List ℕ) : Type 0 where
   pub further : List ℕ
   pub further_are : ArePositions (IsFurther items target) further

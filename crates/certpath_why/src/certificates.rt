@@ -462,7 +462,7 @@ fn tell_anchors<'a, V: Vouch>(
     Ok(())
 }
 
-/// A line where neither a certificate nor an anchor has the issuer's name.
+/// A line if neither a certificate nor an anchor has the issuer's name.
 fn tell_missing(
     text: &mut String,
     alloc: Global,

@@ -44,7 +44,7 @@ pub fn path_length_stands_in_the_way()
         → (v : ℕ) × Contains ps v × IsBound r items target (reach_by (NoPath table)) v }
 {}
 
-/// By an adequate answer a path exists exactly where some certificates would be a path but for path
+/// By an adequate answer a path exists exactly if some certificates would be a path but for path
 /// lengths, and a path length prevents a path at none of them.
 pub fn path_exactly_where_nothing_stands_in_the_way()
     ensures { (moment : CivilTime) (demand : Bool) (vouches : List ℕ → List ℕ → Bool) (items anchors : List Item) (target : ℕ) (answer : Answer)
@@ -59,7 +59,7 @@ pub fn example_of_a_bound()
     ensures target { IsBound (vouching_for_all false) (map certificate_item limited_above) 1 (at_row (No ∷ No ∷ UpTo 0 ∷ [])) 2 → ⊥ }
 {}
 
-/// A certificate has no line of what is demanded exactly where it meets it.
+/// A certificate has no line of what is demanded exactly if it meets it.
 pub fn no_line_exactly_where_demands_are_met()
     ensures { (demand : Demand) (target : List ℕ) (v : ℕ) (x : Item) (c : Certificate)
         → AreDemandLines demand target v x c [] ↔ Meets (demanded demand target) x.octets c.extensions }

@@ -93,7 +93,7 @@ fn push_text(text: &mut String, name: &[u8]) -> Result<(), AllocError>
     push_escaped(text, name)
 }
 
-/// The text of a name, where it has one.
+/// The text of a name, if it has one.
 fn text_of(
     alloc: Global,
     labels: &Labels,
@@ -108,7 +108,7 @@ fn text_of(
     }
 }
 
-/// The text of the name that takes up all the octets, where there is one.
+/// The text of the name that takes up all the octets, if there is one.
 fn whole_text(alloc: Global, labels: &Labels, octets: &[u8]) -> Result<Option<String>, OutOfMemory>
     ensures { IfOk result (λ text. option_map string_bytes text ≡ whole_text octets.now (name_at octets.now)) }
 {
@@ -125,7 +125,7 @@ fn whole_text(alloc: Global, labels: &Labels, octets: &[u8]) -> Result<Option<St
     }
 }
 
-/// Appends a name, by its octets: its text, or its octets in hexadecimal after `#` where it has
+/// Appends a name, by its octets: its text, or its octets in hexadecimal after `#` if it has
 /// none.
 pub(crate) fn push_name(
     text: &mut String,

@@ -31,7 +31,7 @@ use cert_purpose::{Permit, Restricted};
 use certpath_inputs::Demand;
 use std::alloc::Global;
 
-/// The lines of the target, where it is a certificate.
+/// The lines of the target, if it is a certificate.
 fn tell_target<'a, V: Vouch>(
     text: &mut String,
     alloc: Global,
@@ -156,7 +156,7 @@ fn push_why_by<'q, 'a, V: Vouch, S: Vouch>(
 /// and of each further certificate that is reached from it by the names of issuers, in ascending
 /// order. If there is no path, each issuer has a line from which a path length holds back a
 /// certificate that is reached and linked to it. Then come the lines of each list that nobody uses,
-/// also where there is a path. Of items that are neither certificates nor lists there is no line.
+/// also if there is a path. Of items that are neither certificates nor lists there is no line.
 ///
 /// Positions count from 0, those of anchors by themselves. Names are printable ASCII: any other
 /// octet and the backslash are escaped, so no name holds a line feed.

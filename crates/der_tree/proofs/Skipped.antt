@@ -43,7 +43,7 @@ alone k s rest t b is split empty = (
       empty ∙ eq-eqb (length rest) 0 (ap length once.1),
 )
 
--- and where none does, they aren't
+-- and if none does, they aren't
 pub none_begins : (k : ℕ) (s : List ℕ) → (BeginsWithObject k s → ⊥) → IsDerObject k s → ⊥
 none_begins k s none object = let u = object_to k s object in none (u.0, [], u.1, sym u.2 ∙ sym (append-nil (octets u.0)))
 

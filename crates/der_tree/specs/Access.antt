@@ -80,7 +80,7 @@ abbrev pub TellsUnsigned : Result UnsignedBytes Error → Result ℕ Error → T
 TellsUnsigned (Ok v) told = told ≡ Ok (numbers.number_of v)
 TellsUnsigned (Err e) told = told ≡ Err e
 
--- the number, where it is below the limit
+-- the number, if it is below the limit
 abbrev pub below : ℕ → Result ℕ Error → Result ℕ Error
 below limit (Ok n) = if nat_lt n limit then Ok n else Err IntegerTooLarge
 below limit (Err e) = Err e

@@ -32,7 +32,8 @@ pub record IsEnumerated (s : List ℕ) : Type 0 where
   pub sign : is_negative s ≡ false
   pub size : number_from_digits 256 s < 2 ^ 64
 
--- the last octet's so many lowest bits are 0, and there are none where there is no octet (X.690, 8.6.2.3 and 11.2.1)
+-- the last octet's so many lowest bits are 0, and there are none if there is no octet (X.690,
+-- 8.6.2.3 and 11.2.1)
 abbrev pub are_unused_zero : ℕ → List ℕ → Bool
 are_unused_zero unused [] = unused == 0
 are_unused_zero unused (a ∷ []) = a % 2 ^ unused == 0

@@ -39,8 +39,8 @@ pub fn parse_der<'a>(alloc: Global, i: &'a [u8]) -> BerResult<'a>
 /// tree's drop and `Debug`: 4,000 levels fit a stack of 8 MB, many more don't.
 ///
 /// Refusals, in their order: `BerMaxDepth` at no level; those of `Header::strict`; `InvalidLength` of more than
-/// `MAX_OBJECT_SIZE` content octets; `Incomplete` with the number of those that are missing; and where the element is whole
-/// `Failure` of `OutOfMemory`, or an error: it is no object of so many levels.
+/// `MAX_OBJECT_SIZE` content octets; `Incomplete` with the number of those that are missing; and if
+/// the element is whole `Failure` of `OutOfMemory`, or an error: it is no object of so many levels.
 pub fn parse_der_recursive<'a>(alloc: Global, i: &'a [u8], levels: usize) -> BerResult<'a>
     ensures found { IfOk result (λ p. IsObject levels (view p.1) × (i.now ≡ octets (view p.1) ++ p.0.now)) }
     ensures none { IfErr result (λ e. Refuses e (BeginsWithObject levels i.now → ⊥)) }

@@ -41,7 +41,8 @@ pub fn is_der_object_counted(i: &[u8], levels: usize, count: &mut HeaderCount) -
 /// and 11), or none if no such object begins them. No tree is built. It recurses as deep as
 /// sequences and sets are nested.
 ///
-/// The count is raised as `parse_der_recursive_counted` raises it, also where there is none: by one for each header tried.
+/// The count is raised as `parse_der_recursive_counted` raises it, also if there is none: by one
+/// for each header tried.
 #[cycle(skipping)]
 pub fn skip_object_counted<'a>(
     i: &'a [u8],
@@ -72,7 +73,7 @@ fn has_two_octets(i: &[u8]) -> bool {
     }
 }
 
-/// `skip_object_counted` where the header has more than two octets, in a function of its own.
+/// `skip_object_counted` if the header has more than two octets, in a function of its own.
 #[cycle(skipping)]
 #[inline(never)]
 fn skip_long<'a>(i: &'a [u8], levels: usize, count: &mut HeaderCount) -> Option<&'a [u8]>

@@ -18,8 +18,8 @@ use std::alloc::Global;
 /// SET's parts are objects of at most so many levels. The length in the header isn't looked at; a
 /// raw element keeps it.
 ///
-/// Refusals: `Failure` of `OutOfMemory` where memory ran out, and else an error: the line doesn't allow the content or the
-/// constructed bit.
+/// Refusals: `Failure` of `OutOfMemory` if memory ran out, and else an error: the line doesn't
+/// allow the content or the constructed bit.
 pub fn content_under<'a>(
     alloc: Global,
     header: Header,

@@ -45,7 +45,7 @@ pub record OtherHeader (n : ℕ) (octets : List ℕ) : Type 0 where
   pub header : Header octets head after
   pub tag : head.tag ≢ n
 
--- such an element; or none, where no octet is left, or a header of another tag number is next
+-- such an element; or none, if no octet is left, or a header of another tag number is next
 abbrev pub Explicit : {A : Type 0} → ℕ → Grammar A → Grammar (Option A)
 Explicit n P octets (Some v) rest = One (HoldsExplicit n P) octets v rest
 Explicit n P octets None rest = ((octets ≡ []) ⊎ OtherHeader n octets) × (rest ≡ octets)

@@ -21,7 +21,7 @@ use Rattle.x509_core.proofs.Many.{error_by}
 use Rattle.x509_core.proofs.Public.{gives_only}
 use Rattle.x509_core.specs.Fronts.{TellsMissing, IsWindow, IsOnly}
 
--- where octets of an element are missing, no value of one begins with fewer of them
+-- if octets of an element are missing, no value of one begins with fewer of them
 lacks : {A : Type 0} (M : Piece → A → Type 0) (octets : List ℕ) (n : Needed) → IsMissing HasElement octets (refusals.Incomplete n) → (V : Type 0) (view : V → A) → Lacks (λ o (v : V) r. One M o (view v) r) octets n
 lacks M octets needed.Unknown missing V view = absurd missing
 lacks M octets (needed.Size n) missing V view =

@@ -23,7 +23,7 @@ same_rest whole rest e x other here there = ap (tail_or rest) (sym there ∙ her
 pub before_front : (old new rest : List Element) (e : Element) → old ≡ e ∷ rest → new ≡ rest → old ≡ e ∷ new
 before_front old new rest e here is = subst (λ r. old ≡ e ∷ r) (sym is) here
 
--- the others alone, where none is by itself
+-- the others alone, if none is by itself
 pub others_only : (a : Ahead) → a.front ≡ None → ahead_of a ≡ drop a.at a.others.items
 unfolding ahead_of
 others_only a none = rw none refl

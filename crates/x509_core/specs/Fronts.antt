@@ -11,7 +11,7 @@ use Rattle.x509_core.specs.Grammar.{One}
 use Rattle.x509_core.specs.declared.error.X509Error.{X509Error}
 use Rattle.x509_core.specs.declared.error.X509Error.TheVariants as errors
 
--- octets are missing exactly where the octets end within their first element
+-- octets are missing exactly if the octets end within their first element
 abbrev pub TellsMissing : {X : Type 0} → List ℕ → Result X (Refusal X509Error) → Type 0
 TellsMissing i (Ok x) = Unit {0}
 TellsMissing i (Err (refusals.Incomplete n)) = EndsWithinElement i n

@@ -71,12 +71,12 @@ All P octets vs = AsMany P octets vs []
 abbrev pub ToEnd : {A : Type 0} → Grammar A → Grammar (List A)
 ToEnd P octets vs rest = All P octets vs × (rest ≡ [])
 
--- P, or nothing where P doesn't begin there
+-- P, or nothing if P doesn't begin there
 abbrev pub Maybe : {A : Type 0} → Grammar A → Grammar (Option A)
 Maybe P octets (Some v) rest = P octets v rest
 Maybe P octets None rest = (octets ≡ rest) × NoneBegins P octets
 
--- P, or nothing where no octet is left
+-- P, or nothing if no octet is left
 abbrev pub UnlessAtEnd : {A : Type 0} → Grammar A → Grammar (Option A)
 UnlessAtEnd P octets (Some v) rest = P octets v rest
 UnlessAtEnd P octets None rest = (octets ≡ []) × (rest ≡ [])

@@ -27,11 +27,11 @@ error_of p = None
 abbrev pub HoldsNoMemory : ParsedExtension → Type 0
 HoldsNoMemory p = IfSome (error_of p) TakesNoMemory
 
--- where a value of a kind is none of its type, the error that is held is why
+-- if a value of a kind is none of its type, the error that is held is why
 abbrev pub HoldsFaultOf : Kind → List ℕ → ParsedExtension → Type 0
 HoldsFaultOf kind value p = IfSome (error_of p) (FaultOf kind value)
 
--- where the value under this identifier is none of its type, the error that is held is why
+-- if the value under this identifier is none of its type, the error that is held is why
 abbrev pub HoldsFault : List ℕ → List ℕ → ParsedExtension → Type 0
 HoldsFault identifier value p = IfSome (error_of p) (IsFaultOf identifier value)
 

@@ -46,7 +46,7 @@ impl<'a> DistributionPointName<'a> {
     }
 }
 
-// A copy of a name, where there is one.
+// A copy of a name, if there is one.
 pub(crate) fn copy_name<'a>(
     alloc: Global,
     name: &Option<DistributionPointName<'a>>,

@@ -6,7 +6,7 @@ use Rattle.std.specs.Global.{Global}
 use Rattle.std.specs.List.{filter}
 use Rattle.std.specs.Ordering.{nat_cmp}
 
--- none where there is none
+-- none if there is none
 abbrev pub some_values : {A : Type 0} → List A → Option (List A)
 some_values [] = None
 some_values (x ∷ xs) = Some (x ∷ xs)

@@ -17,7 +17,7 @@ IsOptional i (Err (refusals.Failure e)) result = result ≡ Err (refusals.Failur
 IsOptional i (Err (refusals.Incomplete n)) result = result ≡ Ok (i, None)
 IsOptional i (Err (refusals.Error e)) result = result ≡ Ok (i, None)
 
--- the reading's value, or none where it refuses, unless memory ran out
+-- the reading's value, or none if it refuses, unless memory ran out
 abbrev pub Takes : {X Y : Type 0} → (X → Y) → Result (Option X) OutOfMemory → Answer Y → Type 0
 Takes view (Ok (Some x)) read = read ≡ Ok (view x)
 Takes view (Ok None) read = (why : Why) × (read ≡ Err why)

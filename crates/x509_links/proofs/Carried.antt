@@ -34,7 +34,7 @@ one_before M i v rest is = record {
 pub none_carried : {A B : Type 0} (M : Piece → A → Type 0) (N : Piece → B → Type 0) (g : B → A) → Carries N M g → (i : List ℕ) → AllBelowBase 256 i → NoneBegins (One M) i → NoneBegins (One N) i
 none_carried M N g back i below none = λ v r is. none (g v) r (one_carried N M g back i v r below is)
 
--- where both meanings are carried to each other
+-- if both meanings are carried to each other
 pub many_carried : {A B : Type 0} (M : Piece → A → Type 0) (N : Piece → B → Type 0) (f : A → B) (g : B → A) → Carries M N f → Carries N M g
     → (vs : List A) (i r : List ℕ) → AllBelowBase 256 i → AsMany (One M) i vs r → AsMany (One N) i (map f vs) r
 unfolding AsMany

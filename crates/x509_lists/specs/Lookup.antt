@@ -33,7 +33,7 @@ abbrev pub date_in : Bool → ParsedExtension → Option (Bool × ASN1Time)
 date_in critical (cases.InvalidityDate t) = Some (critical, t)
 date_in critical p = None
 
--- of the first extension, where there is one
+-- of the first extension, if there is one
 abbrev pub of_first : {A : Type 0} → (X509Extension → Option A) → List X509Extension → Option A
 of_first f [] = None
 of_first f (e ∷ es) = f e

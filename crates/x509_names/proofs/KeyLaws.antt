@@ -87,7 +87,7 @@ rsa_reading = named_reading RSAPublicKey (next (λ q. rsa_key_in q.element)) err
 
 -- ---- what a key's octets are
 
--- the value that is read at the front, where one is
+-- the value that is read at the front, if one is
 value_by : {A : Type 0} (P : Grammar A) (i : List ℕ) (v : A) (r : Answer (A × List ℕ)) → ((x : A × List ℕ) → r ≡ Ok x → P i x.0 x.1) → value_of r ≡ Some v → (rest : List ℕ) × P i v rest
 value_by P i v (Ok x) found told = let same : x.0 ≡ v = cc in (x.1, subst (λ z. P i z x.1) same (found x refl))
 value_by P i v (Err e) found told = cc

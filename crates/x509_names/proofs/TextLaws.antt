@@ -80,7 +80,7 @@ set_by label attributes =
     ap (option_map (joined (codes " + "))) (each_by (attribute_text label) can_be_shown (attribute_piece label) (attribute_by label) attributes)
     ∙ mapped_by (joined (codes " + ")) (set_can_be_shown attributes) (map (attribute_piece label) attributes)
 
--- the text of a name is what is written, where each value can be shown
+-- the text of a name is what is written, if each value can be shown
 pub sets_by : (label : List ℕ → Option (List ℕ)) (sets : List (List Attribute))
     → option_map (joined (codes ", ")) (each_of (map (set_text label) sets)) ≡ (if sets_can_be_shown sets then Some (sets_piece label sets) else None)
 sets_by label sets =
@@ -120,7 +120,7 @@ nonempty_map : {A B : Type 0} (f : A → B) (xs : List A) → is_nonempty (map f
 nonempty_map f [] = refl
 nonempty_map f (x ∷ xs) = refl
 
--- the text of a set is there where an attribute is
+-- the text of a set is there if an attribute is
 pub set_begins : {A : Type 0} (label : List ℕ → Option (List ℕ)) (view : A → Attribute) (attributes : List A)
     → is_nonempty attributes ≡ is_nonempty (set_piece label (map view attributes))
 set_begins label view attributes = sym (set_is_some label (map view attributes) ∙ nonempty_map view attributes)

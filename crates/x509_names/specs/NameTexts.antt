@@ -50,7 +50,7 @@ value_text e =
     if e.tag == 30 then wide_text e.content else
     Some (upper_hex e.content)
 
--- the name of a type where there is one, else its identifier, as `OID(1.2.3)`
+-- the name of a type if there is one, else its identifier, as `OID(1.2.3)`
 abbrev pub type_text : (List ℕ → Option (List ℕ)) → List ℕ → List ℕ
 type_text label identifier = unwrap_or (label identifier) (codes "OID(" ++ oid_text identifier ++ codes ")")
 
@@ -58,7 +58,7 @@ type_text label identifier = unwrap_or (label identifier) (codes "OID(" ++ oid_t
 abbrev pub attribute_text : (List ℕ → Option (List ℕ)) → Attribute → Option (List ℕ)
 attribute_text label a = option_map (λ value. type_text label a.identifier ++ 0x3D ∷ value) (value_text a.value)
 
--- all of them, where each is there
+-- all of them, if each is there
 abbrev pub also : {A : Type 0} → Option A → Option (List A) → Option (List A)
 also None xs = None
 also (Some x) xs = option_map (λ l. x ∷ l) xs
@@ -76,7 +76,7 @@ joined separator ((x ∷ text) ∷ texts) = join_by (λ t. t) separator ((x ∷ 
 abbrev pub set_text : (List ℕ → Option (List ℕ)) → List Attribute → Option (List ℕ)
 set_text label attributes = option_map (joined (codes " + ")) (each_of (map (attribute_text label) attributes))
 
--- the text of a name, types being named so; none where a value can't be shown
+-- the text of a name, types being named so; none if a value can't be shown
 abbrev pub name_text : (List ℕ → Option (List ℕ)) → Name → Option (List ℕ)
 name_text label name = option_map (joined (codes ", ")) (each_of (map (set_text label) name.sets))
 

@@ -87,7 +87,7 @@ fn write_set<W: fmt::Write>(
     Ok(())
 }
 
-// The separator, where something was written before.
+// The separator, if something was written before.
 fn separate<W: fmt::Write>(begun: bool, separator: &str, f: &mut fmt::Formatter<W>) -> fmt::Result
     ensures { DisplaysOnOk W.write_str_gives f.old result (Some (separator_if begun separator.now)) f.new }
 {

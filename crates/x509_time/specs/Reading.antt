@@ -63,7 +63,7 @@ is_other_header (Err e) general = false
 is_other_header (Ok h) general =
     nat_le h.0.size 4_294_967_295 && not (h.0.tag == 23) && (not (h.0.tag == 24) || not general)
 
--- whether a time is absent where none is read
+-- whether a time is absent if none is read
 unfoldable pub is_absent : List ℕ → Bool
 is_absent i = is_cut_tag i || is_other_header (front_header_at i) (begins_general_time (option_map (λ p. p.element) (first_piece i)))
 

@@ -22,8 +22,8 @@ pub record IsCutTag (octets : List ℕ) : Type 0 where
   pub below : AllBelowBase 128 digits
   pub whole : octets ≡ lead class constructed 31 ∷ map (λ d. 128 + d) digits
 
--- a header of another tag number than those of a Time, or of GeneralizedTime's where none begins the octets. What it counts
--- needn't be there, but is no more than the greatest object has.
+-- a header of another tag number than those of a Time, or of GeneralizedTime's if none begins the
+-- octets. What it counts needn't be there, but is no more than the greatest object has.
 pub record IsNoTime (octets : List ℕ) : Type 0 where
   pub head : Head
   pub after_header : List ℕ

@@ -6,7 +6,8 @@ use Rattle.x509_names.specs.Reading.{key_value_of}
 use Rattle.x509_validate.specs.Messages.{Message, message, warning, fatal}
 use Rattle.x509_validate.specs.Names.{is_high}
 
--- a warning where a number is negative: the first octet of its content has the highest bit (X.690, 8.3.3)
+-- a warning if a number is negative: the first octet of its content has the highest bit (X.690,
+-- 8.3.3)
 abbrev pub sign_messages : List ℕ → List ℕ → List Message
 sign_messages text [] = []
 sign_messages text (first ∷ octets) = if is_high first then message warning text ∷ [] else []
