@@ -34,7 +34,7 @@ pub subidentifier_octets-push : (n d : ℕ) → d < 128 → subidentifier_octets
 unfolding subidentifier_octets
 subidentifier_octets-push n d below = ap continued (shortest_digits-push n d below) ∙ continued-push (digits_of 128 n) d
 
--- the same, from the number
+-- a subidentifier's octets, from its number
 pub subidentifier_octets-split : (n : ℕ) → subidentifier_octets n ≡ high (digits_of 128 (n / 128)) ++ (n % 128) ∷ []
 subidentifier_octets-split n =
     let same : n ≡ n / 128 * 128 + n % 128 = omega arith in

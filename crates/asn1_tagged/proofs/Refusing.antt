@@ -1,4 +1,4 @@
--- Where a parser hands nothing to its closure, and refuses.
+-- When a parser hands nothing to its closure, and refuses.
 use Rattle.std.proofs.Common.{◌≡◌, ◌≢◌, ◌-◌, ◌∙◌, inl, refl, sym, ap, subst, ℕ, List, []}
 use Rattle.asn1_core.specs.Answers.{TakesNoMemory}
 use Rattle.asn1_core.specs.Conversions.{RefusesWith, RefusesFor, Converts}

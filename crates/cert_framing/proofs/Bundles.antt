@@ -159,7 +159,7 @@ fed_behind_fault held stream piece faulted stands =
           (kept.0, meets_is_no_cut held.limit (rest ++ piece) more);
     }
 
--- the octets of the items alone have the same items
+-- the octets of the items alone have all its items
 front_framing : (limit : ℕ) (octets ends : List ℕ) (at : ℕ) (stream rest : List ℕ) (end : End) → RunsTo 0 ends at → at ≤ length octets
     → IsLongest limit stream (pieces 0 ends octets) rest → EndsAs limit rest at end → IsFraming limit stream (pieces 0 ends (take at octets)) end
 front_framing limit octets ends at stream rest end runs within longest ends_as =

@@ -204,7 +204,7 @@ long_is_whole limit count n rest long small whole =
     long.large small (length-take-le n tail (omega arith)) in
     subst (λ (x : List ℕ). IsItem limit (48 ∷ (128 + count) ∷ x)) (taken_parts count n rest) item
 
--- the same, as the code meets them
+-- complete items, as the code meets them
 pub short_front_whole : (limit n : ℕ) (rest : List ℕ) → n < 128 → n ≤ limit → n ≤ length rest → IsItem limit (take (2 + n) (48 ∷ n ∷ rest))
 short_front_whole limit n rest short small whole =
     let two : 2 + n ≡ suc (suc n) = omega arith in

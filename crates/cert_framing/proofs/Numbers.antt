@@ -137,7 +137,7 @@ none_from_small d n ds low long =
     let none : length (ds ++ long.more) ≡ 0 = omega (arith, long.full) in
     none_from_lone d n (ds ++ long.more) low long.large long.spelled none
 
--- the same over octets that are read by index
+-- octets that are below 256 at each index are all below 256
 pub below_from : (octets : List ℕ) → ((k : ℕ) → get_or octets k 0 < 256) → AllBelowBase 256 octets
 below_from [] all = tt
 below_from (x ∷ octets) all = (all 0, below_from octets (λ k. all (suc k)))

@@ -57,7 +57,7 @@ untouched lists (x ∷ xs) row w k c not =
     untouched lists xs (set row x.position x.reach) w k c (λ t. not (Contains-append_right (get_or lists x.position []) (touched lists xs) k t))
     ∙ get_or-set_other row x.position w x.reach No other
 
--- rows that hold the same at the members have the same stairs
+-- rows that agree at the members have equal stairs
 open_same : (g : Graph) (r s : List Reach) (members : List ℕ) (count w : ℕ) → at_row r w ≡ at_row s w → OpenIn g r members count w → OpenIn g s members count w
 open_same g r s members count w e o = (o.0, (o.1.0, subst (λ (x : Reach). Takes x count) e o.1.1))
 
@@ -90,7 +90,7 @@ last_flight g rows members flights some h =
       ],
     )
 
--- a row that holds the same at the members as the last one
+-- a row that agrees at the members with the last one
 pub flight_same : (g : Graph) (rows : List (List Reach)) (row : List Reach) (members : List ℕ) (flights : List Flight) → 0 < length rows → ((w : ℕ) → Contains members w → at_row row w ≡ at_row (row_of rows (length rows - 1)) w)
     → AreFlightsSoFar g rows members flights → AreFlightsSoFar g (rows ++ row ∷ []) members flights
 flight_same g rows row members flights some same h =
@@ -161,7 +161,7 @@ one_climbed g rows row done i groups x flights old new within is was step h =
           ],
     )
 
--- the same of flights as the code keeps them
+-- flights as the code keeps them, one group more
 pub vector_climbed : (g : Graph) (rows : List (List Reach)) (row : List Reach) (done : List ℕ) (i : ℕ) (groups : List Group) (x : Group) (vectors : List (Vec Flight Global)) (old new : Vec Flight Global) → i < length groups → x ≡ get_or groups i x
     → i < length vectors → old ≡ get_or vectors i old → (MayClimb g rows row x.members.items old.items → AreFlightsSoFar g (rows ++ row ∷ []) x.members.items new.items × MayClimb g rows row x.members.items new.items)
     → AreClimbing g rows row done groups (flights_in vectors) → AreClimbing g rows row (done ++ i ∷ []) groups (flights_in (set vectors i new))

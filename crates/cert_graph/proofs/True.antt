@@ -53,7 +53,7 @@ tail_at g target [] p rest a t = t.2
 tail_at g target (u ∷ front) p rest a t =
     subst (λ (n : ℕ). Tail g n p rest a) (zero-add (counted g (u ∷ front))) (tail_drop g 0 u front p rest a t.2)
 
--- no path of the same length with a smaller position
+-- no path of equal length with a smaller position
 pub not_smaller_first : (g : Graph) (target : ℕ) (ps : List ℕ) (a : ℕ) (rows : List (List Reach)) → IsAdequatePath g target ps a rows
     → (qs : List ℕ) (b : ℕ) → IsValidPath g target qs b → length qs ≡ length ps
     → (front : List ℕ) (p q : ℕ) (prest qrest : List ℕ) → qs ≡ front ++ p ∷ prest → ps ≡ front ++ q ∷ qrest → p < q → ⊥

@@ -1,6 +1,6 @@
 //! Links between copies of items and the holders of keys, on the side that has fewer places.
 //!
-//! Where c copies of an item are linked to h holders of a key, either the key's group takes the c
+//! If c copies of an item are linked to h holders of a key, either the key's group takes the c
 //! places, or the item's group takes the h.
 
 ghost use Rattle.std.specs.Prelude.{◌≡◌, ◌↔◌, ◌⊎◌, ◌+◌, ◌<◌, ◌≤◌, ◌^◌, ℕ, List, length, map, All, Contains, IfOk, OnOk};

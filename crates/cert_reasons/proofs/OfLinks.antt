@@ -68,7 +68,7 @@ alone_place KeyIdsDiffer kind e n = omega arith
 alone_place (RevokedBy k) kind e n = absurd (n (sym e))
 alone_place NoUsedList kind e n = omega arith
 
--- ---- places of lists, one after the other
+-- ---- places of lists, one after another
 
 -- a number is above the first k of some places, and not above the others
 pub record IsBehind (ps : List ℕ) (k n : ℕ) : Type 0 where

@@ -36,7 +36,7 @@ pub record IsMore (old new : List ℕ) (P : Type 0) (v : ℕ) : Type 0 where
   pub exact : (u : ℕ) → Contains new u ↔ (Contains old u ⊎ ((u ≡ v) × P))
   pub ascends : IsStrictlyIncreasing old → ((u : ℕ) → Contains old u → u ≤ v) → IsStrictlyIncreasing new
 
--- the same of each row
+-- rows of which each has one place more if something holds of it
 pub record Puts (old new : List (Vec ℕ Global)) (P : ℕ → Type 0) (v : ℕ) : Type 0 where
   pub count : length new ≡ length old
   pub each : (k : ℕ) (r : Vec ℕ Global) → k < length old → IsMore (slice_index_or old k r).items (slice_index_or new k r).items (P k) v

@@ -44,7 +44,7 @@ pub(crate) fn has_pair<D: Digests>(pairs: &Pairs, digests: &D, key: &[u8], item:
     }
 }
 
-/// The places of keys by their digests; none if two have the same digest.
+/// The places of keys by their digests; none if two have one digest.
 fn places_of<D: Digests>(
     alloc: Global,
     digests: &D,

@@ -16,7 +16,7 @@ kept identifier e = if bytes_eq e.identifier identifier then [] else e ∷ []
 abbrev pub without : Identifier → List Extension → List Extension
 without identifier = flat_map (kept identifier)
 
--- the same fields, but for the extensions of the identifier
+-- the fields of a certificate, without the extensions of the identifier
 abbrev pub certificate_without : Identifier → Certificate → Certificate
 certificate_without identifier c = record {
   version = c.version;

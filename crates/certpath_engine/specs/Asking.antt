@@ -324,7 +324,7 @@ Reads (asks.Questions t) r = ReadsQuestions t r
 Reads (asks.Paths t) r = ReadsPaths t r
 Reads (asks.Recheck t) r = ReadsRecheck t r
 
--- What is answered to the words: what their command's values write. They are refused only if clap
+-- What is returned for the words: what their command's values write. They are refused only if clap
 -- does not take them.
 abbrev pub AnswersWords : List Text → Result Command WordFault → Type 0
 AnswersWords words (Ok command) = (asked : Asked) × Asks words asked × Reads asked (Ok command)
@@ -335,7 +335,7 @@ AnswersWords words (Err (Host reason)) = (asked : Asked) × Asks words asked × 
 AnswersWords words (Err (PurposeFault reason)) = (asked : Asked) × Asks words asked × Reads asked (Err (PurposeFault reason))
 AnswersWords words (Err OutOfMemory) = Unit {0}
 
--- the same of the words alone, before they are read
+-- what is returned for the words alone, before their values are read
 abbrev pub AnswersTexts : List Text → Result Asked WordFault → Type 0
 AnswersTexts words (Ok asked) = Asks words asked
 AnswersTexts words (Err (Refused said)) = ¬ (takes certpath_app words ≡ true)

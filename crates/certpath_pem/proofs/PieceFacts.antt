@@ -27,7 +27,7 @@ encoded_length o =
     let both = length-append (encode_symbols standard.encode_table o) (replicate (padding_len (length o)) 61) in
     omega (arith, symbols, padding, both)
 
--- two lists that are one, cut at the same place
+-- two lists that are one, cut at one place
 same_fronts : (a b x y : List ℕ) → a ++ b ≡ x ++ y → length a ≡ length x → (a ≡ x) × (b ≡ y)
 same_fronts a b x y e n = (
   sym (take_at a b (length x) n) ∙ ap (take (length x)) e ∙ take_at x y (length x) refl,

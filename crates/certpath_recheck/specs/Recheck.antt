@@ -31,8 +31,8 @@ pub record IsSaidOf (r : JudgingContext) (items anchors : Framed) (inventory : I
   pub exact : IsTrue said ↔ IsAdequateInventory (graph_of_items r classed classed_anchors) inventory
   pub holds : IsTrue said → IsTrueInventory (graph_of_items r classed classed_anchors) inventory
 
--- the same by the rules of these settings, under which these pairs vouch; if a purpose is demanded
--- of the paths, for the items that allow it
+-- what is said of an inventory by the rules of these settings, under which these pairs vouch; if a
+-- purpose is demanded of the paths, for the items that allow it
 abbrev pub IsSaidFor : AllSettings → Option AskedPurpose → Framed → Framed → Vouchers → Inventory → Bool → Type 0
 IsSaidFor settings purpose items anchors pairs inventory said =
     HoldsFor (of_purpose purpose) items.items (length items.items) pairs (λ vouches. IsSaidOf (rules_by settings.policy.moment settings.policy.demand_lists vouches) items anchors inventory said)

@@ -76,8 +76,9 @@ fn said_of_all<B: Source, A: Source, V: Source, E: Source>(
 /// says of the inventory that the evidence was written of: `check yes` or `check no`. It returns which.
 ///
 /// Nothing is searched. Nothing is written before all is read and checked; the writer is then flushed once. After `Run(Write)` what was
-/// written is a front of the line, after any other error nothing was written. Where a reader is refused, those after it are not read.
-/// It costs the reading of the four inputs and what `check_all` says.
+/// written is a front of the line, after any other error nothing was written. If a reader is
+/// refused, those after it are not read. It costs the reading of the four inputs and what
+/// `check_all` says.
 pub fn run_recheck<B: Source, A: Source, V: Source, E: Source, W: Sink>(
     alloc: Global,
     bundle: &mut B,

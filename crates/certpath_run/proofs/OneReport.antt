@@ -72,7 +72,7 @@ one_text lines r items anchors target text another outcome other h k =
       h.outcome_is ∙ same.1 ∙ sym k.outcome_is,
     )
 
--- verdicts that say the same have one line, and lack a path both or neither
+-- verdicts that agree have one line, and lack a path both or neither
 same_end : (class : Class) (verdict other : Verdict) → AreOneVerdict verdict other → verdict_end class verdict ≡ verdict_end class other
 same_end class (FirstPath ps a) (FirstPath qs b) s = same_path ps.items qs.items a b s.0 s.1
 same_end class (FirstPath ps a) Pathless s = absurd s
@@ -95,7 +95,7 @@ same_lack NoCertificate (FirstPath qs b) s = refl
 same_lack NoCertificate Pathless s = absurd s
 same_lack NoCertificate NoCertificate s = refl
 
--- lists of verdicts that say the same at each position
+-- lists of verdicts that agree at each position
 abbrev AgreeAtEach : List Verdict → List Verdict → Type 0
 AgreeAtEach vs ws = (target : ℕ) → target < length vs → (d e : Verdict) → AreOneVerdict (get_or vs target d) (get_or ws target e)
 

@@ -52,7 +52,8 @@ pub record SpreadsFrom (items : List Item) (v : ℕ) (marks : List Bool) (queue 
   pub exact : (w : ℕ) → Contains places w ↔ IsIssuerByName items v w
   pub spreads : Spreads places marks queue new_marks new_queue
 
--- There is a second mark for each position. Where it is set, all certificates with the subject of the one there are marked.
+-- There is a second mark for each position. If it is set, all certificates with the subject of the
+-- one there are marked.
 pub record AreSpent (items : List Item) (spent marks : List Bool) : Type 0 where
   pub count : length spent ≡ length items
   pub whole : (u w : ℕ) (name : List ℕ) → IsMarked spent u → HasSubject items name u → HasSubject items name w → IsMarked marks w

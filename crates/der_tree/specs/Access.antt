@@ -75,7 +75,7 @@ unsigned_of _ = Err BerTypeError
 abbrev pub integer_at : List ℕ → Result ℕ Error
 integer_at s = if is_shortest s then if is_negative s then Err IntegerNegative else Ok (number_from_digits 256 s) else Err BerValueError
 
--- that number is answered, or the same error
+-- that number is returned, or that error
 abbrev pub TellsUnsigned : Result UnsignedBytes Error → Result ℕ Error → Type 0
 TellsUnsigned (Ok v) told = told ≡ Ok (numbers.number_of v)
 TellsUnsigned (Err e) told = told ≡ Err e

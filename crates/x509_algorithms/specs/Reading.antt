@@ -92,7 +92,7 @@ parameters_of p e = do
   v ← p content
   Ok v.0
 
--- the same of a constructed one
+-- what a constructed element of tag number 16 holds
 abbrev pub parameters_in : {A : Type 0} → Reader A → Piece → Answer A
 parameters_in p piece = if piece.element.constructed then parameters_of p piece.element else Err unnamed
 

@@ -49,7 +49,7 @@ gives_reads M p meaning view i (Err (refusals.Error e)) below given missing =
     (none_reads (One M) (next p) (next_reading M p meaning) view i e below given, no_memory e (next p i) given, missing)
 gives_reads M p meaning view i (Err (refusals.Failure e)) below given missing = (given, tt)
 
--- a reading whose refusals are named reads the same
+-- a reading reads one grammar, whether or not its refusals are named
 pub named_reading : {A : Type 0} (P : Grammar A) (p : Reader A) (e : X509Error) → IsReading P p → IsReading P (λ i. naming e (p i))
 named_reading P p e reading = record {
   found = λ i v r below given. reading.found i v r below (was_named e (p i) (v, r) given);

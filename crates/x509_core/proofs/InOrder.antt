@@ -10,7 +10,7 @@ some_front e None third others = (others, refl)
 some_front e (Some y) None others = (y ∷ others, refl)
 some_front e (Some y) (Some z) others = (y ∷ z ∷ others, refl)
 
--- two lists with the same first element
+-- two lists with one first element
 tail_or : List Element → List Element → List Element
 tail_or none [] = none
 tail_or none (x ∷ xs) = xs

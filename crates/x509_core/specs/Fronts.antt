@@ -25,7 +25,8 @@ one_rest M octets v w r s left right =
     (record { front = left.piece.octets; spells = left.spells; whole = left.whole })
     (record { front = right.piece.octets; spells = right.spells; whole = right.whole })).1
 
--- the same refusal, of a whole element: octets that are missing in it are its fault
+-- a refusal of a content as the refusal of its whole element: octets that are missing in it are its
+-- fault
 abbrev pub IsWithin : Refusal X509Error → Refusal X509Error → Type 0
 IsWithin (refusals.Incomplete n) r = r ≡ refusals.Error (errors.Der (der.Incomplete n))
 IsWithin (refusals.Error e) r = r ≡ refusals.Error e

@@ -67,7 +67,7 @@ AsMany P octets (v ∷ vs) rest = (after : List ℕ) × P octets v after × AsMa
 abbrev pub All : {A : Type 0} → Grammar A → List ℕ → List A → Type 0
 All P octets vs = AsMany P octets vs []
 
--- the same as a grammar: nothing comes after it
+-- P repeated to the end, as a grammar: nothing comes after it
 abbrev pub ToEnd : {A : Type 0} → Grammar A → Grammar (List A)
 ToEnd P octets vs rest = All P octets vs × (rest ≡ [])
 

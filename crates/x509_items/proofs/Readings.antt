@@ -163,7 +163,7 @@ ended_reading {A = A} P p reading = record {
   only = λ i v r below is. rw (reading.only i v [] below is.0, is.1) refl;
 }
 
--- the same of one or more, if as many are read
+-- one or more are read if as many are read
 pub more_reading : {A : Type 0} (P : Grammar A) (p : Reader A) → IsReading (AsMany P) (λ i. Ok (many_of p i)) → IsReading (OneOrMore P) (some_of p)
 more_reading P p many = record {
   found = λ i vs r below given.

@@ -29,14 +29,14 @@ IfTaken (Ok (Some x)) P = P x
 IfTaken (Ok None) P = Unit {0}
 IfTaken (Err e) P = Unit {0}
 
--- the same answer, a refusal being none
+-- a result in which a refusal is none
 abbrev pub IsTaken : {X : Type 0} → Result X (Refusal X509Error) → Result (Option X) OutOfMemory → Type 0
 IsTaken (Ok x) result = result ≡ Ok (Some x)
 IsTaken (Err (refusals.Failure e)) result = (given : OutOfMemory) × (result ≡ Err given)
 IsTaken (Err (refusals.Incomplete n)) result = result ≡ Ok None
 IsTaken (Err (refusals.Error e)) result = result ≡ Ok None
 
--- the same answer, none being an error
+-- a result in which none is an error
 abbrev pub IsTold : {X : Type 0} → Result (Option X) OutOfMemory → Result X (Refusal X509Error) → Type 0
 IsTold (Ok (Some x)) result = result ≡ Ok x
 IsTold (Ok None) result = result ≡ Err (refusals.Error (errors.Der der.InvalidLength))

@@ -51,7 +51,7 @@ pub record IsAttribute (Means : ValueMeaning) (e : BerElement) (a : RequestAttri
   pub left : List ℕ
   pub parts : AttributeParts Means e.content a left
 
--- the same by the rules of BER: of definite length, or of the indefinite form
+-- an attribute by the rules of BER: of definite length, or of the indefinite form
 abbrev pub X509CriAttribute : ValueMeaning → Grammar RequestAttribute
 X509CriAttribute Means = ReadsBerElement (IsAttribute Means)
 
