@@ -1,4 +1,4 @@
--- From a clause `Gives view result (reading octets)` to facts on what was answered.
+-- From a clause `Gives view result (reading octets)` to facts on what was returned.
 use Rattle.std.proofs.Common.{◌≡◌, Result, Ok, Err, IfOk, IfErr, IsOkAnd, sym, ap}
 use Rattle.asn1_core.specs.declared.error.Error.{Error}
 use Rattle.asn1_core.specs.declared.outcome.Err.{Err as Refusal}

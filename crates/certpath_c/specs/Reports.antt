@@ -60,7 +60,7 @@ pub record IsRefused (number : ℕ) (buffer buffer' : List ℕ) (report report' 
 abbrev pub IsKept : List ℕ → List ℕ → Report → Report → Type 0
 IsKept buffer buffer' report report' = (buffer' ≡ buffer) × (report' ≡ report)
 
--- what is answered of a text, or of why there is none
+-- what is returned for a text, or for why there is none
 abbrev pub PutsReport : Result (String Global) RunError → List ℕ → List ℕ → Report → Report → ℤ → Type 0
 PutsReport (Ok text) buffer buffer' report report' status =
     ((status ≡ done) × IsPut (string_bytes text) buffer buffer' report report' true) ⊎ ((status ≡ too_small) × IsPut (string_bytes text) buffer buffer' report report' false)
@@ -80,7 +80,7 @@ pub record Reports (IsAsked : Demand → Type 0) (IsRight : Policy → Demand �
   pub has_report : HasReport (IsRight policy demand) bundle anchors vouchers settings.limit text
   pub is_put : IsPut text buffer buffer' report report' fits
 
--- what is answered if the settings have a moment and a demand, by what is right
+-- what is returned if the settings have a moment and a demand, by what is right
 abbrev pub ReportAnswer : (Demand → Type 0) → (Policy → Demand → Framed → Framed → Vouchers → List ℕ → Type 0) → List ℕ → List ℕ → List ℕ → Settings → List ℕ → List ℕ → Report → Report → ℤ → Type 0
 ReportAnswer IsAsked IsRight bundle anchors vouchers settings buffer buffer' report report' status =
     ((status ≡ done) × Reports IsAsked IsRight bundle anchors vouchers settings buffer buffer' report report' true)

@@ -170,7 +170,7 @@ IsNoNumber text = (n : ℕ) → n < 2 ^ 32 → ¬ (WritesNumber text n)
 abbrev pub IsNoMoment : Text → Type 0
 IsNoMoment text = (t : CivilTime) → ¬ (WritesMoment text t)
 
--- what is answered to the words after `frame`
+-- what is returned for the words after `frame`
 abbrev pub ReadsFrame : FrameTexts → Result Command WordFault → Type 0
 ReadsFrame t (Ok (Frame file limit why)) = (file.now ≡ t.file.now) × WritesNumber t.limit.now limit × (IsTrue why ↔ (t.why.now ≡ codes "true"))
 ReadsFrame t (Ok _) = ⊥
@@ -181,7 +181,7 @@ ReadsFrame t (Err (Host reason)) = ⊥
 ReadsFrame t (Err (PurposeFault reason)) = ⊥
 ReadsFrame t (Err OutOfMemory) = ⊥
 
--- what is answered to the words after `bundle`
+-- what is returned for the words after `bundle`
 abbrev pub ReadsBundle : BundleTexts → Result Command WordFault → Type 0
 ReadsBundle t (Ok (Bundle files)) = files.items ≡ t.files.items
 ReadsBundle t (Ok _) = ⊥
@@ -314,7 +314,7 @@ ReadsRecheck t (Ok (Recheck files settings purpose)) =
 ReadsRecheck t (Ok _) = ⊥
 ReadsRecheck t (Err fault) = RefusesAll t.all fault
 
--- what is answered to a command's words
+-- what is returned for a command's words
 abbrev pub Reads : Asked → Result Command WordFault → Type 0
 Reads (asks.Frame t) r = ReadsFrame t r
 Reads (asks.Bundle t) r = ReadsBundle t r
@@ -345,7 +345,7 @@ AnswersTexts words (Err (Host reason)) = ⊥
 AnswersTexts words (Err (PurposeFault reason)) = ⊥
 AnswersTexts words (Err OutOfMemory) = Unit {0}
 
--- what is answered if clap's error has this kind
+-- what is returned if clap's error has this kind
 abbrev pub IsRefusal : ErrorKind → WordFault → Type 0
 IsRefusal kind (Refused said) = kind ≢ NoMemory
 IsRefusal kind Number = ⊥

@@ -85,7 +85,7 @@ abbrev pub below : ℕ → Result ℕ Error → Result ℕ Error
 below limit (Ok n) = if nat_lt n limit then Ok n else Err IntegerTooLarge
 below limit (Err e) = Err e
 
--- what is there is answered, or else `BerTypeError`
+-- what is there is returned, or else `BerTypeError`
 abbrev pub Offers : {X Y : Type 0} → (X → Y) → Result X Error → Option Y → Type 0
 Offers view (Ok x) found = found ≡ Some (view x)
 Offers view (Err e) found = (found ≡ None) × (e ≡ BerTypeError)

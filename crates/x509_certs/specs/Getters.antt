@@ -77,7 +77,7 @@ says_authority (Ok (Some c)) = c.1.ca
 says_authority (Ok None) = false
 says_authority (Err e) = false
 
--- what was answered, without where it lies
+-- what was returned, without where it lies
 abbrev pub told_view : {T : Type 0} → Result (Option (BasicExtension (Bor T))) X509Error → Told T
 told_view (Ok (Some e)) = Ok (Some (e.critical, e.value.now))
 told_view (Ok None) = Ok None

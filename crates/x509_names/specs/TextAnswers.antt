@@ -1,4 +1,4 @@
--- What is answered of a name's text.
+-- What is returned for a name's text.
 use Rattle.std.specs.Prelude.{◌≡◌, List, ℕ, Option, Some, None, Result, Ok, Err, string_bytes, String}
 use Rattle.x509_core.specs.declared.error.X509Error.{X509Error}
 use Rattle.x509_core.specs.declared.error.X509Error.TheVariants as errors
