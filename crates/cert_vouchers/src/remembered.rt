@@ -82,7 +82,7 @@ impl<'a> Memory<'a> {
         }
     }
 
-    /// Returns whether a text is the one that was added last, while the texts aren't sorted.
+    /// Returns whether the last one is this text.
     fn ends_with(&self, text: &[u8]) -> bool {
         match self.known.last() {
             Some(known) => known.text == text,
@@ -197,11 +197,12 @@ fn digest_in(memory: &RefCell<Memory<'_>>, text: &[u8]) -> [u8; 32]
 /// Vouchers with a memory: they vouch for the same, and hash a text that they were told of at most
 /// once, once it is asked for, where all texts are told before the first question.
 ///
-/// The first question after a text was told sorts all that were told, compared whole. Each question
-/// takes as many comparisons of texts as a look-up in a sorted map, and two where it goes over the
-/// same items as before, in their order. A text that wasn't told is hashed each time; nothing else
-/// depends on what was told. `vouched_by_each` asks by each item's digest if its keys are different,
-/// and otherwise for each pair of a key and a chosen item.
+/// The first question after a text was told sorts all that were told. Each question takes as many
+/// comparisons of texts as a look-up in a sorted map, and two where it goes over the same items as
+/// before, in their order. Texts are compared by their last eight octets, and whole if these are
+/// equal. A text that wasn't told is hashed each time; nothing else depends on what was told.
+/// `vouched_by_each` asks by each item's digest if its keys are different, and otherwise for each
+/// pair of a key and a chosen item.
 #[derive(Drop)]
 pub struct RememberedVouchers<'a> {
     vouchers: &'a Vouchers,
