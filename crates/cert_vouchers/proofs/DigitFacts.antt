@@ -1,5 +1,5 @@
 -- Digests from hex digits.
-use Rattle.std.proofs.Common.{◌≡◌, ◌∙◌, sym, ap, arith, ℕ, zero, suc, ◌<◌, ◌≤◌, ◌/◌, ◌%◌, ◌==◌, nat_lt, Bool, true, ◌&&◌, Option, Some, None, List, [], ◌∷◌, ◌++◌, replicate, length, slice_index_or, Result, Ok, Err, inl, inr, refl}
+use Rattle.std.proofs.Common.{◌≡◌, sym, ap, arith, ℕ, zero, suc, ◌<◌, ◌≤◌, ◌/◌, ◌%◌, ◌==◌, nat_lt, Bool, true, ◌&&◌, Option, Some, None, List, ◌∷◌, ◌++◌, replicate, length, slice_index_or, Result, Ok, Err, inl, inr, refl}
 use Rattle.std.proofs.lemmas.Bool.{and_parts, cases_lt, eqb-true, ltb-true}
 use Rattle.hex.specs.Hex.{decode_sized, decode_pairs, hex_digit_value}
 use Rattle.hex.specs.declared.error.FromHexError.{FromHexError}

@@ -1,8 +1,6 @@
-use Rattle.std.proofs.Common.{◌≡◌, ◌∙◌, sym, ap, arith, ℕ, ◌*◌, ◌/◌, ◌%◌, List, [], length, Result, Ok, Err}
+use Rattle.std.proofs.Common.{◌∙◌, sym, arith, ◌*◌}
 use Rattle.std.proofs.lemmas.List.{length-set}
-use Rattle.hex.specs.Hex.{decode_sized, decode_pairs}
-use Rattle.hex.specs.declared.error.FromHexError.{FromHexError}
-use Rattle.hex.proofs.Pairs.{decode_start, decode_step, decode_done, decode_err, decode_sized-pairs}
+use Rattle.hex.proofs.Pairs.{decode_step, decode_done, decode_err}
 use Rattle.cert_vouchers.proofs.DigitFacts.{sized, one_value, not_both}
 use Rattle.cert_vouchers.proofs.digits.digest_of.Goals as goal
 

@@ -1,5 +1,5 @@
-use Rattle.std.proofs.Common.{◌≡◌, ◌∙◌, ap, ℕ, ◌+◌, ◌*◌, Ok}
-use Rattle.hex.specs.Hex.{hex_digit_value, digit_or_error, value_at, ◌>>=◌}
+use Rattle.std.proofs.Common.{◌∙◌, ap, ◌+◌, ◌*◌, Ok}
+use Rattle.hex.specs.Hex.{digit_or_error, value_at, ◌>>=◌}
 use Rattle.hex.specs.declared.error.FromHexError.TheVariants.{InvalidHexCharacter}
 use Rattle.cert_vouchers.proofs.digits.octet_of.Goals as goal
 
