@@ -86,21 +86,22 @@ impl<'a> Memory<'a> {
         }
     }
 
-    /// Returns whether the last one is this text.
-    fn ends_with(&self, text: &[u8]) -> bool {
+    /// Returns whether the last one is this text, which has this tail.
+    fn ends_with(&self, tail: u64, text: &[u8]) -> bool {
         match self.known.last() {
-            Some(known) => known.text == text,
+            Some(known) => known.tail == tail && known.text == text,
             None => false,
         }
     }
 
     /// One text more, unless it is the last one or memory for it is refused.
     fn add(&mut self, text: &'a [u8]) {
-        if self.ends_with(text) {
+        let tail = tail_of(text);
+        if self.ends_with(tail, text) {
             return;
         }
         let known = Known {
-            tail: tail_of(text),
+            tail,
             text,
             digest: None,
             next: 0,
@@ -114,7 +115,7 @@ impl<'a> Memory<'a> {
     fn sort(&mut self) {
         if !self.is_sorted {
             self.known.sort_unstable_by(|a, b| a.order(b.tail, b.text));
-            self.known.dedup_by_key(|known| known.text);
+            self.known.dedup_by_key(|known| (known.tail, known.text));
             self.list_tails();
             self.is_sorted = true;
         }
