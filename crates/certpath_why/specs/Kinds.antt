@@ -80,7 +80,8 @@ pub record IsKind (xs : List ReadItem) (others : List Item) (moment : DateTime) 
   pub revoking_are : ArePlaces (λ s. IsInForceAt xs moment x.issuer.now s × HasSerialAt xs x.fields.serial.now s) revoking
   pub kind_is : (r : Vec ℕ Global) → kind ≡ kind_numbers first (row_at classes h p r) revoking named
 
--- Likewise by what vouches for less: the holders are those whose keys vouch for the certificate by that too.
+-- The numbers of a certificate's kind, by what vouches for less: the holders are those whose keys
+-- vouch for the certificate by that too.
 pub record IsHeldKind (xs : List ReadItem) (others : List Item) (moment : DateTime) (classes : Classes) (h : Holders) (S : List ℕ → List ℕ → Type 0) (named : Option (List ℕ)) (p : ℕ) (x : CertificateItem) (kind : List ℕ) : Type 0 where
   pub first : ℕ
   pub first_is : HasSubject others x.issuer.now first
@@ -93,7 +94,7 @@ pub record IsHeldKind (xs : List ReadItem) (others : List Item) (moment : DateTi
 abbrev pub IsItemKind : {V : Type 0} → Question V → ℕ → CertificateItem → List ℕ → Type 0
 IsItemKind question p x kind = IsKind question.found.now.items.now (items_in question) question.policy.now.moment question.signers.now.classes question.signers.now.issuers (named_by x) p x kind
 
--- likewise whatever key identifier it names
+-- the kind of a certificate among items, whatever key identifier it names
 abbrev pub IsGroupKind : {V : Type 0} → Question V → ℕ → CertificateItem → List ℕ → Type 0
 IsGroupKind question p x kind = IsKind question.found.now.items.now (items_in question) question.policy.now.moment question.signers.now.classes question.signers.now.issuers None p x kind
 

@@ -1,4 +1,4 @@
--- Copies of names stand for the same.
+-- A copy of a name stands for the value that the name stands for.
 use Rattle.std.proofs.Common.{◌≡◌, ◌∙◌, refl, sym, ap, List, [], ◌∷◌, map}
 use Rattle.x509_names.specs.View.{attribute_view, set_view, name_view, attributes_of_set}
 use Rattle.x509_names.specs.declared.attribute.AttributeTypeAndValue.{AttributeTypeAndValue}
